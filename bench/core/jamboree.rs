@@ -2,7 +2,7 @@
 //! procedure, and it takes the same acts, but it reads only the words that an act needs and doesn't test the form of
 //! words that it wrote itself. Moves and flips are those of `bench/search/vectors.rs`; leaves are searched by whatever
 //! the caller gives.
-use crate::plain::{Act, Core, Did, Given, InletAct, Job, Name, Procedure, Step, Stores, Then};
+use crate::plain::{Act, Continuation, Core, Did, Given, InletAct, Job, Name, Procedure, Step, Stores};
 use crate::segments::Words;
 use crate::vectors::{flips, moves};
 
@@ -118,7 +118,7 @@ fn leaf(own: &Words) -> Leaf {
     Leaf { board: board(own), depth: own.word(DEPTH) as u8, alpha: score_of(own.word(ALPHA)), beta: score_of(own.word(BETA)) }
 }
 
-fn act(stores: &[(usize, u64)], after: Then) -> Act {
+fn act(stores: &[(usize, u64)], after: Continuation) -> Act {
     Act { stores: Stores::of(stores), after }
 }
 
@@ -128,9 +128,9 @@ fn plies_of(own: &Words, number: usize) -> u64 {
 }
 
 /// Opens a child for a choice, with a window seen from the child.
-fn spawn(own: &Words, role: u64, number: usize, alpha: i32, beta: i32) -> Then {
+fn spawn(own: &Words, role: u64, number: usize, alpha: i32, beta: i32) -> Continuation {
     let depth = own.word(DEPTH) - plies_of(own, number);
-    Then::Spawn(Given::of(&[0, 0, depth, word_of(alpha), word_of(beta), role, number as u64, NEW]), SIZE)
+    Continuation::Spawn(Given::of(&[0, 0, depth, word_of(alpha), word_of(beta), role, number as u64, NEW]), SIZE)
 }
 
 /// The greater of alpha and the best score.
@@ -147,7 +147,7 @@ impl Jamboree {
         };
         let count = choice_count((mover, other));
         if own.word(DEPTH) <= u64::from(self.grain) || count == 0 {
-            return act(&[(OWN, mover), (OPP, other), (PHASE, COMPUTING)], Then::Compute);
+            return act(&[(OWN, mover), (OPP, other), (PHASE, COMPUTING)], Continuation::Compute);
         }
         let opened = [
             (OWN, mover),
@@ -158,14 +158,14 @@ impl Jamboree {
             (COUNT, count as u64),
             (SPAWNED, 0),
         ];
-        act(&opened, Then::Grow(count))
+        act(&opened, Continuation::Grow(count))
     }
 }
 
 /// The first choice is searched in full.
 fn search_first(own: &Words) -> Act {
     if own.word(SPAWNED) != 0 {
-        return act(&[], Then::Wait);
+        return act(&[], Continuation::Wait);
     }
     let (alpha, beta) = (score_of(own.word(ALPHA)), score_of(own.word(BETA)));
     act(&[(SPAWNED, 1), (STATUS, RUNS)], spawn(own, FIRST_CHILD, 0, -beta, -alpha))
@@ -186,8 +186,8 @@ fn search_others(own: &Words) -> Act {
             let stores = [(SPAWNED, spawned as u64 + 1), (STATUS + spawned, RUNS)];
             act(&stores, spawn(own, TEST, spawned, -(floor + 1), -floor))
         }
-        None => act(&[(PHASE, DONE)], Then::Return),
-        Some(_) => act(&[], Then::Wait),
+        None => act(&[(PHASE, DONE)], Continuation::Return),
+        Some(_) => act(&[], Continuation::Wait),
     }
 }
 
@@ -198,10 +198,10 @@ impl Procedure for Jamboree {
     fn next(&self, own: &Words) -> Act {
         match own.word(PHASE) {
             NEW => self.open(own),
-            COMPUTING => act(&[], Then::Compute),
+            COMPUTING => act(&[], Continuation::Compute),
             FIRST => search_first(own),
             TESTS => search_others(own),
-            _ => act(&[], Then::Return),
+            _ => act(&[], Continuation::Return),
         }
     }
 

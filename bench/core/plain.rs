@@ -30,7 +30,7 @@ pub type Stores = Few<(usize, u64), 8>;
 pub type Given = Few<u64, 8>;
 
 /// What a frame does after its stores.
-pub enum Then {
+pub enum Continuation {
     Grow(usize),
     Spawn(Given, usize),
     Go,
@@ -41,7 +41,7 @@ pub enum Then {
 
 pub struct Act {
     pub stores: Stores,
-    pub after: Then,
+    pub after: Continuation,
 }
 
 pub struct InletAct {
@@ -300,24 +300,24 @@ impl<P: Procedure> Core<P> {
         tenant.ticks += 1;
         tenant.charged += needed;
         match act.after {
-            Then::Grow(more) => {
+            Continuation::Grow(more) => {
                 self.stack.grow(node, more);
                 Did::Grew
             }
-            Then::Spawn(given, size) => {
+            Continuation::Spawn(given, size) => {
                 let child = self.stack.open(node, given.as_slice(), size);
                 tenant.opened += 1;
                 tenant.frames.slots[slot].children += 1;
                 tenant.push(Some(slot), worker, child);
                 Did::Spawned(Name { tenant: name.tenant, serial: tenant.opened as u64 })
             }
-            Then::Go => Did::Went,
-            Then::Compute => {
+            Continuation::Go => Did::Went,
+            Continuation::Compute => {
                 tenant.set_state(slot, State::Computing(worker));
                 Did::Computing(self.procedure.input(&self.stack.own(node)))
             }
-            Then::Wait if !has_child => Did::Went,
-            Then::Wait | Then::Return if has_child => {
+            Continuation::Wait if !has_child => Did::Went,
+            Continuation::Wait | Continuation::Return if has_child => {
                 tenant.set_state(slot, State::Waiting);
                 Did::Waited
             }
@@ -495,15 +495,15 @@ impl Tenant {
             return Err(15);
         }
         match act.after {
-            Then::Grow(more) if more == 0 || length + more > 128 => return Err(15),
-            Then::Spawn(given, size) if size == 0 || size > 128 || given.len > size => return Err(15),
-            Then::Compute if has_child => return Err(15),
-            Then::Spawn(_, _) if self.opened == self.nodes => return Err(11),
+            Continuation::Grow(more) if more == 0 || length + more > 128 => return Err(15),
+            Continuation::Spawn(given, size) if size == 0 || size > 128 || given.len > size => return Err(15),
+            Continuation::Compute if has_child => return Err(15),
+            Continuation::Spawn(_, _) if self.opened == self.nodes => return Err(11),
             _ => {}
         }
         let needed = match act.after {
-            Then::Grow(more) => (length + more).div_ceil(SEGMENT) - length.div_ceil(SEGMENT),
-            Then::Spawn(_, size) => size.div_ceil(SEGMENT),
+            Continuation::Grow(more) => (length + more).div_ceil(SEGMENT) - length.div_ceil(SEGMENT),
+            Continuation::Spawn(_, size) => size.div_ceil(SEGMENT),
             _ => 0,
         } as u32;
         if self.segments - self.charged < needed { Err(10) } else { Ok(needed) }

@@ -1,5 +1,5 @@
 //! The procedures of the loads and the loads themselves, on the plain core.
-use crate::plain::{Act, Core, Did, DidOf, Given, InletAct, Name, Procedure, Step, StepOf, Stores, Then};
+use crate::plain::{Act, Continuation, Core, Did, DidOf, Given, InletAct, Name, Procedure, Step, StepOf, Stores};
 use crate::segments::Words;
 
 /// No load computes: inputs and answers are words, an answer asks for itself, and nothing is stored of one.
@@ -30,12 +30,12 @@ impl Procedure for Chain {
 
     fn next(&self, own: &Words) -> Act {
         if own.word(0) == 0 {
-            return Act { stores: Stores::of(&[]), after: Then::Return };
+            return Act { stores: Stores::of(&[]), after: Continuation::Return };
         }
         match own.word(1) {
-            0 => Act { stores: Stores::of(&[(1, 1)]), after: Then::Spawn(Given::of(&[own.word(0) - 1, 0]), 20) },
-            1 => Act { stores: Stores::of(&[(1, 2)]), after: Then::Wait },
-            _ => Act { stores: Stores::of(&[]), after: Then::Return },
+            0 => Act { stores: Stores::of(&[(1, 1)]), after: Continuation::Spawn(Given::of(&[own.word(0) - 1, 0]), 20) },
+            1 => Act { stores: Stores::of(&[(1, 2)]), after: Continuation::Wait },
+            _ => Act { stores: Stores::of(&[]), after: Continuation::Return },
         }
     }
 
@@ -52,10 +52,10 @@ impl Procedure for Fan {
 
     fn next(&self, own: &Words) -> Act {
         let after = match (own.word(0), own.word(1)) {
-            (0, 0) | (0, 2) | (0, 4) | (2, 0) => Then::Spawn(Given::of(&[1, 0]), 4),
-            (0, 1) => Then::Spawn(Given::of(&[2, 0]), 4),
-            (0, 3) | (0, 5) | (2, 1) => Then::Wait,
-            _ => return Act { stores: Stores::of(&[]), after: Then::Return },
+            (0, 0) | (0, 2) | (0, 4) | (2, 0) => Continuation::Spawn(Given::of(&[1, 0]), 4),
+            (0, 1) => Continuation::Spawn(Given::of(&[2, 0]), 4),
+            (0, 3) | (0, 5) | (2, 1) => Continuation::Wait,
+            _ => return Act { stores: Stores::of(&[]), after: Continuation::Return },
         };
         Act { stores: Stores::of(&[(1, own.word(1) + 1)]), after }
     }
@@ -77,9 +77,9 @@ impl Procedure for Herd {
 
     fn next(&self, own: &Words) -> Act {
         match (own.word(0), own.word(1)) {
-            (1, _) => Act { stores: Stores::of(&[]), after: Then::Spawn(Given::of(&[0, 0]), 2) },
-            (_, 0) => Act { stores: Stores::of(&[(1, 1)]), after: Then::Go },
-            _ => Act { stores: Stores::of(&[]), after: Then::Return },
+            (1, _) => Act { stores: Stores::of(&[]), after: Continuation::Spawn(Given::of(&[0, 0]), 2) },
+            (_, 0) => Act { stores: Stores::of(&[(1, 1)]), after: Continuation::Go },
+            _ => Act { stores: Stores::of(&[]), after: Continuation::Return },
         }
     }
 

@@ -102,7 +102,7 @@ def read_crates():
     return group_of, {name: [low for low in used if low in uses] for name, used in uses.items()}
 
 
-TESTS = ("memory_tests", "search_tests", "pool_tests", "session_tests", "site_tests", "definition_tests", "definition_laws", "site_laws", "promise_uses", "sched_toys", "counted_alloc", "text_rows", "step_texts", "transcripts")
+TESTS = ("memory_tests", "search_tests", "pool_tests", "session_tests", "site_transcripts", "definition_tests", "definition_laws", "site_laws", "promise_uses", "sched_toys", "counted_alloc", "text_rows", "step_texts", "transcripts")
 
 
 def crates():
@@ -314,7 +314,7 @@ def ask():
             ("desk_office", "Desk::ask", ""),
         ]),
         ("under the lock", YELLOW, [
-            ("desk", "Kept::ask", "(b) Position to root words; its Board is copied"),
+            ("desk", "LockedHall::ask", "(b) Position to root words; its Board is copied"),
             ("hall", "Hall::offer, the journal", "(c) words to a journal entry"),
             ("sched_core", "Submit: a root is Ready", "words copied into a node"),
         ]),
@@ -325,7 +325,7 @@ def ask():
         ]),
         ("under the lock", YELLOW, [
             ("jamboree_core", "outcome_of, Reply::read", "(f) words to a Reply"),
-            ("desk", "Kept::get, shown", "its board is compared with the list's"),
+            ("desk", "LockedHall::get, shown", "its board is compared with the list's"),
         ]),
         ("session's thread", GREEN, [
             ("desk_office", "standing_of", "each entry's move from the board"),

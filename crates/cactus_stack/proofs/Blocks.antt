@@ -4,7 +4,7 @@ use Rattle.std.proofs.lemmas.List.{length-take, length-take-le, length-drop, get
 use Rattle.segment_region.specs.Segments.{Segments, words_at, IsTaken}
 use Rattle.cactus_stack.specs.Nodes.{charge}
 use Rattle.cactus_stack.specs.Chains.{chain, content, IsChain}
-use Rattle.cactus_stack.specs.Places.{words_in, segments_of, IsSoundList}
+use Rattle.cactus_stack.specs.Places.{words_in_chain, segments_of, IsSoundList}
 use Rattle.cactus_stack.proofs.Content.{get_or-content, blocks-get_or}
 use Rattle.cactus_stack.proofs.Sound.{chain-front, chain-front-get_or, length-words_in}
 
@@ -22,10 +22,10 @@ block_is_taken region n len k s sound below e =
 
 -- its front holds what is left of the words from its first place on
 block-words : (region : Segments) (n len k j : ℕ) (block : List ℕ) → IsSoundList region n len → k < charge len → j ≡ min (len - 16 * k) 16 → block ≡ words_at region (get_or (segments_of region n len) k 0) →
-    length block ≡ 16 → take j block ≡ take 16 (drop (16 * k) (words_in region n len))
+    length block ≡ 16 → take j block ≡ take 16 (drop (16 * k) (words_in_chain region n len))
 block-words region n len k j block sound below e is sixteen =
     let xs : List ℕ = segments_of region n len in
-    let words : List ℕ = words_in region n len in
+    let words : List ℕ = words_in_chain region n len in
     let whole : length words ≡ len = length-words_in region n len sound in
     let short : length (take j block) ≡ j = length-take-le j block (omega arith) in
     ext_get_or 0 (take j block) (take 16 (drop (16 * k) words))
@@ -39,7 +39,7 @@ block-words region n len k j block sound below e is sixteen =
     ∙ sym (get_or-take 16 (drop (16 * k) words) i 0 (omega arith)))
 
 pub words_of_block : (region : Segments) (n len k s j : ℕ) (block : List ℕ) → IsSoundList region n len → k < charge len → j ≡ min (len - 16 * k) 16 → s ≡ get_or (segments_of region n len) k 0 → block ≡ words_at region s →
-    take j block ≡ take 16 (drop (16 * k) (words_in region n len))
+    take j block ≡ take 16 (drop (16 * k) (words_in_chain region n len))
 words_of_block region n len k s j block sound below e at is =
     let same : block ≡ words_at region (get_or (segments_of region n len) k 0) = subst (λ (x : ℕ). block ≡ words_at region x) at is in
     let sixteen : length block ≡ 16 = subst (λ (b : List ℕ). length b ≡ 16) (sym is) (block_is_taken region n len k s sound below at).1 in

@@ -2,7 +2,7 @@
 use Rattle.std.proofs.Common.{◌≡◌, ◌≢◌, ℕ, zero, suc, ◌+◌, ◌-◌, ◌*◌, ◌<◌, List, [], ◌∷◌, ◌++◌, length, Option, None, Some, get_or, refl, sym, ap, ◌∙◌, arith, get_or-set_other, get_or-set_same, zero-add}
 use Rattle.std.proofs.Math.ListN.{set, get_or-append}
 use Rattle.std.proofs.lemmas.List.{length-append, append_assoc, set-append_left, set-append_right, get_or-append_right}
-use Rattle.segment_region.specs.Segments.{Segment, Segments, segment_at, words_at, link_at, IsTaken, with_words, with_link}
+use Rattle.segment_region.specs.Segments.{Segment, Segments, segment_at, words_at, link_at, IsTaken, with_segment_words, with_link}
 use Rattle.segment_region.proofs.Counts.{lt-of-IsTaken}
 use Rattle.cactus_stack.specs.Chains.{chain, content, IsOnce, AllBlocks}
 use Rattle.cactus_stack.proofs.Numbers.{lacks-get_or}
@@ -40,7 +40,7 @@ get_or-content region (x ∷ xs) (suc block) offset blocks h k =
     ∙ rw at (get_or-content region xs block offset blocks.2 below k)
 
 -- a word that is written to a segment of the chain is written at its place, and nowhere else
-pub content-write : (region : Segments) (xs : List ℕ) (block offset word : ℕ) → AllBlocks region xs → IsOnce xs → block < length xs → offset < 16 → content (with_words region (get_or xs block 0) (set (words_at region (get_or xs block 0)) offset word)) xs ≡ set (content region xs) (16 * block + offset) word
+pub content-write : (region : Segments) (xs : List ℕ) (block offset word : ℕ) → AllBlocks region xs → IsOnce xs → block < length xs → offset < 16 → content (with_segment_words region (get_or xs block 0) (set (words_at region (get_or xs block 0)) offset word)) xs ≡ set (content region xs) (16 * block + offset) word
 content-write region [] block offset word blocks once h k = absurd (omega arith)
 content-write region (x ∷ xs) zero offset word blocks once h k =
     let within : offset < length (words_at region x) = omega (arith, blocks.1) in
@@ -58,14 +58,14 @@ content-write region (x ∷ xs) (suc block) offset word blocks once h k =
     rw (here, content-write region xs block offset word blocks.2 once.1 below k)
     (rw (← at) (sym (set-append_right (words_at region x) (content region xs) 16 (16 * suc block + offset) word blocks.1 (omega arith))))
 
-pub link_at-write : (region : Segments) (n m : ℕ) (words : List ℕ) → link_at (with_words region n words) m ≡ link_at region m
+pub link_at-write : (region : Segments) (n m : ℕ) (words : List ℕ) → link_at (with_segment_words region n words) m ≡ link_at region m
 link_at-write [] n m words = refl
 link_at-write (e ∷ region) zero zero words = refl
 link_at-write (e ∷ region) zero (suc m) words = refl
 link_at-write (e ∷ region) (suc n) zero words = refl
 link_at-write (e ∷ region) (suc n) (suc m) words = link_at-write region n m words
 
-pub chain-write : (count : ℕ) (region : Segments) (head : Option ℕ) (n : ℕ) (words : List ℕ) → chain count (with_words region n words) head ≡ chain count region head
+pub chain-write : (count : ℕ) (region : Segments) (head : Option ℕ) (n : ℕ) (words : List ℕ) → chain count (with_segment_words region n words) head ≡ chain count region head
 chain-write zero region head n words = refl
 chain-write (suc count) region None n words = refl
 chain-write (suc count) region (Some s) n words =
@@ -78,14 +78,14 @@ taken-write (e ∷ region) zero (suc m) segment taken = taken
 taken-write (e ∷ region) (suc n) zero segment taken = taken
 taken-write (e ∷ region) (suc n) (suc m) segment taken = taken-write region n m segment taken
 
-length-write : (region : Segments) (n m : ℕ) (words : List ℕ) → length words ≡ 16 → length (words_at region m) ≡ 16 → length (words_at (with_words region n words) m) ≡ 16
+length-write : (region : Segments) (n m : ℕ) (words : List ℕ) → length words ≡ 16 → length (words_at region m) ≡ 16 → length (words_at (with_segment_words region n words) m) ≡ 16
 length-write [] n m words h k = k
 length-write (e ∷ region) zero zero words h k = h
 length-write (e ∷ region) zero (suc m) words h k = k
 length-write (e ∷ region) (suc n) zero words h k = k
 length-write (e ∷ region) (suc n) (suc m) words h k = length-write region n m words h k
 
-pub blocks-write : (region : Segments) (xs : List ℕ) (n : ℕ) (words : List ℕ) → length words ≡ 16 → AllBlocks region xs → AllBlocks (with_words region n words) xs
+pub blocks-write : (region : Segments) (xs : List ℕ) (n : ℕ) (words : List ℕ) → length words ≡ 16 → AllBlocks region xs → AllBlocks (with_segment_words region n words) xs
 blocks-write region [] n words h blocks = tt
 blocks-write region (x ∷ xs) n words h blocks =
     (taken-write region n x _ blocks.0, length-write region n x words h blocks.1, blocks-write region xs n words h blocks.2)

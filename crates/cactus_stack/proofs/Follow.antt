@@ -1,7 +1,7 @@
 -- Chains and their words in regions that agree on them.
 use Rattle.std.proofs.Common.{◌≡◌, ℕ, zero, suc, ◌≤◌, List, [], ◌∷◌, ◌++◌, take, Option, None, Some, refl, ap, arith, get_or-set_other}
 use Rattle.std.proofs.Math.ListN.{set}
-use Rattle.segment_region.specs.Segments.{Segment, Segments, segment_at, words_at, link_at, words_of, link_of, IsTaken}
+use Rattle.segment_region.specs.Segments.{Segment, Segments, segment_at, words_at, link_at, words_of_segment, link_of, IsTaken}
 use Rattle.cactus_stack.specs.Chains.{chain, content, Lacks, AreApart, AllBlocks, AllFree, AgreesOn}
 
 pub chain-agrees : (count : ℕ) (old new : Segments) (head : Option ℕ) → AgreesOn old new (chain count old head) → chain count new head ≡ chain count old head
@@ -14,7 +14,7 @@ chain-agrees (suc count) old new (Some s) agrees =
 pub content-agrees : (old new : Segments) (segments : List ℕ) → AgreesOn old new segments → content new segments ≡ content old segments
 content-agrees old new [] agrees = refl
 content-agrees old new (s ∷ segments) agrees =
-    let same : words_at new s ≡ words_at old s = ap words_of agrees.0 in
+    let same : words_at new s ≡ words_at old s = ap words_of_segment agrees.0 in
     rw same (ap (λ (rest : List ℕ). words_at old s ++ rest) (content-agrees old new segments agrees.1))
 
 pub blocks-agrees : (old new : Segments) (segments : List ℕ) → AgreesOn old new segments → AllBlocks old segments → AllBlocks new segments

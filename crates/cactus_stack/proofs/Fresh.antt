@@ -3,13 +3,13 @@ use Rattle.std.proofs.Common.{◌≡◌, ℕ, zero, suc, ◌-◌, ◌*◌, ◌<�
 use Rattle.std.proofs.Math.ListN.{set}
 use Rattle.std.proofs.lemmas.List.{length-append, append_assoc, length-set, set-set, length-replicate, drop-replicate, replicate-append-replicate, take_all, take-append-drop, length-take-le, length-drop, drop_all, append-nil}
 use Rattle.std.proofs.lemmas.Bool.{cases_lt}
-use Rattle.segment_region.specs.Segments.{Segment, Segments, segment_at, words_at, link_at, link_of, IsTaken, IsFree, blank, with_entry, with_words, with_link}
+use Rattle.segment_region.specs.Segments.{Segment, Segments, segment_at, words_at, link_at, link_of, IsTaken, IsFree, blank, with_entry, with_segment_words, with_link}
 use Rattle.segment_region.proofs.Counts.{taken_count-take}
 use Rattle.cactus_stack.specs.Chains.{chain, Lacks, AgreesOn, IsFreshChain, filled}
 use Rattle.cactus_stack.proofs.Follow.{chain-agrees, content-agrees, blocks-agrees, agrees-set, lacks-taken}
 
 -- a segment is taken, filled and linked
-pub fresh_segment_is_filled : (old : Segments) (n : ℕ) (words : List ℕ) (link : Option ℕ) → IsFree old n → with_link (with_words (with_entry old n (Some blank)) n (words ++ drop (length words) (words_at (with_entry old n (Some blank)) n))) n link ≡ with_entry old n (Some (filled words link))
+pub fresh_segment_is_filled : (old : Segments) (n : ℕ) (words : List ℕ) (link : Option ℕ) → IsFree old n → with_link (with_segment_words (with_entry old n (Some blank)) n (words ++ drop (length words) (words_at (with_entry old n (Some blank)) n))) n link ≡ with_entry old n (Some (filled words link))
 fresh_segment_is_filled old n words link free =
     let first : segment_at (with_entry old n (Some blank)) n ≡ Some blank = get_or-set_same old n (Some blank) None free.0 in
     let zeros : drop (length words) (words_at (with_entry old n (Some blank)) n) ≡ replicate (16 - length words) 0 = rw first (drop-replicate (length words) 16 0) in

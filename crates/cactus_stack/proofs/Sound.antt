@@ -5,7 +5,7 @@ use Rattle.std.proofs.lemmas.Option.{slice_get-get_or}
 use Rattle.segment_region.specs.Segments.{Segments, words_at, IsTaken}
 use Rattle.cactus_stack.specs.Nodes.{charge, charge_of}
 use Rattle.cactus_stack.specs.Chains.{chain, content, Lacks, IsOnce, AllBlocks, IsChain}
-use Rattle.cactus_stack.specs.Places.{node_in, words_in, segments_of, IsSoundList}
+use Rattle.cactus_stack.specs.Places.{node_in, words_in_chain, segments_of, IsSoundList}
 use Rattle.cactus_stack.proofs.Follow.{chain-take}
 use Rattle.cactus_stack.proofs.Content.{length-content, get_or-content, blocks-get_or}
 
@@ -51,7 +51,7 @@ pub length-sound : (region : Segments) (n len : ℕ) → IsSoundList region n le
 length-sound region n len sound =
     length-content region (segments_of region n len) sound.is_chain.blocks ∙ ap (λ (k : ℕ). 16 * k) sound.is_chain.whole
 
-pub length-words_in : (region : Segments) (n len : ℕ) → IsSoundList region n len → length (words_in region n len) ≡ len
+pub length-words_in : (region : Segments) (n len : ℕ) → IsSoundList region n len → length (words_in_chain region n len) ≡ len
 length-words_in region n len sound =
     length-take-le len (content region (segments_of region n len)) (omega (arith, length-sound region n len sound, charge-room len))
 
@@ -72,12 +72,12 @@ place_of_sound region n len at below =
 
 -- the word at a place is in its segment
 pub word_of_sound : (region : Segments) (n len at : ℕ) → IsSoundList region n len → at < len →
-    slice_get (words_in region n len) at ≡ Some (get_or (words_at region (get_or (segments_of region n len) (at / 16) 0)) (at % 16) 0)
+    slice_get (words_in_chain region n len) at ≡ Some (get_or (words_at region (get_or (segments_of region n len) (at / 16) 0)) (at % 16) 0)
 word_of_sound region n len at sound below =
     let c : List ℕ = content region (segments_of region n len) in
     let block : at / 16 < length (segments_of region n len) = omega (arith, sound.is_chain.whole, charge-below at len below) in
     let split : 16 * (at / 16) + at % 16 ≡ at = omega arith in
-    slice_get-get_or (words_in region n len) at 0 (omega (arith, length-words_in region n len sound))
+    slice_get-get_or (words_in_chain region n len) at 0 (omega (arith, length-words_in region n len sound))
     ∙ ap (λ (w : ℕ). Some w) (get_or-take len c at 0 below ∙ rw split at (get_or-content region (segments_of region n len) (at / 16) (at % 16) sound.is_chain.blocks block (omega arith)))
 
 -- a node that is there has words
@@ -85,7 +85,7 @@ pub len-of-node : (region : Segments) (n len : ℕ) (parent : Option ℕ) → Is
 len-of-node region n zero parent is = absurd (cc is)
 len-of-node region n (suc len) parent is = omega arith
 
-pub node_in-some : (region : Segments) (n len : ℕ) (parent : Option ℕ) → 0 < len → node_in region n len parent ≡ Some (record { parent = parent; words = words_in region n len })
+pub node_in-some : (region : Segments) (n len : ℕ) (parent : Option ℕ) → 0 < len → node_in region n len parent ≡ Some (record { parent = parent; words = words_in_chain region n len })
 node_in-some region n zero parent some = absurd (omega arith)
 node_in-some region n (suc len) parent some = refl
 

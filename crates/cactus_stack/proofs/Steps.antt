@@ -4,11 +4,11 @@ use Rattle.std.proofs.Math.ListN.{set}
 use Rattle.std.proofs.Math.Seq.{take-append-add, drop-append-add, take-set-lt}
 use Rattle.std.proofs.lemmas.List.{append_assoc, length-set, take-append-drop, take-replicate, drop-replicate, replicate-append-replicate, drop-set-lt, length-replicate, get_or_default, set-get_or}
 use Rattle.std.proofs.lemmas.List.Folds.{sum_by-replicate}
-use Rattle.segment_region.specs.Segments.{Segment, Segments, segment_at, words_at, link_at, IsTaken, IsFree, with_words, taken_count}
+use Rattle.segment_region.specs.Segments.{Segment, Segments, segment_at, words_at, link_at, IsTaken, IsFree, with_segment_words, taken_count}
 use Rattle.segment_region.proofs.Counts.{taken_count-write, taken_count-replicate}
-use Rattle.cactus_stack.specs.Nodes.{Node, Nodes, charge, padded, node_at, node_words, words_of, IsOpen, IsUnused, HasAllChildren, free_segments, with_node, with_words as with_node_words, without}
+use Rattle.cactus_stack.specs.Nodes.{Node, Nodes, charge, padded, node_at, node_words, words_of_node, IsOpen, IsUnused, HasAllChildren, free_segments, with_node, with_node_words, without}
 use Rattle.cactus_stack.specs.Chains.{chain, content, AreApart, AllBlocks, AllFree, IsFreshChain, IsGrownChain, IsGivenBack}
-use Rattle.cactus_stack.specs.Places.{nowhere, place_at, len_at, resized, with_len, charge_of_place, segments_of, words_in, node_in, nodes_from, IsSoundList, AreStored, IsUnder, IsTree, IsStack, IsWholeSight}
+use Rattle.cactus_stack.specs.Places.{nowhere, place_at, len_at, resized, with_len, charge_of_place, segments_of, words_in_chain, node_in, nodes_from, IsSoundList, AreStored, IsUnder, IsForest, IsStack, IsWholeSight}
 use Rattle.cactus_stack.specs.declared.place.Place.{Place}
 use Rattle.cactus_stack.proofs.Numbers.{apart-sym, apart-append, apart-get_or}
 use Rattle.cactus_stack.proofs.Follow.{agrees-apart, agrees-taken, agrees-set, apart-free}
@@ -26,8 +26,8 @@ lt-of-len (place ∷ places) (suc n) some = let rest = lt-of-len places n some i
 pub record IsKept (region : Segments) (places : List Place) (nodes : Nodes) (n : ℕ) : Type 0 where
   pub some : 0 < len_at places n
   pub within : n < length places
-  pub entry : node_at nodes n ≡ Some (record { parent = (place_at places n).parent; words = words_in region n (len_at places n) })
-  pub words : node_words nodes n ≡ words_in region n (len_at places n)
+  pub entry : node_at nodes n ≡ Some (record { parent = (place_at places n).parent; words = words_in_chain region n (len_at places n) })
+  pub words : node_words nodes n ≡ words_in_chain region n (len_at places n)
   pub len : length (node_words nodes n) ≡ len_at places n
   pub sound : IsSoundList region n (len_at places n)
 
@@ -36,13 +36,13 @@ kept_node {region = region} {places = places} {nodes = nodes} n stored view is_o
     let place : Place = place_at places n in
     let entry : node_at nodes n ≡ node_in region n place.len place.parent = rw (← view) (node_at-nodes_from region n places) in
     let some : 0 < place.len = len-of-node region n place.len place.parent (rw entry at is_open) in
-    let is : node_at nodes n ≡ Some (record { parent = place.parent; words = words_in region n place.len }) = entry ∙ node_in-some region n place.len place.parent some in
+    let is : node_at nodes n ≡ Some (record { parent = place.parent; words = words_in_chain region n place.len }) = entry ∙ node_in-some region n place.len place.parent some in
     record {
       some = some;
       within = lt-of-len places n some;
       entry = is;
-      words = ap words_of is;
-      len = ap (λ (e : Option Node). length (words_of e)) is ∙ length-words_in region n place.len (stored.sound n);
+      words = ap words_of_node is;
+      len = ap (λ (e : Option Node). length (words_of_node e)) is ∙ length-words_in region n place.len (stored.sound n);
       sound = stored.sound n;
     }
 
@@ -61,7 +61,7 @@ is_read {places = places} {n = n} {place = place} stored view is_open at_first f
     record { it = it; at_node = at_first ∙ first_is; is = is; some = rw is it.some; len = ap (λ (p : Place). p.len) is ∙ sym it.len }
 
 -- the node of a place that is changed to these words
-changed-to : {old new : Segments} {places : List Place} {n : ℕ} {place : Place} {nodes : Nodes} (words : List ℕ) → IsChange old new places n place → 0 < place.len → words_in new n place.len ≡ words → nodes_from old 0 places ≡ nodes →
+changed-to : {old new : Segments} {places : List Place} {n : ℕ} {place : Place} {nodes : Nodes} (words : List ℕ) → IsChange old new places n place → 0 < place.len → words_in_chain new n place.len ≡ words → nodes_from old 0 places ≡ nodes →
     nodes_from new 0 (set places n place) ≡ with_node nodes n (Some (record { parent = place.parent; words = words }))
 changed-to {new = new} {n = n} {place = place} {nodes = nodes} words change some is view =
     changed change ∙ rw view (ap (λ (entry : Option Node). set nodes n entry) (node_in-some new n place.len place.parent some ∙ ap (λ (ws : List ℕ). Some (record { parent = place.parent; words = ws })) is))
@@ -84,8 +84,8 @@ cut-zeros content words zeros more is h = (
 -- a store
 
 pub store_change : {region : Segments} {places : List Place} {n at s : ℕ} (word : ℕ) → AreStored region places → at < len_at places n → s ≡ get_or (segments_of region n (len_at places n)) (at / 16) 0 →
-    IsChange region (with_words region s (set (words_at region s) (at % 16) word)) places n (place_at places n)
-    × (words_in (with_words region s (set (words_at region s) (at % 16) word)) n (len_at places n) ≡ set (words_in region n (len_at places n)) at word)
+    IsChange region (with_segment_words region s (set (words_at region s) (at % 16) word)) places n (place_at places n)
+    × (words_in_chain (with_segment_words region s (set (words_at region s) (at % 16) word)) n (len_at places n) ≡ set (words_in_chain region n (len_at places n)) at word)
 store_change {region = region} {places = places} {n = n} {at = at} {s = s} word sound below is =
     let len : ℕ = len_at places n in
     let xs : List ℕ = segments_of region n len in
@@ -95,7 +95,7 @@ store_change {region = region} {places = places} {n = n} {at = at} {s = s} word 
     let taken : IsTaken region s = rw is place.0 in
     let words : List ℕ = set (words_at region s) (at % 16) word in
     let sixteen : length words ≡ 16 = length-set (words_at region s) (at % 16) word ∙ rw is place.1 in
-    let new : Segments = with_words region s words in
+    let new : Segments = with_segment_words region s words in
     let same : (m k : ℕ) → segments_of new m k ≡ segments_of region m k = λ m k. chain-write (charge k) region (Some m) s words in
     let split : 16 * (at / 16) + at % 16 ≡ at = omega arith in
     let written : content new xs ≡ set (content region xs) at word = rw is (rw split at (content-write region xs (at / 16) (at % 16) word own.is_chain.blocks own.is_chain.once block (omega arith))) in
@@ -136,13 +136,13 @@ close_change {region = region} {new = new} {places = places} {n = n} sound some 
 
 pub grow_change : {region new : Segments} {places : List Place} {n : ℕ} (more added : ℕ) → AreStored region places → 0 < len_at places n → len_at places n + more ≤ 128 → charge (len_at places n) + added ≡ charge (len_at places n + more) →
     IsGrownChain region new (segments_of region n (len_at places n)) (segments_of new n (len_at places n + more)) added →
-    IsChange region new places n (resized (place_at places n) (len_at places n + more)) × (words_in new n (len_at places n + more) ≡ words_in region n (len_at places n) ++ replicate more 0)
+    IsChange region new places n (resized (place_at places n) (len_at places n + more)) × (words_in_chain new n (len_at places n + more) ≡ words_in_chain region n (len_at places n) ++ replicate more 0)
 grow_change {region = region} {new = new} {places = places} {n = n} more added sound some limit charges grown =
     let len : ℕ = len_at places n in
     let own : IsSoundList region n len = sound.sound n in
     let xs : List ℕ = segments_of region n len in
     let ys : List ℕ = segments_of new n (len + more) in
-    let words : List ℕ = words_in region n len in
+    let words : List ℕ = words_in_chain region n len in
     let zeros : ℕ = 16 * charge len - len + 16 * added in
     let before : content region xs ≡ words ++ replicate (16 * charge len - len) 0 = sym (take-append-drop len (content region xs)) ∙ ap (λ (rest : List ℕ). words ++ rest) own.zeros in
     let after : content new ys ≡ words ++ replicate zeros 0 =
@@ -191,7 +191,7 @@ was_unused {region = region} {new = new} {places = places} {n = n} {size = size}
     (rw stored.same_count free.0, unused region n (len_at places n) (stored.sound n) free)
 
 pub open_change : {region new : Segments} {places : List Place} {n size : ℕ} {words : List ℕ} (parent : Option ℕ) (depth : ℕ) → AreStored region places → 0 < size → size ≤ 128 → length words ≤ size → IsFreshChain region new (segments_of new n size) words (charge size) →
-    IsChange region new places n (record { len = size; parent = parent; depth = depth }) × (words_in new n size ≡ padded words size)
+    IsChange region new places n (record { len = size; parent = parent; depth = depth }) × (words_in_chain new n size ≡ padded words size)
 open_change {region = region} {new = new} {places = places} {n = n} {size = size} {words = words} parent depth stored some limit room fresh =
     let xs : List ℕ = segments_of new n size in
     let before = was_unused stored some fresh in
@@ -223,7 +223,7 @@ free-is {region = region} {places = places} {nodes = nodes} stored view is =
     let all = all-taken region places nodes stored view in omega (arith, all.0, all.1, is)
 
 module _ {old : Segments} {places : List Place} {nodes : Nodes} (stack : IsStack old places) (view : nodes_from old 0 places ≡ nodes) where
-  tree : IsTree nodes places
+  tree : IsForest nodes places
   tree = rw view at stack.tree
 
   as_many : length places ≡ length nodes
@@ -236,7 +236,7 @@ module _ {old : Segments} {places : List Place} {nodes : Nodes} (stack : IsStack
   sight_of n is_open = sight-open nodes places n (place_at places n).depth tree is_open refl
 
   -- an open node gets other words, in as many segments as they take
-  pub rewritten : {new : Segments} {n len : ℕ} (words : List ℕ) → IsOpen nodes n → IsChange old new places n (resized (place_at places n) len) → 0 < len → words_in new n len ≡ words →
+  pub rewritten : {new : Segments} {n len : ℕ} (words : List ℕ) → IsOpen nodes n → IsChange old new places n (resized (place_at places n) len) → 0 < len → words_in_chain new n len ≡ words →
       (nodes_from new 0 (with_len places n len) ≡ with_node_words nodes n words) × IsStack new (with_len places n len)
   rewritten {new = new} {n = n} {len = len} words is_open change some is =
       let it = kept_node n stack.stored view is_open in
@@ -246,13 +246,13 @@ module _ {old : Segments} {places : List Place} {nodes : Nodes} (stack : IsStack
       )
 
   pub stored_word : {at s : ℕ} (n word : ℕ) → IsOpen nodes n → at < length (node_words nodes n) → s ≡ get_or (chain (suc (at / 16)) old (Some n)) (at / 16) 0 →
-      (nodes_from (with_words old s (set (words_at old s) (at % 16) word)) 0 places ≡ with_node_words nodes n (set (node_words nodes n) at word)) × IsStack (with_words old s (set (words_at old s) (at % 16) word)) places
+      (nodes_from (with_segment_words old s (set (words_at old s) (at % 16) word)) 0 places ≡ with_node_words nodes n (set (node_words nodes n) at word)) × IsStack (with_segment_words old s (set (words_at old s) (at % 16) word)) places
   stored_word {at = at} {s = s} n word is_open below is =
       let it = kept_node n stack.stored view is_open in
       let inside : at < len_at places n = omega (arith, below, it.len) in
       let change = store_change word stack.stored inside (is ∙ place_of_sound old n (len_at places n) at inside) in
       let same : with_len places n (len_at places n) ≡ places = set-get_or places n nowhere in
-      rw it.words (rw same at (rewritten (set (words_in old n (len_at places n)) at word) is_open change.0 it.some change.1))
+      rw it.words (rw same at (rewritten (set (words_in_chain old n (len_at places n)) at word) is_open change.0 it.some change.1))
 
   -- a node is opened under a number that none had
   pub opened : {new : Segments} {n size segments : ℕ} {words : List ℕ} (parent : Option ℕ) (depth : ℕ) → IsUnder nodes places parent depth → 0 < size → size ≤ 128 → length words ≤ size → segments ≡ charge size → IsFreshChain old new (chain segments new (Some n)) words segments →
@@ -288,7 +288,7 @@ module _ {old : Segments} {places : List Place} {nodes : Nodes} (stack : IsStack
       let whole : charge len + (charge (len + more) - charge len) ≡ charge (len + more) = omega arith in
       let named : IsGrownChain old new (segments_of old n len) (segments_of new n (len + more)) (charge (len + more) - charge len) = rw whole at (rw (is_first, narrow, broad) at made) in
       let change = grow_change more (charge (len + more) - charge len) stack.stored of.it.some (rw same at limit) whole named in
-      rw (same, of.it.words) (rewritten (words_in old n len ++ replicate more 0) is_open change.0 (omega (arith, of.it.some)) change.1)
+      rw (same, of.it.words) (rewritten (words_in_chain old n len ++ replicate more 0) is_open change.0 (omega (arith, of.it.some)) change.1)
 
 -- at first all is free
 

@@ -3,8 +3,8 @@ use Rattle.std.proofs.Common.{◌≡◌, ◌≢◌, ℕ, zero, suc, ◌+◌, ◌
 use Rattle.std.proofs.Math.ListN.{set}
 use Rattle.std.proofs.lemmas.List.{get_or-take, length-take-le}
 use Rattle.std.proofs.lemmas.Bool.{cases_eq}
-use Rattle.cactus_stack.specs.Nodes.{Node, Nodes, node_at, node_words, node_parent, parent_of, IsOpen, IsSight, HasNoChild, HasAllChildren, with_node, with_words, without}
-use Rattle.cactus_stack.specs.Places.{place_at, IsUnder, IsTree, sight_within, IsWholeSight}
+use Rattle.cactus_stack.specs.Nodes.{Node, Nodes, node_at, node_words, node_parent, parent_of_node, IsOpen, IsSight, HasNoChild, HasAllChildren, with_node, with_node_words, without}
+use Rattle.cactus_stack.specs.Places.{place_at, IsUnder, IsForest, sight_within, IsWholeSight}
 use Rattle.cactus_stack.specs.declared.place.Place.{Place}
 use Rattle.cactus_stack.proofs.Options.{lt-of-some}
 use Rattle.cactus_stack.proofs.LawFacts.{gone, kept}
@@ -24,8 +24,8 @@ parent-open nodes places None depth p under is = absurd (cc is)
 parent-open nodes places (Some q) depth p under is = let same : q ≡ p = cc is in rw same at under.0
 
 -- where each open node is as it was, but for its words, and so is its parent, the tree is one still
-tree-kept : (nodes new : Nodes) (places others : List Place) → IsTree nodes places → ((m : ℕ) → IsOpen new m → IsOpen nodes m × (node_parent new m ≡ node_parent nodes m) × (depth_at others m ≡ depth_at places m)) →
-    ((m p : ℕ) → IsOpen new m → node_parent nodes m ≡ Some p → IsOpen nodes p → IsOpen new p) → IsTree new others
+tree-kept : (nodes new : Nodes) (places others : List Place) → IsForest nodes places → ((m : ℕ) → IsOpen new m → IsOpen nodes m × (node_parent new m ≡ node_parent nodes m) × (depth_at others m ≡ depth_at places m)) →
+    ((m p : ℕ) → IsOpen new m → node_parent nodes m ≡ Some p → IsOpen nodes p → IsOpen new p) → IsForest new others
 tree-kept nodes new places others tree same parents m is_open =
     let is = same m is_open in
     rw (is.1, is.2) (under-kept nodes new places others (node_parent nodes m) (depth_at places m)
@@ -33,25 +33,25 @@ tree-kept nodes new places others tree same parents m is_open =
     (tree m is.0))
 
 -- words that change
-pub tree-write : (nodes : Nodes) (places others : List Place) (n : ℕ) (words : List ℕ) → ((m : ℕ) → depth_at others m ≡ depth_at places m) → IsTree nodes places → IsOpen nodes n → IsTree (with_words nodes n words) others
+pub tree-write : (nodes : Nodes) (places others : List Place) (n : ℕ) (words : List ℕ) → ((m : ℕ) → depth_at others m ≡ depth_at places m) → IsForest nodes places → IsOpen nodes n → IsForest (with_node_words nodes n words) others
 tree-write nodes places others n words depths tree is_open =
     let entry : Option Node = Some (record { parent = node_parent nodes n; words = words }) in
     let here : node_at (set nodes n entry) n ≡ entry = get_or-set_same nodes n entry None (lt-of-some nodes n is_open) in
     let there : (m : ℕ) → m ≢ n → node_at (set nodes n entry) m ≡ node_at nodes m = λ m other. get_or-set_other nodes n m entry None other in
-    tree-kept nodes (with_words nodes n words) places others tree
+    tree-kept nodes (with_node_words nodes n words) places others tree
     (λ m is. elim (cases_eq m n) [
       | inl e ↦ (rw e is_open, rw (e, here) refl, depths m)
-      | inr other ↦ (rw (there m other) at is, ap parent_of (there m other), depths m)
+      | inr other ↦ (rw (there m other) at is, ap parent_of_node (there m other), depths m)
     ])
     (λ m p is e was. elim (cases_eq p n) [ inl f ↦ rw (f, here) refl | inr other ↦ rw (there p other) was ])
 
 -- nodes that go with all their children
-pub tree-without : (nodes : Nodes) (places others : List Place) (numbers : List ℕ) → ((m : ℕ) → depth_at others m ≡ depth_at places m) → IsTree nodes places → HasAllChildren nodes numbers → IsTree (without nodes numbers) others
+pub tree-without : (nodes : Nodes) (places others : List Place) (numbers : List ℕ) → ((m : ℕ) → depth_at others m ≡ depth_at places m) → IsForest nodes places → HasAllChildren nodes numbers → IsForest (without nodes numbers) others
 tree-without nodes places others numbers depths tree children =
     let stays : (m : ℕ) → IsOpen (without nodes numbers) m → Contains numbers m → ⊥ = λ m is among. (let none : node_at (without nodes numbers) m ≡ None = gone nodes numbers m among in absurd (cc (is, none))) in
     let same : (m : ℕ) → IsOpen (without nodes numbers) m → node_at (without nodes numbers) m ≡ node_at nodes m = λ m is. kept nodes numbers m (stays m is) in
     tree-kept nodes (without nodes numbers) places others tree
-    (λ m is. (rw (same m is) at is, ap parent_of (same m is), depths m))
+    (λ m is. (rw (same m is) at is, ap parent_of_node (same m is), depths m))
     (λ m p is e was. rw (kept nodes numbers p (λ among. stays m is (children m p e among))) was)
 
 -- one more node goes
@@ -80,8 +80,8 @@ pub alone : (nodes : Nodes) (n : ℕ) → HasNoChild nodes n → HasAllChildren 
 alone nodes n no_child child parent is among = absurd (no_child child (is ∙ ap (λ (p : ℕ). Some p) (only n parent among.0 among.1 among.2)))
 
 -- a node that comes
-pub tree-open : (nodes : Nodes) (places : List Place) (n : ℕ) (words : List ℕ) (place : Place) → length places ≡ length nodes → n < length nodes → node_at nodes n ≡ None → IsTree nodes places → IsUnder nodes places place.parent place.depth →
-    IsTree (with_node nodes n (Some (record { parent = place.parent; words = words }))) (set places n place)
+pub tree-open : (nodes : Nodes) (places : List Place) (n : ℕ) (words : List ℕ) (place : Place) → length places ≡ length nodes → n < length nodes → node_at nodes n ≡ None → IsForest nodes places → IsUnder nodes places place.parent place.depth →
+    IsForest (with_node nodes n (Some (record { parent = place.parent; words = words }))) (set places n place)
 tree-open nodes places n words place count below none tree under =
     let entry : Option Node = Some (record { parent = place.parent; words = words }) in
     let here : node_at (set nodes n entry) n ≡ entry = get_or-set_same nodes n entry None below in
@@ -112,7 +112,7 @@ no-depth : (nodes : Nodes) (places : List Place) (parent : Option ℕ) → IsUnd
 no-depth nodes places None under = absurd (omega (arith, under))
 no-depth nodes places (Some p) under = absurd (omega (arith, under.1))
 
-pub sight-open : (nodes : Nodes) (places : List Place) (n levels : ℕ) → IsTree nodes places → IsOpen nodes n → depth_at places n ≡ levels → IsWholeSight nodes n levels
+pub sight-open : (nodes : Nodes) (places : List Place) (n levels : ℕ) → IsForest nodes places → IsOpen nodes n → depth_at places n ≡ levels → IsWholeSight nodes n levels
 sight-open nodes places n zero tree is deep = absurd (no-depth nodes places (node_parent nodes n) (rw deep at (tree n is)))
 sight-open nodes places n (suc levels) tree is deep =
     let rest = sight-above nodes places (node_parent nodes n) levels (rw deep at (tree n is)) (λ p there at. sight-open nodes places p levels tree there at) in
@@ -164,13 +164,13 @@ reached-above nodes places None depth under up = omega (arith, under)
 reached-above nodes places (Some p) depth under up = up p under.0 (omega (arith, under.1))
 
 -- one at a depth has one above it at each lesser depth
-reached : (nodes : Nodes) (places : List Place) (n depth : ℕ) → length places ≡ length nodes → IsTree nodes places → IsOpen nodes n → depth_at places n ≡ depth → depth ≤ up_to depth places
+reached : (nodes : Nodes) (places : List Place) (n depth : ℕ) → length places ≡ length nodes → IsForest nodes places → IsOpen nodes n → depth_at places n ≡ depth → depth ≤ up_to depth places
 reached nodes places n zero count tree is deep = omega arith
 reached nodes places n (suc depth) count tree is deep =
     let below : n < length places = rw count (lt-of-some nodes n is) in
     let more = up_to-more depth places n below deep in
     omega (arith, more, reached-above nodes places (node_parent nodes n) depth (rw deep at (tree n is)) (λ p there at. reached nodes places p depth count tree there at))
 
-pub depth-le-length : (nodes : Nodes) (places : List Place) (n : ℕ) → length places ≡ length nodes → IsTree nodes places → IsOpen nodes n → depth_at places n ≤ length places
+pub depth-le-length : (nodes : Nodes) (places : List Place) (n : ℕ) → length places ≡ length nodes → IsForest nodes places → IsOpen nodes n → depth_at places n ≤ length places
 depth-le-length nodes places n count tree is =
     omega (arith, reached nodes places n (depth_at places n) count tree is refl, up_to-le-length (depth_at places n) places)

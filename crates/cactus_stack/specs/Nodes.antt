@@ -48,30 +48,30 @@ abbrev pub IsUnused : Nodes → ℕ → Type 0
 IsUnused nodes number = (number < length nodes) × (node_at nodes number ≡ None)
 
 -- the words of an entry; [] where no node is open
-abbrev pub words_of : Option Node → List ℕ
-words_of None = []
-words_of (Some node) = node.words
+abbrev pub words_of_node : Option Node → List ℕ
+words_of_node None = []
+words_of_node (Some node) = node.words
 
 -- the parent of an entry; None for a root, and where no node is open
-abbrev pub parent_of : Option Node → Option ℕ
-parent_of None = None
-parent_of (Some node) = node.parent
+abbrev pub parent_of_node : Option Node → Option ℕ
+parent_of_node None = None
+parent_of_node (Some node) = node.parent
 
 -- the words of the node of a number; [] where none is open
 abbrev pub node_words : Nodes → ℕ → List ℕ
-node_words nodes number = words_of (node_at nodes number)
+node_words nodes number = words_of_node (node_at nodes number)
 
 -- the parent of the node of a number; None for a root, and where no node is open
 abbrev pub node_parent : Nodes → ℕ → Option ℕ
-node_parent nodes number = parent_of (node_at nodes number)
+node_parent nodes number = parent_of_node (node_at nodes number)
 
 -- the stack with this entry under the number, and every other entry as it was
 abbrev pub with_node : Nodes → ℕ → Option Node → Nodes
 with_node nodes number entry = slice_set nodes number entry
 
 -- the stack with these words under the number: its parent stays, and so does every other node
-abbrev pub with_words : Nodes → ℕ → List ℕ → Nodes
-with_words nodes number words = with_node nodes number (Some (record { parent = node_parent nodes number; words = words }))
+abbrev pub with_node_words : Nodes → ℕ → List ℕ → Nodes
+with_node_words nodes number words = with_node nodes number (Some (record { parent = node_parent nodes number; words = words }))
 
 -- the words that a new node of this size holds: those that are given, then zeros
 abbrev pub padded : List ℕ → ℕ → List ℕ

@@ -34,13 +34,13 @@ abbrev pub segments_of : Segments → ℕ → ℕ → List ℕ
 segments_of region number len = chain (charge len) region (Some number)
 
 -- the words of the node of this number and length
-abbrev pub words_in : Segments → ℕ → ℕ → List ℕ
-words_in region number len = take len (content region (segments_of region number len))
+abbrev pub words_in_chain : Segments → ℕ → ℕ → List ℕ
+words_in_chain region number len = take len (content region (segments_of region number len))
 
 -- the entry of a number whose node has this length and parent; None where the length is 0
 abbrev pub node_in : Segments → ℕ → ℕ → Option ℕ → Option Node
 node_in region number zero parent = None
-node_in region number (suc len) parent = Some (record { parent = parent; words = words_in region number (suc len) })
+node_in region number (suc len) parent = Some (record { parent = parent; words = words_in_chain region number (suc len) })
 
 -- the entries of the numbers from `number` on, given the place of each
 abbrev pub nodes_from : Segments → ℕ → List Place → Nodes
@@ -69,13 +69,13 @@ IsUnder nodes places None depth = depth ≡ 1
 IsUnder nodes places (Some parent) depth = IsOpen nodes parent × (depth ≡ (place_at places parent).depth + 1)
 
 -- each open node is a root at depth 1, or one deeper than its parent, which is open too
-abbrev pub IsTree : Nodes → List Place → Type 0
-IsTree nodes places = (n : ℕ) → IsOpen nodes n → IsUnder nodes places (node_parent nodes n) (place_at places n).depth
+abbrev pub IsForest : Nodes → List Place → Type 0
+IsForest nodes places = (n : ℕ) → IsOpen nodes n → IsUnder nodes places (node_parent nodes n) (place_at places n).depth
 
 -- the invariant of a stack
 pub record IsStack (region : Segments) (places : List Place) : Type 0 where
   pub stored : AreStored region places
-  pub tree : IsTree (nodes_from region 0 places) places
+  pub tree : IsForest (nodes_from region 0 places) places
 
 -- the words of a node and of its ancestors, nearest first, for at most `levels` levels
 abbrev pub sight_within : ℕ → Nodes → Option ℕ → List (List ℕ)

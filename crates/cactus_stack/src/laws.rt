@@ -1,6 +1,6 @@
 //! What the words of the contracts mean, as laws: calls that do nothing, with the law as their contract.
 ghost use Rattle.std.specs.Prelude.{◌≡◌, ◌≢◌, ◌+◌, ◌<◌, ℕ, List, [], ◌∷◌, ◌++◌, length, map, Option, None, Some, Contains, AllPairs, sum_by, replicate};
-ghost use Rattle.cactus_stack.specs.Nodes.{Nodes, Node, node_at, node_words, node_parent, with_node, with_words, without, padded, charge, charge_of, growth_charge, total_charge, free_segments, segment_count, IsSight, IsPath};
+ghost use Rattle.cactus_stack.specs.Nodes.{Nodes, Node, node_at, node_words, node_parent, with_node, with_node_words, without, padded, charge, charge_of, growth_charge, total_charge, free_segments, segment_count, IsSight, IsPath};
 
 /// An entry that is put under one number leaves what stands under every other, and words that
 /// change leave their node's parent.
@@ -12,9 +12,9 @@ pub fn nodes_are_apart()
     ensures count { (nodes : Nodes) (n : ℕ) (entry : Option Node) →
         segment_count (with_node nodes n entry) ≡ segment_count nodes }
     ensures parent { (nodes : Nodes) (n : ℕ) (words : List ℕ) →
-        node_parent (with_words nodes n words) n ≡ node_parent nodes n }
+        node_parent (with_node_words nodes n words) n ≡ node_parent nodes n }
     ensures words { (nodes : Nodes) (n : ℕ) (words : List ℕ) → n < segment_count nodes →
-        node_words (with_words nodes n words) n ≡ words }
+        node_words (with_node_words nodes n words) n ≡ words }
 {}
 
 /// Putting an entry changes the total charge by the difference of its charge and that of the entry before; a new stack

@@ -1,6 +1,6 @@
 //! The stack: nodes that are opened under one another, grown, written and closed.
 ghost use Rattle.std.specs.Prelude.{◌≡◌, ◌≢◌, ◌↔◌, ◌+◌, ◌<◌, ◌≤◌, ℕ, ◌++◌, length, replicate, Some, None, IfSome, IfOk, OnOk, OnErr, IsErr, slice_set, All, AllPairs};
-ghost use Rattle.cactus_stack.specs.Nodes.{Node, IsOpen, IsUnused, HasNoChild, HasAllChildren, IsSight, with_node, with_words, without, node_words, node_parent, padded, charge, growth_charge, total_charge, free_segments, segment_count};
+ghost use Rattle.cactus_stack.specs.Nodes.{Node, IsOpen, IsUnused, HasNoChild, HasAllChildren, IsSight, with_node, with_node_words, without, node_words, node_parent, padded, charge, growth_charge, total_charge, free_segments, segment_count};
 ghost use Rattle.cactus_stack.specs.Places.{nodes_from, with_len, AreStored};
 
 use crate::chain::{fresh_chain, give_chain, grow_chain, segment_after};
@@ -108,7 +108,7 @@ impl<A: Allocator> Stack<A> {
     pub fn grow(&mut self, node: NodeNo, more: usize) -> Result<(), NoSegment>
         requires is_open { IsOpen self.old node }
         requires in_limits { length (node_words self.old node) + more ≤ 128 }
-        ensures grown { OnOk result (self.new ≡ with_words self.old node (node_words self.old node ++ replicate more 0)) }
+        ensures grown { OnOk result (self.new ≡ with_node_words self.old node (node_words self.old node ++ replicate more 0)) }
         ensures refused { IsErr result ↔ (free_segments self.old < growth_charge (length (node_words self.old node)) more) }
         ensures unchanged { OnErr result (self.new ≡ self.old) }
     {
@@ -128,7 +128,7 @@ impl<A: Allocator> Stack<A> {
     pub fn store(&mut self, node: NodeNo, at: usize, word: u64)
         requires is_open { IsOpen self.old node }
         requires in_bounds { at < length (node_words self.old node) }
-        ensures { self.new ≡ with_words self.old node (slice_set (node_words self.old node) at word) }
+        ensures { self.new ≡ with_node_words self.old node (slice_set (node_words self.old node) at word) }
     {
         let segment = segment_after(&self.region.view(), node.first(), at / 16);
         self.region.words_mut(segment)[at % 16] = word;

@@ -19,20 +19,20 @@ impl<'a> Model for Words<'a> {
 
     ghost Value = { List ℕ };
 
-    ghost use Rattle.cactus_stack.specs.Places.{words_in, IsSoundList};
+    ghost use Rattle.cactus_stack.specs.Places.{words_in_chain, IsSoundList};
 
-    ghost view = { λ words. words_in words.region words.first words.len };
+    ghost view = { λ words. words_in_chain words.region words.first words.len };
 
     ghost invariant = { λ words. IsSoundList words.region words.first words.len };
 }
 
 impl<'a> Words<'a> {
-    ghost use Rattle.cactus_stack.specs.Places.{words_in, IsSoundList};
+    ghost use Rattle.cactus_stack.specs.Places.{words_in_chain, IsSoundList};
 
     /// The words of the list of this number and length.
     pub(crate) fn of(region: RegionView<'a>, first: SegNo, len: usize) -> Words<'a>
         requires { IsSoundList region first len }
-        ensures { result ≡ words_in region.entry first len }
+        ensures { result ≡ words_in_chain region.entry first len }
     {
         Words { region, first, len }
     }

@@ -16,7 +16,7 @@ use Rattle.customer_book.specs.Amounts.{of_one, plus, IsWithin}
 use Rattle.customer_book.specs.Plans.{Plan, sums_fit, places_in, named_sessions, budget_in, budget_of, is_too_great, nobody}
 use Rattle.customer_book.specs.Grants.{is_in, used, is_held_as, without, with_ask, free_server}
 use Rattle.customer_book.specs.Keeping.{no_server, server_at, IsPlaced, IsNamedIn, IsClaimed, HasClaims, limits}
-use Rattle.customer_book.specs.Allowed.{HasLeft}
+use Rattle.customer_book.specs.Allowed.{HasBudgetFor}
 use Rattle.customer_book.specs.Reloads.{is_same_server, keeps_servers, named_claims, class_holds, classes_hold}
 use Rattle.customer_book.proofs.NameLemmas.{same-is}
 use Rattle.customer_book.proofs.PlanLemmas.{class_fits-of}
@@ -33,7 +33,7 @@ sessions-push part gs g limit now more = elim (cases_Bool (is_in part g)) [
 ]
 
 pub claims-open : (plan : Plan) (grants : List Held) (own : ℕ → ℕ → ℕ) (guests : ℕ → ℕ) (who : Who) (session class : ℕ) (ask : Ask) → is_too_great plan.classes class ask ≡ false →
-    HasLeft plan who class ask (used (Own who class) grants) (used (Guests class) grants) → IsClaimed plan grants own guests →
+    HasBudgetFor plan who class ask (used (Own who class) grants) (used (Guests class) grants) → IsClaimed plan grants own guests →
     IsClaimed plan (grants ++ record { who = who; session = session; class = class; ask = ask; server = free_server class plan.servers grants } ∷ []) own guests
 claims-open plan grants own guests who session class ask great may claims =
     let g : Held = record { who = who; session = session; class = class; ask = ask; server = free_server class plan.servers grants } in

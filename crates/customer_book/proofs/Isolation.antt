@@ -20,7 +20,7 @@ use Rattle.customer_book.specs.Grants.{used, grant_of, has_grant, without, with_
 use Rattle.customer_book.specs.Ledgers.{Ledger, guest_account, with_guest, is_known, account_of, with_account, is_crowded, charged_account, charged, or_else, first_of, why_over, why_no_line, why_no_grant, why_not_open, why_no_raise, why_not_raise, refusal_for, refusal_with, new_grant, after_line, after, answer_to}
 use Rattle.customer_book.specs.declared.event.Event.{Event}
 use Rattle.customer_book.specs.declared.event.Event.TheVariants.{Opens, Raises, Says, Closes, Comes}
-use Rattle.customer_book.specs.Runs.{at_any, grants_of, is_of, is_kept, only, run, answers_of}
+use Rattle.customer_book.specs.Runs.{at_any, grants_of, is_of, is_kept, only_events, run, answers_of}
 use Rattle.customer_book.proofs.NameLemmas.{same-is}
 use Rattle.customer_book.proofs.Views.{used-own, used-guests, has-theirs, grant-theirs, without-theirs, without-others, with_ask-theirs, with_ask-others, push-theirs, push-others}
 
@@ -283,7 +283,7 @@ of-many few many (Comes moment) among own = absurd cc
 
 -- a whole list
 pub run-alike : (few many : Who → Bool) (a b : Ledger) (events : List Event) → ((w : Who) → few w ≡ true → many w ≡ true) → IsWhole many → Alike many a b →
-    Alike many (run a events) (run b (only many events)) × (answers_of few a events ≡ answers_of few b (only many events))
+    Alike many (run a events) (run b (only_events many events)) × (answers_of few a events ≡ answers_of few b (only_events many events))
 run-alike few many a b [] among whole alike = (alike, refl)
 run-alike few many a b (event ∷ events) among whole alike = elim (cases_Bool (is_kept many event)) [
   | inl kept ↦ (let rest = run-alike few many (after a event) (after b event) events among whole (after-alike many a b event whole alike kept) in

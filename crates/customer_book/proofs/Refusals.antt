@@ -14,7 +14,7 @@ use Rattle.customer_book.specs.Rates.{has_one, whole_of}
 use Rattle.customer_book.specs.Plans.{Plan, terms_of, budget_of, budget_in, class_at, is_too_great}
 use Rattle.customer_book.specs.Grants.{used, grant_of, has_grant, without, is_lower}
 use Rattle.customer_book.specs.Ledgers.{Ledger, account_of, is_known, is_crowded, first_of, or_else, is_over_budget, is_over_pool, why_over, why_no_line, why_no_grant, why_not_open, why_no_raise, why_not_raise}
-use Rattle.customer_book.specs.Allowed.{MaySay, IsSmallEnough, HasLeft, MayBegin, IsMore, MayGrow}
+use Rattle.customer_book.specs.Allowed.{MaySay, IsSmallEnough, HasBudgetFor, MayBegin, IsMore, MayGrow}
 use Rattle.customer_book.proofs.AmountLemmas.{test-within}
 use Rattle.customer_book.proofs.Soundness.{none-both, none-first, allowed}
 
@@ -88,7 +88,7 @@ over-none : (guest test : Bool) → (guest ≡ true → test ≡ true) → (gues
 over-none true test has = ap not (has refl)
 over-none false test has = refl
 
-left-to : (plan : Plan) (who : Who) (class : ℕ) (ask : Ask) (own guests : Amount) → HasLeft plan who class ask own guests → why_over plan who class ask own guests ≡ None
+left-to : (plan : Plan) (who : Who) (class : ℕ) (ask : Ask) (own guests : Amount) → HasBudgetFor plan who class ask own guests → why_over plan who class ask own guests ≡ None
 left-to plan who class ask own guests left =
     first-none (is_over_budget plan who class ask own) Budget ((is_over_pool plan who class ask guests, Pool) ∷ []) (ap not (test-within (plus (of_one ask) own) (budget_of plan who class) left.own))
     (first-none (is_over_pool plan who class ask guests) Pool [] (over-none (is_guest who) (is_within (plus (of_one ask) guests) (budget_in plan.pool class)) (λ guest. test-within (plus (of_one ask) guests) (budget_in plan.pool class) (left.guests guest))) refl)

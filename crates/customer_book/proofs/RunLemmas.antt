@@ -19,7 +19,7 @@ use Rattle.customer_book.specs.Grants.{used, is_held_as, grant_of, without, with
 use Rattle.customer_book.specs.Ledgers.{Ledger, new_ledger, with_account, why_no_line, why_no_raise, why_not_open, why_not_raise, new_grant, after_line, after, answer_to, refusal_with}
 use Rattle.customer_book.specs.declared.event.Event.{Event}
 use Rattle.customer_book.specs.declared.event.Event.TheVariants.{Opens, Raises, Says, Closes, Comes}
-use Rattle.customer_book.specs.Keeping.{no_server, server_at, IsSeated, IsSound}
+use Rattle.customer_book.specs.Keeping.{no_server, server_at, IsSeated, AreSoundGrants}
 use Rattle.customer_book.specs.Runs.{run, answers, totals_of, Name, names_without, open_after, still_open, names_of}
 use Rattle.customer_book.proofs.Soundness.{none-both, may-open, may-raise, sound-new, sound-open, sound-raise, sound-close, servers-parts}
 
@@ -52,16 +52,16 @@ plan-run book (event ∷ events) = plan-run (after book event) events ∙ plan-a
 
 -- each event keeps the grants sound
 
-sound-line : (plan : Plan) (book : Ledger) (who : Who) (why : Option Cause) (gs : List Held) → IsSound plan book.grants → (why ≡ None → IsSound plan gs) → IsSound plan (after_line book who why gs).grants
+sound-line : (plan : Plan) (book : Ledger) (who : Who) (why : Option Cause) (gs : List Held) → AreSoundGrants plan book.grants → (why ≡ None → AreSoundGrants plan gs) → AreSoundGrants plan (after_line book who why gs).grants
 sound-line plan book who None gs now then = then refl
-sound-line plan book who (Some cause) gs now then = subst (IsSound plan) (sym (grants-with book who _)) now
+sound-line plan book who (Some cause) gs now then = subst (AreSoundGrants plan) (sym (grants-with book who _)) now
 
-pub raise-sound : (book : Ledger) (who : Who) (session : ℕ) (ask : Ask) (found : Option Held) → IsSound book.plan book.grants → grant_of who session book.grants ≡ found → why_no_raise book who session ask found ≡ None → IsSound book.plan (with_ask who session ask book.grants)
+pub raise-sound : (book : Ledger) (who : Who) (session : ℕ) (ask : Ask) (found : Option Held) → AreSoundGrants book.plan book.grants → grant_of who session book.grants ≡ found → why_no_raise book who session ask found ≡ None → AreSoundGrants book.plan (with_ask who session ask book.grants)
 raise-sound book who session ask None sound is none = absurd cc
 raise-sound book who session ask (Some held) sound is none =
     let may = may-raise book who session ask held none in sound-raise book.plan book.grants who session ask held sound is may.great may.allowed
 
-pub sound-after : (book : Ledger) (event : Event) → sums_fit book.plan ≡ true → IsSound book.plan book.grants → IsSound book.plan (after book event).grants
+pub sound-after : (book : Ledger) (event : Event) → sums_fit book.plan ≡ true → AreSoundGrants book.plan book.grants → AreSoundGrants book.plan (after book event).grants
 sound-after book (Opens who session class ask) fit sound =
     sound-line book.plan book who (why_not_open book who session class ask) _ sound
     (λ none. let may = may-open book who session class ask none in (sound-open book.plan book.grants who session class ask fit sound may.great may.allowed).sound)
@@ -72,15 +72,15 @@ sound-after book (Says who) fit sound = sound-line book.plan book who (why_no_li
 sound-after book (Closes who session) fit sound = sound-close book.plan book.grants who session sound
 sound-after book (Comes moment) fit sound = sound
 
-pub sound-run : (book : Ledger) (events : List Event) → sums_fit book.plan ≡ true → IsSound book.plan book.grants → IsSound book.plan (run book events).grants
+pub sound-run : (book : Ledger) (events : List Event) → sums_fit book.plan ≡ true → AreSoundGrants book.plan book.grants → AreSoundGrants book.plan (run book events).grants
 sound-run book [] fit sound = sound
 sound-run book (event ∷ events) fit sound =
     let same = plan-after book event in
-    let next : IsSound (after book event).plan (after book event).grants = subst (λ p. IsSound p (after book event).grants) (sym same) (sound-after book event fit sound) in
+    let next : AreSoundGrants (after book event).plan (after book event).grants = subst (λ p. AreSoundGrants p (after book event).grants) (sym same) (sound-after book event fit sound) in
     let rest = sound-run (after book event) events (ap sums_fit same ∙ fit) next in
-    subst (λ p. IsSound p (run (after book event) events).grants) same rest
+    subst (λ p. AreSoundGrants p (run (after book event) events).grants) same rest
 
-pub sound-new_run : (plan : Plan) (events : List Event) → sums_fit plan ≡ true → IsSound plan (run (new_ledger plan) events).grants
+pub sound-new_run : (plan : Plan) (events : List Event) → sums_fit plan ≡ true → AreSoundGrants plan (run (new_ledger plan) events).grants
 sound-new_run plan events fit = sound-run (new_ledger plan) events fit (sound-new plan)
 
 -- no server has more than its totals
@@ -126,7 +126,7 @@ bounded-at plan n (g ∷ gs) all =
 within_total : (sum n places most total : ℕ) → sum ≤ n * most → n ≤ places → places * most ≤ total → sum ≤ total
 within_total sum n places most total all few fits = le_trans all (le_trans (mul-le-mul_right most few) fits)
 
-pub server-within : (plan : Plan) (gs : List Held) (n : ℕ) → sums_fit plan ≡ true → IsSound plan gs → IsWithin (used (At n) gs) (totals_of (server_at plan n))
+pub server-within : (plan : Plan) (gs : List Held) (n : ℕ) → sums_fit plan ≡ true → AreSoundGrants plan gs → IsWithin (used (At n) gs) (totals_of (server_at plan n))
 server-within plan gs n fit sound =
     let bounded = bounded-at plan n gs sound.seated in
     let few = sound.places n in

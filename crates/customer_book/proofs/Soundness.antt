@@ -17,8 +17,8 @@ use Rattle.customer_book.specs.Amounts.{nothing, of_one, plus, IsWithin, is_with
 use Rattle.customer_book.specs.Plans.{Plan, sums_fit, are_few, all_places, servers_fit, classes_fit, budget_in, budget_of, is_too_great, nobody}
 use Rattle.customer_book.specs.Grants.{is_in, used, grant_of, has_grant, without, with_ask, free_server, is_lower}
 use Rattle.customer_book.specs.Ledgers.{Ledger, first_of, or_else, why_over, why_no_line, why_no_grant, why_not_open, why_no_raise, is_over_budget, is_over_pool}
-use Rattle.customer_book.specs.Keeping.{server_at, IsSeated, IsPlaced, IsNamedIn, IsSound}
-use Rattle.customer_book.specs.Allowed.{HasLeft}
+use Rattle.customer_book.specs.Keeping.{server_at, IsSeated, IsPlaced, IsNamedIn, AreSoundGrants}
+use Rattle.customer_book.specs.Allowed.{HasBudgetFor}
 use Rattle.customer_book.proofs.PlanLemmas.{class_fits-of}
 use Rattle.customer_book.proofs.AmountLemmas.{within-test, within_trans}
 use Rattle.customer_book.proofs.NameLemmas.{same-is}
@@ -40,7 +40,7 @@ not_over true true nay is = refl
 not_over true false nay is = absurd cc
 not_over false test nay is = absurd cc
 
-pub allowed : (plan : Plan) (who : Who) (class : ℕ) (ask : Ask) (own guests : Amount) → why_over plan who class ask own guests ≡ None → HasLeft plan who class ask own guests
+pub allowed : (plan : Plan) (who : Who) (class : ℕ) (ask : Ask) (own guests : Amount) → why_over plan who class ask own guests ≡ None → HasBudgetFor plan who class ask own guests
 allowed plan who class ask own guests none =
     let first = none-first (is_over_budget plan who class ask own) Budget ((is_over_pool plan who class ask guests, Pool) ∷ []) none in
     let second = none-first (is_over_pool plan who class ask guests) Pool [] first.1 in
@@ -52,7 +52,7 @@ allowed plan who class ask own guests none =
 -- what a new grant has passed
 pub record MayOpen (book : Ledger) (who : Who) (class : ℕ) (ask : Ask) : Type 0 where
   pub great : is_too_great book.plan.classes class ask ≡ false
-  pub allowed : HasLeft book.plan who class ask (used (Own who class) book.grants) (used (Guests class) book.grants)
+  pub allowed : HasBudgetFor book.plan who class ask (used (Own who class) book.grants) (used (Guests class) book.grants)
 
 pub may-open : (book : Ledger) (who : Who) (session class : ℕ) (ask : Ask) → why_not_open book who session class ask ≡ None → MayOpen book who class ask
 may-open book who session class ask none =
@@ -66,7 +66,7 @@ may-open book who session class ask none =
 -- what a raise has passed
 pub record MayRaise (book : Ledger) (who : Who) (session : ℕ) (ask : Ask) (held : Held) : Type 0 where
   pub great : is_too_great book.plan.classes held.class ask ≡ false
-  pub allowed : HasLeft book.plan who held.class ask (used (Own who held.class) (without who session book.grants)) (used (Guests held.class) (without who session book.grants))
+  pub allowed : HasBudgetFor book.plan who held.class ask (used (Own who held.class) (without who session book.grants)) (used (Guests held.class) (without who session book.grants))
 
 pub may-raise : (book : Ledger) (who : Who) (session : ℕ) (ask : Ask) (held : Held) → why_no_raise book who session ask (Some held) ≡ None → MayRaise book who session ask held
 may-raise book who session ask held none =
@@ -121,7 +121,7 @@ servers-parts plan fit = (fits-parts plan fit).1
 
 -- a new book
 
-pub sound-new : (plan : Plan) → IsSound plan []
+pub sound-new : (plan : Plan) → AreSoundGrants plan []
 sound-new plan = record {
   own = λ who class. record { sessions = omega arith; segments = omega arith; nodes = omega arith };
   guests = λ class. record { sessions = omega arith; segments = omega arith; nodes = omega arith };
@@ -132,11 +132,11 @@ sound-new plan = record {
 -- a new grant
 
 pub record IsOpening (plan : Plan) (grants : List Held) (g : Held) : Type 0 where
-  pub sound : IsSound plan (grants ++ g ∷ [])
+  pub sound : AreSoundGrants plan (grants ++ g ∷ [])
   pub server : g.server < length plan.servers
 
-pub sound-open : (plan : Plan) (grants : List Held) (who : Who) (session class : ℕ) (ask : Ask) → sums_fit plan ≡ true → IsSound plan grants →
-    is_too_great plan.classes class ask ≡ false → HasLeft plan who class ask (used (Own who class) grants) (used (Guests class) grants) →
+pub sound-open : (plan : Plan) (grants : List Held) (who : Who) (session class : ℕ) (ask : Ask) → sums_fit plan ≡ true → AreSoundGrants plan grants →
+    is_too_great plan.classes class ask ≡ false → HasBudgetFor plan who class ask (used (Own who class) grants) (used (Guests class) grants) →
     IsOpening plan grants (record { who = who; session = session; class = class; ask = ask; server = free_server class plan.servers grants })
 sound-open plan grants who session class ask fit sound great may =
     let g : Held = record { who = who; session = session; class = class; ask = ask; server = free_server class plan.servers grants } in
@@ -182,9 +182,9 @@ sound-open plan grants who session class ask fit sound great may =
 
 -- a raise
 
-pub sound-raise : (plan : Plan) (grants : List Held) (who : Who) (session : ℕ) (ask : Ask) (held : Held) → IsSound plan grants → grant_of who session grants ≡ Some held →
-    is_too_great plan.classes held.class ask ≡ false → HasLeft plan who held.class ask (used (Own who held.class) (without who session grants)) (used (Guests held.class) (without who session grants)) →
-    IsSound plan (with_ask who session ask grants)
+pub sound-raise : (plan : Plan) (grants : List Held) (who : Who) (session : ℕ) (ask : Ask) (held : Held) → AreSoundGrants plan grants → grant_of who session grants ≡ Some held →
+    is_too_great plan.classes held.class ask ≡ false → HasBudgetFor plan who held.class ask (used (Own who held.class) (without who session grants)) (used (Guests held.class) (without who session grants)) →
+    AreSoundGrants plan (with_ask who session ask grants)
 sound-raise plan grants who session ask held sound is great may =
     let own = same-is who held.who (and_parts (same_who who held.who) (eqb session held.session) (found-own who session grants held is)).0 in
     record {
@@ -209,7 +209,7 @@ sound-raise plan grants who session ask held sound is great may =
 
 -- an end
 
-pub sound-close : (plan : Plan) (grants : List Held) (who : Who) (session : ℕ) → IsSound plan grants → IsSound plan (without who session grants)
+pub sound-close : (plan : Plan) (grants : List Held) (who : Who) (session : ℕ) → AreSoundGrants plan grants → AreSoundGrants plan (without who session grants)
 sound-close plan grants who session sound = record {
   own = λ w k. within_trans _ _ _ (used-without_le (Own w k) who session grants) (sound.own w k);
   guests = λ k. within_trans _ _ _ (used-without_le (Guests k) who session grants) (sound.guests k);

@@ -32,7 +32,7 @@ pub record IsSmallEnough (plan : Plan) (class : ℕ) (ask : Ask) : Type 0 where
   pub nodes : ask.nodes ≤ (class_at plan.classes class).most_nodes
 
 -- so much more than what the customer has is within its budget, and of a guest, than what all guests have within theirs
-pub record HasLeft (plan : Plan) (who : Who) (class : ℕ) (ask : Ask) (mine theirs : Amount) : Type 0 where
+pub record HasBudgetFor (plan : Plan) (who : Who) (class : ℕ) (ask : Ask) (mine theirs : Amount) : Type 0 where
   pub own : IsWithin (plus (of_one ask) mine) (budget_of plan who class)
   pub guests : is_guest who ≡ true → IsWithin (plus (of_one ask) theirs) (budget_in plan.pool class)
 
@@ -41,7 +41,7 @@ pub record MayBegin (book : Ledger) (who : Who) (session class : ℕ) (ask : Ask
   pub line : MaySay book who
   pub new : has_grant who session book.grants ≡ false
   pub small : IsSmallEnough book.plan class ask
-  pub left : HasLeft book.plan who class ask (used (Own who class) book.grants) (used (Guests class) book.grants)
+  pub left : HasBudgetFor book.plan who class ask (used (Own who class) book.grants) (used (Guests class) book.grants)
 
 -- more in segments or nodes than now, and less in neither
 pub record IsMore (now ask : Ask) : Type 0 where
@@ -54,4 +54,4 @@ pub record MayGrow (book : Ledger) (who : Who) (session : ℕ) (ask : Ask) (held
   pub line : MaySay book who
   pub more : IsMore held.ask ask
   pub small : IsSmallEnough book.plan held.class ask
-  pub left : HasLeft book.plan who held.class ask (used (Own who held.class) (without who session book.grants)) (used (Guests held.class) (without who session book.grants))
+  pub left : HasBudgetFor book.plan who held.class ask (used (Own who held.class) (without who session book.grants)) (used (Guests held.class) (without who session book.grants))

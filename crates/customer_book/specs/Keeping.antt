@@ -70,7 +70,7 @@ pub record HasClaims (plan : Plan) (grants : List Held) : Type 0 where
 
 -- each customer's grants are within its budget, those of all guests within theirs, and each server has a place for each of
 -- its grants
-pub record IsSound (plan : Plan) (grants : List Held) : Type 0 where
+pub record AreSoundGrants (plan : Plan) (grants : List Held) : Type 0 where
   pub own : (who : Who) (class : ℕ) → IsWithin (used (Own who class) grants) (budget_of plan who class)
   pub guests : (class : ℕ) → IsWithin (used (Guests class) grants) (budget_in plan.pool class)
   pub places : (number : ℕ) → (used (At number) grants).sessions ≤ (server_at plan number).places

@@ -37,9 +37,9 @@ is_kept is_one (Closes who session) = is_one who
 is_kept is_one (Comes moment) = true
 
 -- the events with those of all others removed
-abbrev pub only : (Who → Bool) → List Event → List Event
-only is_one [] = []
-only is_one (event ∷ events) = if is_kept is_one event then event ∷ only is_one events else only is_one events
+abbrev pub only_events : (Who → Bool) → List Event → List Event
+only_events is_one [] = []
+only_events is_one (event ∷ events) = if is_kept is_one event then event ∷ only_events is_one events else only_events is_one events
 
 -- the answers to their events
 abbrev pub answers_of : (Who → Bool) → Ledger → List Event → List (Option Refusal)

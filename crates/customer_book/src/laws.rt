@@ -16,7 +16,7 @@ ghost use Rattle.customer_book.specs.Allowed.{MaySay, MayBegin, MayGrow};
 ghost use Rattle.customer_book.specs.declared.held.Held.{Held};
 ghost use Rattle.customer_book.specs.Keeping.{server_at, IsSeated, IsPlaced};
 ghost use Rattle.customer_book.specs.Reloads.{Step, step, go, go_answers, only_steps, step_answers_of, still_open_after, AreAllowed};
-ghost use Rattle.customer_book.specs.Runs.{run, answers, only, answers_of, grants_of, totals_of, still_open, names_of};
+ghost use Rattle.customer_book.specs.Runs.{run, answers, only_events, answers_of, grants_of, totals_of, still_open, names_of};
 
 /// Nobody is over budget, and no server is oversold: after every list of events on a new book of a file whose sums fit.
 pub fn nobody_is_over_budget()
@@ -34,13 +34,13 @@ pub fn nobody_is_over_budget()
 /// that list with all others' events removed. The same holds of all guests together, and so of each.
 pub fn no_customer_is_disturbed()
     ensures told { (plan : Plan) (events : List Event) (number : ℕ) →
-        answers_of (same_who (Named number)) (new_ledger plan) events ≡ answers_of (same_who (Named number)) (new_ledger plan) (only (same_who (Named number)) events) }
+        answers_of (same_who (Named number)) (new_ledger plan) events ≡ answers_of (same_who (Named number)) (new_ledger plan) (only_events (same_who (Named number)) events) }
     ensures grants { (plan : Plan) (events : List Event) (number : ℕ) →
-        grants_of (same_who (Named number)) (run (new_ledger plan) events).grants ≡ grants_of (same_who (Named number)) (run (new_ledger plan) (only (same_who (Named number)) events)).grants }
+        grants_of (same_who (Named number)) (run (new_ledger plan) events).grants ≡ grants_of (same_who (Named number)) (run (new_ledger plan) (only_events (same_who (Named number)) events)).grants }
     ensures guests_told { (plan : Plan) (events : List Event) (guest : Who) → IsTrue (is_guest guest) →
-        answers_of (same_who guest) (new_ledger plan) events ≡ answers_of (same_who guest) (new_ledger plan) (only is_guest events) }
+        answers_of (same_who guest) (new_ledger plan) events ≡ answers_of (same_who guest) (new_ledger plan) (only_events is_guest events) }
     ensures guests_grants { (plan : Plan) (events : List Event) (guest : Who) → IsTrue (is_guest guest) →
-        grants_of (same_who guest) (run (new_ledger plan) events).grants ≡ grants_of (same_who guest) (run (new_ledger plan) (only is_guest events)).grants }
+        grants_of (same_who guest) (run (new_ledger plan) events).grants ≡ grants_of (same_who guest) (run (new_ledger plan) (only_events is_guest events)).grants }
 {}
 
 /// All comes back: the grants that are out are those of the sessions that were opened and have not ended, and when every

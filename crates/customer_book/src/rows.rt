@@ -9,7 +9,7 @@ ghost use Rattle.customer_book.specs.Plans.{sums_fit, budget_of};
 ghost use Rattle.customer_book.specs.Grants.{used};
 ghost use Rattle.customer_book.specs.Ledgers.{new_ledger};
 ghost use Rattle.customer_book.specs.declared.event.Event.TheVariants.{Opens, Raises, Says, Closes, Comes};
-ghost use Rattle.customer_book.specs.Runs.{run, only, still_open, answers};
+ghost use Rattle.customer_book.specs.Runs.{run, only_events, still_open, answers};
 ghost use Rattle.customer_book.specs.declared.held.Held.{Held};
 ghost use Rattle.customer_book.specs.Names.{is_guest};
 ghost use Rattle.customer_book.specs.Rows.{amount, ask, rate, server, site, small, school, causes, waits, two_servers, two_grants, step_causes};
@@ -74,7 +74,7 @@ pub fn two_guests()
     ensures crowd { causes (Says (V4 7) ∷ Says (V4 8) ∷ Says (V4 9) ∷ Says (V4 8) ∷ Comes 10 ∷ Says (V4 9) ∷ [])
         ≡ None ∷ None ∷ Some Pool ∷ None ∷ None ∷ None ∷ [] }
     ensures together { used (Guests 0) (run (new_ledger small) (Opens (V4 7) 1 0 (ask 5 50) ∷ Opens school 1 0 (ask 5 50) ∷ [])).grants ≡ amount 1 5 50 }
-    ensures removed { only is_guest (Opens (V4 7) 1 0 (ask 5 50) ∷ Opens school 1 0 (ask 5 50) ∷ Comes 3 ∷ Says (V6 1) ∷ [])
+    ensures removed { only_events is_guest (Opens (V4 7) 1 0 (ask 5 50) ∷ Opens school 1 0 (ask 5 50) ∷ Comes 3 ∷ Says (V6 1) ∷ [])
         ≡ Opens (V4 7) 1 0 (ask 5 50) ∷ Comes 3 ∷ Says (V6 1) ∷ [] }
     ensures left { still_open [] (Opens (V4 7) 1 0 (ask 5 50) ∷ Opens (V4 8) 2 0 (ask 5 50) ∷ Opens school 3 0 (ask 5 50) ∷ Closes school 3 ∷ [])
         (answers (new_ledger small) (Opens (V4 7) 1 0 (ask 5 50) ∷ Opens (V4 8) 2 0 (ask 5 50) ∷ Opens school 3 0 (ask 5 50) ∷ Closes school 3 ∷ []))

@@ -1,6 +1,6 @@
 //! What the definitions of `desk` give, for all values.
 ghost use Rattle.std.specs.Prelude.{Err, List, None, Ok, Option, Result, Some, [], false, if◌then◌else◌, is_ok, length, not, ℕ, ◌&&◌, ◌++◌, ◌+◌, ◌-◌, ◌==◌, ◌||◌, ◌∷◌, ◌≡◌, ◌≢◌};
-ghost use Rattle.desk.specs.Counts.{IsAsOpen, IsLeft, IsNext, IsOffered, KeptOf, after_offer, found_or_no_tenant, has_news, is_live, waits_on, with_kept};
+ghost use Rattle.desk.specs.Counts.{IsAsOpen, IsLeft, IsNext, IsOffered, LockedHallOf, after_offer, found_or_no_tenant, has_news, is_some_live, waits_on, with_kept};
 ghost use Rattle.desk.specs.Seats.{IsAsked, IsShown, IsShownOf, IsToldBy, SeatOf, Shows, seat_asked_at, with_asked};
 ghost use Rattle.desk.specs.declared.seat.SeatAsked.{SeatAsked};
 ghost use Rattle.frame_tree.specs.Frames.{IsReadyAt};
@@ -23,7 +23,7 @@ ghost use Rattle.sched_rules.specs.declared.step.StepOf.TheVariants.{Leave};
 
 /// Of `desk`, Counts: what `IsAsOpen`, `after_offer`, `IsOffered`, `IsLeft`, `found_or_no_tenant`, `with_kept`, `waits_on`, `has_news` and `IsNext` give.
 pub fn counts<X>()
-    ensures is_as_open { (before after : KeptOf) → IsAsOpen before after → (after.closed ≡ before.closed) × (after.sleepers ≡ before.sleepers) × (after.badges ≡ before.badges) }
+    ensures is_as_open { (before after : LockedHallOf) → IsAsOpen before after → (after.closed ≡ before.closed) × (after.sleepers ≡ before.sleepers) × (after.badges ≡ before.badges) }
     ensures after_offer_ok { (before : HallOf) (step : StepOf LeafAnswer) (did : DidOf Leaf) (after : HallOf) → after_offer before step (Ok did) after ≡ hall_after before step after.shared }
     ensures after_offer_err { (before : HallOf) (step : StepOf LeafAnswer) (refusal : Refusal) (after : HallOf) → after_offer before step (Err refusal) after ≡ before }
     ensures is_offered_one { (before : HallOf) (step : StepOf LeafAnswer) (answer : Result (DidOf Leaf) Refusal) (after : HallOf) (is : IsOffered before step answer after) → IsOneStep (jamboree before.grain) before.shared step answer after.shared }
@@ -32,11 +32,11 @@ pub fn counts<X>()
     ensures is_left_kept { (before : HallOf) (seat : SeatOf) (after : HallOf) (is : IsLeft before seat after) → after.kept ≡ before.kept + seat.share + (if is_ok is.answer then 1 else 0) }
     ensures found_or_no_tenant_some { (found : X) → found_or_no_tenant {X = X} (Some found) ≡ Ok found }
     ensures found_or_no_tenant_none { found_or_no_tenant {X = X} None ≡ Err NoTenant }
-    ensures with_kept { (steps : ℕ) (kept : KeptOf) → with_kept steps kept ≡ (record kept { hall = record kept.hall { kept = kept.hall.kept + steps } }) }
-    ensures waits_on { (kept : KeptOf) (tenant job : ℕ) → waits_on kept tenant job ≡ (not kept.closed && is_live (job_of kept.hall.shared tenant job)) }
-    ensures has_news { (kept : KeptOf) → has_news kept ≡ (kept.closed || not (ready_count kept.hall.shared.tenants == 0)) }
-    ensures is_next_none { (kept : KeptOf) → IsNext kept None → (not kept.closed && not (ready_count kept.hall.shared.tenants == 0)) ≡ false }
-    ensures is_next_some { (kept : KeptOf) (ready : FrameId × ℕ) → IsNext kept (Some ready) → (kept.closed ≡ false) × IsReadyAt (named kept.hall.shared ready.0) ready.1 }
+    ensures with_kept { (steps : ℕ) (kept : LockedHallOf) → with_kept steps kept ≡ (record kept { hall = record kept.hall { kept = kept.hall.kept + steps } }) }
+    ensures waits_on { (kept : LockedHallOf) (tenant job : ℕ) → waits_on kept tenant job ≡ (not kept.closed && is_some_live (job_of kept.hall.shared tenant job)) }
+    ensures has_news { (kept : LockedHallOf) → has_news kept ≡ (kept.closed || not (ready_count kept.hall.shared.tenants == 0)) }
+    ensures is_next_none { (kept : LockedHallOf) → IsNext kept None → (not kept.closed && not (ready_count kept.hall.shared.tenants == 0)) ≡ false }
+    ensures is_next_some { (kept : LockedHallOf) (ready : FrameId × ℕ) → IsNext kept (Some ready) → (kept.closed ≡ false) × IsReadyAt (named kept.hall.shared ready.0) ready.1 }
 {}
 
 /// Of `desk`, Seats: what `with_asked`, `IsAsked`, `seat_asked_at`, `Shows`, `IsShown`, `IsShownOf` and `IsToldBy` give.

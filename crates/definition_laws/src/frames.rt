@@ -1,7 +1,7 @@
 //! What the definitions of `frame_tree` give, for all values.
 ghost use Rattle.std.specs.Prelude.{List, None, Some, [], true, ℕ, ◌++◌, ◌<◌, ◌∷◌, ◌≡◌};
 ghost use Rattle.frame_tree.specs.Frames.{AllBelow, Frame, HasValue, IsNextFrame, IsReadyAt, IsTree, IsTreeAfter, has_parent, parent_of, path_under};
-ghost use Rattle.frame_tree.specs.TreeLaws.{AreRising};
+ghost use Rattle.frame_tree.specs.TreeLaws.{AreSerialsRising};
 ghost use Rattle.frame_tree.specs.declared.names.State.TheVariants.{Ready};
 ghost use Rattle.number_index.specs.Places.{AreRising as AreRisingBy};
 
@@ -19,7 +19,7 @@ pub fn frames<T>()
     ensures is_ready_at_some { (frame : Frame T) (home : ℕ) → IsReadyAt {T = T} (Some frame) home → frame.state ≡ Ready home }
 {}
 
-/// Of `frame_tree`, TreeLaws: what `AreRising` gives.
+/// Of `frame_tree`, TreeLaws: what `AreSerialsRising` gives.
 pub fn tree_laws<T>()
-    ensures { (frames : List (Frame T)) → AreRising {T = T} frames → AreRisingBy (λ frame. frame.serial) frames }
+    ensures { (frames : List (Frame T)) → AreSerialsRising {T = T} frames → AreRisingBy (λ frame. frame.serial) frames }
 {}

@@ -8,9 +8,9 @@ ghost use Rattle.sched_laws.specs.Fitted.{CoreFits, JobFits, JobsFit, RootFits, 
 ghost use Rattle.sched_laws.specs.Newest.{IsNewestReady};
 ghost use Rattle.sched_laws.specs.Shapes.{AreLiveRootsThere, AreMarkedChildless, AreRootsLive, AreShaped, HaveWords, IsCovered, IsReservedWithin, IsRootThere, IsShaped, live_count};
 ghost use Rattle.sched_laws.specs.Spends.{IsActRefusal, IsBadInlet, IsStuck, MayBeSpent};
-ghost use Rattle.sched_rules.specs.Cores.{Shared, accounts_in, charged_in, tenant_in};
+ghost use Rattle.sched_rules.specs.Cores.{CoreState, accounts_in, charged_in, tenant_in};
 ghost use Rattle.sched_rules.specs.Headline.{after_answer};
-ghost use Rattle.sched_rules.specs.Laws.{EveryFrameFits, HasReturned, Neither, mark_of};
+ghost use Rattle.sched_rules.specs.Laws.{EveryFrameFits, HasReturned, Neither, mark_of_state};
 ghost use Rattle.sched_rules.specs.Lone.{lone_refusal};
 ghost use Rattle.sched_rules.specs.Trees.{Tenant, Tree, charged_for, has_child, is_root, job_at, kept_words, left, words_in};
 ghost use Rattle.sched_rules.specs.declared.job.Job.{Job};
@@ -39,16 +39,16 @@ pub fn fitted<P: Procedure, A>()
     ensures jobs_fit_more_more { (procedure : P) (tree : Tree) (origin : List ℕ) (origins : List (List ℕ)) (job : Job) (jobs : List Job) → JobsFit (P.fits procedure) (P.rooted procedure) tree (origin ∷ origins) (job ∷ jobs) → JobFits (P.fits procedure) (P.rooted procedure) tree origin job × JobsFit (P.fits procedure) (P.rooted procedure) tree origins jobs }
     ensures tenant_fits_frames { (procedure : P) (origins : List (List ℕ)) (tenant : Tenant) (is : TenantFits (P.fits procedure) (P.rooted procedure) origins tenant) → EveryFrameFits (P.fits procedure) tenant.frames }
     ensures tenant_fits_jobs { (procedure : P) (origins : List (List ℕ)) (tenant : Tenant) (is : TenantFits (P.fits procedure) (P.rooted procedure) origins tenant) → JobsFit (P.fits procedure) (P.rooted procedure) tenant.frames origins tenant.jobs }
-    ensures core_fits_tenants { (procedure : P) (origins : ℕ → List (List ℕ)) (shared : Shared) (is : CoreFits (P.fits procedure) (P.rooted procedure) origins shared) → (number : ℕ) (tenant : Tenant) → tenant_in shared.tenants number ≡ Some tenant → TenantFits (P.fits procedure) (P.rooted procedure) (origins number) tenant }
-    ensures core_fits_unused { (procedure : P) (origins : ℕ → List (List ℕ)) (shared : Shared) (is : CoreFits (P.fits procedure) (P.rooted procedure) origins shared) → (number : ℕ) → shared.newest < number → origins number ≡ [] }
+    ensures core_fits_tenants { (procedure : P) (origins : ℕ → List (List ℕ)) (shared : CoreState) (is : CoreFits (P.fits procedure) (P.rooted procedure) origins shared) → (number : ℕ) (tenant : Tenant) → tenant_in shared.tenants number ≡ Some tenant → TenantFits (P.fits procedure) (P.rooted procedure) (origins number) tenant }
+    ensures core_fits_unused { (procedure : P) (origins : ℕ → List (List ℕ)) (shared : CoreState) (is : CoreFits (P.fits procedure) (P.rooted procedure) origins shared) → (number : ℕ) → shared.newest < number → origins number ≡ [] }
     ensures submits_submit { (number : ℕ) (words : List ℕ) (size : ℕ) → submits {A = A} (Submit number words size) ≡ words ∷ [] }
     ensures origins_of_none { origins_of {A = A} [] ≡ [] }
     ensures origins_of_more { (step : StepOf A) (steps : List (StepOf A)) → origins_of {A = A} (step ∷ steps) ≡ submits step ++ origins_of steps }
     ensures root_fits_submit { (procedure : P) (number : ℕ) (words : List ℕ) (size : ℕ) → RootFits {A = P.Answer} (P.fits procedure) (P.rooted procedure) (Submit number words size) → (P.fits procedure) (padded words size) [] Neither × (P.rooted procedure) words (padded words size) }
     ensures roots_fit_more { (procedure : P) (step : StepOf P.Answer) (steps : List (StepOf P.Answer)) → RootsFit {A = P.Answer} (P.fits procedure) (P.rooted procedure) (step ∷ steps) → RootFits (P.fits procedure) (P.rooted procedure) step × RootsFit (P.fits procedure) (P.rooted procedure) steps }
-    ensures stays_fitting_none { (procedure : P) (origins : ℕ → List (List ℕ)) (before : Shared) (answers : List (Result (DidOf P.Input) Refusal)) → StaysFitting {I = P.Input} {A = P.Answer} (P.functions procedure) (P.fits procedure) (P.rooted procedure) origins before [] answers → CoreFits (P.fits procedure) (P.rooted procedure) origins before }
-    ensures stays_fitting_more_none { (procedure : P) (origins : ℕ → List (List ℕ)) (before : Shared) (step : StepOf P.Answer) (steps : List (StepOf P.Answer)) → StaysFitting {I = P.Input} {A = P.Answer} (P.functions procedure) (P.fits procedure) (P.rooted procedure) origins before (step ∷ steps) [] → CoreFits (P.fits procedure) (P.rooted procedure) origins before }
-    ensures stays_fitting_more_more { (procedure : P) (origins : ℕ → List (List ℕ)) (before : Shared) (step : StepOf P.Answer) (steps : List (StepOf P.Answer)) (answer : Result (DidOf P.Input) Refusal) (answers : List (Result (DidOf P.Input) Refusal)) → StaysFitting {I = P.Input} {A = P.Answer} (P.functions procedure) (P.fits procedure) (P.rooted procedure) origins before (step ∷ steps) (answer ∷ answers) → CoreFits (P.fits procedure) (P.rooted procedure) origins before × ((is_ok answer ≡ true → RootFits (P.fits procedure) (P.rooted procedure) step) → StaysFitting (P.functions procedure) (P.fits procedure) (P.rooted procedure) (origins_after origins step answer) (after_answer (P.functions procedure) before step answer) steps answers) }
+    ensures stays_fitting_none { (procedure : P) (origins : ℕ → List (List ℕ)) (before : CoreState) (answers : List (Result (DidOf P.Input) Refusal)) → StaysFitting {I = P.Input} {A = P.Answer} (P.functions procedure) (P.fits procedure) (P.rooted procedure) origins before [] answers → CoreFits (P.fits procedure) (P.rooted procedure) origins before }
+    ensures stays_fitting_more_none { (procedure : P) (origins : ℕ → List (List ℕ)) (before : CoreState) (step : StepOf P.Answer) (steps : List (StepOf P.Answer)) → StaysFitting {I = P.Input} {A = P.Answer} (P.functions procedure) (P.fits procedure) (P.rooted procedure) origins before (step ∷ steps) [] → CoreFits (P.fits procedure) (P.rooted procedure) origins before }
+    ensures stays_fitting_more_more { (procedure : P) (origins : ℕ → List (List ℕ)) (before : CoreState) (step : StepOf P.Answer) (steps : List (StepOf P.Answer)) (answer : Result (DidOf P.Input) Refusal) (answers : List (Result (DidOf P.Input) Refusal)) → StaysFitting {I = P.Input} {A = P.Answer} (P.functions procedure) (P.fits procedure) (P.rooted procedure) origins before (step ∷ steps) (answer ∷ answers) → CoreFits (P.fits procedure) (P.rooted procedure) origins before × ((is_ok answer ≡ true → RootFits (P.fits procedure) (P.rooted procedure) step) → StaysFitting (P.functions procedure) (P.fits procedure) (P.rooted procedure) (origins_after origins step answer) (after_answer (P.functions procedure) before step answer) steps answers) }
 {}
 
 /// Of `sched_laws`, Newest: what `IsNewestReady` gives.
@@ -60,7 +60,7 @@ pub fn newest()
 
 /// Of `sched_laws`, Shapes: what `AreMarkedChildless`, `AreRootsLive`, `IsRootThere`, `AreLiveRootsThere`, `HaveWords`, `IsShaped`, `AreShaped`, `IsReservedWithin` and `IsCovered` give.
 pub fn shapes()
-    ensures are_marked_childless_more { (tree : Tree) (frame : Frame (List ℕ)) (frames : List (Frame (List ℕ))) → AreMarkedChildless tree (frame ∷ frames) → ((mark_of frame.state ≡ Neither) ⊎ (has_child tree frame.serial ≡ false)) × AreMarkedChildless tree frames }
+    ensures are_marked_childless_more { (tree : Tree) (frame : Frame (List ℕ)) (frames : List (Frame (List ℕ))) → AreMarkedChildless tree (frame ∷ frames) → ((mark_of_state frame.state ≡ Neither) ⊎ (has_child tree frame.serial ≡ false)) × AreMarkedChildless tree frames }
     ensures are_roots_live_more { (jobs : List Job) (frame : Frame (List ℕ)) (frames : List (Frame (List ℕ))) → AreRootsLive jobs (frame ∷ frames) → (is_root frame.path ≡ true → live_count frame.serial jobs ≡ 1) × AreRootsLive jobs frames }
     ensures is_root_there_live { (frames : Tree) (root : ℕ) → IsRootThere frames (Live root) → path_in frames root ≡ root ∷ [] }
     ensures are_live_roots_there_more { (frames : Tree) (job : Job) (jobs : List Job) → AreLiveRootsThere frames (job ∷ jobs) → IsRootThere frames job × AreLiveRootsThere frames jobs }
@@ -76,9 +76,9 @@ pub fn shapes()
     ensures is_shaped_opened { (tenant : Tenant) (is : IsShaped tenant) → tenant.serials ≤ tenant.reserve.nodes }
     ensures is_shaped_ticks { (tenant : Tenant) (is : IsShaped tenant) → tenant.steps ≤ 16 * tenant.reserve.nodes }
     ensures are_shaped_more { (entry : ℕ × Tenant) (entries : List (ℕ × Tenant)) → AreShaped (entry ∷ entries) → IsShaped entry.1 × AreShaped entries }
-    ensures is_reserved_within_segments { (shared : Shared) (is : IsReservedWithin shared) → reserved_segments (accounts_in shared.tenants) ≤ shared.totals.segments }
-    ensures is_reserved_within_nodes { (shared : Shared) (is : IsReservedWithin shared) → reserved_nodes (accounts_in shared.tenants) ≤ shared.totals.nodes }
-    ensures is_covered { (shared : Shared) → IsCovered shared → charged_in shared.tenants ≤ shared.totals.segments }
+    ensures is_reserved_within_segments { (shared : CoreState) (is : IsReservedWithin shared) → reserved_segments (accounts_in shared.tenants) ≤ shared.totals.segments }
+    ensures is_reserved_within_nodes { (shared : CoreState) (is : IsReservedWithin shared) → reserved_nodes (accounts_in shared.tenants) ≤ shared.totals.nodes }
+    ensures is_covered { (shared : CoreState) → IsCovered shared → charged_in shared.tenants ≤ shared.totals.segments }
 {}
 
 /// Of `sched_laws`, Spends: what `IsActRefusal`, `IsStuck`, `IsBadInlet` and `MayBeSpent` give.

@@ -4,7 +4,7 @@ ghost use Rattle.std.specs.Prelude.{Bool, Err, List, Ok, Result, [], false, if�
 ghost use Rattle.std.specs.Str.Lines.{lines};
 ghost use Rattle.line_io.specs.Leads.{Answers, IsPrefixOf, Leads};
 ghost use Rattle.line_io.specs.Lines.{LineText, TooLong, Whole, line_text, lines_of, up_to_last_end};
-ghost use Rattle.line_io.specs.Runs.{FunctionRun, IsBegun, IsEnding, IsOutput, Run, bytes_due, write_result};
+ghost use Rattle.line_io.specs.Runs.{FunctionRun, IsProperPrefix, IsEnding, IsOutput, Run, bytes_due, write_result};
 ghost use Rattle.line_io.specs.Streams.{Ended, Failed, Gave, ReadAnswer, Refused, Took};
 ghost use Rattle.line_io.specs.Talks.{IsTalkEnd, Talk, none_ends, upto};
 ghost use Rattle.line_io.specs.Writes.{IsAnswered, IsCutShort, IsRest, IsWritten, LinesAnswered, with_newline, writes_of, written_texts};
@@ -33,7 +33,7 @@ pub fn lines()
     ensures lines_of { (bytes : List ℕ) → lines_of bytes ≡ map line_text (lines bytes) }
 {}
 
-/// Of `line_io`, Runs: what `bytes_due`, `write_result`, `IsEnding`, `Run`, `IsBegun`, `IsOutput` and `FunctionRun` give.
+/// Of `line_io`, Runs: what `bytes_due`, `write_result`, `IsEnding`, `Run`, `IsProperPrefix`, `IsOutput` and `FunctionRun` give.
 pub fn runs<X, S: Source, K: Sink, A: Answer>()
     ensures bytes_due_ok { (it : X) (bytes : List ℕ) → bytes_due {X = X} (Ok it) bytes ≡ bytes }
     ensures bytes_due_err_read { (bytes : List ℕ) → bytes_due {X = X} (Err Read) bytes ≡ up_to_last_end bytes }
@@ -50,9 +50,9 @@ pub fn runs<X, S: Source, K: Sink, A: Answer>()
     ensures run_reads { (source : S) (sink : K) (answerer : A) (source' : S) (sink' : K) (answerer' : A) (r : Result (Unit {0}) LineFault) (is : Run S.gives K.takes A.answers source sink answerer source' sink' answerer' r) → Leads S.gives source (map Gave is.blocks ++ is.last) source' }
     ensures run_ends { (source : S) (sink : K) (answerer : A) (source' : S) (sink' : K) (answerer' : A) (r : Result (Unit {0}) LineFault) (is : Run S.gives K.takes A.answers source sink answerer source' sink' answerer' r) → IsEnding r (concat is.blocks) is.last }
     ensures run_lines { (source : S) (sink : K) (answerer : A) (source' : S) (sink' : K) (answerer' : A) (r : Result (Unit {0}) LineFault) (is : Run S.gives K.takes A.answers source sink answerer source' sink' answerer' r) → LinesAnswered K.takes A.answers sink answerer (lines_of (bytes_due r (concat is.blocks))) sink' answerer' (write_result r) }
-    ensures is_begun { (written due : List ℕ) → IsBegun written due → (rest : List ℕ) × (written ++ rest ≡ due) × (0 < length rest) }
+    ensures is_begun { (written due : List ℕ) → IsProperPrefix written due → (rest : List ℕ) × (written ++ rest ≡ due) × (0 < length rest) }
     ensures is_output_ok { (it : Unit {0}) (written due : List ℕ) → IsOutput (Ok it) written due → written ≡ due }
-    ensures is_output_err { (it : WriteFailed) (written due : List ℕ) → IsOutput (Err it) written due → IsBegun written due }
+    ensures is_output_err { (it : WriteFailed) (written due : List ℕ) → IsOutput (Err it) written due → IsProperPrefix written due }
     ensures function_run_reads { (out : List ℕ → List ℕ) (source : S) (sink : K) (source' : S) (sink' : K) (r : Result (Unit {0}) LineFault) (is : FunctionRun S.gives K.takes out source sink source' sink' r) → Leads S.gives source (map Gave is.blocks ++ is.last) source' }
     ensures function_run_ends { (out : List ℕ → List ℕ) (source : S) (sink : K) (source' : S) (sink' : K) (r : Result (Unit {0}) LineFault) (is : FunctionRun S.gives K.takes out source sink source' sink' r) → IsEnding r (concat is.blocks) is.last }
     ensures function_run_writes { (out : List ℕ → List ℕ) (source : S) (sink : K) (source' : S) (sink' : K) (r : Result (Unit {0}) LineFault) (is : FunctionRun S.gives K.takes out source sink source' sink' r) → Leads K.takes sink (writes_of is.pieces (write_result r)) sink' }

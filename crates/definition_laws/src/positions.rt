@@ -3,13 +3,13 @@ ghost use Rattle.std.specs.Prelude.{IsSome, List, None, Some, length, slice_inde
 ghost use Rattle.std.specs.Str.{byte};
 ghost use Rattle.othello_board.specs.Rules.{cell_at};
 ghost use Rattle.othello_board.specs.Words.{cells};
-ghost use Rattle.position_text.specs.Spelling.{AllSpelled, FitsWords, IsBadCell, IsBadSide, Spells, mark_of, side_spelled, spelled};
+ghost use Rattle.position_text.specs.Spelling.{AllSpelled, FitsWords, IsBadCell, IsBadSide, Spells, mark_of_cell, side_spelled, spelled};
 ghost use Rattle.position_text.specs.declared.positions.Position.{Position};
 
 /// Of `position_text`, Spelling: what `Spells`, `FitsWords`, `AllSpelled`, `IsBadCell` and `IsBadSide` give.
 pub fn spelling()
     ensures spells_len { (text : List ℕ) (p : Position) (is : Spells text p) → length text ≡ 66 }
-    ensures spells_each { (text : List ℕ) (p : Position) (is : Spells text p) → (s : ℕ) → s < 64 → spelled (slice_index text s) ≡ Some (mark_of p.side (cell_at (cells p.board) s)) }
+    ensures spells_each { (text : List ℕ) (p : Position) (is : Spells text p) → (s : ℕ) → s < 64 → spelled (slice_index text s) ≡ Some (mark_of_cell p.side (cell_at (cells p.board) s)) }
     ensures spells_space { (text : List ℕ) (p : Position) (is : Spells text p) → slice_index text 64 ≡ byte " " }
     ensures spells_side { (text : List ℕ) (p : Position) (is : Spells text p) → side_spelled (slice_index text 65) ≡ Some p.side }
     ensures fits_words { (p : Position) → FitsWords p → (p.board.own < 2 ^ 64) × (p.board.opp < 2 ^ 64) }

@@ -26,7 +26,7 @@ ghost use Rattle.position_text.specs.Spelling.{Spells};
 ghost use Rattle.position_text.specs.declared.positions.Position.{Position};
 ghost use Rattle.promises.specs.Asking.{AsksFor};
 ghost use Rattle.promises.specs.Replies.{IsAskedBy, IsEntryOfSubmit, IsReplyInWords, IsTrueEntry, IsTrueTable, IsValueOfSubmit, RepliesToSubmit};
-ghost use Rattle.promises.specs.Sessions.{AreTrueTexts, IsAbout, IsAskedAs, IsErrText, IsJobNamed, IsLiveText, IsNextJob, IsOfNumber, IsOfQuota, IsQuestionLine, IsQuotaNamed, IsRefusedBy, IsRestText, IsTrueDoneText, IsTrueTableText, IsTrueText, KeepTenant, Said, TrueBytes, begins, first_words, is_seated};
+ghost use Rattle.promises.specs.Sessions.{AreTrueTexts, IsAbout, IsAskedAs, IsErrText, IsJobNamed, IsLiveText, IsNextJob, IsOfNumber, IsOfQuota, IsQuestionLine, IsQuotaNamed, IsRefusedBy, IsRestText, IsTrueDoneText, IsTrueTableText, IsTrueText, KeepTenant, Exchange, TrueBytes, begins, first_words, is_seated};
 ghost use Rattle.promises.specs.Solving.{AreTrueSolutions, IsQuestion, IsTrueSolution, SolvedBytes, solution};
 ghost use Rattle.promises.specs.Tenants.{AreAdmissionsTaken, AreRefusedForThese, AreSame, IsBusyWithAnother, IsForBusyWorker, IsForOwnState, IsSameTenant, SearchAnswer, SearchStep, free_worker, own_steps, stands};
 ghost use Rattle.protocol.specs.Faults.{fault_number};
@@ -34,7 +34,7 @@ ghost use Rattle.protocol.specs.Texts.{error_text, value_text};
 ghost use Rattle.protocol.specs.Words.{word_number};
 ghost use Rattle.protocol.specs.declared.faults.ProtocolFault.{ProtocolFault};
 ghost use Rattle.sched_laws.specs.Fitted.{origins_of};
-ghost use Rattle.sched_rules.specs.Headline.{is_admission, taken};
+ghost use Rattle.sched_rules.specs.Headline.{is_admission, taken_steps};
 ghost use Rattle.sched_rules.specs.Lone.{lone_refusal};
 ghost use Rattle.sched_rules.specs.Runs.{alone, only, tenant_of};
 ghost use Rattle.sched_rules.specs.Trees.{Tenant, is_busy_in, left};
@@ -88,10 +88,10 @@ pub fn replies()
 /// Of `promises`, Sessions: what `begins`, `KeepTenant`, `IsAskedAs`, `IsOfNumber`, `IsOfQuota`, `IsQuestionLine`, `IsAbout`, `IsTrueDoneText`, `IsTrueTableText`, `IsJobNamed`, `IsQuotaNamed`, `IsNextJob`, `IsRestText`, `IsLiveText`, `IsRefusedBy`, `IsErrText`, `IsTrueText`, `AreTrueTexts` and `TrueBytes` give.
 pub fn sessions<S: Source, K: Sink>()
     ensures begins { (text word : List ℕ) → begins text word ≡ starts_with nat_eq text word }
-    ensures keep_tenant_more { (said : Said) (before : List Said) → KeepTenant (said ∷ before) → (begins said.1 (codes "WELCOME ") ≡ false) × (begins said.1 (codes "BYE") ≡ false) × KeepTenant before }
-    ensures is_asked_as_is { (before : List Said) (job depth : ℕ) (position : Position) (is : IsAskedAs before job depth position) → before ≡ is.later ++ (Whole (codes "ASK " ++ is.word ++ byte " " ∷ is.text), codes "JOB " ++ decimal job) ∷ is.earlier }
-    ensures is_asked_as_asks { (before : List Said) (job depth : ℕ) (position : Position) (is : IsAskedAs before job depth position) → AsksFor is.word is.text depth position }
-    ensures is_asked_as_same { (before : List Said) (job depth : ℕ) (position : Position) (is : IsAskedAs before job depth position) → KeepTenant is.later }
+    ensures keep_tenant_more { (said : Exchange) (before : List Exchange) → KeepTenant (said ∷ before) → (begins said.1 (codes "WELCOME ") ≡ false) × (begins said.1 (codes "BYE") ≡ false) × KeepTenant before }
+    ensures is_asked_as_is { (before : List Exchange) (job depth : ℕ) (position : Position) (is : IsAskedAs before job depth position) → before ≡ is.later ++ (Whole (codes "ASK " ++ is.word ++ byte " " ∷ is.text), codes "JOB " ++ decimal job) ∷ is.earlier }
+    ensures is_asked_as_asks { (before : List Exchange) (job depth : ℕ) (position : Position) (is : IsAskedAs before job depth position) → AsksFor is.word is.text depth position }
+    ensures is_asked_as_same { (before : List Exchange) (job depth : ℕ) (position : Position) (is : IsAskedAs before job depth position) → KeepTenant is.later }
     ensures is_of_number_is { (word : List ℕ) (line : LineText) (number : ℕ) (is : IsOfNumber word line number) → line ≡ Whole (word ++ byte " " ∷ is.digits) }
     ensures is_of_number_number_is { (word : List ℕ) (line : LineText) (number : ℕ) (is : IsOfNumber word line number) → word_number is.digits ≡ Some number }
     ensures is_of_quota_is { (word : List ℕ) (line : LineText) (quota : Quota) (is : IsOfQuota word line quota) → line ≡ Whole (word ++ byte " " ∷ (is.first ++ byte " " ∷ is.second)) }
@@ -101,13 +101,13 @@ pub fn sessions<S: Source, K: Sink>()
     ensures is_question_line_is { (line : LineText) (is : IsQuestionLine line) → line ≡ Whole (codes "ASK " ++ is.word ++ byte " " ∷ is.text) }
     ensures is_question_line_asks { (line : LineText) (is : IsQuestionLine line) → AsksFor is.word is.text is.depth is.position }
     ensures is_about_line_is { (commands : List (List ℕ)) (line : LineText) (job : ℕ) (is : IsAbout commands line job) → IsOfNumber is.command line job }
-    ensures is_true_done_text_about { (before : List Said) (line : LineText) (text : List ℕ) (is : IsTrueDoneText before line text) → IsAbout (codes "GET" ∷ codes "WAIT" ∷ []) line is.job }
-    ensures is_true_done_text_asked { (before : List Said) (line : LineText) (text : List ℕ) (is : IsTrueDoneText before line text) → IsAskedAs before is.job is.depth is.position }
-    ensures is_true_done_text_is { (before : List Said) (line : LineText) (text : List ℕ) (is : IsTrueDoneText before line text) → text ≡ codes "DONE " ++ decimal is.job ++ codes " " ++ value_text (minimax is.depth (cells is.position.board)) (best_choice is.depth (cells is.position.board)) }
-    ensures is_true_table_text_about { (before : List Said) (line : LineText) (text : List ℕ) (is : IsTrueTableText before line text) → IsAbout (codes "TABLE" ∷ []) line is.job }
-    ensures is_true_table_text_asked { (before : List Said) (line : LineText) (text : List ℕ) (is : IsTrueTableText before line text) → IsAskedAs before is.job is.depth is.position }
-    ensures is_true_table_text_is { (before : List Said) (line : LineText) (text : List ℕ) (is : IsTrueTableText before line text) → text ≡ codes "TABLE " ++ decimal is.job ++ entries_text is.entries }
-    ensures is_true_table_text_true_of { (before : List Said) (line : LineText) (text : List ℕ) (is : IsTrueTableText before line text) → IsTrueTable is.depth (cells is.position.board) is.entries }
+    ensures is_true_done_text_about { (before : List Exchange) (line : LineText) (text : List ℕ) (is : IsTrueDoneText before line text) → IsAbout (codes "GET" ∷ codes "WAIT" ∷ []) line is.job }
+    ensures is_true_done_text_asked { (before : List Exchange) (line : LineText) (text : List ℕ) (is : IsTrueDoneText before line text) → IsAskedAs before is.job is.depth is.position }
+    ensures is_true_done_text_is { (before : List Exchange) (line : LineText) (text : List ℕ) (is : IsTrueDoneText before line text) → text ≡ codes "DONE " ++ decimal is.job ++ codes " " ++ value_text (minimax is.depth (cells is.position.board)) (best_choice is.depth (cells is.position.board)) }
+    ensures is_true_table_text_about { (before : List Exchange) (line : LineText) (text : List ℕ) (is : IsTrueTableText before line text) → IsAbout (codes "TABLE" ∷ []) line is.job }
+    ensures is_true_table_text_asked { (before : List Exchange) (line : LineText) (text : List ℕ) (is : IsTrueTableText before line text) → IsAskedAs before is.job is.depth is.position }
+    ensures is_true_table_text_is { (before : List Exchange) (line : LineText) (text : List ℕ) (is : IsTrueTableText before line text) → text ≡ codes "TABLE " ++ decimal is.job ++ entries_text is.entries }
+    ensures is_true_table_text_true_of { (before : List Exchange) (line : LineText) (text : List ℕ) (is : IsTrueTableText before line text) → IsTrueTable is.depth (cells is.position.board) is.entries }
     ensures is_job_named_about { (commands : List (List ℕ)) (line : LineText) (word text : List ℕ) (is : IsJobNamed commands line word text) → IsAbout commands line is.job }
     ensures is_job_named_is { (commands : List (List ℕ)) (line : LineText) (word text : List ℕ) (is : IsJobNamed commands line word text) → text ≡ word ++ byte " " ∷ decimal is.job }
     ensures is_quota_named_about { (command : List ℕ) (line : LineText) (word text : List ℕ) (is : IsQuotaNamed command line word text) → IsOfQuota command line is.quota }
@@ -119,23 +119,23 @@ pub fn sessions<S: Source, K: Sink>()
     ensures is_live_text_about { (line : LineText) (text : List ℕ) (is : IsLiveText line text) → line ≡ Whole (codes "LIVE") }
     ensures is_live_text_is { (line : LineText) (text : List ℕ) (is : IsLiveText line text) → text ≡ codes "LIVE " ++ pair_text is.live.frames is.live.words }
     ensures is_refused_by_line_is { (line : LineText) (number : ℕ) (is : IsRefusedBy line number) → (line ≡ Whole is.command) ⊎ ((rest : List ℕ) × (line ≡ Whole (is.command ++ byte " " ∷ rest))) }
-    ensures is_err_text_is { (before : List Said) (line : LineText) (text : List ℕ) (is : IsErrText before line text) → text ≡ error_text is.number }
-    ensures is_err_text_why { (before : List Said) (line : LineText) (text : List ℕ) (is : IsErrText before line text) → ((fault : ProtocolFault) × (request (is_seated before) line ≡ Fault fault) × (is.number ≡ fault_number fault)) ⊎ IsRefusedBy line is.number }
-    ensures is_true_text_known { (before : List Said) (line : LineText) (text : List ℕ) (is : IsTrueText before line text) → list_any (λ word. begins text word) first_words ≡ true }
-    ensures is_true_text_welcome { (before : List Said) (line : LineText) (text : List ℕ) (is : IsTrueText before line text) → begins text (codes "WELCOME ") ≡ true → IsQuotaNamed (codes "HELLO") line (codes "WELCOME") text }
-    ensures is_true_text_reserved { (before : List Said) (line : LineText) (text : List ℕ) (is : IsTrueText before line text) → begins text (codes "RESERVED ") ≡ true → IsQuotaNamed (codes "RESERVE") line (codes "RESERVED") text }
-    ensures is_true_text_job { (before : List Said) (line : LineText) (text : List ℕ) (is : IsTrueText before line text) → begins text (codes "JOB ") ≡ true → IsNextJob (length (asks_of_lines before) + 1) line text }
-    ensures is_true_text_done { (before : List Said) (line : LineText) (text : List ℕ) (is : IsTrueText before line text) → begins text (codes "DONE ") ≡ true → IsTrueDoneText before line text }
-    ensures is_true_text_table { (before : List Said) (line : LineText) (text : List ℕ) (is : IsTrueText before line text) → begins text (codes "TABLE ") ≡ true → IsTrueTableText before line text }
-    ensures is_true_text_pending { (before : List Said) (line : LineText) (text : List ℕ) (is : IsTrueText before line text) → begins text (codes "PENDING ") ≡ true → IsJobNamed (codes "GET" ∷ codes "WAIT" ∷ codes "TABLE" ∷ []) line (codes "PENDING") text }
-    ensures is_true_text_spent { (before : List Said) (line : LineText) (text : List ℕ) (is : IsTrueText before line text) → begins text (codes "SPENT ") ≡ true → IsJobNamed (codes "GET" ∷ codes "WAIT" ∷ codes "TABLE" ∷ []) line (codes "SPENT") text }
-    ensures is_true_text_cancelled { (before : List Said) (line : LineText) (text : List ℕ) (is : IsTrueText before line text) → begins text (codes "CANCELLED ") ≡ true → IsJobNamed (codes "GET" ∷ codes "WAIT" ∷ codes "TABLE" ∷ codes "CANCEL" ∷ []) line (codes "CANCELLED") text }
-    ensures is_true_text_quota { (before : List Said) (line : LineText) (text : List ℕ) (is : IsTrueText before line text) → begins text (codes "QUOTA ") ≡ true → IsRestText line text }
-    ensures is_true_text_live { (before : List Said) (line : LineText) (text : List ℕ) (is : IsTrueText before line text) → begins text (codes "LIVE ") ≡ true → IsLiveText line text }
-    ensures is_true_text_bye { (before : List Said) (line : LineText) (text : List ℕ) (is : IsTrueText before line text) → begins text (codes "BYE") ≡ true → (line ≡ Whole (codes "BYE")) × (text ≡ codes "BYE") }
-    ensures is_true_text_err { (before : List Said) (line : LineText) (text : List ℕ) (is : IsTrueText before line text) → begins text (codes "ERR ") ≡ true → IsErrText before line text }
-    ensures is_true_text_fault { (before : List Said) (line : LineText) (text : List ℕ) (is : IsTrueText before line text) → (fault : ProtocolFault) → request (is_seated before) line ≡ Fault fault → text ≡ error_text (fault_number fault) }
-    ensures are_true_texts_more { (before : List Said) (said : Said) (more : List Said) → AreTrueTexts before (said ∷ more) → IsTrueText before said.0 said.1 × AreTrueTexts (said ∷ before) more }
+    ensures is_err_text_is { (before : List Exchange) (line : LineText) (text : List ℕ) (is : IsErrText before line text) → text ≡ error_text is.number }
+    ensures is_err_text_why { (before : List Exchange) (line : LineText) (text : List ℕ) (is : IsErrText before line text) → ((fault : ProtocolFault) × (request (is_seated before) line ≡ Fault fault) × (is.number ≡ fault_number fault)) ⊎ IsRefusedBy line is.number }
+    ensures is_true_text_known { (before : List Exchange) (line : LineText) (text : List ℕ) (is : IsTrueText before line text) → list_any (λ word. begins text word) first_words ≡ true }
+    ensures is_true_text_welcome { (before : List Exchange) (line : LineText) (text : List ℕ) (is : IsTrueText before line text) → begins text (codes "WELCOME ") ≡ true → IsQuotaNamed (codes "HELLO") line (codes "WELCOME") text }
+    ensures is_true_text_reserved { (before : List Exchange) (line : LineText) (text : List ℕ) (is : IsTrueText before line text) → begins text (codes "RESERVED ") ≡ true → IsQuotaNamed (codes "RESERVE") line (codes "RESERVED") text }
+    ensures is_true_text_job { (before : List Exchange) (line : LineText) (text : List ℕ) (is : IsTrueText before line text) → begins text (codes "JOB ") ≡ true → IsNextJob (length (asks_of_lines before) + 1) line text }
+    ensures is_true_text_done { (before : List Exchange) (line : LineText) (text : List ℕ) (is : IsTrueText before line text) → begins text (codes "DONE ") ≡ true → IsTrueDoneText before line text }
+    ensures is_true_text_table { (before : List Exchange) (line : LineText) (text : List ℕ) (is : IsTrueText before line text) → begins text (codes "TABLE ") ≡ true → IsTrueTableText before line text }
+    ensures is_true_text_pending { (before : List Exchange) (line : LineText) (text : List ℕ) (is : IsTrueText before line text) → begins text (codes "PENDING ") ≡ true → IsJobNamed (codes "GET" ∷ codes "WAIT" ∷ codes "TABLE" ∷ []) line (codes "PENDING") text }
+    ensures is_true_text_spent { (before : List Exchange) (line : LineText) (text : List ℕ) (is : IsTrueText before line text) → begins text (codes "SPENT ") ≡ true → IsJobNamed (codes "GET" ∷ codes "WAIT" ∷ codes "TABLE" ∷ []) line (codes "SPENT") text }
+    ensures is_true_text_cancelled { (before : List Exchange) (line : LineText) (text : List ℕ) (is : IsTrueText before line text) → begins text (codes "CANCELLED ") ≡ true → IsJobNamed (codes "GET" ∷ codes "WAIT" ∷ codes "TABLE" ∷ codes "CANCEL" ∷ []) line (codes "CANCELLED") text }
+    ensures is_true_text_quota { (before : List Exchange) (line : LineText) (text : List ℕ) (is : IsTrueText before line text) → begins text (codes "QUOTA ") ≡ true → IsRestText line text }
+    ensures is_true_text_live { (before : List Exchange) (line : LineText) (text : List ℕ) (is : IsTrueText before line text) → begins text (codes "LIVE ") ≡ true → IsLiveText line text }
+    ensures is_true_text_bye { (before : List Exchange) (line : LineText) (text : List ℕ) (is : IsTrueText before line text) → begins text (codes "BYE") ≡ true → (line ≡ Whole (codes "BYE")) × (text ≡ codes "BYE") }
+    ensures is_true_text_err { (before : List Exchange) (line : LineText) (text : List ℕ) (is : IsTrueText before line text) → begins text (codes "ERR ") ≡ true → IsErrText before line text }
+    ensures is_true_text_fault { (before : List Exchange) (line : LineText) (text : List ℕ) (is : IsTrueText before line text) → (fault : ProtocolFault) → request (is_seated before) line ≡ Fault fault → text ≡ error_text (fault_number fault) }
+    ensures are_true_texts_more { (before : List Exchange) (said : Exchange) (more : List Exchange) → AreTrueTexts before (said ∷ more) → IsTrueText before said.0 said.1 × AreTrueTexts (said ∷ before) more }
     ensures true_bytes_reads { (source : S) (sink : K) (source' : S) (sink' : K) (r : Result End SessionFault) (is : TrueBytes S.gives K.takes source sink source' sink' r) → Leads S.gives source (map Gave is.blocks ++ is.last) source' }
     ensures true_bytes_ends { (source : S) (sink : K) (source' : S) (sink' : K) (r : Result End SessionFault) (is : TrueBytes S.gives K.takes source sink source' sink' r) → IsTalkEnd is_bye (talk_result r) (concat is.blocks) is.last }
     ensures true_bytes_writes { (source : S) (sink : K) (source' : S) (sink' : K) (r : Result End SessionFault) (is : TrueBytes S.gives K.takes source sink source' sink' r) → Leads K.takes sink (writes_of is.pieces (write_result (talk_result r))) sink' }
@@ -164,7 +164,7 @@ pub fn solving<S: Source, K: Sink>()
 
 /// Of `promises`, Tenants: what `own_steps`, `IsSameTenant`, `AreSame`, `AreAdmissionsTaken`, `stands`, `free_worker`, `IsBusyWithAnother`, `IsForOwnState`, `IsForBusyWorker` and `AreRefusedForThese` give.
 pub fn tenants()
-    ensures own_steps { (number : ℕ) (steps : List SearchStep) (answers : List SearchAnswer) → own_steps number steps answers ≡ only number (taken steps answers) }
+    ensures own_steps { (number : ℕ) (steps : List SearchStep) (answers : List SearchAnswer) → own_steps number steps answers ≡ only number (taken_steps steps answers) }
     ensures is_same_tenant_jobs { (one other : Tenant) (is : IsSameTenant one other) → one.jobs ≡ other.jobs }
     ensures is_same_tenant_frames { (one other : Tenant) (is : IsSameTenant one other) → one.frames ≡ other.frames }
     ensures is_same_tenant_reserve { (one other : Tenant) (is : IsSameTenant one other) → one.reserve ≡ other.reserve }

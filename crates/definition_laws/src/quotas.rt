@@ -1,9 +1,9 @@
 //! What the definitions of `tenant_quota` give, for all values.
 ghost use Rattle.std.specs.Prelude.{IsSomeAnd, List, None, Some, length, option_map, ℕ, ◌*◌, ◌+◌, ◌-◌, ◌<◌, ◌∷◌, ◌≡◌, ◌≢◌, ◌≤◌, ◌⊎◌};
 ghost use Rattle.number_index.specs.Places.{AreRising};
-ghost use Rattle.tenant_quota.specs.Accounts.{AllEntries, IsRising, IsWithinReserve, account_of, charged_segments, fresh, left_in, owner_of, raised_to, reserved_nodes, reserved_segments};
+ghost use Rattle.tenant_quota.specs.Accounts.{AllEntries, IsRising, IsWithinReserve, account_of, charged_segments, fresh, left_in, owner_of_account, raised_to, reserved_nodes, reserved_segments};
 ghost use Rattle.tenant_quota.specs.Quota.{IsAbove, IsNotAbove, IsWithinLimits, Quota};
-ghost use Rattle.tenant_quota.specs.Reservations.{Admits, CanRaise, ChangesOnly, HasChargedAtLeast, HasLeft, HasRoom, HasRoomFor, HasStepLeft, IsBeyond, IsFull, IsLower, IsOutOfSteps, IsShort, IsSoundBook, IsTooMuch, KeepsOthers, Raises, Releases, Reservations, admitted, changed, left_of, released, reserve_of, unreserved_of};
+ghost use Rattle.tenant_quota.specs.Reservations.{Admits, CanRaise, ChangesOnly, HasChargedAtLeast, HasLeft, HasRoom, HasRoomFor, HasStepLeft, IsBeyond, IsFull, IsLower, IsOutOfSteps, IsShort, IsSoundBook, IsTooMuch, KeepsOtherAccounts, Raises, Releases, Reservations, admitted, changed, left_in_book, released, reserve_of, unreserved_of};
 ghost use Rattle.tenant_quota.specs.declared.account.Account.{Account};
 
 /// Of `tenant_quota`, Accounts: what `left_in`, `IsWithinReserve`, `AllEntries` and `IsRising` give.
@@ -17,7 +17,7 @@ pub fn accounts()
     ensures is_within_reserve_opened_within { (a : Account) (is : IsWithinReserve a) → a.opened ≤ a.reserve.nodes }
     ensures is_within_reserve_ticks_within { (a : Account) (is : IsWithinReserve a) → a.ticks ≤ 16 * a.reserve.nodes }
     ensures all_entries { (e : ℕ × Account) (es : List (ℕ × Account)) → AllEntries (λ it. IsWithinReserve it.1) (e ∷ es) → IsWithinReserve e.1 × AllEntries (λ it. IsWithinReserve it.1) es }
-    ensures is_rising { (es : List (ℕ × Account)) → IsRising es → AreRising owner_of es }
+    ensures is_rising { (es : List (ℕ × Account)) → IsRising es → AreRising owner_of_account es }
 {}
 
 /// Of `tenant_quota`, Quota: what `IsWithinLimits`, `IsAbove` and `IsNotAbove` give.
@@ -32,7 +32,7 @@ pub fn quota()
     ensures is_not_above { (now quota : Quota) → IsNotAbove now quota → (quota.segments < now.segments) ⊎ ((quota.nodes < now.nodes) ⊎ ((quota.segments ≡ now.segments) × (quota.nodes ≡ now.nodes))) }
 {}
 
-/// Of `tenant_quota`, Reservations: what `HasRoom`, `IsFull`, `IsLower`, `HasRoomFor`, `IsBeyond`, `CanRaise`, `IsTooMuch`, `HasLeft`, `IsShort`, `HasStepLeft`, `IsOutOfSteps`, `HasChargedAtLeast`, `KeepsOthers`, `Admits`, `ChangesOnly`, `Raises`, `Releases` and `IsSoundBook` give.
+/// Of `tenant_quota`, Reservations: what `HasRoom`, `IsFull`, `IsLower`, `HasRoomFor`, `IsBeyond`, `CanRaise`, `IsTooMuch`, `HasLeft`, `IsShort`, `HasStepLeft`, `IsOutOfSteps`, `HasChargedAtLeast`, `KeepsOtherAccounts`, `Admits`, `ChangesOnly`, `Raises`, `Releases` and `IsSoundBook` give.
 pub fn reservations()
     ensures has_room_tenants { (b : Reservations) (quota : Quota) (is : HasRoom b quota) → length b.accounts < 64 }
     ensures has_room_segments { (b : Reservations) (quota : Quota) (is : HasRoom b quota) → reserved_segments b.accounts + quota.segments ≤ b.segments }
@@ -44,14 +44,14 @@ pub fn reservations()
     ensures is_beyond { (b : Reservations) (now quota : Quota) → IsBeyond b now quota → (b.segments + now.segments < reserved_segments b.accounts + quota.segments) ⊎ (b.nodes + now.nodes < reserved_nodes b.accounts + quota.nodes) }
     ensures can_raise { (b : Reservations) (tenant : ℕ) (quota : Quota) → CanRaise b tenant quota → IsSomeAnd (reserve_of tenant b) (λ now. IsAbove now quota × HasRoomFor b now quota) }
     ensures is_too_much { (b : Reservations) (tenant : ℕ) (quota : Quota) → IsTooMuch b tenant quota → IsSomeAnd (reserve_of tenant b) (λ now. IsAbove now quota × IsBeyond b now quota) }
-    ensures has_left { (b : Reservations) (tenant segments nodes : ℕ) → HasLeft b tenant segments nodes → IsSomeAnd (left_of tenant b) (λ left. (segments ≤ left.segments) × (nodes ≤ left.nodes)) }
-    ensures is_short { (b : Reservations) (tenant segments nodes : ℕ) → IsShort b tenant segments nodes → IsSomeAnd (left_of tenant b) (λ left. (left.segments < segments) ⊎ (left.nodes < nodes)) }
-    ensures has_step_left { (b : Reservations) (tenant : ℕ) → HasStepLeft b tenant → IsSomeAnd (left_of tenant b) (λ left. 0 < left.steps) }
-    ensures is_out_of_steps { (b : Reservations) (tenant : ℕ) → IsOutOfSteps b tenant → IsSomeAnd (left_of tenant b) (λ left. left.steps ≡ 0) }
+    ensures has_left { (b : Reservations) (tenant segments nodes : ℕ) → HasLeft b tenant segments nodes → IsSomeAnd (left_in_book tenant b) (λ left. (segments ≤ left.segments) × (nodes ≤ left.nodes)) }
+    ensures is_short { (b : Reservations) (tenant segments nodes : ℕ) → IsShort b tenant segments nodes → IsSomeAnd (left_in_book tenant b) (λ left. (left.segments < segments) ⊎ (left.nodes < nodes)) }
+    ensures has_step_left { (b : Reservations) (tenant : ℕ) → HasStepLeft b tenant → IsSomeAnd (left_in_book tenant b) (λ left. 0 < left.steps) }
+    ensures is_out_of_steps { (b : Reservations) (tenant : ℕ) → IsOutOfSteps b tenant → IsSomeAnd (left_in_book tenant b) (λ left. left.steps ≡ 0) }
     ensures has_charged_at_least { (b : Reservations) (tenant segments : ℕ) → HasChargedAtLeast b tenant segments → IsSomeAnd (account_of tenant b.accounts) (λ a. segments ≤ a.charged) }
-    ensures keeps_others_segments { (old new : Reservations) (tenant : ℕ) (is : KeepsOthers old new tenant) → new.segments ≡ old.segments }
-    ensures keeps_others_nodes { (old new : Reservations) (tenant : ℕ) (is : KeepsOthers old new tenant) → new.nodes ≡ old.nodes }
-    ensures keeps_others_others { (old new : Reservations) (tenant : ℕ) (is : KeepsOthers old new tenant) → (other : ℕ) → other ≢ tenant → account_of other new.accounts ≡ account_of other old.accounts }
+    ensures keeps_others_segments { (old new : Reservations) (tenant : ℕ) (is : KeepsOtherAccounts old new tenant) → new.segments ≡ old.segments }
+    ensures keeps_others_nodes { (old new : Reservations) (tenant : ℕ) (is : KeepsOtherAccounts old new tenant) → new.nodes ≡ old.nodes }
+    ensures keeps_others_others { (old new : Reservations) (tenant : ℕ) (is : KeepsOtherAccounts old new tenant) → (other : ℕ) → other ≢ tenant → account_of other new.accounts ≡ account_of other old.accounts }
     ensures admits_whole { (old new : Reservations) (tenant : ℕ) (quota : Quota) (is : Admits old new tenant quota) → new ≡ admitted old tenant quota }
     ensures admits_account { (old new : Reservations) (tenant : ℕ) (quota : Quota) (is : Admits old new tenant quota) → account_of tenant new.accounts ≡ Some (fresh quota) }
     ensures admits_tenants { (old new : Reservations) (tenant : ℕ) (quota : Quota) (is : Admits old new tenant quota) → length new.accounts ≡ length old.accounts + 1 }

@@ -22,8 +22,8 @@ ghost use Rattle.othello_board.specs.Words.{cells_of};
 ghost use Rattle.othello_eval.specs.Minimax.{best_choice, minimax};
 ghost use Rattle.othello_eval.specs.Tables.{IsTable};
 ghost use Rattle.sched_laws.specs.Fitted.{CoreFits, TenantFits, origins_of};
-ghost use Rattle.sched_rules.specs.Cores.{Shared, shared_by_nobody, tenant_in};
-ghost use Rattle.sched_rules.specs.Headline.{IsHeadline, taken};
+ghost use Rattle.sched_rules.specs.Cores.{CoreState, shared_by_nobody, tenant_in};
+ghost use Rattle.sched_rules.specs.Headline.{IsHeadline, taken_steps};
 ghost use Rattle.sched_rules.specs.Lone.{lone};
 ghost use Rattle.sched_rules.specs.Runs.{alone_from, only, state_after};
 ghost use Rattle.sched_rules.specs.Trees.{Tenant, Tree};
@@ -48,10 +48,10 @@ pub fn journals<P: Procedure>()
 
 /// Of `jamboree_core`, NewRuns: what `submitted_by` and `IsHeadlineFromNew` give.
 pub fn new_runs<P: Procedure>()
-    ensures submitted_by { (steps : List (StepOf P.Answer)) (answers : List (Result (DidOf P.Input) Refusal)) (number : ℕ) → submitted_by {I = P.Input} {A = P.Answer} steps answers number ≡ origins_of (only number (taken steps answers)) }
-    ensures is_headline_from_new_tenants { (grain : ℕ) (totals : Quota) (steps : List (StepOf LeafAnswer)) (answers : List (Result (DidOf Leaf) Refusal)) (after : Shared) (is : IsHeadlineFromNew grain totals steps answers after) → IsHeadline (jamboree grain) (shared_by_nobody totals) steps answers after }
-    ensures is_headline_from_new_replies { (grain : ℕ) (totals : Quota) (steps : List (StepOf LeafAnswer)) (answers : List (Result (DidOf Leaf) Refusal)) (after : Shared) (is : IsHeadlineFromNew grain totals steps answers after) → (number : ℕ) (tenant : Tenant) → tenant_in after.tenants number ≡ Some tenant → AreReplies (submitted_by steps answers number) tenant.jobs }
-    ensures is_headline_from_new_sound { (grain : ℕ) (totals : Quota) (steps : List (StepOf LeafAnswer)) (answers : List (Result (DidOf Leaf) Refusal)) (after : Shared) (is : IsHeadlineFromNew grain totals steps answers after) → (number : ℕ) (tenant : Tenant) → tenant_in after.tenants number ≡ Some tenant → AreAllSound tenant.frames tenant.frames }
+    ensures submitted_by { (steps : List (StepOf P.Answer)) (answers : List (Result (DidOf P.Input) Refusal)) (number : ℕ) → submitted_by {I = P.Input} {A = P.Answer} steps answers number ≡ origins_of (only number (taken_steps steps answers)) }
+    ensures is_headline_from_new_tenants { (grain : ℕ) (totals : Quota) (steps : List (StepOf LeafAnswer)) (answers : List (Result (DidOf Leaf) Refusal)) (after : CoreState) (is : IsHeadlineFromNew grain totals steps answers after) → IsHeadline (jamboree grain) (shared_by_nobody totals) steps answers after }
+    ensures is_headline_from_new_replies { (grain : ℕ) (totals : Quota) (steps : List (StepOf LeafAnswer)) (answers : List (Result (DidOf Leaf) Refusal)) (after : CoreState) (is : IsHeadlineFromNew grain totals steps answers after) → (number : ℕ) (tenant : Tenant) → tenant_in after.tenants number ≡ Some tenant → AreReplies (submitted_by steps answers number) tenant.jobs }
+    ensures is_headline_from_new_sound { (grain : ℕ) (totals : Quota) (steps : List (StepOf LeafAnswer)) (answers : List (Result (DidOf Leaf) Refusal)) (after : CoreState) (is : IsHeadlineFromNew grain totals steps answers after) → (number : ℕ) (tenant : Tenant) → tenant_in after.tenants number ≡ Some tenant → AreAllSound tenant.frames tenant.frames }
 {}
 
 /// Of `jamboree_core`, Outcomes: what `IsOfSearch`, `IsReplyOn`, `IsReplyOf`, `IsOutcomeOf`, `IsOutcomeIn`, `IsTo` and `AnswersTo` give.
@@ -101,12 +101,12 @@ pub fn searching<A>()
     ensures tenant_searches_fits { (origins : List (List ℕ)) (tenant : Tenant) (is : TenantSearches origins tenant) → TenantFits AreFitting IsRoot origins tenant }
     ensures tenant_searches_asked { (origins : List (List ℕ)) (tenant : Tenant) (is : TenantSearches origins tenant) → AreAllRootWords origins }
     ensures serves_searches_some { (tenant : Tenant) → ServesSearches (Some tenant) → (origins : List (List ℕ)) × TenantSearches origins tenant }
-    ensures core_searches_fits { (origins : ℕ → List (List ℕ)) (shared : Shared) (is : CoreSearches origins shared) → CoreFits AreFitting IsRoot origins shared }
-    ensures core_searches_asked { (origins : ℕ → List (List ℕ)) (shared : Shared) (is : CoreSearches origins shared) → (number : ℕ) → AreAllRootWords (origins number) }
+    ensures core_searches_fits { (origins : ℕ → List (List ℕ)) (shared : CoreState) (is : CoreSearches origins shared) → CoreFits AreFitting IsRoot origins shared }
+    ensures core_searches_asked { (origins : ℕ → List (List ℕ)) (shared : CoreState) (is : CoreSearches origins shared) → (number : ℕ) → AreAllRootWords (origins number) }
     ensures submitted_to { (origins : ℕ → List (List ℕ)) (steps : List (StepOf A)) (number : ℕ) → submitted_to {A = A} origins steps number ≡ origins number ++ origins_of (only number steps) }
-    ensures holds_replies_replies { (origins : ℕ → List (List ℕ)) (shared : Shared) (is : HoldsReplies origins shared) → (number : ℕ) (tenant : Tenant) → tenant_in shared.tenants number ≡ Some tenant → AreReplies (origins number) tenant.jobs }
-    ensures holds_replies_sound { (origins : ℕ → List (List ℕ)) (shared : Shared) (is : HoldsReplies origins shared) → (number : ℕ) (tenant : Tenant) → tenant_in shared.tenants number ≡ Some tenant → AreAllSound tenant.frames tenant.frames }
-    ensures is_headline_in_full_tenants { (grain : ℕ) (before : Shared) (steps : List (StepOf LeafAnswer)) (answers : List (Result (DidOf Leaf) Refusal)) (after : Shared) (is : IsHeadlineInFull grain before steps answers after) → IsHeadline (jamboree grain) before steps answers after }
-    ensures is_headline_in_full_searches { (grain : ℕ) (before : Shared) (steps : List (StepOf LeafAnswer)) (answers : List (Result (DidOf Leaf) Refusal)) (after : Shared) (is : IsHeadlineInFull grain before steps answers after) → (origins : ℕ → List (List ℕ)) → CoreSearches origins before → AreSearches (taken steps answers) → CoreSearches (submitted_to origins (taken steps answers)) after }
-    ensures is_headline_in_full_replies { (grain : ℕ) (before : Shared) (steps : List (StepOf LeafAnswer)) (answers : List (Result (DidOf Leaf) Refusal)) (after : Shared) (is : IsHeadlineInFull grain before steps answers after) → (origins : ℕ → List (List ℕ)) → CoreSearches origins before → AreSearches (taken steps answers) → HoldsReplies (submitted_to origins (taken steps answers)) after }
+    ensures holds_replies_replies { (origins : ℕ → List (List ℕ)) (shared : CoreState) (is : HoldsReplies origins shared) → (number : ℕ) (tenant : Tenant) → tenant_in shared.tenants number ≡ Some tenant → AreReplies (origins number) tenant.jobs }
+    ensures holds_replies_sound { (origins : ℕ → List (List ℕ)) (shared : CoreState) (is : HoldsReplies origins shared) → (number : ℕ) (tenant : Tenant) → tenant_in shared.tenants number ≡ Some tenant → AreAllSound tenant.frames tenant.frames }
+    ensures is_headline_in_full_tenants { (grain : ℕ) (before : CoreState) (steps : List (StepOf LeafAnswer)) (answers : List (Result (DidOf Leaf) Refusal)) (after : CoreState) (is : IsHeadlineInFull grain before steps answers after) → IsHeadline (jamboree grain) before steps answers after }
+    ensures is_headline_in_full_searches { (grain : ℕ) (before : CoreState) (steps : List (StepOf LeafAnswer)) (answers : List (Result (DidOf Leaf) Refusal)) (after : CoreState) (is : IsHeadlineInFull grain before steps answers after) → (origins : ℕ → List (List ℕ)) → CoreSearches origins before → AreSearches (taken_steps steps answers) → CoreSearches (submitted_to origins (taken_steps steps answers)) after }
+    ensures is_headline_in_full_replies { (grain : ℕ) (before : CoreState) (steps : List (StepOf LeafAnswer)) (answers : List (Result (DidOf Leaf) Refusal)) (after : CoreState) (is : IsHeadlineInFull grain before steps answers after) → (origins : ℕ → List (List ℕ)) → CoreSearches origins before → AreSearches (taken_steps steps answers) → HoldsReplies (submitted_to origins (taken_steps steps answers)) after }
 {}

@@ -17,9 +17,9 @@ ghost use Rattle.position_text.specs.declared.positions.Side.{Side};
 ghost use Rattle.protocol.specs.Faults.{fault_number};
 ghost use Rattle.protocol.specs.Texts.{error_text};
 ghost use Rattle.protocol.specs.declared.faults.ProtocolFault.{ProtocolFault};
-ghost use Rattle.session.specs.Asks.{Asked, IsAnalysisOf, IsAsk, IsRefusedWhere, IsReplyTo, IsToldOf, KeepsAsks, RefusedBy, SaysTrue, ShowsFound, asked_at, asks_after, with_ask};
+ghost use Rattle.session.specs.Asks.{Asked, IsAnalysisOf, IsAsk, IsRefusedWhere, IsOfficeReplyTo, IsToldOf, KeepsAsks, RefusedBy, SaysTrue, ShowsFound, asked_at, asks_after, with_ask};
 ghost use Rattle.session.specs.Calls.{Alive, Ask, AskLive, AskQuota, Call, Cancel, Ended, Get, Gone, Hello, Job, Leave, OfficeReply, Refused, Reserve, Reserved, Rest, Told, Wait, Welcome};
-ghost use Rattle.session.specs.DoneLines.{EachDoneIsTrue, IsTrueDone, IsTrueTable, ReplyHolds, StandingHolds, TableHolds, TableReplyHolds, TrueSession, TurnHolds, asks_of_lines, asks_then};
+ghost use Rattle.session.specs.DoneLines.{EachDoneIsTrue, IsTrueDone, IsTrueAnalysis, ReplyHolds, StandingHolds, TableHolds, TableReplyHolds, TrueSession, TurnHolds, asks_of_lines, asks_then};
 ghost use Rattle.session.specs.Forms.{is_bye};
 ghost use Rattle.session.specs.Requests.{Ends, Fault, Makes, Tabulates};
 ghost use Rattle.session.specs.Sessions.{Called, IsAnsweredOf, IsWrittenOf, LeavesIf, Session, Turned, calls_for, session_lines, talk_result, texts_for};
@@ -38,7 +38,7 @@ ghost use Rattle.tenant_quota.specs.declared.account.Left.{Left};
 use line_io::{Sink, Source};
 use session::Office;
 
-/// Of `session`, Asks: what `asks_after`, `asked_at`, `IsAnalysisOf`, `ShowsFound`, `SaysTrue`, `IsToldOf`, `RefusedBy`, `IsRefusedWhere`, `IsAsk`, `IsReplyTo` and `KeepsAsks` give.
+/// Of `session`, Asks: what `asks_after`, `asked_at`, `IsAnalysisOf`, `ShowsFound`, `SaysTrue`, `IsToldOf`, `RefusedBy`, `IsRefusedWhere`, `IsAsk`, `IsOfficeReplyTo` and `KeepsAsks` give.
 pub fn asks()
     ensures asks_after_welcome { (asks : List Asked) (call : Call) (quota : Quota) → asks_after asks call (Welcome quota) ≡ [] }
     ensures asks_after_job { (asks : List Asked) (call : Call) (number : ℕ) → asks_after asks call (Job number) ≡ with_ask asks call }
@@ -65,18 +65,18 @@ pub fn asks()
     ensures is_refused_where_ask_live { (asks : List Asked) (reply : OfficeReply) → IsRefusedWhere asks AskLive reply → RefusedBy (1 ∷ []) reply }
     ensures is_refused_where_leave { (asks : List Asked) (reply : OfficeReply) → IsRefusedWhere asks Leave reply → reply ≡ Gone }
     ensures is_ask { (call : Call) → IsAsk call → (depth : ℕ) × (board : List Cell) × (side : Side) × (call ≡ Ask depth board side) }
-    ensures is_reply_to_welcome { (call : Call) (quota : Quota) → IsReplyTo call (Welcome quota) → call ≡ Hello quota }
-    ensures is_reply_to_reserved { (call : Call) (quota : Quota) → IsReplyTo call (Reserved quota) → call ≡ Reserve quota }
-    ensures is_reply_to_job { (call : Call) (number : ℕ) → IsReplyTo call (Job number) → IsAsk call }
-    ensures is_reply_to_told { (call : Call) (job : ℕ) (standing : Standing) → IsReplyTo call (Told job standing) → (call ≡ Get job) ⊎ (call ≡ Wait job) }
-    ensures is_reply_to_ended { (call : Call) (job : ℕ) → IsReplyTo call (Ended job) → call ≡ Cancel job }
-    ensures is_reply_to_rest { (call : Call) (left : Left) → IsReplyTo call (Rest left) → call ≡ AskQuota }
-    ensures is_reply_to_alive { (call : Call) (live : Live) → IsReplyTo call (Alive live) → call ≡ AskLive }
-    ensures is_reply_to_gone { (call : Call) → IsReplyTo call Gone → call ≡ Leave }
-    ensures keeps_asks { (asks : List Asked) (call : Call) (reply : OfficeReply) (asks' : List Asked) → KeepsAsks asks call reply asks' → (asks' ≡ asks_after asks call reply) × SaysTrue asks reply × IsRefusedWhere asks call reply × IsReplyTo call reply }
+    ensures is_reply_to_welcome { (call : Call) (quota : Quota) → IsOfficeReplyTo call (Welcome quota) → call ≡ Hello quota }
+    ensures is_reply_to_reserved { (call : Call) (quota : Quota) → IsOfficeReplyTo call (Reserved quota) → call ≡ Reserve quota }
+    ensures is_reply_to_job { (call : Call) (number : ℕ) → IsOfficeReplyTo call (Job number) → IsAsk call }
+    ensures is_reply_to_told { (call : Call) (job : ℕ) (standing : Standing) → IsOfficeReplyTo call (Told job standing) → (call ≡ Get job) ⊎ (call ≡ Wait job) }
+    ensures is_reply_to_ended { (call : Call) (job : ℕ) → IsOfficeReplyTo call (Ended job) → call ≡ Cancel job }
+    ensures is_reply_to_rest { (call : Call) (left : Left) → IsOfficeReplyTo call (Rest left) → call ≡ AskQuota }
+    ensures is_reply_to_alive { (call : Call) (live : Live) → IsOfficeReplyTo call (Alive live) → call ≡ AskLive }
+    ensures is_reply_to_gone { (call : Call) → IsOfficeReplyTo call Gone → call ≡ Leave }
+    ensures keeps_asks { (asks : List Asked) (call : Call) (reply : OfficeReply) (asks' : List Asked) → KeepsAsks asks call reply asks' → (asks' ≡ asks_after asks call reply) × SaysTrue asks reply × IsRefusedWhere asks call reply × IsOfficeReplyTo call reply }
 {}
 
-/// Of `session`, DoneLines: what `asks_of_lines`, `IsTrueDone`, `StandingHolds`, `IsTrueTable`, `TableHolds`, `ReplyHolds`, `TableReplyHolds`, `TurnHolds`, `EachDoneIsTrue` and `TrueSession` give.
+/// Of `session`, DoneLines: what `asks_of_lines`, `IsTrueDone`, `StandingHolds`, `IsTrueAnalysis`, `TableHolds`, `ReplyHolds`, `TableReplyHolds`, `TurnHolds`, `EachDoneIsTrue` and `TrueSession` give.
 pub fn done_lines<S: Source, K: Sink>()
     ensures asks_of_lines_none { asks_of_lines [] ≡ [] }
     ensures asks_of_lines_more { (said : LineText × List ℕ) (before : List (LineText × List ℕ)) → asks_of_lines (said ∷ before) ≡ asks_then (asks_of_lines before) said }
@@ -84,9 +84,9 @@ pub fn done_lines<S: Source, K: Sink>()
     ensures is_true_done_value { (before : List (LineText × List ℕ)) (job : ℕ) (analysis : Analysis) (is : IsTrueDone before job analysis) → analysis.best.value ≡ minimax is.asked.depth is.asked.board }
     ensures is_true_done_choice { (before : List (LineText × List ℕ)) (job : ℕ) (analysis : Analysis) (is : IsTrueDone before job analysis) → analysis.best.choice ≡ best_choice is.asked.depth is.asked.board }
     ensures standing_holds_done { (before : List (LineText × List ℕ)) (job : ℕ) (analysis : Analysis) → StandingHolds before job (Done analysis) → IsTrueDone before job analysis }
-    ensures is_true_table_is { (before : List (LineText × List ℕ)) (job : ℕ) (analysis : Analysis) (is : IsTrueTable before job analysis) → asked_at (asks_of_lines before) job ≡ Some is.asked }
-    ensures is_true_table_table { (before : List (LineText × List ℕ)) (job : ℕ) (analysis : Analysis) (is : IsTrueTable before job analysis) → IsTable is.asked.depth is.asked.board analysis.bounds }
-    ensures table_holds_done { (before : List (LineText × List ℕ)) (job : ℕ) (analysis : Analysis) → TableHolds before job (Done analysis) → IsTrueTable before job analysis }
+    ensures is_true_table_is { (before : List (LineText × List ℕ)) (job : ℕ) (analysis : Analysis) (is : IsTrueAnalysis before job analysis) → asked_at (asks_of_lines before) job ≡ Some is.asked }
+    ensures is_true_table_table { (before : List (LineText × List ℕ)) (job : ℕ) (analysis : Analysis) (is : IsTrueAnalysis before job analysis) → IsTable is.asked.depth is.asked.board analysis.bounds }
+    ensures table_holds_done { (before : List (LineText × List ℕ)) (job : ℕ) (analysis : Analysis) → TableHolds before job (Done analysis) → IsTrueAnalysis before job analysis }
     ensures reply_holds_job { (before : List (LineText × List ℕ)) (number : ℕ) → ReplyHolds before (Job number) → number ≡ length (asks_of_lines before) + 1 }
     ensures reply_holds_told { (before : List (LineText × List ℕ)) (job : ℕ) (standing : Standing) → ReplyHolds before (Told job standing) → StandingHolds before job standing }
     ensures table_reply_holds_job { (before : List (LineText × List ℕ)) (number : ℕ) → TableReplyHolds before (Job number) → number ≡ length (asks_of_lines before) + 1 }

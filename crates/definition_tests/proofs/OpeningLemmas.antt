@@ -9,7 +9,7 @@ use Rattle.othello_moves.specs.declared.choices.Choice.TheVariants.{Square}
 use Rattle.othello_eval.specs.Tables.{IsTable}
 use Rattle.session.specs.declared.standings.Analysis.{Analysis}
 use Rattle.session.specs.Asks.{Asked, IsAnalysisOf}
-use Rattle.session.specs.DoneLines.{IsTrueDone, IsTrueTable}
+use Rattle.session.specs.DoneLines.{IsTrueDone, IsTrueAnalysis}
 use Rattle.session.specs.Rows.{opening_board}
 use Rattle.definition_tests.specs.SmallSessions.{opening_to_1, asked_once}
 
@@ -41,7 +41,7 @@ unfolding digits squares
 choice_of_done analysis is = is.choice ∙ best_of is.asked is.is
 
 -- a TABLE of job 1
-pub table_told : (analysis : Analysis) → IsTrueTable asked_once 1 analysis → IsTable 1 opening_board analysis.bounds
+pub table_told : (analysis : Analysis) → IsTrueAnalysis asked_once 1 analysis → IsTable 1 opening_board analysis.bounds
 unfolding digits squares
 table_told analysis is = subst (λ a. IsTable a.depth a.board analysis.bounds) (same opening_to_1 is.asked is.is) is.table
 

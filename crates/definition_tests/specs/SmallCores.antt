@@ -4,12 +4,12 @@ use Rattle.tenant_quota.specs.Quota.{Quota}
 use Rattle.frame_tree.specs.declared.names.FrameId.{FrameId}
 use Rattle.frame_tree.specs.declared.names.State.{State}
 use Rattle.frame_tree.specs.declared.names.State.TheVariants.{Ready, Running}
-use Rattle.sched_rules.specs.declared.act.Then.TheVariants.{Go}
+use Rattle.sched_rules.specs.declared.act.Continuation.TheVariants.{Go}
 use Rattle.sched_rules.specs.declared.job.Job.{Job}
 use Rattle.sched_rules.specs.declared.job.Job.TheVariants.{Live}
 use Rattle.sched_rules.specs.Functions.{Functions}
 use Rattle.sched_rules.specs.Trees.{Tenant}
-use Rattle.sched_rules.specs.Cores.{Shared}
+use Rattle.sched_rules.specs.Cores.{CoreState}
 
 -- a quota of so many segments and nodes
 abbrev pub quota : ℕ → ℕ → Quota
@@ -41,7 +41,7 @@ tenant_with_root state = record {
 }
 
 -- a core of 12 segments and 32 nodes with these tenants; 2 is the newest number
-abbrev pub core_with : List (ℕ × Tenant) → Shared
+abbrev pub core_with : List (ℕ × Tenant) → CoreState
 core_with tenants = record { totals = quota 12 32; newest = 2; tenants = tenants }
 
 -- tenant 1, with a root that is ready in the hall
@@ -53,7 +53,7 @@ abbrev pub running_two : ℕ × Tenant
 running_two = (2, tenant_with_root (Running 5))
 
 -- tenant 1, whose root is ready in the hall, and tenant 2, whose root worker 5 runs
-abbrev pub two_tenants : Shared
+abbrev pub two_tenants : CoreState
 two_tenants = core_with (ready_one ∷ running_two ∷ [])
 
 -- a tenant of 4 segments and 8 nodes with this job and no frame

@@ -1,7 +1,7 @@
 //! Acts where a search was in vain: a full search that isn't better than what is there, and frames whose alpha
 //! is above their best score. The opening is searched to depth 1 with grain 0; a score of -3 is the word 999997.
 ghost use Rattle.std.specs.Prelude.{◌≡◌, [], ◌∷◌, true, false};
-ghost use Rattle.sched_rules.specs.declared.act.Then.TheVariants.{Spawn};
+ghost use Rattle.sched_rules.specs.declared.act.Continuation.TheVariants.{Spawn};
 ghost use Rattle.jamboree_rules.specs.Acts.{inlet_act, next_act};
 ghost use Rattle.jamboree_rules.specs.Rows.{entry, tests_with, returned};
 ghost use Rattle.definition_tests.specs.SmallSearches.{above_its_best};

@@ -10,8 +10,8 @@ ghost use Rattle.sched_rules.specs.declared.step.DidOf.{DidOf};
 ghost use Rattle.sched_rules.specs.declared.step.DidOf.TheVariants.{Left};
 ghost use Rattle.sched_rules.specs.Trees.{Tenant};
 ghost use Rattle.sched_rules.specs.Runs.{only};
-ghost use Rattle.sched_rules.specs.Cores.{Shared, tenant_in};
-ghost use Rattle.sched_rules.specs.Headline.{taken};
+ghost use Rattle.sched_rules.specs.Cores.{CoreState, tenant_in};
+ghost use Rattle.sched_rules.specs.Headline.{taken_steps};
 ghost use Rattle.jamboree_rules.specs.declared.leaf.Leaf.{Leaf};
 ghost use Rattle.jamboree_rules.specs.declared.leaf.LeafAnswer.{LeafAnswer};
 ghost use Rattle.jamboree_rules.specs.Places.{score_of};
@@ -23,16 +23,16 @@ ghost use Rattle.definition_tests.specs.SmallSearches.{at_its_beta};
 /// The job that is done holds -3 and d3; no frame that searches has a best score of beta; and it is a headline:
 /// nobody leaves a new core.
 pub fn what_a_new_core_comes_to()
-    ensures value { (steps : List (StepOf LeafAnswer)) (answers : List (Result (DidOf Leaf) Refusal)) (after : Shared) (tenant : Tenant) (words : List ℕ)
-        → IsHeadlineFromNew 0 few steps answers after → tenant_in after.tenants 1 ≡ Some tenant → origins_of (only 1 (taken steps answers)) ≡ asked ∷ [] → tenant.jobs ≡ Done words ∷ []
+    ensures value { (steps : List (StepOf LeafAnswer)) (answers : List (Result (DidOf Leaf) Refusal)) (after : CoreState) (tenant : Tenant) (words : List ℕ)
+        → IsHeadlineFromNew 0 few steps answers after → tenant_in after.tenants 1 ≡ Some tenant → origins_of (only 1 (taken_steps steps answers)) ≡ asked ∷ [] → tenant.jobs ≡ Done words ∷ []
         → score_of (slice_index words 8) ≡ negsuc 2 }
-    ensures choice { (steps : List (StepOf LeafAnswer)) (answers : List (Result (DidOf Leaf) Refusal)) (after : Shared) (tenant : Tenant) (words : List ℕ)
-        → IsHeadlineFromNew 0 few steps answers after → tenant_in after.tenants 1 ≡ Some tenant → origins_of (only 1 (taken steps answers)) ≡ asked ∷ [] → tenant.jobs ≡ Done words ∷ []
+    ensures choice { (steps : List (StepOf LeafAnswer)) (answers : List (Result (DidOf Leaf) Refusal)) (after : CoreState) (tenant : Tenant) (words : List ℕ)
+        → IsHeadlineFromNew 0 few steps answers after → tenant_in after.tenants 1 ≡ Some tenant → origins_of (only 1 (taken_steps steps answers)) ≡ asked ∷ [] → tenant.jobs ≡ Done words ∷ []
         → slice_index words 9 ≡ 19 }
-    ensures sound { (steps : List (StepOf LeafAnswer)) (answers : List (Result (DidOf Leaf) Refusal)) (after : Shared) (tenant : Tenant)
+    ensures sound { (steps : List (StepOf LeafAnswer)) (answers : List (Result (DidOf Leaf) Refusal)) (after : CoreState) (tenant : Tenant)
         → IsHeadlineFromNew 0 few steps answers after → tenant_in after.tenants 1 ≡ Some tenant
         → tenant.frames ≡ (record { serial = 1; path = 1 ∷ []; state = Ready 0; value = at_its_beta }) ∷ [] → ⊥ }
-    ensures steps { (after : Shared) → IsHeadlineFromNew 0 few (Leave 1 ∷ []) (Ok Left ∷ []) after → ⊥ }
+    ensures steps { (after : CoreState) → IsHeadlineFromNew 0 few (Leave 1 ∷ []) (Ok Left ∷ []) after → ⊥ }
 {}
 
 /// What a tenant asked for is what its own Submits carried, and no other tenant's.

@@ -7,7 +7,7 @@ use Rattle.sched_rules.specs.declared.refusal.Refusal.TheVariants.{NoSegments, N
 use Rattle.sched_rules.specs.declared.step.StepOf.TheVariants.{AdmitMore, Submit}
 use Rattle.sched_rules.specs.declared.step.DidOf.{DidOf}
 use Rattle.tenant_quota.specs.Quota.{Quota}
-use Rattle.sched_rules.specs.Cores.{tenant_in, judged, is_beyond, unless_beyond, reserved_by, reservations_in}
+use Rattle.sched_rules.specs.Cores.{tenant_in, step_result, is_beyond, unless_beyond, reserved_by, reservations_in}
 use Rattle.sched_rules.specs.Functions.{Functions}
 use Rattle.sched_rules.specs.Lone.{Outcome, is_frame_size, is_lower, lone, raised, refusal_in, submitted}
 use Rattle.sched_rules.specs.Runs.{answer_of}
@@ -69,5 +69,5 @@ reserve_refused before after number quota answer h =
     let right = h.one.answered.0 refl in
     let functions = jamboree before.grain in
     let tenant = tenant_in before.shared.tenants number in
-    within_memory (Contains reserve_refusals) (judged functions before.shared (AdmitMore number quota)) answer right.refused right.else_taken (3, lit< tt, refl)
+    within_memory (Contains reserve_refusals) (step_result functions before.shared (AdmitMore number quota)) answer right.refused right.else_taken (3, lit< tt, refl)
     (beyond_within (is_beyond (reservations_in before.shared) (reserved_by tenant) quota) (lone functions tenant (AdmitMore number quota)) (raise_within functions tenant number quota))

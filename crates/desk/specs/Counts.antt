@@ -22,14 +22,14 @@ use Rattle.desk.specs.declared.change.Change.TheVariants.{Nothing, InReady, Job 
 
 -- what contracts see of what lies under the lock: the hall, whether the desk is closed, how many workers sleep until a
 -- frame is ready, modulo 2^32, and how many badges were given
-pub record KeptOf : Type 0 where
+pub record LockedHallOf : Type 0 where
   pub hall : HallOf
   pub closed : Bool
   pub sleepers : ℕ
   pub badges : ℕ
 
 -- a call changes neither whether the desk is closed, nor how many workers sleep, nor how many badges were given
-abbrev pub IsAsOpen : KeptOf → KeptOf → Type 0
+abbrev pub IsAsOpen : LockedHallOf → LockedHallOf → Type 0
 IsAsOpen before after = (after.closed ≡ before.closed) × (after.sleepers ≡ before.sleepers) × (after.badges ≡ before.badges)
 
 -- the hall after this answer to a step: where it was taken it is written into the journals, and what the tenants share
@@ -56,28 +56,28 @@ found_or_no_tenant (Some found) = Ok found
 found_or_no_tenant None = Err NoTenant
 
 -- what lies under the lock, where the hall keeps so many more steps
-abbrev pub with_kept : ℕ → KeptOf → KeptOf
+abbrev pub with_kept : ℕ → LockedHallOf → LockedHallOf
 with_kept steps kept = record kept { hall = record kept.hall { kept = kept.hall.kept + steps } }
 
 -- whether there is a job that hasn't ended
-abbrev pub is_live : Option Job → Bool
-is_live None = false
-is_live (Some (Live root)) = true
-is_live (Some (DoneJob words)) = false
-is_live (Some SpentJob) = false
-is_live (Some CancelledJob) = false
+abbrev pub is_some_live : Option Job → Bool
+is_some_live None = false
+is_some_live (Some (Live root)) = true
+is_some_live (Some (DoneJob words)) = false
+is_some_live (Some SpentJob) = false
+is_some_live (Some CancelledJob) = false
 
 -- whether a seat that waits for a job waits on: the desk isn't closed, and the job hasn't ended
-abbrev pub waits_on : KeptOf → ℕ → ℕ → Bool
-waits_on kept tenant job = not kept.closed && is_live (job_of kept.hall.shared tenant job)
+abbrev pub waits_on : LockedHallOf → ℕ → ℕ → Bool
+waits_on kept tenant job = not kept.closed && is_some_live (job_of kept.hall.shared tenant job)
 
 -- whether a worker that waits may go on: the desk is closed, or some frame is ready
-abbrev pub has_news : KeptOf → Bool
+abbrev pub has_news : LockedHallOf → Bool
 has_news kept = kept.closed || not (ready_count kept.hall.shared.tenants == 0)
 
 -- the frame that a worker is given after it has waited, with its home: None exactly where the desk is closed or no
 -- frame is ready, else one that is ready
-abbrev pub IsNext : KeptOf → Option (FrameId × ℕ) → Type 0
+abbrev pub IsNext : LockedHallOf → Option (FrameId × ℕ) → Type 0
 IsNext kept None = (not kept.closed && not (ready_count kept.hall.shared.tenants == 0)) ≡ false
 IsNext kept (Some ready) = (kept.closed ≡ false) × IsReadyAt (named kept.hall.shared ready.0) ready.1
 

@@ -9,6 +9,10 @@ deep_wait = 64
 abbrev pub idle_wait : ℕ
 idle_wait = 512
 
+-- the shortest wait that is a nap: a shorter one spins
+abbrev pub nap_wait : ℕ
+nap_wait = 2048
+
 -- the shortest wait, by the depth of the last leaf that the worker was given: up to two plies a leaf is computed in less time
 -- than the steps that lead to it take
 abbrev pub least_wait : ℕ → ℕ

@@ -9,8 +9,11 @@
 //! than the steps that lead to it, so one worker alone keeps the lock busy, and the others do best to stay away. A deeper
 //! leaf takes longer than its steps: the lock is free much of the time, and a long wait is time lost. So the shortest and
 //! the longest wait follow the depth of the last leaf that the worker was given, and behind deeper leaves they are one.
-ghost use Rattle.std.specs.Prelude.{◌≡◌, ◌≤◌, min, max};
-ghost use Rattle.desk.specs.Waits.{deep_wait, idle_wait, least_wait, longest_wait, eased, doubled};
+//!
+//! A short wait spins. A long one is a nap, which leaves the processor to others: to sessions and clients, and to the
+//! worker that has the lock. A nap ends by its time alone, so it isn't a sleep on the lock.
+ghost use Rattle.std.specs.Prelude.{◌≡◌, ◌≤◌, ◌/◌, nat_le, min, max};
+ghost use Rattle.desk.specs.Waits.{deep_wait, idle_wait, nap_wait, least_wait, longest_wait, eased, doubled};
 
 /// The shortest wait behind a shallow leaf, in pauses of the processor: some 4 microseconds, in which about twenty steps
 /// can be taken.
@@ -27,6 +30,12 @@ const SHALLOW: u8 = 2;
 
 /// The wait of a worker without a task: some 8 microseconds.
 const IDLE: u32 = 512;
+
+/// The shortest wait that is a nap: some 32 microseconds, below which the calls of the system would take as long.
+const NAP: u32 = 2_048;
+
+/// About how many pauses take a microsecond.
+const PAUSES_IN_MICROSECOND: u32 = 64;
 
 /// Each time the lock was free at the first try, the wait gets shorter by 1/16 of itself.
 const EASING: u32 = 16;
@@ -77,6 +86,20 @@ impl Backoff {
         ensures most { result ≤ 32768 }
     {
         self.pauses
+    }
+
+    /// Whether the wait is a nap.
+    pub(crate) fn is_nap(self) -> bool
+        ensures { result ≡ nat_le nap_wait self.pauses }
+    {
+        self.pauses >= NAP
+    }
+
+    /// How long the wait is in microseconds.
+    pub(crate) fn micros(self) -> u64
+        ensures { result ≡ self.pauses / 64 }
+    {
+        (self.pauses / PAUSES_IN_MICROSECOND) as u64
     }
 
     /// The worker was given a leaf of this depth: no wait is shorter or longer than such leaves make worth it.

@@ -6,23 +6,25 @@ ghost use Rattle.hall.specs.Halls.{count_of};
 ghost use Rattle.desk.specs.Seats.{admit_refusals, reserve_refusals, ask_refusals, cancel_refusals, stepped, seat_asked_at, IsAsked, IsShown};
 
 use crate::backoff::Backoff;
-use crate::held::Held;
-use crate::kept::Kept;
+use crate::desk_guard::DeskGuard;
+use crate::locked_hall::LockedHall;
 use crate::seat::Seat;
-use crate::shares::{Badge, Hands, PARTS};
+use crate::shares::{Badge, DeskLedger, PARTS};
 use frame_tree::FrameId;
 use hall::{Hall, Jamboree, Outcome, Refusal, Step, StepAnswer};
 use position_text::Position;
 use std::alloc::{Allocator, Global};
 use std::hint::spin_loop;
+use std::sync::atomic::AtomicU64;
 use std::sync::ledger::{Blank, Share};
 use std::sync::{Condvar, Mutex, MutexGuard, Wait};
 use std::thread::yield_now;
+use std::time::Duration;
 use tenant_quota::{Left, Reserve};
 
 /// The hall under a lock, and the conditions that workers and seats wait for. `A` is the hall's allocator.
-pub struct Desk<L: Hands, A: Allocator = Global> {
-    lock: Mutex<Kept<L, A>>,
+pub struct Desk<L: DeskLedger, A: Allocator = Global> {
+    lock: Mutex<LockedHall<L, A>>,
     /// Where workers wait until a frame is ready or the desk is closed.
     ready: Condvar,
     /// Where seats wait until their job has ended or the desk is closed.
@@ -30,7 +32,7 @@ pub struct Desk<L: Hands, A: Allocator = Global> {
 }
 
 // By hand: were it derived, each crate that holds a desk would have to prove again that all its parts are dropped.
-impl<L: Hands, A: Allocator> Drop for Desk<L, A> {
+impl<L: DeskLedger, A: Allocator> Drop for Desk<L, A> {
     fn drop(self) {
         let Desk {
             lock: _lock,
@@ -40,21 +42,21 @@ impl<L: Hands, A: Allocator> Drop for Desk<L, A> {
     }
 }
 
-impl<L: Hands, A: Allocator + Clone> Desk<L, A> {
+impl<L: DeskLedger, A: Allocator + Clone> Desk<L, A> {
     /// Puts a hall under a lock, with a new ledger that counts the steps from now on.
     pub fn new(hall: Hall<A>, blank: Blank) -> Desk<L, A>
         requires name { blank.name ≡ L.name }
         requires parts { (blank.parts ≡ L.parts) × (L.all ≡ L.parts) × (L.all ≡ PARTS) }
     {
         Desk {
-            lock: Mutex::new(Kept::new(hall, blank)),
+            lock: Mutex::new(LockedHall::new(hall, blank)),
             ready: Condvar::new(),
             ended: Condvar::new(),
         }
     }
 
     /// Locks the hall: tries once, and then goes on as `enter_late` does.
-    fn enter<R: Wait>(&self, rt: &R) -> MutexGuard<'_, Kept<L, A>> {
+    fn enter<R: Wait>(&self, rt: &R) -> MutexGuard<'_, LockedHall<L, A>> {
         match self.lock.try_lock() {
             Some(kept) => kept,
             None => self.enter_late(rt, Backoff::new()),
@@ -64,9 +66,9 @@ impl<L: Hands, A: Allocator + Clone> Desk<L, A> {
     /// Locks the hall after a first try found the lock taken: tries again until it is free. Before each try it waits as
     /// long as `backoff` says, and after a failed one it lets other threads have the processor. It never sleeps on the
     /// lock: a thread that does is handed it, and until that thread is awake nobody else can take it.
-    fn enter_late<R: Wait>(&self, rt: &R, backoff: Backoff) -> MutexGuard<'_, Kept<L, A>> {
+    fn enter_late<R: Wait>(&self, rt: &R, backoff: Backoff) -> MutexGuard<'_, LockedHall<L, A>> {
         for _ in rt.forever() {
-            pause(backoff);
+            pause(rt, backoff);
             if let Some(kept) = self.lock.try_lock() {
                 return kept;
             }
@@ -199,10 +201,10 @@ impl<L: Hands, A: Allocator + Clone> Desk<L, A> {
         answer
     }
 
-    /// Locks the desk for several steps of the worker with this badge: until [`Held::release`] all other threads wait.
-    /// If the lock is free at the first try, the badge's backoff gets a little shorter; else it is doubled, up to what
-    /// the last leaf's depth makes worth it, and the worker waits that long before each further try.
-    pub fn hold<R: Wait>(&self, rt: &R, badge: &mut Badge<L>) -> Held<'_, L, A>
+    /// Locks the desk for several steps of the worker with this badge: until [`DeskGuard::release`] all other threads
+    /// wait. If the lock is free at the first try, the badge's backoff gets a little shorter; else it is doubled, up to
+    /// what the last leaf's depth makes worth it, and the worker waits that long before each further try.
+    pub fn hold<R: Wait>(&self, rt: &R, badge: &mut Badge<L>) -> DeskGuard<'_, L, A>
         ensures share { badge.new ≡ badge.old }
     {
         let kept = match self.lock.try_lock() {
@@ -215,7 +217,7 @@ impl<L: Hands, A: Allocator + Clone> Desk<L, A> {
                 self.enter_late(rt, badge.backoff)
             }
         };
-        Held {
+        DeskGuard {
             kept,
             ready: &self.ready,
             ended: &self.ended,
@@ -271,9 +273,14 @@ impl<L: Hands, A: Allocator + Clone> Desk<L, A> {
     }
 }
 
-/// Spins as long as this backoff says; the thread doesn't sleep.
-fn pause(backoff: Backoff) {
-    for _ in 0..backoff.pauses() {
-        spin_loop();
+/// Waits as long as this backoff says: spins, or naps on a word of its own, which nobody else sees.
+fn pause<R: Wait>(rt: &R, backoff: Backoff) {
+    if backoff.is_nap() {
+        let word = AtomicU64::new(0);
+        word.park_timeout(rt, 0, Duration::from_micros(backoff.micros()));
+    } else {
+        for _ in 0..backoff.pauses() {
+            spin_loop();
+        }
     }
 }

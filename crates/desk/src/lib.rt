@@ -8,7 +8,7 @@
 //! it changed.
 //!
 //! The contract of a call that locks can't say what the call did to the hall. That is said by the contract of a method
-//! of what lies under the lock (`kept`), and tests show that the call calls that method. What the
+//! of what lies under the lock (`LockedHall`), and tests show that the call calls that method. What the
 //! threads carry says the rest: a seat's and a badge's share count their own taken steps, as
 //! shares of one ledger (`std::sync::ledger`) whose book lies under the lock. So at the end, where
 //! [`Desk::into_hall`] gives the share with all parts of that ledger, all steps in the hall are those that it keeps and
@@ -29,9 +29,8 @@
 //! - `leave` answers nothing: if a hall refused it, the share would still be kept, so that shares add up. A
 //!   ledger has 3 * 2^62 parts, one for each of 2^62 badges and 2^62 tenants, and 2^62 to spare. After 2^64 - 1
 //!   steps a badge would block for ever; no run gets there.
-//! - Sleepers are counted under the lock, after they saw no ready frame, so none is missed. `Held` can't be
-//!   dropped, only released, so no wake-up is forgotten; each frame that became ready wakes one sleeping
-//!   worker.
+//! - Sleepers are counted under the lock, after they saw no ready frame, so none is missed. A `DeskGuard` can't be
+//!   dropped, only released, so no wake-up is forgotten; each frame that became ready wakes one sleeping worker.
 //!
 //! ```text
 //! let desk: Desk<L> = Desk::new(Hall::new(alloc, config, 2)?, blank);
@@ -47,17 +46,17 @@ pub use hall::jamboree;
 mod backoff;
 mod change;
 mod desk;
-mod held;
-mod kept;
+mod desk_guard;
+mod locked_hall;
 pub mod rows;
 mod seat;
 mod shares;
 
 pub use desk::Desk;
+pub use desk_guard::DeskGuard;
 pub use hall::{
     Config, Did, DidOf, Hall, Jamboree, Leaf, LeafAnswer, Outcome, Refusal, Reply, Step,
     StepAnswer, StepOf, Worker,
 };
-pub use held::Held;
 pub use seat::{Seat, SeatAsked};
-pub use shares::{Badge, Hands, PARTS};
+pub use shares::{Badge, DeskLedger, PARTS};

@@ -1,7 +1,7 @@
 //! A tenant's seat.
 ghost use Rattle.std.specs.Prelude.{◌≡◌, ◌≤◌, length};
 
-use crate::shares::Hands;
+use crate::shares::DeskLedger;
 use arrayvec::ArrayVec;
 use othello_board::Board;
 use std::marker::Model;
@@ -32,7 +32,7 @@ impl Default for SeatAsked {
 /// A tenant's place at the desk, which its calls are made with. Contracts see the tenant's number, the seat's share,
 /// which counts its own taken steps, and the list of what it asked.
 #[derive(Drop)]
-pub struct Seat<L: Hands> {
+pub struct Seat<L: DeskLedger> {
     pub(crate) tenant: u64,
     /// Its part of the desk's ledger, whose amount is `steps`. It takes no bytes.
     pub(crate) mine: Share<L>,
@@ -43,7 +43,7 @@ pub struct Seat<L: Hands> {
 }
 
 // Clauses see the tenant, the share and the list.
-impl<L: Hands> Model for Seat<L> {
+impl<L: DeskLedger> Model for Seat<L> {
     ghost use Rattle.std.specs.Prelude.{◌≡◌, ◌^◌, ◌<◌};
     ghost use Rattle.desk.specs.Seats.{SeatOf};
 
@@ -54,7 +54,7 @@ impl<L: Hands> Model for Seat<L> {
     ghost invariant = { λ s. (s.mine.amount ≡ s.steps) × (s.mine.parts ≡ 1) × (s.steps < 2 ^ 100) };
 }
 
-impl<L: Hands> Seat<L> {
+impl<L: DeskLedger> Seat<L> {
     /// Its tenant's number.
     pub fn tenant(&self) -> u64
         ensures { result ≡ self.now.tenant }

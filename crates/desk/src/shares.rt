@@ -6,15 +6,15 @@ use std::marker::{Brand, Model};
 use std::sync::ledger::{Ledger, Share};
 
 /// A type that stands for the ledger of one desk.
-pub trait Hands: Ledger {
-    /// How many parts the ledger has. The invariants of `Badge` and `Kept` speak of this number; most calls require
-    /// that it is the `parts` of `Ledger`.
+pub trait DeskLedger: Ledger {
+    /// How many parts the ledger has. The invariants of `Badge` and `LockedHall` speak of this number; most calls
+    /// require that it is the `parts` of `Ledger`.
     ghost all: { ℕ };
 }
 
 // So that a call may pass `Brand` for `L`. The proof of that call then chooses the ghost members; the 0 here isn't
 // used.
-impl Hands for Brand {
+impl DeskLedger for Brand {
     ghost all = { 0 };
 }
 
@@ -25,7 +25,7 @@ pub const PARTS: u64 = 3 << 62;
 /// What a worker offers steps with. Contracts see its share: how many of the steps offered with it, and with the badges
 /// that were joined to it, were taken.
 #[derive(Drop)]
-pub struct Badge<L: Hands> {
+pub struct Badge<L: DeskLedger> {
     /// Its parts of the desk's ledger, whose amount is `steps`. It takes no bytes.
     pub(crate) mine: Share<L>,
     /// Its share.
@@ -37,7 +37,7 @@ pub struct Badge<L: Hands> {
 }
 
 // Clauses see the share.
-impl<L: Hands> Model for Badge<L> {
+impl<L: DeskLedger> Model for Badge<L> {
     ghost Value = { ℕ };
 
     ghost view = { λ b. b.steps };
@@ -45,7 +45,7 @@ impl<L: Hands> Model for Badge<L> {
     ghost invariant = { λ b. (b.mine.amount ≡ b.steps) × (b.mine.parts ≡ b.parts) × (0 < b.parts) × (L.all ≡ 13835058055282163712) × (b.steps ≤ b.parts * 18446744073709551615) };
 }
 
-impl<L: Hands> Badge<L> {
+impl<L: DeskLedger> Badge<L> {
     /// Its share: how many steps were taken with it, and with the badges that were joined to it.
     pub fn share(&self) -> u128
         ensures { result ≡ self.now }

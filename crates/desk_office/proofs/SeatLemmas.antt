@@ -16,7 +16,7 @@ use Rattle.sched_rules.specs.declared.refusal.Refusal.TheVariants.{NoJob}
 use Rattle.sched_rules.specs.Refusals.{refusal_number}
 use Rattle.tenant_quota.specs.Quota.{Quota}
 use Rattle.session.specs.Calls.{Call, Get, Wait, Cancel, Reserve, Reserved, Ended, Told as ToldOf, Refused, reply_of}
-use Rattle.session.specs.Asks.{Asked, asked_at, asks_after, IsAnalysisOf, IsReplyTo, IsToldOf, KeepsAsks, SaysTrue, ShowsFound}
+use Rattle.session.specs.Asks.{Asked, asked_at, asks_after, IsAnalysisOf, IsOfficeReplyTo, IsToldOf, KeepsAsks, SaysTrue, ShowsFound}
 use Rattle.session.specs.declared.standings.Standing.{Standing}
 use Rattle.desk.specs.declared.seat.SeatAsked.{SeatAsked}
 use Rattle.desk.specs.Seats.{SeatOf, cancel_refusals, reserve_refusals, stepped, IsShown, seat_asked_at}
@@ -65,7 +65,7 @@ same_asks asks call job (Ok outcome) = refl
 same_asks asks call job (Err refusal) = refl
 
 -- and it answers a call that named that job
-pub told_to : (call : Call) (job : ℕ) (said : Result Standing Refusal) → (call ≡ Get job) ⊎ (call ≡ Wait job) → IsReplyTo call (reply_of (ToldOf job) said)
+pub told_to : (call : Call) (job : ℕ) (said : Result Standing Refusal) → (call ≡ Get job) ⊎ (call ≡ Wait job) → IsOfficeReplyTo call (reply_of (ToldOf job) said)
 told_to call job (Ok outcome) named = named
 told_to call job (Err refusal) named = tt
 

@@ -4,7 +4,7 @@ ghost use Rattle.session.specs.Asks.{KeepsAsks};
 ghost use Rattle.desk_office.specs.Offices.{asks_of};
 
 use crate::outcomes::told_answer;
-use desk::{Desk, Hands, Refusal, Seat};
+use desk::{Desk, DeskLedger, Refusal, Seat};
 use session::{Live, Office, Question, Standing};
 use std::alloc::{Allocator, Global};
 use std::sync::Wait;
@@ -12,14 +12,14 @@ use tenant_quota::{Left, Reserve};
 
 /// The office of one tenant at a desk. It has the tenant's seat from a HELLO that was taken until the tenant leaves;
 /// without a seat all calls but `hello` and `leave` are refused.
-pub struct DeskOffice<'a, L: Hands, R: Wait, A: Allocator = Global> {
+pub struct DeskOffice<'a, L: DeskLedger, R: Wait, A: Allocator = Global> {
     rt: &'a R,
     desk: &'a Desk<L, A>,
     /// The tenant's seat; `None` where no tenant is there.
     seat: Option<Seat<L>>,
 }
 
-impl<'a, L: Hands, R: Wait, A: Allocator> DeskOffice<'a, L, R, A> {
+impl<'a, L: DeskLedger, R: Wait, A: Allocator> DeskOffice<'a, L, R, A> {
     ghost use Rattle.std.specs.Prelude.{◌≡◌, None};
 
     /// An office without a tenant.
@@ -43,7 +43,7 @@ impl<'a, L: Hands, R: Wait, A: Allocator> DeskOffice<'a, L, R, A> {
     }
 }
 
-impl<L: Hands, R: Wait, A: Allocator + Clone> Office for DeskOffice<'_, L, R, A> {
+impl<L: DeskLedger, R: Wait, A: Allocator + Clone> Office for DeskOffice<'_, L, R, A> {
     ghost does = { λ from call reply to. KeepsAsks (asks_of from.seat) call reply (asks_of to.seat) };
 
     ghost ready = { L.all == L.parts };

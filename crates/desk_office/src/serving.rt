@@ -3,7 +3,7 @@ ghost use Rattle.std.specs.Prelude.{◌≡◌};
 ghost use Rattle.session.specs.DoneLines.{TrueSession};
 
 use crate::office::DeskOffice;
-use desk::{Desk, Hands};
+use desk::{Desk, DeskLedger};
 use line_io::{Sink, Source};
 use session::{End, SessionFault, each_done_line_is_true, serve_lines};
 use std::alloc::Allocator;
@@ -15,7 +15,7 @@ use std::sync::Wait;
 /// and each line `TABLE k` with entries their table. The lines alone can't tell which steps led to a QUOTA, a LIVE, a
 /// SPENT or a refusal by 10 or 11 (`NoSegments`, `NoNodes`): the contracts of what lies under the desk's lock do
 /// (`desk`, `hall`).
-pub fn serve_desk<S: Source, K: Sink, L: Hands, R: Wait, A: Allocator + Clone>(
+pub fn serve_desk<S: Source, K: Sink, L: DeskLedger, R: Wait, A: Allocator + Clone>(
     rt: &R,
     source: &mut S,
     sink: &mut K,

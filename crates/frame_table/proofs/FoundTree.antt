@@ -2,18 +2,18 @@
 use Rattle.std.proofs.Common.{◌≡◌, ℕ, ◌+◌, ◌≤◌, List, length, get_or, set, ap, sym, ◌∙◌, subst, refl, arith}
 use Rattle.std.proofs.lemmas.List.{set-get_or}
 use Rattle.frame_tree.specs.Frames.{Frame, TenantTree, ready_frames}
-use Rattle.frame_table.specs.Tables.{frames_of, places_of, KeepsOthers, KeepsOtherTenants, FitsPlaces, IsSoundTable, IsAt, IsTreeOf}
+use Rattle.frame_table.specs.Tables.{frames_of, places_of, KeepsOtherFrames, KeepsOtherTenants, FitsPlaces, IsSoundTable, IsTreeAt, IsTreeOf}
 use Rattle.frame_table.proofs.Tenants.{ready_of, at_tree, at_within, fit_at, set_here, set_keeps, set_keeps_others, set_sound, more_room, IsWithin, is_within}
 
 -- where it stands, whose it is, and its bounds
 pub record HasTree {T : Type 0} (trees : List (TenantTree T)) (room ready tenant at : ℕ) (x : TenantTree T) : Type 0 where
   pub sound : IsSoundTable trees room ready
-  pub here : IsAt trees tenant at
+  pub here : IsTreeAt trees tenant at
   pub was : x ≡ get_or trees at x
   pub own : IsTreeOf trees tenant x
   pub within : IsWithin x room ready
 
-pub has_tree : {T : Type 0} (trees items : List (TenantTree T)) (room ready tenant at : ℕ) (x : TenantTree T) → IsSoundTable trees room ready → items ≡ trees → IsAt items tenant at → x ≡ get_or trees at x → HasTree trees room ready tenant at x
+pub has_tree : {T : Type 0} (trees items : List (TenantTree T)) (room ready tenant at : ℕ) (x : TenantTree T) → IsSoundTable trees room ready → items ≡ trees → IsTreeAt items tenant at → x ≡ get_or trees at x → HasTree trees room ready tenant at x
 has_tree trees items room ready tenant at x sound same found was =
     let here = rw same at found in
     record { sound = sound; here = here; was = was; own = at_tree trees tenant at x here was; within = is_within trees room ready tenant at x sound here was }
@@ -27,7 +27,7 @@ module _ {T : Type 0} {trees : List (TenantTree T)} {room ready tenant at : ℕ}
   pub new_frames : {frames : List (Frame T)} → HasTree trees room ready tenant at x → y ≡ record x { frames = frames } → frames_of (set trees at y) tenant ≡ frames
   new_frames tree now = (here_now tree (ap (λ z. z.tenant) now)).frames ∙ ap (λ z. z.frames) now
 
-  pub new_keeps : {frames : List (Frame T)} → HasTree trees room ready tenant at x → y ≡ record x { frames = frames } → KeepsOthers trees (set trees at y) tenant
+  pub new_keeps : {frames : List (Frame T)} → HasTree trees room ready tenant at x → y ≡ record x { frames = frames } → KeepsOtherFrames trees (set trees at y) tenant
   new_keeps tree now = set_keeps trees tenant at x y tree.here tree.was (ap (λ z. z.tenant) now ∙ tree.own.named) (ap (λ z. z.places) now)
 
   pub new_sound : {frames : List (Frame T)} {after : ℕ} → HasTree trees room ready tenant at x → y ≡ record x { frames = frames } → length frames ≤ x.places → after + ready_of x ≡ ready + length (ready_frames frames) → IsSoundTable (set trees at y) room after

@@ -6,8 +6,8 @@
 //! room for as many as any tenant has places, and the count of ready frames is that of all trees.
 ghost use Rattle.std.specs.Prelude.{◌≡◌, ◌≢◌, ℕ, ◌+◌, ◌<◌, ◌≤◌, ◌↔◌, ◌++◌, [], ◌∷◌, true, false, length, IsTrue, IsNone, IfOk, IfSome, IfNone, OnOk, OnErr};
 ghost use Rattle.std.specs.Borrow.{sem};
-ghost use Rattle.frame_tree.specs.Frames.{owner_of, frame_at, has_frame, path_in, root_of, children_of, frames_under, frames_without, values_of, with_state, ready_frames, AllBelow, entry_of, newest_ready_of, names_of, new_frame, one_if_ready, HasValue, IsTree, IsReadyAt};
-ghost use Rattle.frame_table.specs.Tables.{frames_of, places_of, tenant_count, KeepsOthers, KeepsOtherTenants, serial_of, IsParentIn, has_tenant, IsAt, IsTreeOf, HasNoTree, AreApartTrees, first_ready_of};
+ghost use Rattle.frame_tree.specs.Frames.{owner_of_tree, frame_at, has_frame, path_in, root_of, children_of, frames_under, frames_without, values_of, with_state, ready_frames, AllBelow, entry_of_frame, newest_ready_of, names_of, new_frame, one_if_ready, HasValue, IsTree, IsReadyAt};
+ghost use Rattle.frame_table.specs.Tables.{frames_of, places_of, tenant_count, KeepsOtherFrames, KeepsOtherTenants, serial_of, IsParentIn, has_tenant, IsTreeAt, IsTreeOf, HasNoTree, AreApartTrees, first_ready_of};
 ghost use Rattle.number_index.specs.Places.{AreRising};
 
 use frame_tree::{Children, Entry, FrameId, Frames, State, TenantFrames};
@@ -116,7 +116,7 @@ impl<T: Copy, A: Allocator> FrameTable<T, A> {
     /// The parent, state and value of a frame; `None` where there is no such frame.
     #[inline(always)]
     pub fn find(&self, f: FrameId) -> Option<Entry<T>>
-        ensures entry { result ≡ entry_of f.tenant (frame_at (frames_of self.now f.tenant) f.serial) }
+        ensures entry { result ≡ entry_of_frame f.tenant (frame_at (frames_of self.now f.tenant) f.serial) }
         ensures tree { IsTree (frames_of self.now f.tenant) }
     {
         match self.guessed_tree(f.tenant) {
@@ -345,7 +345,7 @@ impl<T: Copy, A: Allocator> FrameTable<T, A> {
 
         // Of the tenant's other serials the same are there as before: no removed frame comes back.
         ensures others { (serial : ℕ) → serial ≢ f.serial → has_frame (frames_of self.new f.tenant) serial ≡ has_frame (frames_of self.old f.tenant) serial }
-        ensures kept { KeepsOthers self.old self.new f.tenant }
+        ensures kept { KeepsOtherFrames self.old self.new f.tenant }
     {
         let at = known_tenant(self.trees.as_slice(), &self.index, f.tenant);
         let above = parent_serial(parent);
@@ -359,7 +359,7 @@ impl<T: Copy, A: Allocator> FrameTable<T, A> {
     pub fn set_state(&mut self, f: FrameId, state: State)
         requires { IsTrue (has_frame (frames_of self.old f.tenant) f.serial) }
         ensures frames { frames_of self.new f.tenant ≡ with_state f.serial state (frames_of self.old f.tenant) }
-        ensures kept { KeepsOthers self.old self.new f.tenant }
+        ensures kept { KeepsOtherFrames self.old self.new f.tenant }
     {
         let at = known_tenant(self.trees.as_slice(), &self.index, f.tenant);
         let tree = &mut self.trees[at];
@@ -406,7 +406,7 @@ impl<T: Copy, A: Allocator> FrameTable<T, A> {
         requires leaf { children_of (frames_of self.old f.tenant) f.serial ≡ [] }
         ensures frames { frames_of self.new f.tenant ≡ frames_without f.serial (frames_of self.old f.tenant) }
         ensures value { HasValue (frame_at (frames_of self.old f.tenant) f.serial) result }
-        ensures kept { KeepsOthers self.old self.new f.tenant }
+        ensures kept { KeepsOtherFrames self.old self.new f.tenant }
     {
         let at = known_tenant(self.trees.as_slice(), &self.index, f.tenant);
         let tree = &mut self.trees[at];
@@ -465,7 +465,7 @@ fn find_tree<'a, T: Copy, A: Allocator>(
     index: &TenantIndex,
     tenant: u64,
 ) -> Option<&'a TenantFrames<T, A>>
-    requires { AreRising owner_of trees.now }
+    requires { AreRising owner_of_tree trees.now }
     ensures found { IfSome result (λ tree. IsTreeOf trees.now tenant tree.now) }
     ensures none { IfNone result (HasNoTree trees.now tenant) }
 {
@@ -479,10 +479,10 @@ fn known_tenant<T: Copy, A: Allocator>(
     index: &TenantIndex,
     tenant: u64,
 ) -> usize
-    requires rise { AreRising owner_of trees.now }
+    requires rise { AreRising owner_of_tree trees.now }
     requires there { has_tenant trees.now tenant ≡ true }
     ensures within { result < length trees.now }
-    ensures found { IsAt trees.now tenant result }
+    ensures found { IsTreeAt trees.now tenant result }
 {
     index.place_of(trees, tenant)
 }

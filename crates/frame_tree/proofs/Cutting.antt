@@ -1,36 +1,36 @@
--- A shelf of which some slots went.
+-- A slot store of which some slots went.
 use Rattle.std.proofs.Common.{◌≡◌, ◌≢◌, ℕ, zero, suc, ◌+◌, ◌<◌, ◌≤◌, Bool, true, false, not, ◌||◌, eqb, List, [], ◌∷◌, ◌++◌, Option, Some, None, IsSome, get_or, slice_index, take, length, append-nil, map, refl, ap, sym, ◌∙◌, inl, inr, arith, subst}
 use Rattle.std.specs.List.{filter, remove}
 use Rattle.std.proofs.lemmas.Bool.{cases_eq, cases_Bool, false≢true, eq-eqb, ne_eqb, not-true}
 use Rattle.slab.specs.Slab.{Slab, get, slab_len}
 use Rattle.frame_tree.specs.declared.slot.Slot.{Slot as TenantSlot}
-use Rattle.frame_tree.specs.declared.shelf.KeptSlot.{KeptSlot}
+use Rattle.frame_tree.specs.declared.slot_store.StoredSlot.{StoredSlot}
 use Rattle.frame_tree.specs.Slots.{frames_from, is_kept, IsLinked, kept_slots, gone_values, child_slots, is_serial, AllAbove, Rises, serials_of}
 use Rattle.frame_tree.specs.Places.{has_number}
-use Rattle.frame_tree.specs.Shelves.{with_found, slots_in, AreApartKeys, HasSerial, KnowsParent, IsHere, AllHere, IsShelf, AreThere, is_marked, marked_in, swept_in, values_in}
+use Rattle.frame_tree.specs.SlotStores.{with_found, slots_in, AreApartKeys, HasSerial, KnowsParent, IsHere, AllHere, IsSlotStore, AreThere, is_marked, marked_in, swept_in, values_in}
 use Rattle.frame_tree.proofs.Cuts.{IsClosed, IsClosed-from_follows, kept_follows}
 use Rattle.frame_tree.proofs.Lengths.{length-filter-le}
-use Rattle.frame_tree.specs.Shelves.{Marks, AreKeys, IsKeyAt}
+use Rattle.frame_tree.specs.SlotStores.{Marks, AreKeys, IsKeyAt}
 use Rattle.frame_tree.proofs.Search.{serial_read}
-use Rattle.frame_tree.proofs.Shelves.{has_number-append, has_number-at, here_read, slots_in-length, slot_read}
+use Rattle.frame_tree.proofs.SlotStores.{has_number-append, has_number-at, here_read, slots_in-length, slot_read}
 use Rattle.frame_tree.proofs.Keys.{key_found, knows_key}
 use Rattle.frame_tree.proofs.Changes.{parent_below, remove-filter}
 
 -- the slot that is here
-pub here_found : {T : Type 0} (slab : Slab (KeptSlot T)) (before : List ℕ) (o : Option (KeptSlot T)) → IsHere slab before o → (kept : KeptSlot T) × (o ≡ Some kept)
+pub here_found : {T : Type 0} (slab : Slab (StoredSlot T)) (before : List ℕ) (o : Option (StoredSlot T)) → IsHere slab before o → (kept : StoredSlot T) × (o ≡ Some kept)
 here_found slab before None h = absurd h
 here_found slab before (Some x) h = (x, refl)
 
 -- the slot of a serial
-pub named_slot : {T : Type 0} (p : ℕ) (o : Option (KeptSlot T)) → HasSerial p o → (y : KeptSlot T) × (o ≡ Some y) × (y.slot.serial ≡ p)
+pub named_slot : {T : Type 0} (p : ℕ) (o : Option (StoredSlot T)) → HasSerial p o → (y : StoredSlot T) × (o ≡ Some y) × (y.slot.serial ≡ p)
 named_slot p None h = absurd h
 named_slot p (Some y) h = (y, refl, h)
 
-pub all_there : {T : Type 0} (slab : Slab (KeptSlot T)) (before keys : List ℕ) → AllHere slab before keys → AreThere slab keys
+pub all_there : {T : Type 0} (slab : Slab (StoredSlot T)) (before keys : List ℕ) → AllHere slab before keys → AreThere slab keys
 all_there slab before [] h = tt
 all_there slab before (k ∷ keys) h = (some slab before (get slab k) h.0, all_there slab (before ++ k ∷ []) keys h.1)
   where
-    some : {T : Type 0} (slab : Slab (KeptSlot T)) (before : List ℕ) (o : Option (KeptSlot T)) → IsHere slab before o → IsSome o
+    some : {T : Type 0} (slab : Slab (StoredSlot T)) (before : List ℕ) (o : Option (StoredSlot T)) → IsHere slab before o → IsSome o
     some slab before None h = absurd h
     some slab before (Some x) h = refl
 
@@ -83,12 +83,12 @@ tail_key k j keys h = or_right (eqb k j) (has_number keys j) h
     or_right false b h = h
 
 -- which slots stay, by key and by serial, and how those are kept
-pub record Stays {T : Type 0} (old new : Slab (KeptSlot T)) (by_key by_serial : ℕ → Bool) (keys : List ℕ) : Type 0 where
-  pub agree : (k : ℕ) (x : KeptSlot T) → has_number keys k ≡ true → get old k ≡ Some x → by_key k ≡ by_serial x.slot.serial
-  pub renew : (k : ℕ) (x : KeptSlot T) → has_number keys k ≡ true → get old k ≡ Some x → by_key k ≡ true → get new k ≡ Some (record x { marked = false })
+pub record Stays {T : Type 0} (old new : Slab (StoredSlot T)) (by_key by_serial : ℕ → Bool) (keys : List ℕ) : Type 0 where
+  pub agree : (k : ℕ) (x : StoredSlot T) → has_number keys k ≡ true → get old k ≡ Some x → by_key k ≡ by_serial x.slot.serial
+  pub renew : (k : ℕ) (x : StoredSlot T) → has_number keys k ≡ true → get old k ≡ Some x → by_key k ≡ true → get new k ≡ Some (record x { marked = false })
 
 -- those that stay are here as before
-pub here-filter : {T : Type 0} (old new : Slab (KeptSlot T)) (by_key by_serial : ℕ → Bool) (all before keys : List ℕ) → Stays old new by_key by_serial all → ((k : ℕ) → has_number before k ≡ true → has_number all k ≡ true) → ((k : ℕ) → has_number keys k ≡ true → has_number all k ≡ true) → IsClosed by_serial (slots_in old keys) → AllHere old before keys → AllHere new (filter by_key before) (filter by_key keys)
+pub here-filter : {T : Type 0} (old new : Slab (StoredSlot T)) (by_key by_serial : ℕ → Bool) (all before keys : List ℕ) → Stays old new by_key by_serial all → ((k : ℕ) → has_number before k ≡ true → has_number all k ≡ true) → ((k : ℕ) → has_number keys k ≡ true → has_number all k ≡ true) → IsClosed by_serial (slots_in old keys) → AllHere old before keys → AllHere new (filter by_key before) (filter by_key keys)
 here-filter old new by_key by_serial all before [] s b w c h = tt
 here-filter {T} old new by_key by_serial all before (k ∷ keys) s b w c h =
     let found = here_found old before (get old k) h.0 in
@@ -116,7 +116,7 @@ here-filter {T} old new by_key by_serial all before (k ∷ keys) s b w c h =
           ]
         ]
 
-    parent : {T : Type 0} (old new : Slab (KeptSlot T)) (by_key by_serial : ℕ → Bool) (all before : List ℕ) (parent above : Option ℕ) → Stays old new by_key by_serial all → ((k : ℕ) → has_number before k ≡ true → has_number all k ≡ true) → ((p : ℕ) → parent ≡ Some p → by_serial p ≡ true) → KnowsParent old before parent above → KnowsParent new (filter by_key before) parent above
+    parent : {T : Type 0} (old new : Slab (StoredSlot T)) (by_key by_serial : ℕ → Bool) (all before : List ℕ) (parent above : Option ℕ) → Stays old new by_key by_serial all → ((k : ℕ) → has_number before k ≡ true → has_number all k ≡ true) → ((p : ℕ) → parent ≡ Some p → by_serial p ≡ true) → KnowsParent old before parent above → KnowsParent new (filter by_key before) parent above
     parent old new by_key by_serial all before None None s b up k = tt
     parent old new by_key by_serial all before None (Some a) s b up k = absurd k
     parent old new by_key by_serial all before (Some p) None s b up k = absurd k
@@ -126,7 +126,7 @@ here-filter {T} old new by_key by_serial all before (k ∷ keys) s b w c h =
         (has_number-filter by_key before a k.0 stays, rw (s.renew a y.0 (b a k.0) y.1 stays) y.2)
 
 -- and stand for the same slots
-pub slots-filter : {T : Type 0} (old new : Slab (KeptSlot T)) (by_key by_serial : ℕ → Bool) (all before keys : List ℕ) → ((k : ℕ) (x : KeptSlot T) → has_number all k ≡ true → get old k ≡ Some x → by_key k ≡ by_serial x.slot.serial) → ((k : ℕ) (x : KeptSlot T) → has_number all k ≡ true → get old k ≡ Some x → by_key k ≡ true → with_found (get new k) [] ≡ x.slot ∷ []) → ((k : ℕ) → has_number keys k ≡ true → has_number all k ≡ true) → AllHere old before keys → slots_in new (filter by_key keys) ≡ filter (λ slot. by_serial slot.serial) (slots_in old keys)
+pub slots-filter : {T : Type 0} (old new : Slab (StoredSlot T)) (by_key by_serial : ℕ → Bool) (all before keys : List ℕ) → ((k : ℕ) (x : StoredSlot T) → has_number all k ≡ true → get old k ≡ Some x → by_key k ≡ by_serial x.slot.serial) → ((k : ℕ) (x : StoredSlot T) → has_number all k ≡ true → get old k ≡ Some x → by_key k ≡ true → with_found (get new k) [] ≡ x.slot ∷ []) → ((k : ℕ) → has_number keys k ≡ true → has_number all k ≡ true) → AllHere old before keys → slots_in new (filter by_key keys) ≡ filter (λ slot. by_serial slot.serial) (slots_in old keys)
 slots-filter old new by_key by_serial all before [] agree same w h = refl
 slots-filter {T} old new by_key by_serial all before (k ∷ keys) agree same w h =
     let found = here_found old before (get old k) h.0 in
@@ -139,27 +139,27 @@ slots-filter {T} old new by_key by_serial all before (k ∷ keys) agree same w h
       | inr goes ↦ rw (goes, sym at ∙ goes) rest
     ])
   where
-    one : {T : Type 0} (o : Option (KeptSlot T)) (s : TenantSlot T) (xs : List (TenantSlot T)) → with_found o [] ≡ s ∷ [] → with_found o xs ≡ s ∷ xs
+    one : {T : Type 0} (o : Option (StoredSlot T)) (s : TenantSlot T) (xs : List (TenantSlot T)) → with_found o [] ≡ s ∷ [] → with_found o xs ≡ s ∷ xs
     one None s xs e = absurd (cc)
     one (Some y) s xs e = ap (λ ys. ys ++ xs) e
 
--- what an abort leaves of a shelf
-pub record HasCut {T : Type 0} (under : ℕ) (old marked new : Slab (KeptSlot T)) (order left : List ℕ) : Type 0 where
+-- what an abort leaves of a slot store
+pub record HasCut {T : Type 0} (under : ℕ) (old marked new : Slab (StoredSlot T)) (order left : List ℕ) : Type 0 where
   pub marks : Marks under (slots_in old order) order old marked
   pub kept : left ≡ filter (λ key. not (is_marked (get marked key))) order
   pub swept : (key : ℕ) → get new key ≡ swept_in marked order key
 
-pub has_cut : {T : Type 0} (under : ℕ) (old marked new : Slab (KeptSlot T)) (order left : List ℕ) → Marks under (slots_in old order) order old marked → left ≡ filter (λ key. not (is_marked (get marked key))) order → ((key : ℕ) → get new key ≡ swept_in marked order key) → HasCut under old marked new order left
+pub has_cut : {T : Type 0} (under : ℕ) (old marked new : Slab (StoredSlot T)) (order left : List ℕ) → Marks under (slots_in old order) order old marked → left ≡ filter (λ key. not (is_marked (get marked key))) order → ((key : ℕ) → get new key ≡ swept_in marked order key) → HasCut under old marked new order left
 has_cut under old marked new order left marks kept swept = record { marks = marks; kept = kept; swept = swept }
 
-pub cut_marks : {T : Type 0} (under : ℕ) (old marked new : Slab (KeptSlot T)) (order left : List ℕ) → HasCut under old marked new order left → (k : ℕ) (x : KeptSlot T) → has_number order k ≡ true → get old k ≡ Some x → get marked k ≡ Some (record x { marked = not (is_kept under (frames_from [] (slots_in old order)) x.slot.serial) })
+pub cut_marks : {T : Type 0} (under : ℕ) (old marked new : Slab (StoredSlot T)) (order left : List ℕ) → HasCut under old marked new order left → (k : ℕ) (x : StoredSlot T) → has_number order k ≡ true → get old k ≡ Some x → get marked k ≡ Some (record x { marked = not (is_kept under (frames_from [] (slots_in old order)) x.slot.serial) })
 cut_marks under old marked new order left c k x has is = c.marks k ∙ (rw (is, has) refl)
 
 not_not : (b : Bool) → not (not b) ≡ b
 not_not true = refl
 not_not false = refl
 
-pub cut_stays : {T : Type 0} (under : ℕ) (old marked new : Slab (KeptSlot T)) (order left : List ℕ) → HasCut under old marked new order left → Stays old new (λ key. not (is_marked (get marked key))) (is_kept under (frames_from [] (slots_in old order))) order
+pub cut_stays : {T : Type 0} (under : ℕ) (old marked new : Slab (StoredSlot T)) (order left : List ℕ) → HasCut under old marked new order left → Stays old new (λ key. not (is_marked (get marked key))) (is_kept under (frames_from [] (slots_in old order))) order
 cut_stays under old marked new order left c = record {
   agree = λ k x has is. rw (cut_marks under old marked new order left c k x has is) (not_not _);
   renew = λ k x has is stays.
@@ -170,21 +170,21 @@ cut_stays under old marked new order left c = record {
 }
 
 -- the slots that stay
-pub cut_slots : {T : Type 0} (under : ℕ) (old marked new : Slab (KeptSlot T)) (order left : List ℕ) → HasCut under old marked new order left → AllHere old [] order → slots_in new left ≡ kept_slots under (slots_in old order)
+pub cut_slots : {T : Type 0} (under : ℕ) (old marked new : Slab (StoredSlot T)) (order left : List ℕ) → HasCut under old marked new order left → AllHere old [] order → slots_in new left ≡ kept_slots under (slots_in old order)
 cut_slots under old marked new order left c h =
     let s = cut_stays under old marked new order left c in
     ap (slots_in new) c.kept ∙ slots-filter old new (λ key. not (is_marked (get marked key))) (is_kept under (frames_from [] (slots_in old order))) order [] order s.agree (λ k x has is stays. rw (s.renew k x has is stays) refl) (λ k has. has) h
 
 -- the values of those that went
-pub cut_values : {T : Type 0} (under : ℕ) (old marked new : Slab (KeptSlot T)) (order left : List ℕ) → HasCut under old marked new order left → AllHere old [] order → values_in marked (filter (λ key. is_marked (get marked key)) order) ≡ gone_values under (slots_in old order)
+pub cut_values : {T : Type 0} (under : ℕ) (old marked new : Slab (StoredSlot T)) (order left : List ℕ) → HasCut under old marked new order left → AllHere old [] order → values_in marked (filter (λ key. is_marked (get marked key)) order) ≡ gone_values under (slots_in old order)
 cut_values under old marked new order left c h =
     ap (map (λ slot. slot.value)) (slots-filter old marked (λ key. is_marked (get marked key)) (λ serial. not (is_kept under (frames_from [] (slots_in old order)) serial)) order [] order
     (λ k x has is. rw (cut_marks under old marked new order left c k x has is) refl)
     (λ k x has is goes. rw (cut_marks under old marked new order left c k x has is) refl) (λ k has. has) h)
 
--- the shelf
-pub cut_shelf : {T : Type 0} (under : ℕ) (old marked new : Slab (KeptSlot T)) (order left : List ℕ) (room places : ℕ) → HasCut under old marked new order left → IsShelf old order room places → IsLinked [] (slots_in old order) → slab_len new + length order ≡ slab_len old + length left → new.capacity ≡ old.capacity → IsShelf new left room places
-cut_shelf under old marked new order left room places c s l len capacity =
+-- the slot store
+pub cut_store : {T : Type 0} (under : ℕ) (old marked new : Slab (StoredSlot T)) (order left : List ℕ) (room places : ℕ) → HasCut under old marked new order left → IsSlotStore old order room places → IsLinked [] (slots_in old order) → slab_len new + length order ≡ slab_len old + length left → new.capacity ≡ old.capacity → IsSlotStore new left room places
+cut_store under old marked new order left room places c s l len capacity =
     let closed = IsClosed-from_follows (is_kept under (frames_from [] (slots_in old order))) under (slots_in old order) (kept_follows under (frames_from [] (slots_in old order)) [] (slots_in old order) refl l tt) in
     let here = here-filter old new (λ key. not (is_marked (get marked key))) (is_kept under (frames_from [] (slots_in old order))) order [] order (cut_stays under old marked new order left c) (λ k has. absurd (false≢true has)) (λ k has. has) closed s.here in
     let fewer : length left ≤ length order = omega (arith, ap length c.kept, length-filter-le (λ key. not (is_marked (get marked key))) order) in
@@ -198,24 +198,24 @@ cut_shelf under old marked new order left room places c s l len capacity =
     }
 
 -- each key has a slot, marked or not
-pub marked_there : {T : Type 0} (under : ℕ) (slots : List (TenantSlot T)) (all : List ℕ) (old marked : Slab (KeptSlot T)) (keys : List ℕ) → Marks under slots all old marked → AreThere old keys → AreThere marked keys
+pub marked_there : {T : Type 0} (under : ℕ) (slots : List (TenantSlot T)) (all : List ℕ) (old marked : Slab (StoredSlot T)) (keys : List ℕ) → Marks under slots all old marked → AreThere old keys → AreThere marked keys
 marked_there under slots all old marked [] m t = tt
 marked_there under slots all old marked (k ∷ keys) m t = (subst (λ o. IsSome o) (sym (m k)) (some under slots all k (get old k) t.0), marked_there under slots all old marked keys m t.1)
   where
-    some : {T : Type 0} (under : ℕ) (slots : List (TenantSlot T)) (all : List ℕ) (k : ℕ) (o : Option (KeptSlot T)) → IsSome o → IsSome (marked_in under slots all k o)
+    some : {T : Type 0} (under : ℕ) (slots : List (TenantSlot T)) (all : List ℕ) (k : ℕ) (o : Option (StoredSlot T)) → IsSome o → IsSome (marked_in under slots all k o)
     some under slots all k None t = t
     some under slots all k (Some x) t = refl
 
 -- what is there is one slot
-by_one : {T : Type 0} (o : Option (KeptSlot T)) (x y : KeptSlot T) → o ≡ Some x → o ≡ Some y → x.slot.serial ≡ y.slot.serial
-by_one {T} o x y a b = ap (λ (o : Option (KeptSlot T)). serial_or o) (sym a ∙ b)
+by_one : {T : Type 0} (o : Option (StoredSlot T)) (x y : StoredSlot T) → o ≡ Some x → o ≡ Some y → x.slot.serial ≡ y.slot.serial
+by_one {T} o x y a b = ap (λ (o : Option (StoredSlot T)). serial_or o) (sym a ∙ b)
   where
-    serial_or : {T : Type 0} → Option (KeptSlot T) → ℕ
+    serial_or : {T : Type 0} → Option (StoredSlot T) → ℕ
     serial_or None = 0
     serial_or (Some k) = k.slot.serial
 
 -- a slot was taken away under its key, which was no slot's parent
-pub record HasTaken {T : Type 0} (old new : Slab (KeptSlot T)) (order : List ℕ) (at key : ℕ) (kept : KeptSlot T) : Type 0 where
+pub record HasTaken {T : Type 0} (old new : Slab (StoredSlot T)) (order : List ℕ) (at key : ℕ) (kept : StoredSlot T) : Type 0 where
   pub within : at < length order
   pub read : key ≡ get_or order at key
   pub was : get old key ≡ Some kept
@@ -259,7 +259,7 @@ remove_key (k ∷ keys) (suc i) d a lt =
     rw (ne_eqb k (get_or keys i d) other) (ap (λ ks. k ∷ ks) (remove_key keys i d a.1 (omega arith)))
 
 -- no slot is marked
-pub unmarked : {T : Type 0} (slab : Slab (KeptSlot T)) (before keys : List ℕ) (k : ℕ) (x : KeptSlot T) → AllHere slab before keys → has_number keys k ≡ true → get slab k ≡ Some x → x.marked ≡ false
+pub unmarked : {T : Type 0} (slab : Slab (StoredSlot T)) (before keys : List ℕ) (k : ℕ) (x : StoredSlot T) → AllHere slab before keys → has_number keys k ≡ true → get slab k ≡ Some x → x.marked ≡ false
 unmarked slab before [] k x h has is = absurd (false≢true has)
 unmarked slab before (j ∷ keys) k x h has is =
     elim (cases_eq j k) [
@@ -268,19 +268,19 @@ unmarked slab before (j ∷ keys) k x h has is =
     ]
 
 -- a serial above another, by its key
-above_key : {T : Type 0} (slab : Slab (KeptSlot T)) (before keys : List ℕ) (n k : ℕ) (x : KeptSlot T) → AllHere slab before keys → AllAbove n (slots_in slab keys) → has_number keys k ≡ true → get slab k ≡ Some x → n < x.slot.serial
+above_key : {T : Type 0} (slab : Slab (StoredSlot T)) (before keys : List ℕ) (n k : ℕ) (x : StoredSlot T) → AllHere slab before keys → AllAbove n (slots_in slab keys) → has_number keys k ≡ true → get slab k ≡ Some x → n < x.slot.serial
 above_key slab before [] n k x h above has is = absurd (false≢true has)
 above_key {T} slab before (j ∷ keys) n k x h above has is =
     let found = here_found slab before (get slab j) h.0 in
     let both : AllAbove n (found.0.slot ∷ slots_in slab keys) = subst (λ o. AllAbove n (with_found o (slots_in slab keys))) found.1 above in
     elim (cases_eq j k) [
-      | inl same ↦ (let P : Option (KeptSlot T) → Type 0 = λ o. AllAbove n (with_found o []) in
+      | inl same ↦ (let P : Option (StoredSlot T) → Type 0 = λ o. AllAbove n (with_found o []) in
           let one : AllAbove n (x.slot ∷ []) = subst P (sym found.1 ∙ (ap (get slab) same ∙ is)) (both.0, tt) in one.0)
       | inr differs ↦ above_key slab (before ++ j ∷ []) keys n k x h.1 both.1 (rw (ne_eqb j k differs) at has) is
     ]
 
 -- slots of one serial stand under one key
-pub same_key : {T : Type 0} (slab : Slab (KeptSlot T)) (before keys : List ℕ) (k j : ℕ) (x y : KeptSlot T) → AllHere slab before keys → Rises (slots_in slab keys) → has_number keys k ≡ true → has_number keys j ≡ true → get slab k ≡ Some x → get slab j ≡ Some y → x.slot.serial ≡ y.slot.serial → k ≡ j
+pub same_key : {T : Type 0} (slab : Slab (StoredSlot T)) (before keys : List ℕ) (k j : ℕ) (x y : StoredSlot T) → AllHere slab before keys → Rises (slots_in slab keys) → has_number keys k ≡ true → has_number keys j ≡ true → get slab k ≡ Some x → get slab j ≡ Some y → x.slot.serial ≡ y.slot.serial → k ≡ j
 same_key slab before [] k j x y h rise has_k has_j is_k is_j same = absurd (false≢true has_k)
 same_key {T} slab before (i ∷ keys) k j x y h rise has_k has_j is_k is_j same =
     let found = here_found slab before (get slab i) h.0 in
@@ -298,18 +298,18 @@ same_key {T} slab before (i ∷ keys) k j x y h rise has_k has_j is_k is_j same 
       ]
     ]
   where
-    some_slot : {T : Type 0} (a b : KeptSlot T) → Some a ≡ Some b → a.slot.serial ≡ b.slot.serial
-    some_slot {T} a b e = ap (λ (o : Option (KeptSlot T)). serial_or o) e
+    some_slot : {T : Type 0} (a b : StoredSlot T) → Some a ≡ Some b → a.slot.serial ≡ b.slot.serial
+    some_slot {T} a b e = ap (λ (o : Option (StoredSlot T)). serial_or o) e
       where
-        serial_or : {T : Type 0} → Option (KeptSlot T) → ℕ
+        serial_or : {T : Type 0} → Option (StoredSlot T) → ℕ
         serial_or None = 0
         serial_or (Some k) = k.slot.serial
 
-    serial_at : {T : Type 0} (slab : Slab (KeptSlot T)) (i k : ℕ) (a x : KeptSlot T) → get slab i ≡ Some a → i ≡ k → get slab k ≡ Some x → a.slot.serial ≡ x.slot.serial
+    serial_at : {T : Type 0} (slab : Slab (StoredSlot T)) (i k : ℕ) (a x : StoredSlot T) → get slab i ≡ Some a → i ≡ k → get slab k ≡ Some x → a.slot.serial ≡ x.slot.serial
     serial_at slab i k a x is_i same is_k = some_slot a x (sym is_i ∙ (ap (get slab) same ∙ is_k))
 
 -- those that stay when a leaf is taken away
-pub taken_stays : {T : Type 0} (old new : Slab (KeptSlot T)) (order : List ℕ) (at key : ℕ) (kept : KeptSlot T) → HasTaken old new order at key kept → AllHere old [] order → Rises (slots_in old order) → Stays old new (λ k. not (eqb k key)) (λ serial. not (eqb serial kept.slot.serial)) order
+pub taken_stays : {T : Type 0} (old new : Slab (StoredSlot T)) (order : List ℕ) (at key : ℕ) (kept : StoredSlot T) → HasTaken old new order at key kept → AllHere old [] order → Rises (slots_in old order) → Stays old new (λ k. not (eqb k key)) (λ serial. not (eqb serial kept.slot.serial)) order
 taken_stays old new order at key kept t h rise =
     let there : has_number order key ≡ true = ap (has_number order) t.read ∙ has_number-at order at key t.within in
     record {
@@ -321,7 +321,7 @@ taken_stays old new order at key kept t h rise =
           t.others k (λ e. false≢true (rw (eq-eqb k key e) at stays)) ∙ (is ∙ ap (λ b. Some (record x { marked = b })) (unmarked old [] order k x h has is));
     }
 
-pub taken_slots : {T : Type 0} (old new : Slab (KeptSlot T)) (order : List ℕ) (at key : ℕ) (kept : KeptSlot T) → HasTaken old new order at key kept → AllHere old [] order → AreApartKeys order → Rises (slots_in old order) → slots_in new (remove order at) ≡ remove (slots_in old order) at
+pub taken_slots : {T : Type 0} (old new : Slab (StoredSlot T)) (order : List ℕ) (at key : ℕ) (kept : StoredSlot T) → HasTaken old new order at key kept → AllHere old [] order → AreApartKeys order → Rises (slots_in old order) → slots_in new (remove order at) ≡ remove (slots_in old order) at
 taken_slots old new order at key kept t h a rise =
     let s = taken_stays old new order at key kept t h rise in
     let within : at < length (slots_in old order) = rw (slots_in-length old [] order h) t.within in
@@ -330,8 +330,8 @@ taken_slots old new order at key kept t h a rise =
     ∙ (slots-filter old new (λ k. not (eqb k key)) (λ serial. not (eqb serial kept.slot.serial)) order [] order s.agree (λ k x has is stays. rw (s.renew k x has is stays) refl) (λ k has. has) h
     ∙ sym (remove-filter (slots_in old order) at kept.slot.serial rise within here))
 
-pub taken_shelf : {T : Type 0} (old new : Slab (KeptSlot T)) (order left : List ℕ) (room places at key : ℕ) (kept : KeptSlot T) → HasTaken old new order at key kept → IsShelf old order room places → Rises (slots_in old order) → child_slots (slice_index (serials_of (slots_in old order)) at) (slots_in old order) ≡ [] → left ≡ remove order at → length left + 1 ≡ length order → slab_len new + 1 ≡ slab_len old → new.capacity ≡ old.capacity → IsShelf new left room places
-taken_shelf old new order left room places at key kept t s rise leaf is long len capacity =
+pub taken_store : {T : Type 0} (old new : Slab (StoredSlot T)) (order left : List ℕ) (room places at key : ℕ) (kept : StoredSlot T) → HasTaken old new order at key kept → IsSlotStore old order room places → Rises (slots_in old order) → child_slots (slice_index (serials_of (slots_in old order)) at) (slots_in old order) ≡ [] → left ≡ remove order at → length left + 1 ≡ length order → slab_len new + 1 ≡ slab_len old → new.capacity ≡ old.capacity → IsSlotStore new left room places
+taken_store old new order left room places at key kept t s rise leaf is long len capacity =
     let within : at < length (slots_in old order) = rw (slots_in-length old [] order s.here) t.within in
     let here_is = serial_read (slots_in old order) at kept.slot within (sym (slot_read old order at key kept kept.slot s.here t.within t.read t.was)) in
     let none : child_slots kept.slot.serial (slots_in old order) ≡ [] = ap (λ n. child_slots n (slots_in old order)) (sym here_is) ∙ leaf in
@@ -348,14 +348,14 @@ taken_shelf old new order left room places at key kept t s rise leaf is long len
     }
 
 -- the parent of a slot that was taken away is known as before
-pub taken_knows : {T : Type 0} (old new : Slab (KeptSlot T)) (order : List ℕ) (at key : ℕ) (kept : KeptSlot T) → HasTaken old new order at key kept → AllHere old [] order → IsLinked [] (slots_in old order) → AreKeys new (remove order at) → KnowsParent new (remove order at) kept.slot.parent kept.above
+pub taken_knows : {T : Type 0} (old new : Slab (StoredSlot T)) (order : List ℕ) (at key : ℕ) (kept : StoredSlot T) → HasTaken old new order at key kept → AllHere old [] order → IsLinked [] (slots_in old order) → AreKeys new (remove order at) → KnowsParent new (remove order at) kept.slot.parent kept.above
 taken_knows {T} old new order at key kept t h linked are =
     let here : IsHere old (take at order) (Some kept) = subst (λ o. IsHere old (take at order) o) t.was (here_read old order at key h t.within t.read) in
     let within : at < length (slots_in old order) = rw (slots_in-length old [] order h) t.within in
     let read = sym (slot_read old order at key kept kept.slot h t.within t.read t.was) in
     still old new (take at order) (remove order at) key kept kept.slot.parent kept.above t.was t.others (λ p is. (parent_below [] (slots_in old order) at kept.slot p linked within read is).0) are here.1
   where
-    still : {T : Type 0} (old new : Slab (KeptSlot T)) (before keys : List ℕ) (key : ℕ) (kept : KeptSlot T) (parent above : Option ℕ) → get old key ≡ Some kept → ((k : ℕ) → k ≢ key → get new k ≡ get old k) → ((p : ℕ) → parent ≡ Some p → p < kept.slot.serial) → AreKeys new keys → KnowsParent old before parent above → KnowsParent new keys parent above
+    still : {T : Type 0} (old new : Slab (StoredSlot T)) (before keys : List ℕ) (key : ℕ) (kept : StoredSlot T) (parent above : Option ℕ) → get old key ≡ Some kept → ((k : ℕ) → k ≢ key → get new k ≡ get old k) → ((p : ℕ) → parent ≡ Some p → p < kept.slot.serial) → AreKeys new keys → KnowsParent old before parent above → KnowsParent new keys parent above
     still old new before keys key kept None None was others below are k = tt
     still old new before keys key kept None (Some a) was others below are k = absurd k
     still old new before keys key kept (Some p) None was others below are k = absurd k
@@ -367,18 +367,18 @@ taken_knows {T} old new order at key kept t h linked are =
         knows_key new keys (Some p) p place.0 a refl are place.1
 
 -- what stands under a parent's key
-pub record IsParentKey {T : Type 0} (slab : Slab (KeptSlot T)) (keys : List ℕ) (parent : Option ℕ) (key : ℕ) : Type 0 where
+pub record IsParentKey {T : Type 0} (slab : Slab (StoredSlot T)) (keys : List ℕ) (parent : Option ℕ) (key : ℕ) : Type 0 where
   pub name : ℕ
   pub at : ℕ
-  pub kept : KeptSlot T
+  pub kept : StoredSlot T
   pub is : parent ≡ Some name
   pub key_at : IsKeyAt slab keys name at key
   pub found : get slab key ≡ Some kept
 
-pub parent_key : {T : Type 0} (slab : Slab (KeptSlot T)) (keys : List ℕ) (parent above : Option ℕ) (key : ℕ) → above ≡ Some key → AreKeys slab keys → KnowsParent slab keys parent above → IsParentKey slab keys parent key
+pub parent_key : {T : Type 0} (slab : Slab (StoredSlot T)) (keys : List ℕ) (parent above : Option ℕ) (key : ℕ) → above ≡ Some key → AreKeys slab keys → KnowsParent slab keys parent above → IsParentKey slab keys parent key
 parent_key {T} slab keys parent above key is are k = of slab keys parent key are (rw is at k)
   where
-    of : {T : Type 0} (slab : Slab (KeptSlot T)) (keys : List ℕ) (parent : Option ℕ) (key : ℕ) → AreKeys slab keys → KnowsParent slab keys parent (Some key) → IsParentKey slab keys parent key
+    of : {T : Type 0} (slab : Slab (StoredSlot T)) (keys : List ℕ) (parent : Option ℕ) (key : ℕ) → AreKeys slab keys → KnowsParent slab keys parent (Some key) → IsParentKey slab keys parent key
     of slab keys None key are k = absurd k
     of slab keys (Some p) key are k =
         let y = named_slot p (get slab key) k.1 in
@@ -386,7 +386,7 @@ parent_key {T} slab keys parent above key is are k = of slab keys parent key are
         record { name = p; at = place.0; kept = y.0; is = refl; key_at = place.1; found = y.1 }
 
 -- no key is a root's
-pub no_parent_key : {T : Type 0} (slab : Slab (KeptSlot T)) (keys : List ℕ) (parent above : Option ℕ) → above ≡ None → KnowsParent slab keys parent above → parent ≡ None
+pub no_parent_key : {T : Type 0} (slab : Slab (StoredSlot T)) (keys : List ℕ) (parent above : Option ℕ) → above ≡ None → KnowsParent slab keys parent above → parent ≡ None
 no_parent_key slab keys None above is k = refl
 no_parent_key slab keys (Some p) above is k = absurd (rw is at k)
 

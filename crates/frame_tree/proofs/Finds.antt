@@ -7,7 +7,7 @@ use Rattle.frame_tree.specs.declared.names.State.{State}
 use Rattle.frame_tree.specs.declared.names.State.TheVariants.{Ready, Running, Computing, Waiting, Returned}
 use Rattle.frame_tree.specs.declared.names.Entry.{Entry}
 use Rattle.frame_tree.specs.declared.slot.Slot.{Slot}
-use Rattle.frame_tree.specs.Frames.{Frame, frame_at, has_frame, path_in, path_under, root_of, parent_of, is_one_more, children_under, children_of, entry_of, name_of, names_of, ready_frames, is_ready, newest_ready_of, first_of_two, ready_name, has_parent, IsReadyAt, IsTreeAfter}
+use Rattle.frame_tree.specs.Frames.{Frame, frame_at, has_frame, path_in, path_under, root_of, parent_of, is_one_more, children_under, children_of, entry_of_frame, name_of, names_of, ready_frames, is_ready, newest_ready_of, first_of_two, ready_name, has_parent, IsReadyAt, IsTreeAfter}
 use Rattle.frame_tree.specs.Slots.{frame_of_slot, frames_from, IsLinked, has_slot, serials_of, AllAbove, is_serial, child_slots, slots_of, names_in, ready_slots, newest_in, has_parent_slot, root_at, root_under}
 use Rattle.frame_tree.proofs.Forest.{path_in-left, EndsIn, EndsIn-path_in, EndsIn-path_under, parent_of-append, AllEnd, AllEnd-next, AllEnd-frames_from, has_frame-frames_from, linked_rises}
 use Rattle.frame_tree.proofs.Search.{above_at}
@@ -51,8 +51,8 @@ frame_at-none (x ∷ xs) serial h =
     rw parts.0 (frame_at-none xs serial parts.1)
 
 -- an entry of a frame that was found
-pub entry_of-found : {T : Type 0} (tenant serial : ℕ) (frames : List (Frame T)) (slot : Slot T) (path : List ℕ) (entry : Entry T) → IsFound frames slot serial path → entry ≡ record { parent = name_of tenant slot.parent; state = slot.state; value = slot.value } → Some entry ≡ entry_of tenant (frame_at frames serial)
-entry_of-found tenant serial frames slot path entry f is = rw (f.at, f.parent) (ap Some is)
+pub entry_of_frame-found : {T : Type 0} (tenant serial : ℕ) (frames : List (Frame T)) (slot : Slot T) (path : List ℕ) (entry : Entry T) → IsFound frames slot serial path → entry ≡ record { parent = name_of tenant slot.parent; state = slot.state; value = slot.value } → Some entry ≡ entry_of_frame tenant (frame_at frames serial)
+entry_of_frame-found tenant serial frames slot path entry f is = rw (f.at, f.parent) (ap Some is)
 
 -- a path with one more is that of one path alone
 pub one_more_same : (path : List ℕ) (serial : ℕ) → is_one_more path (path ++ serial ∷ []) ≡ true

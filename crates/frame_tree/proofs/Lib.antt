@@ -10,13 +10,13 @@ pub mod Changes
 pub mod Readies
 pub mod Indexes
 pub mod Trees
-pub mod Shelves
+pub mod SlotStores
 pub mod Keys
 pub mod Marks
 pub mod Sweeps
 pub mod Cutting
-pub mod Leaves
-pub mod Early
+pub mod AbortChildless
+pub mod UpToAborted
 pub mod TreeLaws
 pub mod TreeChanges
 pub mod TreeValues

@@ -4,39 +4,39 @@ use Rattle.std.proofs.lemmas.List.{take_more}
 use Rattle.std.proofs.lemmas.Bool.{cases_eq, false≢true, eq-eqb, ne_eqb}
 use Rattle.slab.specs.Slab.{Slab, get, Updates}
 use Rattle.frame_tree.specs.declared.slot.Slot.{Slot as TenantSlot}
-use Rattle.frame_tree.specs.declared.shelf.KeptSlot.{KeptSlot}
+use Rattle.frame_tree.specs.declared.slot_store.StoredSlot.{StoredSlot}
 use Rattle.frame_tree.specs.Slots.{frames_from, is_kept, IsLinked}
 use Rattle.frame_tree.specs.Places.{has_number}
-use Rattle.frame_tree.specs.Shelves.{slots_in, AreApartKeys, HasSerial, KnowsParent, IsHere, AllHere, HasAbove, HasLink, is_marked, is_taken_by, is_taken_in, marked_in, Marks}
+use Rattle.frame_tree.specs.SlotStores.{slots_in, AreApartKeys, HasSerial, KnowsParent, IsHere, AllHere, HasAbove, HasLink, is_marked, is_taken_by, is_taken_in, marked_in, Marks}
 use Rattle.frame_tree.proofs.Cuts.{stays_by, kept_follows, follows_at}
-use Rattle.frame_tree.proofs.Shelves.{here_read, slot_read, slots_in-length, kept_read, has_number-at, has_number-append}
+use Rattle.frame_tree.proofs.SlotStores.{here_read, slot_read, slots_in-length, kept_read, has_number-at, has_number-append}
 
 -- a slot is there, and its parent's too
-pub link_marked : {T : Type 0} (under : ℕ) (slots : List (TenantSlot T)) (keys before : List ℕ) (old now : Slab (KeptSlot T)) (key : ℕ) → Marks under slots keys old now → IsHere old before (get old key) → HasLink now (get now key)
+pub link_marked : {T : Type 0} (under : ℕ) (slots : List (TenantSlot T)) (keys before : List ℕ) (old now : Slab (StoredSlot T)) (key : ℕ) → Marks under slots keys old now → IsHere old before (get old key) → HasLink now (get now key)
 link_marked under slots keys before old now key m h = rw (m key) (slot under slots keys before old now key (get old key) m h)
   where
-    found : {T : Type 0} (under : ℕ) (slots : List (TenantSlot T)) (keys before : List ℕ) (old now : Slab (KeptSlot T)) (parent above : Option ℕ) → Marks under slots keys old now → KnowsParent old before parent above → HasAbove now above
+    found : {T : Type 0} (under : ℕ) (slots : List (TenantSlot T)) (keys before : List ℕ) (old now : Slab (StoredSlot T)) (parent above : Option ℕ) → Marks under slots keys old now → KnowsParent old before parent above → HasAbove now above
     found under slots keys before old now parent None m k = tt
     found under slots keys before old now None (Some a) m k = absurd k
     found under slots keys before old now (Some p) (Some a) m k = rw (m a) (some under slots keys a p (get old a) k.1)
       where
-        some : {T : Type 0} (under : ℕ) (slots : List (TenantSlot T)) (keys : List ℕ) (a p : ℕ) (o : Option (KeptSlot T)) → HasSerial p o → IsSome (marked_in under slots keys a o)
+        some : {T : Type 0} (under : ℕ) (slots : List (TenantSlot T)) (keys : List ℕ) (a p : ℕ) (o : Option (StoredSlot T)) → HasSerial p o → IsSome (marked_in under slots keys a o)
         some under slots keys a p None h = absurd h
         some under slots keys a p (Some y) h = refl
 
-    slot : {T : Type 0} (under : ℕ) (slots : List (TenantSlot T)) (keys before : List ℕ) (old now : Slab (KeptSlot T)) (key : ℕ) (o : Option (KeptSlot T)) → Marks under slots keys old now → IsHere old before o → HasLink now (marked_in under slots keys key o)
+    slot : {T : Type 0} (under : ℕ) (slots : List (TenantSlot T)) (keys before : List ℕ) (old now : Slab (StoredSlot T)) (key : ℕ) (o : Option (StoredSlot T)) → Marks under slots keys old now → IsHere old before o → HasLink now (marked_in under slots keys key o)
     slot under slots keys before old now key None m h = absurd h
     slot under slots keys before old now key (Some x) m h = found under slots keys before old now x.slot.parent x.above m h.1
 
 -- whether an abort takes a slot, by the marks of those before it
-taken_by : {T : Type 0} (under : ℕ) (slots : List (TenantSlot T)) (before : List ℕ) (old now : Slab (KeptSlot T)) (serial : ℕ) (parent above : Option ℕ) → is_kept under (frames_from [] slots) serial ≡ stays_by (is_kept under (frames_from [] slots)) under parent → Marks under slots before old now → KnowsParent old before parent above → is_taken_by now under parent above ≡ not (is_kept under (frames_from [] slots) serial)
+taken_by : {T : Type 0} (under : ℕ) (slots : List (TenantSlot T)) (before : List ℕ) (old now : Slab (StoredSlot T)) (serial : ℕ) (parent above : Option ℕ) → is_kept under (frames_from [] slots) serial ≡ stays_by (is_kept under (frames_from [] slots)) under parent → Marks under slots before old now → KnowsParent old before parent above → is_taken_by now under parent above ≡ not (is_kept under (frames_from [] slots) serial)
 taken_by under slots before old now serial None None f m k = rw f refl
 taken_by under slots before old now serial None (Some a) f m k = absurd k
 taken_by under slots before old now serial (Some p) None f m k = absurd k
 taken_by under slots before old now serial (Some p) (Some a) f m k =
     rw (f, m a, mark under slots before a p (get old a) k.0 k.1) (de_morgan (eqb p under) (is_kept under (frames_from [] slots) p))
   where
-    mark : {T : Type 0} (under : ℕ) (slots : List (TenantSlot T)) (before : List ℕ) (a p : ℕ) (o : Option (KeptSlot T)) → has_number before a ≡ true → HasSerial p o → is_marked (marked_in under slots before a o) ≡ not (is_kept under (frames_from [] slots) p)
+    mark : {T : Type 0} (under : ℕ) (slots : List (TenantSlot T)) (before : List ℕ) (a p : ℕ) (o : Option (StoredSlot T)) → has_number before a ≡ true → HasSerial p o → is_marked (marked_in under slots before a o) ≡ not (is_kept under (frames_from [] slots) p)
     mark under slots before a p None has h = absurd h
     mark under slots before a p (Some y) has h = rw has (ap (λ s. not (is_kept under (frames_from [] slots) s)) h)
 
@@ -53,7 +53,7 @@ apart_before (k ∷ keys) (suc i) d a lt =
     rw (ne_eqb k (get_or keys i d) other) (apart_before keys i d a.1 (omega arith))
 
 -- marks depend on the keys by whether this is one of them
-marked_in-keys : {T : Type 0} (under : ℕ) (slots : List (TenantSlot T)) (some more : List ℕ) (key : ℕ) (o : Option (KeptSlot T)) → has_number more key ≡ has_number some key → marked_in under slots some key o ≡ marked_in under slots more key o
+marked_in-keys : {T : Type 0} (under : ℕ) (slots : List (TenantSlot T)) (some more : List ℕ) (key : ℕ) (o : Option (StoredSlot T)) → has_number more key ≡ has_number some key → marked_in under slots some key o ≡ marked_in under slots more key o
 marked_in-keys under slots some more key None e = refl
 marked_in-keys under slots some more key (Some x) e = rw e refl
 
@@ -67,7 +67,7 @@ pub first_keys : (b : Bool) (key k : ℕ) → key ≢ k → (b || (eqb key k || 
 first_keys true key k e = refl
 first_keys false key k e = rw (ne_eqb key k e) refl
 
-pub marks_next : {T : Type 0} (under : ℕ) (slots : List (TenantSlot T)) (keys : List ℕ) (i key : ℕ) (old now new : Slab (KeptSlot T)) (x : KeptSlot T) → Marks under slots (take i keys) old now → i < length keys → key ≡ get_or keys i key → get old key ≡ Some x → get new key ≡ Some (record x { marked = not (is_kept under (frames_from [] slots) x.slot.serial) }) → ((k : ℕ) → k ≢ key → get new k ≡ get now k) → Marks under slots (take (i + 1) keys) old new
+pub marks_next : {T : Type 0} (under : ℕ) (slots : List (TenantSlot T)) (keys : List ℕ) (i key : ℕ) (old now new : Slab (StoredSlot T)) (x : StoredSlot T) → Marks under slots (take i keys) old now → i < length keys → key ≡ get_or keys i key → get old key ≡ Some x → get new key ≡ Some (record x { marked = not (is_kept under (frames_from [] slots) x.slot.serial) }) → ((k : ℕ) → k ≢ key → get new k ≡ get now k) → Marks under slots (take (i + 1) keys) old new
 marks_next under slots keys i key old now new x m lt is was here others k =
     let more : take (i + 1) keys ≡ take i keys ++ key ∷ [] = take_more keys i key lt ∙ ap (λ j. take i keys ++ j ∷ []) (sym is) in
     let has = ap (λ ks. has_number ks k) more ∙ has_number-append (take i keys) (key ∷ []) k in
@@ -79,13 +79,13 @@ marks_next under slots keys i key old now new x m lt is was here others k =
     ]
 
 -- what is read at a key, and whether the abort takes it
-pub record IsRead {T : Type 0} (under : ℕ) (slots : List (TenantSlot T)) (keys : List ℕ) (i key : ℕ) (old now : Slab (KeptSlot T)) (x : KeptSlot T) : Type 0 where
+pub record IsRead {T : Type 0} (under : ℕ) (slots : List (TenantSlot T)) (keys : List ℕ) (i key : ℕ) (old now : Slab (StoredSlot T)) (x : StoredSlot T) : Type 0 where
   pub was : get old key ≡ Some x
   pub is : get now key ≡ Some x
   pub unmarked : x.marked ≡ false
   pub taken : is_taken_in now under (get now key) ≡ not (is_kept under (frames_from [] slots) x.slot.serial)
 
-pub read_key : {T : Type 0} (under : ℕ) (slots : List (TenantSlot T)) (keys : List ℕ) (i key : ℕ) (old now : Slab (KeptSlot T)) → slots ≡ slots_in old keys → AllHere old [] keys → AreApartKeys keys → IsLinked [] slots → Marks under slots (take i keys) old now → i < length keys → key ≡ get_or keys i key → (x : KeptSlot T) × IsRead under slots keys i key old now x
+pub read_key : {T : Type 0} (under : ℕ) (slots : List (TenantSlot T)) (keys : List ℕ) (i key : ℕ) (old now : Slab (StoredSlot T)) → slots ≡ slots_in old keys → AllHere old [] keys → AreApartKeys keys → IsLinked [] slots → Marks under slots (take i keys) old now → i < length keys → key ≡ get_or keys i key → (x : StoredSlot T) × IsRead under slots keys i key old now x
 read_key under slots keys i key old now same h a l m lt is =
     let found = kept_read old keys i key h lt is in
     let x = found.0 in
@@ -104,13 +104,13 @@ read_key under slots keys i key old now same h a l m lt is =
     )
 
 -- a slot that the abort takes is marked
-pub marks_taken : {T : Type 0} (under : ℕ) (slots : List (TenantSlot T)) (keys : List ℕ) (i key : ℕ) (old now new : Slab (KeptSlot T)) (x : KeptSlot T) → Marks under slots (take i keys) old now → i < length keys → key ≡ get_or keys i key → IsRead under slots keys i key old now x → is_taken_in now under (get now key) ≡ true → ((kept : KeptSlot T) → get now key ≡ Some kept → Updates now new key (Some (record kept { marked = true }))) → Marks under slots (take (i + 1) keys) old new
+pub marks_taken : {T : Type 0} (under : ℕ) (slots : List (TenantSlot T)) (keys : List ℕ) (i key : ℕ) (old now new : Slab (StoredSlot T)) (x : StoredSlot T) → Marks under slots (take i keys) old now → i < length keys → key ≡ get_or keys i key → IsRead under slots keys i key old now x → is_taken_in now under (get now key) ≡ true → ((kept : StoredSlot T) → get now key ≡ Some kept → Updates now new key (Some (record kept { marked = true }))) → Marks under slots (take (i + 1) keys) old new
 marks_taken under slots keys i key old now new x m lt is r took put =
     let u = put x r.is in
     marks_next under slots keys i key old now new x m lt is r.was (rw (sym r.taken ∙ took) u.changed) u.others
 
 -- and one that stays is as it was
-pub marks_stays : {T : Type 0} (under : ℕ) (slots : List (TenantSlot T)) (keys : List ℕ) (i key : ℕ) (old now : Slab (KeptSlot T)) (x : KeptSlot T) → Marks under slots (take i keys) old now → i < length keys → key ≡ get_or keys i key → IsRead under slots keys i key old now x → is_taken_in now under (get now key) ≡ false → Marks under slots (take (i + 1) keys) old now
+pub marks_stays : {T : Type 0} (under : ℕ) (slots : List (TenantSlot T)) (keys : List ℕ) (i key : ℕ) (old now : Slab (StoredSlot T)) (x : StoredSlot T) → Marks under slots (take i keys) old now → i < length keys → key ≡ get_or keys i key → IsRead under slots keys i key old now x → is_taken_in now under (get now key) ≡ false → Marks under slots (take (i + 1) keys) old now
 marks_stays under slots keys i key old now x m lt is r not_taken =
     let mark : x.marked ≡ not (is_kept under (frames_from [] slots) x.slot.serial) = r.unmarked ∙ (sym not_taken ∙ r.taken) in
     marks_next under slots keys i key old now now x m lt is r.was (r.is ∙ ap (λ b. Some (record x { marked = b })) mark) (λ k differs. refl)

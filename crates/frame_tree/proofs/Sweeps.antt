@@ -6,15 +6,15 @@ use Rattle.std.proofs.lemmas.List.Elements.{filter_more}
 use Rattle.std.proofs.lemmas.List.Filters.{FiltersInPlace, FiltersInPlace-more_set, FiltersInPlace-more_no}
 use Rattle.std.proofs.lemmas.Bool.{cases_eq, ne_eqb}
 use Rattle.slab.specs.Slab.{Slab, get, slab_len, ContainsKey, Updates}
-use Rattle.frame_tree.specs.declared.shelf.KeptSlot.{KeptSlot}
+use Rattle.frame_tree.specs.declared.slot_store.StoredSlot.{StoredSlot}
 use Rattle.frame_tree.specs.Places.{has_number}
-use Rattle.frame_tree.specs.Shelves.{slots_in, AreApartKeys, AreThere, NoneMarked, is_marked, swept_in, values_in}
-use Rattle.frame_tree.proofs.Shelves.{has_number-append, slots_in-append}
+use Rattle.frame_tree.specs.SlotStores.{slots_in, AreApartKeys, AreThere, NoneMarked, is_marked, swept_in, values_in}
+use Rattle.frame_tree.proofs.SlotStores.{has_number-append, slots_in-append}
 use Rattle.frame_tree.proofs.Marks.{apart_before, last_key, first_keys}
 use Rattle.frame_tree.proofs.Lengths.{length_more}
 
 -- after the first keys: those that stay stand in front, the slots of the others are gone, and their values were written down
-pub record HasSwept {T : Type 0} (old now : Slab (KeptSlot T)) (all order : List ℕ) (had values : List T) (kept at : ℕ) : Type 0 where
+pub record HasSwept {T : Type 0} (old now : Slab (StoredSlot T)) (all order : List ℕ) (had values : List T) (kept at : ℕ) : Type 0 where
   pub moved : FiltersInPlace (λ key. not (is_marked (get old key))) all order kept at
   pub slots : (key : ℕ) → get now key ≡ swept_in old (take at all) key
   pub written : values ≡ had ++ values_in old (filter (λ key. is_marked (get old key)) (take at all))
@@ -23,7 +23,7 @@ pub record HasSwept {T : Type 0} (old now : Slab (KeptSlot T)) (all order : List
   pub capacity : now.capacity ≡ old.capacity
 
 -- where none of the first keys is marked, they were passed
-pub swept_early : {T : Type 0} (old : Slab (KeptSlot T)) (all : List ℕ) (had : List T) (from : ℕ) → from ≤ length all → NoneMarked old (take from all) → HasSwept old old all all had had from from
+pub swept_early : {T : Type 0} (old : Slab (StoredSlot T)) (all : List ℕ) (had : List T) (from : ℕ) → from ≤ length all → NoneMarked old (take from all) → HasSwept old old all all had had from from
 swept_early old all had from le none = record {
   moved = record { front = sym (stay old (take from all) none); rest = refl; behind = omega arith; within = le; long = refl };
   slots = λ key. same old (take from all) key none;
@@ -33,15 +33,15 @@ swept_early old all had from le none = record {
   capacity = refl;
 }
   where
-    stay : {T : Type 0} (slab : Slab (KeptSlot T)) (keys : List ℕ) → NoneMarked slab keys → filter (λ key. not (is_marked (get slab key))) keys ≡ keys
+    stay : {T : Type 0} (slab : Slab (StoredSlot T)) (keys : List ℕ) → NoneMarked slab keys → filter (λ key. not (is_marked (get slab key))) keys ≡ keys
     stay slab [] none = refl
     stay slab (k ∷ keys) none = rw none.0 (ap (λ ks. k ∷ ks) (stay slab keys none.1))
 
-    go : {T : Type 0} (slab : Slab (KeptSlot T)) (keys : List ℕ) → NoneMarked slab keys → filter (λ key. is_marked (get slab key)) keys ≡ []
+    go : {T : Type 0} (slab : Slab (StoredSlot T)) (keys : List ℕ) → NoneMarked slab keys → filter (λ key. is_marked (get slab key)) keys ≡ []
     go slab [] none = refl
     go slab (k ∷ keys) none = rw none.0 (go slab keys none.1)
 
-    same : {T : Type 0} (slab : Slab (KeptSlot T)) (keys : List ℕ) (key : ℕ) → NoneMarked slab keys → get slab key ≡ swept_in slab keys key
+    same : {T : Type 0} (slab : Slab (StoredSlot T)) (keys : List ℕ) (key : ℕ) → NoneMarked slab keys → get slab key ≡ swept_in slab keys key
     same slab [] key none = refl
     same slab (k ∷ keys) key none =
         elim (cases_eq k key) [
@@ -54,7 +54,7 @@ swept_early old all had from le none = record {
         and_false false = refl
 
 -- the key that is read is that of all
-pub read_of_all : {T : Type 0} (old now : Slab (KeptSlot T)) (all order : List ℕ) (had values : List T) (kept at key : ℕ) → HasSwept old now all order had values kept at → key ≡ get_or order at key → key ≡ get_or all at key
+pub read_of_all : {T : Type 0} (old now : Slab (StoredSlot T)) (all order : List ℕ) (had values : List T) (kept at key : ℕ) → HasSwept old now all order had values kept at → key ≡ get_or order at key → key ≡ get_or all at key
 read_of_all old now all order had values kept at key h is = is ∙ (sym (get_or-drop order at key) ∙ (ap (λ xs. get_or xs 0 key) h.moved.rest ∙ get_or-drop all at key))
   where
     get_or-drop : (xs : List ℕ) (i d : ℕ) → get_or (drop i xs) 0 d ≡ get_or xs i d
@@ -63,18 +63,18 @@ read_of_all old now all order had values kept at key h is = is ∙ (sym (get_or-
     get_or-drop (x ∷ xs) zero d = refl
     get_or-drop (x ∷ xs) (suc i) d = get_or-drop xs i d
 
-there_at : {T : Type 0} (slab : Slab (KeptSlot T)) (keys : List ℕ) (i d : ℕ) → AreThere slab keys → i < length keys → ContainsKey slab (get_or keys i d)
+there_at : {T : Type 0} (slab : Slab (StoredSlot T)) (keys : List ℕ) (i d : ℕ) → AreThere slab keys → i < length keys → ContainsKey slab (get_or keys i d)
 there_at slab [] i d t lt = absurd (omega arith)
 there_at slab (k ∷ keys) zero d t lt = t.0
 there_at slab (k ∷ keys) (suc i) d t lt = there_at slab keys i d t.1 (omega arith)
 
 -- the slot that is read is as it was
-pub slot_is : {T : Type 0} (old now : Slab (KeptSlot T)) (all order : List ℕ) (had values : List T) (kept at key : ℕ) → HasSwept old now all order had values kept at → AreApartKeys all → at < length all → key ≡ get_or order at key → get now key ≡ get old key
+pub slot_is : {T : Type 0} (old now : Slab (StoredSlot T)) (all order : List ℕ) (had values : List T) (kept at key : ℕ) → HasSwept old now all order had values kept at → AreApartKeys all → at < length all → key ≡ get_or order at key → get now key ≡ get old key
 slot_is old now all order had values kept at key h a lt is =
     let absent : has_number (take at all) key ≡ false = ap (has_number (take at all)) (read_of_all old now all order had values kept at key h is) ∙ apart_before all at key a lt in
     h.slots key ∙ (rw absent refl)
 
-pub slot_contains : {T : Type 0} (old now : Slab (KeptSlot T)) (all order : List ℕ) (had values : List T) (kept at key : ℕ) → HasSwept old now all order had values kept at → AreApartKeys all → AreThere old all → at < length all → key ≡ get_or order at key → ContainsKey now key
+pub slot_contains : {T : Type 0} (old now : Slab (StoredSlot T)) (all order : List ℕ) (had values : List T) (kept at key : ℕ) → HasSwept old now all order had values kept at → AreApartKeys all → AreThere old all → at < length all → key ≡ get_or order at key → ContainsKey now key
 slot_contains old now all order had values kept at key h a t lt is =
     subst (λ o. IsSome o) (sym (slot_is old now all order had values kept at key h a lt is)) (subst (λ k. ContainsKey old k) (sym (read_of_all old now all order had values kept at key h is)) (there_at old all at key t lt))
 
@@ -83,7 +83,7 @@ has_number_more : (all : List ℕ) (at key k : ℕ) → at < length all → key 
 has_number_more all at key k lt is = ap (λ ks. has_number ks k) (take_more all at key lt ∙ ap (λ j. take at all ++ j ∷ []) (sym is)) ∙ has_number-append (take at all) (key ∷ []) k
 
 -- a slot that stays
-pub swept_stays : {T : Type 0} (old now : Slab (KeptSlot T)) (all order : List ℕ) (had values : List T) (kept at key : ℕ) → HasSwept old now all order had values kept at → at < length all → key ≡ get_or order at key → is_marked (get old key) ≡ false → HasSwept old now all (set order kept key) had values (kept + 1) (at + 1)
+pub swept_stays : {T : Type 0} (old now : Slab (StoredSlot T)) (all order : List ℕ) (had values : List T) (kept at key : ℕ) → HasSwept old now all order had values kept at → at < length all → key ≡ get_or order at key → is_marked (get old key) ≡ false → HasSwept old now all (set order kept key) had values (kept + 1) (at + 1)
 swept_stays old now all order had values kept at key h lt read stays =
     let is = read_of_all old now all order had values kept at key h read in
     let other = filter_more (λ k. is_marked (get old k)) all at key lt in
@@ -107,7 +107,7 @@ swept_stays old now all order had values kept at key h lt read stays =
     both false false o = refl
 
 -- a slot that goes
-pub swept_goes : {T : Type 0} (old now new : Slab (KeptSlot T)) (all order : List ℕ) (had values : List T) (kept at key : ℕ) (gone : KeptSlot T) → HasSwept old now all order had values kept at → AreApartKeys all → at < length all → key ≡ get_or order at key → is_marked (get old key) ≡ true → get now key ≡ Some gone → Updates now new key None → slab_len new + 1 ≡ slab_len now → new.capacity ≡ now.capacity → HasSwept old new all order had (values ++ gone.slot.value ∷ []) kept (at + 1)
+pub swept_goes : {T : Type 0} (old now new : Slab (StoredSlot T)) (all order : List ℕ) (had values : List T) (kept at key : ℕ) (gone : StoredSlot T) → HasSwept old now all order had values kept at → AreApartKeys all → at < length all → key ≡ get_or order at key → is_marked (get old key) ≡ true → get now key ≡ Some gone → Updates now new key None → slab_len new + 1 ≡ slab_len now → new.capacity ≡ now.capacity → HasSwept old new all order had (values ++ gone.slot.value ∷ []) kept (at + 1)
 swept_goes old now new all order had values kept at key gone h a lt read goes found u len capacity =
     let is = read_of_all old now all order had values kept at key h read in
     let was : get old key ≡ Some gone = sym (slot_is old now all order had values kept at key h a lt read) ∙ found in
@@ -130,6 +130,6 @@ swept_goes old now new all order had values kept at key gone h a lt read goes fo
     map_append f [] ys = refl
     map_append f (x ∷ xs) ys = ap (λ zs. f x ∷ zs) (map_append f xs ys)
 
-    one_more : {T : Type 0} (slab : Slab (KeptSlot T)) (keys : List ℕ) (key : ℕ) (gone : KeptSlot T) → get slab key ≡ Some gone → values_in slab (keys ++ key ∷ []) ≡ values_in slab keys ++ gone.slot.value ∷ []
+    one_more : {T : Type 0} (slab : Slab (StoredSlot T)) (keys : List ℕ) (key : ℕ) (gone : StoredSlot T) → get slab key ≡ Some gone → values_in slab (keys ++ key ∷ []) ≡ values_in slab keys ++ gone.slot.value ∷ []
     one_more slab keys key gone was =
         ap (map (λ s. s.value)) (slots_in-append slab keys (key ∷ [])) ∙ (map_append (λ s. s.value) (slots_in slab keys) (slots_in slab (key ∷ [])) ∙ (rw was refl))

@@ -3,12 +3,12 @@ use Rattle.std.proofs.Common.{◌≡◌, ◌≢◌, ℕ, ◌<◌, inl, inr, Bool
 use Rattle.std.specs.List.{filter}
 use Rattle.std.proofs.lemmas.Bool.{cases_Bool, false≢true, true≢false, eq-eqb, ne_eqb, eqb-true, or_parts, not_from_true, not_from_false, not-true}
 use Rattle.frame_tree.specs.Frames.{Frame, frame_at, has_frame, AllBelow, path_under, goes_under, children_of, aborted, frames_without, IsNextFrame, IsTree, IsTreeAfter}
-use Rattle.frame_tree.specs.TreeLaws.{is_child_of, AllAboveSerial, AreRising, Each, if_kept}
+use Rattle.frame_tree.specs.TreeLaws.{is_child_of, AllAboveSerial, AreSerialsRising, Each, if_kept}
 use Rattle.frame_tree.proofs.Places.{above_by-filter, rises_by-filter}
 use Rattle.frame_tree.proofs.TreeLaws.{found-there, there-found, found-serial, found-path, missing, frame_at-left, frame_at-right, tree-rising, above-missing, each-found, found-each, IsUnder, IsPlaced, placed, under-through, not-under-itself, children-by-paths}
 
 -- frames that rise, each in its place, are a tree
-below-rising : {T : Type 0} (before : List (Frame T)) (x : Frame T) (xs : List (Frame T)) → AreRising (before ++ x ∷ xs) → AllBelow x.serial before
+below-rising : {T : Type 0} (before : List (Frame T)) (x : Frame T) (xs : List (Frame T)) → AreSerialsRising (before ++ x ∷ xs) → AllBelow x.serial before
 below-rising [] x xs rising = tt
 below-rising (y ∷ before) x xs rising = (first y before x xs rising.0, below-rising before x xs rising.1)
   where
@@ -16,12 +16,12 @@ below-rising (y ∷ before) x xs rising = (first y before x xs rising.0, below-r
     first y [] x xs above = above.0
     first y (z ∷ before) x xs above = first y before x xs above.1
 
-rising-right : {T : Type 0} (before xs : List (Frame T)) → AreRising (before ++ xs) → AreRising xs
+rising-right : {T : Type 0} (before xs : List (Frame T)) → AreSerialsRising (before ++ xs) → AreSerialsRising xs
 rising-right [] xs rising = rising
 rising-right (y ∷ before) xs rising = rising-right before xs rising.1
 
 -- a parent stands before its child
-parent-before : {T : Type 0} (before : List (Frame T)) (x : Frame T) (xs : List (Frame T)) (p : ℕ) (f : Frame T) → AreRising (before ++ x ∷ xs) → p < x.serial →
+parent-before : {T : Type 0} (before : List (Frame T)) (x : Frame T) (xs : List (Frame T)) (p : ℕ) (f : Frame T) → AreSerialsRising (before ++ x ∷ xs) → p < x.serial →
     frame_at (before ++ x ∷ xs) p ≡ Some f → frame_at before p ≡ Some f
 parent-before before x xs p f rising low at =
     elim (cases_Bool (has_frame before p)) [
@@ -32,7 +32,7 @@ parent-before before x xs p f rising low at =
           absurd (true≢false (sym (found-there (x ∷ xs) p f right) ∙ none)))
     ]
 
-next-from : {T : Type 0} (before : List (Frame T)) (x : Frame T) (xs : List (Frame T)) → AreRising (before ++ x ∷ xs) → IsPlaced (before ++ x ∷ xs) x → IsNextFrame before x
+next-from : {T : Type 0} (before : List (Frame T)) (x : Frame T) (xs : List (Frame T)) → AreSerialsRising (before ++ x ∷ xs) → IsPlaced (before ++ x ∷ xs) x → IsNextFrame before x
 next-from before x xs rising (inl top) =
     record { above = below-rising before x xs rising; parent = rw top.0 refl; path = rw top.0 top.1 }
 next-from before x xs rising (inr u) =
@@ -43,19 +43,19 @@ next-from before x xs rising (inr u) =
       path = u.path ∙ sym (ap (λ o. path_under before o x.serial) u.named ∙ ap (λ path. path ++ x.serial ∷ []) (found-path before u.parent u.above at));
     }
 
-tree-after : {T : Type 0} (before xs : List (Frame T)) → AreRising (before ++ xs) → Each (IsPlaced (before ++ xs)) xs → IsTreeAfter before xs
+tree-after : {T : Type 0} (before xs : List (Frame T)) → AreSerialsRising (before ++ xs) → Each (IsPlaced (before ++ xs)) xs → IsTreeAfter before xs
 tree-after before [] rising each = tt
 tree-after {T} before (x ∷ xs) rising each =
     let all = append_assoc before (x ∷ []) xs in
-    let R : List (Frame T) → Type 0 = λ ys. AreRising ys in
+    let R : List (Frame T) → Type 0 = λ ys. AreSerialsRising ys in
     let E : List (Frame T) → Type 0 = λ ys. Each (IsPlaced ys) xs in
     (next-from before x xs rising each.0, tree-after (before ++ x ∷ []) xs (subst R (sym all) rising) (subst E (sym all) each.1))
 
-pub tree-from : {T : Type 0} (frames : List (Frame T)) → AreRising frames → Each (IsPlaced frames) frames → IsTree frames
+pub tree-from : {T : Type 0} (frames : List (Frame T)) → AreSerialsRising frames → Each (IsPlaced frames) frames → IsTree frames
 tree-from frames rising each = tree-after [] frames rising each
 
 -- the frames that pass a test
-pub rising-filter : {T : Type 0} (keep : Frame T → Bool) (xs : List (Frame T)) → AreRising xs → AreRising (filter keep xs)
+pub rising-filter : {T : Type 0} (keep : Frame T → Bool) (xs : List (Frame T)) → AreSerialsRising xs → AreSerialsRising (filter keep xs)
 rising-filter keep xs rising = rises_by-filter (λ frame. frame.serial) keep xs rising
 
 pub AllBelow-filter : {T : Type 0} (keep : Frame T → Bool) (s : ℕ) (xs : List (Frame T)) → AllBelow s xs → AllBelow s (filter keep xs)
@@ -63,7 +63,7 @@ AllBelow-filter keep s [] below = tt
 AllBelow-filter keep s (x ∷ xs) below =
     elim (cases_Bool (keep x)) [ inl is ↦ rw is (below.0, AllBelow-filter keep s xs below.1) | inr not_so ↦ rw not_so (AllBelow-filter keep s xs below.1) ]
 
-pub frame_at-filter : {T : Type 0} (keep : Frame T → Bool) (xs : List (Frame T)) (s : ℕ) → AreRising xs → frame_at (filter keep xs) s ≡ if_kept keep (frame_at xs s)
+pub frame_at-filter : {T : Type 0} (keep : Frame T → Bool) (xs : List (Frame T)) (s : ℕ) → AreSerialsRising xs → frame_at (filter keep xs) s ≡ if_kept keep (frame_at xs s)
 frame_at-filter keep [] s rising = refl
 frame_at-filter keep (x ∷ xs) s rising =
     elim (cases_Bool (eqb x.serial s)) [
@@ -80,7 +80,7 @@ frame_at-filter keep (x ∷ xs) s rising =
     ]
 
 -- a frame that stays is found as before, and what is found was there and stays
-pub frame_at-stays : {T : Type 0} (keep : Frame T → Bool) (xs : List (Frame T)) (s : ℕ) (f : Frame T) → AreRising xs → frame_at xs s ≡ Some f → keep f ≡ true → frame_at (filter keep xs) s ≡ Some f
+pub frame_at-stays : {T : Type 0} (keep : Frame T → Bool) (xs : List (Frame T)) (s : ℕ) (f : Frame T) → AreSerialsRising xs → frame_at xs s ≡ Some f → keep f ≡ true → frame_at (filter keep xs) s ≡ Some f
 frame_at-stays keep xs s f rising at is = frame_at-filter keep xs s rising ∙ ap (λ o. if_kept keep o) at ∙ (rw is refl)
 
 kept-found : {T : Type 0} (keep : Frame T → Bool) (o : Option (Frame T)) (f : Frame T) → if_kept keep o ≡ Some f → (o ≡ Some f) × (keep f ≡ true)
@@ -91,11 +91,11 @@ kept-found {T} keep (Some g) f at =
       | inr not_so ↦ (let e : ◌≡◌ {A = Option (Frame T)} None (Some f) = rw not_so at at in absurd cc)
     ]
 
-pub filter-found : {T : Type 0} (keep : Frame T → Bool) (xs : List (Frame T)) (s : ℕ) (f : Frame T) → AreRising xs → frame_at (filter keep xs) s ≡ Some f → (frame_at xs s ≡ Some f) × (keep f ≡ true)
+pub filter-found : {T : Type 0} (keep : Frame T → Bool) (xs : List (Frame T)) (s : ℕ) (f : Frame T) → AreSerialsRising xs → frame_at (filter keep xs) s ≡ Some f → (frame_at xs s ≡ Some f) × (keep f ≡ true)
 filter-found keep xs s f rising at = kept-found keep (frame_at xs s) f (sym (frame_at-filter keep xs s rising) ∙ at)
 
 -- a tree stays one where each frame that stays has a parent that stays
-placed-filter : {T : Type 0} (keep : Frame T → Bool) (xs : List (Frame T)) (f : Frame T) → AreRising xs → IsPlaced xs f → ((u : IsUnder xs f) → keep u.above ≡ true) → IsPlaced (filter keep xs) f
+placed-filter : {T : Type 0} (keep : Frame T → Bool) (xs : List (Frame T)) (f : Frame T) → AreSerialsRising xs → IsPlaced xs f → ((u : IsUnder xs f) → keep u.above ≡ true) → IsPlaced (filter keep xs) f
 placed-filter keep xs f rising (inl top) closed = inl top
 placed-filter keep xs f rising (inr u) closed =
     inr (record { parent = u.parent; above = u.above; named = u.named; there = frame_at-stays keep xs u.parent u.above rising u.there (closed u); below = u.below; path = u.path })

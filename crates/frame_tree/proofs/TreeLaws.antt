@@ -3,7 +3,7 @@ use Rattle.std.proofs.Common.{◌≡◌, ◌≢◌, ℕ, zero, suc, ◌<◌, ◌
 use Rattle.std.specs.List.{filter}
 use Rattle.std.proofs.lemmas.Bool.{cases_Bool, cases_eq, false≢true, true≢false, eq-eqb, ne_eqb, eqb-true, or_cases}
 use Rattle.frame_tree.specs.Frames.{Frame, frame_at, has_frame, has_parent, path_in, AllBelow, parent_of, path_under, goes_under, is_one_more, children_under, children_of, IsNextFrame, IsTree, IsTreeAfter}
-use Rattle.frame_tree.specs.TreeLaws.{is_that, is_child_of, AllAboveSerial, AreRising, Each}
+use Rattle.frame_tree.specs.TreeLaws.{is_that, is_child_of, AllAboveSerial, AreSerialsRising, Each}
 use Rattle.frame_tree.proofs.Finds.{one_more_same, one_more_is, EndsIn-unique}
 use Rattle.frame_tree.proofs.Forest.{AllBelow-left, AllBelow-right, has_frame-above, EndsIn, EndsIn-append, goes_under-append}
 
@@ -73,12 +73,12 @@ above-linked before [] serial low t = tt
 above-linked before (x ∷ xs) serial low t =
     (low x.serial t.0.above, above-linked (before ++ x ∷ []) xs serial (λ bound below. low bound (AllBelow-left bound before _ below)) t.1)
 
-rising-after : {T : Type 0} (before frames : List (Frame T)) → IsTreeAfter before frames → AreRising frames
+rising-after : {T : Type 0} (before frames : List (Frame T)) → IsTreeAfter before frames → AreSerialsRising frames
 rising-after before [] t = tt
 rising-after before (x ∷ xs) t =
     (above-linked (before ++ x ∷ []) xs x.serial (λ bound below. (AllBelow-right bound before (x ∷ []) below).0) t.1, rising-after (before ++ x ∷ []) xs t.1)
 
-pub tree-rising : {T : Type 0} (frames : List (Frame T)) → IsTree frames → AreRising frames
+pub tree-rising : {T : Type 0} (frames : List (Frame T)) → IsTree frames → AreSerialsRising frames
 tree-rising frames t = rising-after [] frames t
 
 -- what rises above a serial hasn't got it
@@ -96,7 +96,7 @@ each-found {T} P (x ∷ xs) serial frame each at =
       | inr other ↦ each-found P xs serial frame each.1 (rw other at at)
     ]
 
-pub found-each : {T : Type 0} (P : Frame T → Type 0) (frames : List (Frame T)) → AreRising frames → ((serial : ℕ) (frame : Frame T) → frame_at frames serial ≡ Some frame → P frame) → Each P frames
+pub found-each : {T : Type 0} (P : Frame T → Type 0) (frames : List (Frame T)) → AreSerialsRising frames → ((serial : ℕ) (frame : Frame T) → frame_at frames serial ≡ Some frame → P frame) → Each P frames
 found-each P [] rising all = tt
 found-each P (x ∷ xs) rising all = (
   all x.serial x (rw (eq-eqb x.serial x.serial refl) refl),

@@ -21,8 +21,8 @@ pub record TenantTree (T : Type 0) : Type 0 where
   pub frames : List (Frame T)
 
 -- the number of the tenant whose tree this is
-abbrev pub owner_of : {T : Type 0} → TenantTree T → ℕ
-owner_of tree = tree.tenant
+abbrev pub owner_of_tree : {T : Type 0} → TenantTree T → ℕ
+owner_of_tree tree = tree.tenant
 
 -- the frame with this serial, if there is one
 abbrev pub frame_at : {T : Type 0} → List (Frame T) → ℕ → Option (Frame T)
@@ -142,9 +142,9 @@ name_of tenant None = None
 name_of tenant (Some serial) = Some (record { tenant = tenant; serial = serial })
 
 -- what `find` tells of a frame: its parent's name, its state and its value
-abbrev pub entry_of : {T : Type 0} → ℕ → Option (Frame T) → Option (Entry T)
-entry_of tenant None = None
-entry_of tenant (Some frame) = Some (record { parent = name_of tenant (parent_of frame.path); state = frame.state; value = frame.value })
+abbrev pub entry_of_frame : {T : Type 0} → ℕ → Option (Frame T) → Option (Entry T)
+entry_of_frame tenant None = None
+entry_of_frame tenant (Some frame) = Some (record { parent = name_of tenant (parent_of frame.path); state = frame.state; value = frame.value })
 
 -- the name and the home of a frame in this state, if the state is Ready
 abbrev pub ready_name : ℕ → ℕ → State → Option (FrameId × ℕ)

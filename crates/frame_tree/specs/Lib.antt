@@ -4,5 +4,5 @@ pub mod Windows
 pub mod Places
 pub mod Readies
 pub mod Rows
-pub mod Shelves
+pub mod SlotStores
 pub mod TreeLaws

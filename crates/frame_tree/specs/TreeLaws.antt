@@ -17,8 +17,8 @@ abbrev pub AllAboveSerial : {T : Type 0} → ℕ → List (Frame T) → Type 0
 AllAboveSerial serial frames = AreAbove (λ frame. frame.serial) serial frames
 
 -- frames by rising serial, so that no serial stands twice
-abbrev pub AreRising : {T : Type 0} → List (Frame T) → Type 0
-AreRising frames = AreRisingBy (λ frame. frame.serial) frames
+abbrev pub AreSerialsRising : {T : Type 0} → List (Frame T) → Type 0
+AreSerialsRising frames = AreRisingBy (λ frame. frame.serial) frames
 
 -- P holds of each of these frames
 abbrev pub Each : {T : Type 0} → (Frame T → Type 0) → List (Frame T) → Type 0

@@ -3,14 +3,14 @@
 ghost use Rattle.std.specs.Prelude.{◌≡◌, ◌≢◌, ℕ, ◌+◌, ◌<◌, List, [], ◌∷◌, ◌++◌, Option, Some, None, true, false, filter, map, not, option_map};
 ghost use Rattle.frame_tree.specs.Frames.{Frame, frame_at, has_frame, has_parent, path_in, AllBelow, parent_of, root_of, goes_under, aborted, frames_under, frames_without, with_state, children_of, values_of, new_frame, IsTree};
 ghost use Rattle.frame_tree.specs.Rows.{five_frames};
-ghost use Rattle.frame_tree.specs.TreeLaws.{is_child_of, AreRising, if_kept, map_value, map_values};
+ghost use Rattle.frame_tree.specs.TreeLaws.{is_child_of, AreSerialsRising, if_kept, map_value, map_values};
 ghost use Rattle.frame_tree.specs.declared.names.State.{State};
 
 /// What holds of each frame of a tree: no other has its serial; its path is its parent's path and its serial,
 /// or for a root its serial alone; its parent is there, with a lower serial, and so is its root; and its
 /// children are the frames in whose paths its serial is the last but one.
 pub fn frames_stand_under_parents<T>()
-    ensures rising { (frames : List (Frame T)) → IsTree frames → AreRising frames }
+    ensures rising { (frames : List (Frame T)) → IsTree frames → AreSerialsRising frames }
     ensures serial { (frames : List (Frame T)) (s : ℕ) (frame : Frame T) → frame_at frames s ≡ Some frame → frame.serial ≡ s }
     ensures top { (frames : List (Frame T)) (s : ℕ) (frame : Frame T) → IsTree frames → frame_at frames s ≡ Some frame → parent_of frame.path ≡ None → frame.path ≡ s ∷ [] }
     ensures path { (frames : List (Frame T)) (s p : ℕ) (frame : Frame T) → IsTree frames → frame_at frames s ≡ Some frame → parent_of frame.path ≡ Some p → frame.path ≡ path_in frames p ++ s ∷ [] }

@@ -6,24 +6,24 @@
 //! listed beside them.
 ghost use Rattle.std.specs.Prelude.{◌≡◌, ◌+◌, ◌<◌, ◌≤◌, ◌↔◌, ◌++◌, [], ◌∷◌, true, false, length, vec_len, vec_capacity, IsTrue, IfOk, OnOk, OnErr, IfSome};
 ghost use Rattle.frame_tree.specs.Slots.{frames_from, IsLinked};
-ghost use Rattle.frame_tree.specs.Frames.{frame_at, has_frame, path_in, root_of, children_of, aborted, frames_under, frames_without, values_of, with_state, ready_frames, AllBelow, entry_of, newest_ready_of, new_frame, one_if_ready, HasValue, has_parent, IsReadyAt, IsTree};
+ghost use Rattle.frame_tree.specs.Frames.{frame_at, has_frame, path_in, root_of, children_of, aborted, frames_under, frames_without, values_of, with_state, ready_frames, AllBelow, entry_of_frame, newest_ready_of, new_frame, one_if_ready, HasValue, has_parent, IsReadyAt, IsTree};
 
 use crate::names::{Entry, FrameId, State};
 use crate::ready::{ReadyFrame, ReadyFrames, follow, forget_from, leave, newest};
 use crate::serials::{Serials, known_place, place_of};
-use crate::shelf::Shelf;
 use crate::slot::Slot;
+use crate::slot_store::SlotStore;
 use crate::window::ListWindow;
 use number_index::Numbered;
 use std::alloc::{AllocError, Allocator, Global};
 use std::marker::Model;
 
 /// The frames of one tenant, each with a value: no more than it has places, of which there are at most
-/// 4,096. The frames are in `shelf`; `serials` and `ready` list all serials and the ready frames, for look-ups.
+/// 4,096. The frames are in `store`; `serials` and `ready` list all serials and the ready frames, for look-ups.
 #[derive(Drop)]
 pub struct TenantFrames<T, A: Allocator = Global> {
     tenant: u64,
-    shelf: Shelf<T, A>,
+    store: SlotStore<T, A>,
     serials: Serials<A>,
     ready: ReadyFrames<A>,
 }
@@ -36,16 +36,16 @@ impl<T, A: Allocator> Model for TenantFrames<T, A> {
 
     ghost Value = { TenantTree T };
 
-    ghost view = { λ t. record { tenant = t.tenant; places = t.shelf.places; frames = frames_from [] t.shelf.slots } };
+    ghost view = { λ t. record { tenant = t.tenant; places = t.store.places; frames = frames_from [] t.store.slots } };
 
-    ghost invariant = { λ t. IsTenant t.shelf.slots t.shelf.places t.serials t.ready };
+    ghost invariant = { λ t. IsTenant t.store.slots t.store.places t.serials t.ready };
 }
 
 // Lists of trees are ordered and searched by the tenants' numbers.
 impl<T: Copy, A: Allocator> Numbered for TenantFrames<T, A> {
-    ghost use Rattle.frame_tree.specs.Frames.{owner_of};
+    ghost use Rattle.frame_tree.specs.Frames.{owner_of_tree};
 
-    ghost number_of = { owner_of };
+    ghost number_of = { owner_of_tree };
 
     #[inline(always)]
     fn number(&self) -> u64 {
@@ -61,12 +61,12 @@ impl<T: Copy, A: Allocator> TenantFrames<T, A> {
         requires { places ≤ 4096 }
         ensures { IfOk result (λ t. t ≡ record { tenant = tenant; places = places; frames = [] }) }
     {
-        let shelf = Shelf::new(alloc.clone()?, places)?;
+        let store = SlotStore::new(alloc.clone()?, places)?;
         let serials = ListWindow::new(alloc.clone()?, places)?;
         let ready = ListWindow::new(alloc, places)?;
         Ok(TenantFrames {
             tenant,
-            shelf,
+            store,
             serials,
             ready,
         })
@@ -82,7 +82,7 @@ impl<T: Copy, A: Allocator> TenantFrames<T, A> {
     {
         self.serials.raise(places)?;
         self.ready.raise(places)?;
-        self.shelf.raise(alloc, places)
+        self.store.raise(alloc, places)
     }
 
     /// The number of the tenant whose frames these are.
@@ -96,14 +96,14 @@ impl<T: Copy, A: Allocator> TenantFrames<T, A> {
     pub fn places(&self) -> usize
         ensures { result ≡ self.now.places }
     {
-        self.shelf.places()
+        self.store.places()
     }
 
     /// How many frames there are.
     pub fn len(&self) -> usize
         ensures { result ≡ length self.now.frames }
     {
-        self.shelf.len()
+        self.store.len()
     }
 
     /// How many of the frames are ready. The frames aren't gone over: the ready ones are listed.
@@ -114,20 +114,20 @@ impl<T: Copy, A: Allocator> TenantFrames<T, A> {
     }
 
     /// The slots of its frames.
-    pub(crate) fn shelf(&self) -> &Shelf<T, A>
+    pub(crate) fn store(&self) -> &SlotStore<T, A>
         ensures frames { frames_from [] result.now.slots ≡ self.now.frames }
         ensures linked { IsLinked [] result.now.slots }
     {
-        &self.shelf
+        &self.store
     }
 
     /// The parent, state and value of a frame; `None` where there is no such frame.
     #[inline(always)]
     pub fn find(&self, serial: u64) -> Option<Entry<T>>
-        ensures entry { result ≡ entry_of self.now.tenant (frame_at self.now.frames serial) }
+        ensures entry { result ≡ entry_of_frame self.now.tenant (frame_at self.now.frames serial) }
         ensures tree { IsTree self.now.frames }
     {
-        match self.shelf.find(&self.serials, serial) {
+        match self.store.find(&self.serials, serial) {
             Some(slot) => Some(slot.entry(self.tenant)),
             None => None,
         }
@@ -139,7 +139,7 @@ impl<T: Copy, A: Allocator> TenantFrames<T, A> {
         ensures { result ≡ root_of (path_in self.now.frames serial) }
     {
         let at = known_place(&self.serials, serial);
-        self.shelf.at(at).root
+        self.store.at(at).root
     }
 
     /// Whether a frame has a child, by a count kept with the frame; false also where there is no such frame.
@@ -148,7 +148,7 @@ impl<T: Copy, A: Allocator> TenantFrames<T, A> {
         ensures child { IsTrue result ↔ (0 < length (children_of self.now.frames serial)) }
         ensures leaf { result ≡ false → children_of self.now.frames serial ≡ [] }
     {
-        match self.shelf.find(&self.serials, serial) {
+        match self.store.find(&self.serials, serial) {
             Some(slot) => slot.children > 0,
             None => false,
         }
@@ -166,11 +166,11 @@ impl<T: Copy, A: Allocator> TenantFrames<T, A> {
         ensures above { IsTrue result → AllBelow serial self.now.frames }
         ensures otherwise { AllBelow serial self.now.frames → IsTrue result }
     {
-        let count = self.shelf.len();
+        let count = self.store.len();
         if count == 0 {
             return true;
         }
-        self.shelf.at(count - 1).serial < serial
+        self.store.at(count - 1).serial < serial
     }
 
     /// The name and the home of the ready frame of the greatest serial; None where none is ready.
@@ -197,7 +197,7 @@ impl<T: Copy, A: Allocator> TenantFrames<T, A> {
         requires room { length self.old.frames < self.old.places }
         ensures { self.new ≡ record self.old { frames = self.old.frames ++ new_frame self.old.frames serial parent home value ∷ [] } }
     {
-        self.shelf.push(&self.serials, serial, parent, home, value);
+        self.store.push(&self.serials, serial, parent, home, value);
         self.serials.push(serial);
         self.ready.push(ReadyFrame { serial, home });
     }
@@ -209,7 +209,7 @@ impl<T: Copy, A: Allocator> TenantFrames<T, A> {
         ensures frames { self.new ≡ record self.old { frames = with_state serial state self.old.frames } }
         ensures count { length (ready_frames self.new.frames) + one_if_ready result ≡ length (ready_frames self.old.frames) + one_if_ready state }
     {
-        let was = self.shelf.set_state(&self.serials, serial, state);
+        let was = self.store.set_state(&self.serials, serial, state);
         follow(&mut self.ready, serial, was, state);
         was
     }
@@ -224,22 +224,22 @@ impl<T: Copy, A: Allocator> TenantFrames<T, A> {
         ensures capacity { vec_capacity removed.new ≡ vec_capacity removed.old }
     {
         let at = known_place(&self.serials, serial);
-        let slot = self.shelf.at(at);
+        let slot = self.store.at(at);
         if slot.children == 0 {
             return;
         }
-        self.shelf.put(
+        self.store.put(
             at,
             Slot {
                 children: 0,
                 ..slot
             },
         );
-        self.shelf.cut(at, serial, removed);
+        self.store.cut(at, serial, removed);
         self.serials.truncate(at);
-        self.shelf.add_serials(at, &mut self.serials);
+        self.store.add_serials(at, &mut self.serials);
         forget_from(&mut self.ready, serial);
-        self.shelf.add_ready(at, &mut self.ready);
+        self.store.add_ready(at, &mut self.ready);
     }
 
     /// Removes all frames; the number of places stays. Appends the frames' values, by rising serial, to `removed`,
@@ -250,7 +250,7 @@ impl<T: Copy, A: Allocator> TenantFrames<T, A> {
         ensures values { removed.new.items ≡ removed.old.items ++ values_of self.old.frames }
         ensures capacity { vec_capacity removed.new ≡ vec_capacity removed.old }
     {
-        self.shelf.clear(removed);
+        self.store.clear(removed);
         self.serials.truncate(0);
         self.ready.clear();
     }
@@ -265,7 +265,7 @@ impl<T: Copy, A: Allocator> TenantFrames<T, A> {
         ensures count { length (ready_frames self.new.frames) + one_if_ready result.0 ≡ length (ready_frames self.old.frames) }
     {
         let at = known_place(&self.serials, serial);
-        let slot = self.shelf.take(at);
+        let slot = self.store.take(at);
         self.serials.remove(at);
         leave(&mut self.ready, serial, slot.state);
         (slot.state, slot.value)

@@ -3,23 +3,23 @@ ghost use Rattle.std.specs.Prelude.{◌≡◌, [], drop};
 ghost use Rattle.std.specs.Iterator.{YieldsFirst, item_count};
 ghost use Rattle.frame_tree.specs.Frames.{names_of, children_of, frames_in, IsTree};
 ghost use Rattle.frame_tree.specs.Slots.{frames_from, IsLinked, SplitsFirst};
-ghost use Rattle.frame_tree.specs.Shelves.{slots_after};
+ghost use Rattle.frame_tree.specs.SlotStores.{slots_after};
 
 use crate::names::FrameId;
-use crate::shelf::Shelf;
+use crate::slot_store::SlotStore;
 use crate::tree::TenantFrames;
 use std::alloc::{Allocator, Global};
 use std::marker::Model;
 
 /// An iterator over the names of a tenant's frames, or of one frame's children, by rising serial. Contracts see it as
-/// the list of the names that are still to come. Without a shelf there are none; `at` is the place of the next slot
-/// to look at.
+/// the list of the names that are still to come. Without a slot store there are none; `at` is the place of the next
+/// slot to look at.
 #[derive(Drop)]
 pub struct Frames<'a, T, A: Allocator = Global> {
     tenant: u64,
     // The serial of the frame whose children are asked for; None where all frames are.
     parent: Option<u64>,
-    shelf: Option<&'a Shelf<T, A>>,
+    store: Option<&'a SlotStore<T, A>>,
     at: usize,
 }
 
@@ -30,11 +30,11 @@ impl<'a, T, A: Allocator> Model for Frames<'a, T, A> {
     ghost use Rattle.std.specs.Prelude.{List};
     ghost use Rattle.frame_tree.specs.declared.names.FrameId.{FrameId};
     ghost use Rattle.frame_tree.specs.Slots.{names_in, slots_of};
-    ghost use Rattle.frame_tree.specs.Shelves.{slots_after};
+    ghost use Rattle.frame_tree.specs.SlotStores.{slots_after};
 
     ghost Value = { List FrameId };
 
-    ghost view = { λ it. names_in it.tenant (slots_of it.parent (slots_after it.at it.shelf)) };
+    ghost view = { λ it. names_in it.tenant (slots_of it.parent (slots_after it.at it.store)) };
 }
 
 impl<'a, T, A: Allocator> Frames<'a, T, A> {
@@ -48,7 +48,7 @@ impl<'a, T, A: Allocator> Frames<'a, T, A> {
         Frames {
             tenant,
             parent: None,
-            shelf: shelf_of(tree),
+            store: store_of(tree),
             at: 0,
         }
     }
@@ -62,7 +62,7 @@ impl<'a, T, A: Allocator> Frames<'a, T, A> {
         Frames {
             tenant: parent.tenant,
             parent: Some(parent.serial),
-            shelf: shelf_of(tree),
+            store: store_of(tree),
             at: 0,
         }
     }
@@ -76,8 +76,8 @@ impl<'a, T: Copy, A: Allocator> Iterator for Frames<'a, T, A> {
     ghost remaining = { item_count (λ rest. rest) };
 
     fn next(&mut self) -> Option<FrameId> {
-        let shelf = self.shelf?;
-        let (found, after) = next_serial(shelf, self.at, self.parent);
+        let store = self.store?;
+        let (found, after) = next_serial(store, self.at, self.parent);
         self.at = after;
         match found {
             Some(serial) => Some(FrameId {
@@ -89,15 +89,15 @@ impl<'a, T: Copy, A: Allocator> Iterator for Frames<'a, T, A> {
     }
 }
 
-/// The shelf (the slots) of a tree; None without a tree.
-fn shelf_of<'a, T: Copy, A: Allocator>(
+/// The slot store of a tree; None without a tree.
+fn store_of<'a, T: Copy, A: Allocator>(
     tree: Option<&'a TenantFrames<T, A>>,
-) -> Option<&'a Shelf<T, A>>
+) -> Option<&'a SlotStore<T, A>>
     ensures frames { frames_from [] (slots_after 0 result) ≡ frames_in tree.entry }
     ensures linked { IsLinked [] (slots_after 0 result) }
 {
     match tree {
-        Some(tree) => Some(tree.shelf()),
+        Some(tree) => Some(tree.store()),
         None => None,
     }
 }
@@ -105,15 +105,15 @@ fn shelf_of<'a, T: Copy, A: Allocator>(
 /// The serial of the first slot from place `from` on that is a child of `parent` (of any slot, where that is None),
 /// and the place after it. Without such a slot the serial is None, and no slot is left after the place.
 fn next_serial<T: Copy, A: Allocator>(
-    shelf: &Shelf<T, A>,
+    store: &SlotStore<T, A>,
     from: usize,
     parent: Option<u64>,
 ) -> (Option<u64>, usize)
-    ensures { SplitsFirst parent (drop from shelf.now.slots) result.0 (drop result.1 shelf.now.slots) }
+    ensures { SplitsFirst parent (drop from store.now.slots) result.0 (drop result.1 store.now.slots) }
 {
     let mut at = from;
-    while at < shelf.len() {
-        let slot = shelf.at(at);
+    while at < store.len() {
+        let slot = store.at(at);
         at += 1;
         if slot.is_of(parent) {
             return (Some(slot.serial), at);

@@ -5,7 +5,7 @@ use Rattle.std.proofs.lemmas.Bool.{cases_Bool, false≢true}
 use Rattle.sched_rules.specs.declared.step.StepOf.{StepOf}
 use Rattle.jamboree_core.specs.jamboree_rules.declared.leaf.LeafAnswer.{LeafAnswer}
 use Rattle.hall.specs.declared.entry.JournalEntry.{JournalEntry}
-use Rattle.hall.specs.declared.entry.JournalEntry.TheVariants.{Taken, Stolen, Advanced, TakenIn, Finished, Spent, Long}
+use Rattle.hall.specs.declared.entry.JournalEntry.TheVariants.{Long}
 use Rattle.hall.specs.declared.entry.LongEntry.{LongEntry}
 use Rattle.hall.specs.Entries.{is_long, short_steps, long_step, steps_in, long_count}
 use Rattle.hall.specs.Journals.{JournalOf, longer, places_with, raise_count, raise_in}
@@ -16,13 +16,8 @@ Step = StepOf LeafAnswer
 
 -- a short entry stands for one step
 short-one : (n : ℕ) (e : JournalEntry) → is_long e ≡ false → length (short_steps n e) ≡ 1
-short-one n (Taken worker serial) short = refl
-short-one n (Stolen worker from serial) short = refl
-short-one n (Advanced worker serial) short = refl
-short-one n (TakenIn worker serial) short = refl
-short-one n (Finished worker serial) short = refl
-short-one n (Spent serial) short = refl
 short-one n Long short = absurd (false≢true (sym short))
+short-one n _ short = refl
 
 -- no more entries are long than there are
 pub long_count-few : (es : List JournalEntry) → long_count es ≤ length es

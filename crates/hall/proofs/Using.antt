@@ -6,8 +6,8 @@ use Rattle.tenant_quota.specs.Quota.{Quota}
 use Rattle.frame_tree.specs.declared.names.FrameId.{FrameId}
 use Rattle.frame_tree.specs.Frames.{AllBelow, Frame, frame_at, parent_of, root_of, path_in}
 use Rattle.sched_rules.specs.declared.act.InletAct.{InletAct}
-use Rattle.sched_rules.specs.declared.act.Then.{Then}
-use Rattle.sched_rules.specs.declared.act.Then.TheVariants.{Grow, Spawn, Go, Wait, Compute, Return}
+use Rattle.sched_rules.specs.declared.act.Continuation.{Continuation}
+use Rattle.sched_rules.specs.declared.act.Continuation.TheVariants.{Wait, Return}
 use Rattle.sched_rules.specs.declared.job.Job.{Job}
 use Rattle.sched_rules.specs.declared.job.Job.TheVariants.{Live, Done, Spent as SpentJob, Cancelled as CancelledJob}
 use Rattle.sched_rules.specs.declared.refusal.Refusal.{Refusal}
@@ -17,19 +17,18 @@ use Rattle.sched_rules.specs.declared.step.StepOf.TheVariants.{Admit, AdmitMore,
 use Rattle.sched_rules.specs.declared.step.DidOf.TheVariants.{Cancelled, Left}
 use Rattle.sched_rules.specs.Functions.{Functions}
 use Rattle.sched_rules.specs.Trees.{Tree, Tenant, admitted_with, words_in, has_child, is_root, job_at, with_ended}
-use Rattle.sched_rules.specs.Lone.{Outcome, at_frame, unless, lone, lone_step, is_lower, raised, counted, holding, submit_tests, submitted, take_tests, steal_tests, taken_by, act_of, advance_tests, then_done, advanced, answer_tests, answered, inlet_tests, does_wait, staying, taken_in, inlet_under, finish_tests, finished, is_spendable, spent, cancelled, ended}
+use Rattle.sched_rules.specs.Lone.{Outcome, at_frame, unless, lone_step, is_lower, raised, counted, holding, submit_tests, submitted, take_tests, steal_tests, taken_by, act_by_sight, advance_tests, then_done, advanced, answer_tests, answered, inlet_tests, does_wait, staying, taken_in, inlet_under, finish_tests, finished, is_spendable, spent, cancelled, ended}
 use Rattle.sched_rules.specs.Runs.{state_after, alone_from}
 use Rattle.jamboree_core.specs.sched_laws.Ended.{HasEnded}
 use Rattle.jamboree_core.specs.sched_laws.Shapes.{IsShaped, AreRootsLive, live_count}
-use Rattle.jamboree_core.proofs.sched_laws_Shaped.{LeftShaped, unless-passed, frame-found, step-shaped, admitted-shaped}
-use Rattle.jamboree_core.proofs.sched_laws_Answers.{lone-shaped}
+use Rattle.jamboree_core.proofs.sched_laws_Shaped.{unless-passed, frame-found, step-shaped, admitted-shaped}
 use Rattle.jamboree_core.proofs.sched_laws_Parts.{length-with_ended}
 use Rattle.jamboree_core.proofs.sched_laws_Consequences.{live-root, root-above}
 use Rattle.jamboree_core.specs.Journals.{StaysTaken, AreTakenFrom, IsJournalOf}
 use Rattle.hall.specs.Entries.{serial_in}
-use Rattle.hall.specs.Journals.{goes_on, raise_in, reserve_in, newer, reserved_after, one_for, raise_count}
+use Rattle.hall.specs.Journals.{is_appended, raise_in, reserve_in, newer, reserved_after, reserved_in, one_for, raise_count}
 use Rattle.hall.specs.Uses.{ended_count, uses}
-use Rattle.hall.proofs.Lists.{Brings, by-admit}
+use Rattle.hall.proofs.Lists.{Brings}
 
 -- one more is used by each step but a raise
 abbrev UsedBy : Option Quota → ℕ → ℕ → Type 0
@@ -50,16 +49,12 @@ used-one (Some quota) before after used = omega (arith, used)
 ended-append : (root : ℕ) (jobs : List Job) → ended_count (jobs ++ Live root ∷ []) ≡ ended_count jobs
 ended-append root [] = refl
 ended-append root (Live s ∷ jobs) = ended-append root jobs
-ended-append root (Done words ∷ jobs) = ap (λ (n : ℕ). n + 1) (ended-append root jobs)
-ended-append root (SpentJob ∷ jobs) = ap (λ (n : ℕ). n + 1) (ended-append root jobs)
-ended-append root (CancelledJob ∷ jobs) = ap (λ (n : ℕ). n + 1) (ended-append root jobs)
+ended-append root (_ ∷ jobs) = ap (λ (n : ℕ). n + 1) (ended-append root jobs)
 
 -- the jobs under a root have ended
 end-counts : (end : Job) (jobs : List Job) → HasEnded end → ended_count (end ∷ jobs) ≡ ended_count jobs + 1
 end-counts (Live root) jobs has = absurd has
-end-counts (Done words) jobs has = refl
-end-counts SpentJob jobs has = refl
-end-counts CancelledJob jobs has = refl
+end-counts _ jobs has = refl
 
 ended-more : (root : ℕ) (end : Job) (jobs : List Job) → HasEnded end → ended_count (with_ended root end jobs) ≡ ended_count jobs + live_count root jobs
 ended-more root end [] has = omega arith
@@ -69,9 +64,7 @@ ended-more root end (Live s ∷ jobs) has =
       | inl same ↦ rw same (end-counts end (with_ended root end jobs) has ∙ omega (arith, rest))
       | inr other ↦ rw other rest
     ]
-ended-more root end (Done words ∷ jobs) has = (let rest = ended-more root end jobs has in omega (arith, rest))
-ended-more root end (SpentJob ∷ jobs) has = (let rest = ended-more root end jobs has in omega (arith, rest))
-ended-more root end (CancelledJob ∷ jobs) has = (let rest = ended-more root end jobs has in omega (arith, rest))
+ended-more root end (_ ∷ jobs) has = (let rest = ended-more root end jobs has in omega (arith, rest))
 
 -- one job lives under the root of a frame
 one-lives : (jobs : List Job) (xs : Tree) (root : ℕ) → AreRootsLive jobs xs → path_in xs root ≡ root ∷ [] → live_count root jobs ≡ 1
@@ -100,14 +93,11 @@ refused-used goes tenant refusal outcome e = absurd cc
 ticked : (tenant : Tenant) → uses tenant + 1 ≤ uses (counted tenant)
 ticked tenant = omega arith
 
-then-used : {I A : Type 0} (functions : Functions I A) (tenant t : Tenant) (worker : ℕ) (name : FrameId) (path words : List ℕ) (after : Then) →
+then-used : {I A : Type 0} (functions : Functions I A) (tenant t : Tenant) (worker : ℕ) (name : FrameId) (path words : List ℕ) (after : Continuation) →
     uses t ≡ uses (counted tenant) → t.reserve ≡ tenant.reserve → HasUsed true None tenant (then_done functions t worker name path words after).0
-then-used functions tenant t worker name path words (Grow more) u r = (omega (arith, u), r)
-then-used functions tenant t worker name path words (Spawn given size) u r = (omega (arith, u), r)
-then-used functions tenant t worker name path words Go u r = (omega (arith, u), r)
 then-used functions tenant t worker name path words Wait u r = elim (cases_Bool (has_child t.frames name.serial)) [ inl some ↦ rw some (omega (arith, u), r) | inr none ↦ rw none (omega (arith, u), r) ]
-then-used functions tenant t worker name path words Compute u r = (omega (arith, u), r)
 then-used functions tenant t worker name path words Return u r = elim (cases_Bool (has_child t.frames name.serial)) [ inl some ↦ rw some (omega (arith, u), r) | inr none ↦ rw none (omega (arith, u), r) ]
+then-used functions tenant t worker name path words _ u r = (omega (arith, u), r)
 
 inlet-used : (I : Type 0) (tenant : Tenant) (worker : ℕ) (name : FrameId) (parent : ℕ) (act : InletAct) → HasUsed true None tenant (taken_in {I = I} tenant worker name parent act).0
 inlet-used I tenant worker name parent act =
@@ -115,14 +105,11 @@ inlet-used I tenant worker name parent act =
     elim (cases_Bool (does_wait (frame_at frames parent) && (act.abort || act.wake || not (has_child frames parent)))) [ inl woken ↦ rw woken (ticked tenant, refl) | inr sleeps ↦ rw sleeps (ticked tenant, refl) ]
 
 cancel-used : {I : Type 0} (tenant : Tenant) (number : ℕ) (job : Option Job) (outcome : Outcome I) → IsShaped tenant → job_at tenant.jobs number ≡ job → cancelled tenant job ≡ Ok outcome → HasUsed true None tenant outcome.0
-cancel-used tenant number None outcome shape at is = refused-used true tenant NoJob outcome is
 cancel-used {I} tenant number (Some (Live root)) outcome shape at is =
     let e : ◌≡◌ {A = Result (Outcome I) Refusal} (Ok (Some (ended root CancelledJob tenant), Cancelled)) (Ok outcome) = is in
     let pair : ◌≡◌ {A = Outcome I} (Some (ended root CancelledJob tenant), Cancelled) outcome = cc in
     came-used true tenant (Some (ended root CancelledJob tenant), Cancelled) outcome pair (job-ended root CancelledJob tenant tt shape (live-root tenant number root shape at))
-cancel-used tenant number (Some (Done words)) outcome shape at is = refused-used true tenant NoJob outcome is
-cancel-used tenant number (Some SpentJob) outcome shape at is = refused-used true tenant NoJob outcome is
-cancel-used tenant number (Some CancelledJob) outcome shape at is = refused-used true tenant NoJob outcome is
+cancel-used tenant number _ outcome shape at is = refused-used true tenant NoJob outcome is
 
 submit-used : (tenant : Tenant) (root : ℕ) → length tenant.jobs + 1 + ended_count tenant.jobs ≤ length (tenant.jobs ++ Live root ∷ []) + ended_count (tenant.jobs ++ Live root ∷ [])
 submit-used tenant root =
@@ -133,7 +120,7 @@ finish-used tenant root words =
     let more = ended-more root (Done words) tenant.jobs tt in let same = length-with_ended root (Done words) tenant.jobs in omega (arith, more, same)
 
 -- each taken step
-pub step-used : {I A : Type 0} (functions : Functions I A) (tenant : Tenant) (step : StepOf A) (outcome : Outcome I) → lone_step functions tenant step ≡ Ok outcome → IsShaped tenant → HasUsed (goes_on step) (raise_in step) tenant outcome.0
+pub step-used : {I A : Type 0} (functions : Functions I A) (tenant : Tenant) (step : StepOf A) (outcome : Outcome I) → lone_step functions tenant step ≡ Ok outcome → IsShaped tenant → HasUsed (is_appended step) (raise_in step) tenant outcome.0
 step-used functions tenant (Admit number quota) outcome is shape = refused-used false tenant OldTenant outcome is
 step-used {I} functions tenant (AdmitMore number quota) outcome is shape =
     let p = unless-passed ((is_lower tenant.reserve quota, Lower) ∷ []) (raised {I = I} tenant quota) outcome is in
@@ -148,8 +135,8 @@ step-used {I} functions tenant (Steal worker from name) outcome is shape =
     let f = frame-found tenant.frames name.serial (λ frame. unless (steal_tests tenant worker from frame) (taken_by tenant worker frame)) outcome is in
     let p = unless-passed (steal_tests tenant worker from f.0) (taken_by {I = I} tenant worker f.0) outcome f.2 in came-used true tenant (taken_by tenant worker f.0) outcome p.1 (ticked tenant, refl)
 step-used functions tenant (Advance worker name) outcome is shape =
-    let f = frame-found tenant.frames name.serial (λ frame. unless (advance_tests tenant worker frame (act_of functions tenant frame)) (advanced functions tenant worker name frame (act_of functions tenant frame))) outcome is in
-    let act = act_of functions tenant f.0 in
+    let f = frame-found tenant.frames name.serial (λ frame. unless (advance_tests tenant worker frame (act_by_sight functions tenant frame)) (advanced functions tenant worker name frame (act_by_sight functions tenant frame))) outcome is in
+    let act = act_by_sight functions tenant f.0 in
     let p = unless-passed (advance_tests tenant worker f.0 act) (advanced functions tenant worker name f.0 act) outcome f.2 in
     came-used true tenant (advanced functions tenant worker name f.0 act) outcome p.1 (then-used functions tenant (counted (holding f.0.serial _ tenant)) worker name f.0.path _ act.after refl refl)
 step-used functions tenant (Answer worker name answer) outcome is shape =
@@ -190,15 +177,12 @@ frame-given tenant s step outcome is shape =
 
 -- a taken step names no serial that wasn't given
 pub serial-given : {I A : Type 0} (functions : Functions I A) (tenant : Tenant) (step : StepOf A) (outcome : Outcome I) → lone_step functions tenant step ≡ Ok outcome → IsShaped tenant → serial_in step ≤ tenant.serials
-serial-given functions tenant (Admit number quota) outcome is shape = omega arith
-serial-given functions tenant (AdmitMore number quota) outcome is shape = omega arith
-serial-given functions tenant (Submit number words size) outcome is shape = omega arith
 serial-given functions tenant (Take worker name) outcome is shape =
     frame-given tenant name.serial (λ frame. unless (take_tests tenant worker frame) (taken_by tenant worker frame)) outcome is shape
 serial-given functions tenant (Steal worker from name) outcome is shape =
     frame-given tenant name.serial (λ frame. unless (steal_tests tenant worker from frame) (taken_by tenant worker frame)) outcome is shape
 serial-given functions tenant (Advance worker name) outcome is shape =
-    frame-given tenant name.serial (λ frame. unless (advance_tests tenant worker frame (act_of functions tenant frame)) (advanced functions tenant worker name frame (act_of functions tenant frame))) outcome is shape
+    frame-given tenant name.serial (λ frame. unless (advance_tests tenant worker frame (act_by_sight functions tenant frame)) (advanced functions tenant worker name frame (act_by_sight functions tenant frame))) outcome is shape
 serial-given functions tenant (Answer worker name answer) outcome is shape =
     frame-given tenant name.serial (λ frame. unless (answer_tests functions tenant worker frame answer) (answered functions tenant worker frame answer)) outcome is shape
 serial-given functions tenant (Inlet worker name) outcome is shape =
@@ -207,40 +191,27 @@ serial-given functions tenant (Finish worker name) outcome is shape =
     frame-given tenant name.serial (λ frame. unless (finish_tests tenant worker frame) (finished tenant frame)) outcome is shape
 serial-given functions tenant (Spend name) outcome is shape =
     frame-given tenant name.serial (λ frame. unless ((not (is_spendable functions tenant frame), NotSpent) ∷ []) (spent tenant frame)) outcome is shape
-serial-given functions tenant (Cancel number job) outcome is shape = omega arith
-serial-given functions tenant (Leave number) outcome is shape = omega arith
+serial-given functions tenant _ outcome is shape = omega arith
 
 -- no more jobs have ended than there are
 ended-few : (jobs : List Job) → ended_count jobs ≤ length jobs
 ended-few [] = omega arith
 ended-few (Live root ∷ jobs) = (let rest = ended-few jobs in omega (arith, rest))
-ended-few (Done words ∷ jobs) = (let rest = ended-few jobs in omega (arith, rest))
-ended-few (SpentJob ∷ jobs) = (let rest = ended-few jobs in omega (arith, rest))
-ended-few (CancelledJob ∷ jobs) = (let rest = ended-few jobs in omega (arith, rest))
+ended-few (_ ∷ jobs) = (let rest = ended-few jobs in omega (arith, rest))
 
 -- a raise that was taken brings a segment or a node
 not-lower : (now quota : Quota) → is_lower now quota ≡ false → now.segments + now.nodes + 1 ≤ quota.segments + quota.nodes
 not-lower now quota is = grind (arith, nat_tests)
 
 pub step-brings : {I A : Type 0} (functions : Functions I A) (tenant : Tenant) (step : StepOf A) (outcome : Outcome I) → lone_step functions tenant step ≡ Ok outcome → Brings (raise_in step) tenant.reserve
-step-brings functions tenant (Admit number quota) outcome is = tt
 step-brings {I} functions tenant (AdmitMore number quota) outcome is =
     let p = unless-passed ((is_lower tenant.reserve quota, Lower) ∷ []) (raised {I = I} tenant quota) outcome is in not-lower tenant.reserve quota (or_parts (is_lower tenant.reserve quota) false p.0).0
-step-brings functions tenant (Submit number words size) outcome is = tt
-step-brings functions tenant (Take worker name) outcome is = tt
-step-brings functions tenant (Steal worker from name) outcome is = tt
-step-brings functions tenant (Advance worker name) outcome is = tt
-step-brings functions tenant (Answer worker name answer) outcome is = tt
-step-brings functions tenant (Inlet worker name) outcome is = tt
-step-brings functions tenant (Finish worker name) outcome is = tt
-step-brings functions tenant (Spend name) outcome is = tt
-step-brings functions tenant (Cancel number job) outcome is = tt
-step-brings functions tenant (Leave number) outcome is = tt
+step-brings functions tenant _ outcome is = tt
 
 -- a step that was taken of a tenant that is there reserves what it raises
 taken-reserves : {I A : Type 0} (functions : Functions I A) (tenant : Tenant) (step : StepOf A) (outcome : Outcome I) → lone_step functions tenant step ≡ Ok outcome → reserve_in step ≡ raise_in step
-taken-reserves {I} {A} functions tenant step outcome =
-    by-admit (λ (s : StepOf A). lone_step functions tenant s ≡ Ok outcome → reserve_in s ≡ raise_in s) (λ number quota is. absurd cc) (λ s same is. same) step
+taken-reserves functions tenant (Admit number quota) outcome is = absurd cc
+taken-reserves functions tenant _ outcome is = refl
 
 -- a tenant after so many steps, of which so many are raises
 record HasGone (before : Tenant) (steps raises : ℕ) (reserve : Quota) (after : Tenant) : Type 0 where
@@ -269,32 +240,19 @@ used-from {I} {A} functions before tenant (step ∷ steps) taken comes shape =
         let reserve : next.reserve ≡ newer before.reserve (reserve_in step) = used.1 ∙ ap (newer before.reserve) (sym (taken-reserves functions before step (Some next, did) is)) in
         record { used = omega (arith, one, more); same = rest.same ∙ ap (λ (q : Quota). reserved_after q steps) reserve; shape = rest.shape }
 
--- what a tenant reserves is what the newest admission in its journal says
-pub journal-reserves : {I A : Type 0} (functions : Functions I A) (number : ℕ) (quota : Quota) (later : List (StepOf A)) (tenant : Tenant) → IsJournalOf functions (Admit number quota ∷ later) tenant → tenant.reserve ≡ reserved_after quota later
-journal-reserves functions number quota later tenant is = (used-from functions (admitted_with quota) tenant later is.taken.1 is.comes (admitted-shaped quota)).same
+-- what a tenant's journal tells of the tenant: what it reserves, and how long the journal is at most
+pub record IsToldBy {A : Type 0} (journal : List (StepOf A)) (tenant : Tenant) : Type 0 where
+  pub shape : IsShaped tenant
+  pub reserve : tenant.reserve ≡ reserved_in journal
+  pub short : length journal ≤ 16 * tenant.reserve.nodes + 513 + raise_count journal
 
--- a journal is no longer than this
-pub journal-short : {I A : Type 0} (functions : Functions I A) (number : ℕ) (quota : Quota) (later : List (StepOf A)) (tenant : Tenant) → IsJournalOf functions (Admit number quota ∷ later) tenant →
-    length later + 1 ≤ 16 * (reserved_after quota later).nodes + 513 + raise_count later
-journal-short functions number quota later tenant is =
+pub told-by : {I A : Type 0} (functions : Functions I A) (journal : List (StepOf A)) (tenant : Tenant) → IsJournalOf functions journal tenant → IsToldBy journal tenant
+told-by functions [] tenant is = (let none : None ≡ Some tenant = is.comes in absurd cc)
+told-by functions (Admit number quota ∷ later) tenant is =
     let gone = used-from functions (admitted_with quota) tenant later is.taken.1 is.comes (admitted-shaped quota) in
     let used = gone.used in
-    let nodes : tenant.reserve.nodes ≡ (reserved_after quota later).nodes = ap (λ (q : Quota). q.nodes) gone.same in
     let ticks = gone.shape.ticks in
     let jobs = gone.shape.few_jobs in
     let few = ended-few tenant.jobs in
-    omega (arith, used, nodes, ticks, jobs, few)
-
--- a tenant has its shape wherever a journal leads
-shaped-from : {I A : Type 0} (functions : Functions I A) (own : Option Tenant) (tenant : Tenant) (steps : List (StepOf A)) → AreTakenFrom functions own steps → alone_from functions own steps ≡ Some tenant → LeftShaped own → IsShaped tenant
-shaped-from functions own tenant [] taken comes shape = let P : Option Tenant → Type 0 = λ o. LeftShaped o in subst P comes shape
-shaped-from {I} {A} functions own tenant (step ∷ steps) taken comes shape =
-    by (λ next on to well. shaped-from functions next tenant steps on to well) (lone functions own step) refl taken.0 taken.1 comes
-  where
-    by : ((next : Option Tenant) → AreTakenFrom functions next steps → alone_from functions next steps ≡ Some tenant → LeftShaped next → IsShaped tenant) →
-        (result : Result (Outcome I) Refusal) → lone functions own step ≡ result → StaysTaken result → AreTakenFrom functions (state_after own result) steps → alone_from functions (state_after own result) steps ≡ Some tenant → IsShaped tenant
-    by later (Err refusal) is stays on to = absurd stays
-    by later (Ok outcome) is stays on to = later outcome.0 on to (lone-shaped functions own step outcome is shape)
-
-pub journal-shaped : {I A : Type 0} (functions : Functions I A) (journal : List (StepOf A)) (tenant : Tenant) → IsJournalOf functions journal tenant → IsShaped tenant
-journal-shaped functions journal tenant is = shaped-from functions None tenant journal is.taken is.comes tt
+    record { shape = gone.shape; reserve = gone.same; short = omega (arith, used, ticks, jobs, few) }
+told-by functions (_ ∷ later) tenant is = absurd is.taken.0

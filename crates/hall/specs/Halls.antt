@@ -8,8 +8,8 @@ use Rattle.sched_rules.specs.declared.step.StepOf.{StepOf}
 use Rattle.sched_rules.specs.declared.step.StepOf.TheVariants.{Admit, AdmitMore, Submit, Take, Steal, Advance, Answer, Inlet, Finish, Spend, Cancel, Leave}
 use Rattle.sched_rules.specs.Functions.{Functions}
 use Rattle.sched_rules.specs.Trees.{Tenant}
-use Rattle.sched_rules.specs.Cores.{Shared, tenant_in, shared_by_nobody}
-use Rattle.sched_rules.specs.Headline.{IsKnown, IsOneStep}
+use Rattle.sched_rules.specs.Cores.{CoreState, tenant_in, shared_by_nobody}
+use Rattle.sched_rules.specs.Headline.{AreNumbersGiven, IsOneStep}
 use Rattle.sched_rules.specs.Views.{job_of}
 use Rattle.jamboree_core.specs.sched_laws.Ended.{HasEnded}
 use Rattle.jamboree_core.specs.jamboree_rules.declared.leaf.Leaf.{Leaf}
@@ -18,13 +18,13 @@ use Rattle.jamboree_core.specs.jamboree_rules.Procedure.{jamboree}
 use Rattle.jamboree_core.specs.Replies.{AreSearches}
 use Rattle.jamboree_core.specs.Journals.{IsJournalOf}
 use Rattle.number_index.specs.Places.{AreRising}
-use Rattle.hall.specs.Journals.{JournalOf, journal_in, total_length, journals_after, gone_by, owner_of, AreUpTo, AreBegun}
+use Rattle.hall.specs.Journals.{JournalOf, journal_in, total_length, journals_after, gone_by, owner_of_journal, AreUpTo, AreBegun}
 
 -- a hall: the grain of its searches, what the tenants share, their journals by rising number, how many steps went
 -- with tenants that left, and the number that `keep` was last given
 pub record HallOf : Type 0 where
   pub grain : ℕ
-  pub shared : Shared
+  pub shared : CoreState
   pub journals : List JournalOf
   pub gone : ℕ
   pub kept : ℕ
@@ -39,7 +39,7 @@ empty_hall grain totals = record { grain = grain; shared = shared_by_nobody tota
 
 -- the hall after a taken step, where the core then holds this: the step is added to its tenant's journal and
 -- nothing else changes; a Leave removes the journal instead
-abbrev pub hall_after : HallOf → StepOf LeafAnswer → Shared → HallOf
+abbrev pub hall_after : HallOf → StepOf LeafAnswer → CoreState → HallOf
 hall_after hall step shared =
     record { grain = hall.grain; shared = shared; journals = journals_after step hall.journals; gone = hall.gone + gone_by step hall.journals; kept = hall.kept }
 
@@ -62,7 +62,7 @@ Explains functions (Some tenant) journal = IsJournalOf functions journal tenant
 pub record IsExplained (hall : HallOf) : Type 0 where
   pub tenants : (number : ℕ) → Explains (jamboree hall.grain) (tenant_in hall.shared.tenants number) (journal_in hall.journals number)
   pub searches : (number : ℕ) → AreSearches (journal_in hall.journals number)
-  pub known : IsKnown hall.shared
+  pub known : AreNumbersGiven hall.shared
   pub numbers : hall.shared.newest ≤ 2 ^ 62
   pub few : count_of hall ≤ 2 ^ 84
 
@@ -71,7 +71,7 @@ pub record IsExplained (hall : HallOf) : Type 0 where
 -- bounded by 2^21 for each number that was given
 pub record IsHall (hall : HallOf) (latest count : ℕ) : Type 0 where
   pub explained : IsExplained hall
-  pub rising : AreRising owner_of hall.journals
+  pub rising : AreRising owner_of_journal hall.journals
   pub upto : AreUpTo latest hall.journals
   pub begun : AreBegun hall.journals
   pub newest : latest ≡ hall.shared.newest
@@ -84,6 +84,6 @@ lets_go number (Leave other) = other == number
 lets_go number _ = false
 
 -- a step leaves each job that has ended as it is, unless it is a Leave of the job's tenant
-abbrev pub KeepsEndedJobs : Shared → StepOf LeafAnswer → Shared → Type 0
+abbrev pub KeepsEndedJobs : CoreState → StepOf LeafAnswer → CoreState → Type 0
 KeepsEndedJobs before step after =
     (number job : ℕ) (ended : Job) → lets_go number step ≡ false → HasEnded ended → job_of before number job ≡ Some ended → job_of after number job ≡ Some ended

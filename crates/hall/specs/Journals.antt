@@ -1,7 +1,7 @@
 -- Meaning: the journal of a tenant: its steps that were taken, in order, from its Admit on.
 use Rattle.std.specs.Prelude.{◌≡◌, ℕ, ◌+◌, ◌*◌, ◌^◌, ◌<◌, ◌≤◌, Bool, true, false, List, [], ◌∷◌, ◌++◌, Option, Some, None, length}
 use Rattle.std.specs.List.{AllByRecursion}
-use Rattle.number_index.specs.Places.{said_of, has_thing, with_thing, without_thing}
+use Rattle.number_index.specs.Places.{read_by_number, has_by_number, change_by_number, remove_by_number}
 use Rattle.tenant_quota.specs.Quota.{Quota}
 use Rattle.sched_rules.specs.declared.step.StepOf.{StepOf}
 use Rattle.sched_rules.specs.declared.step.StepOf.TheVariants.{Admit, AdmitMore, Submit, Take, Steal, Advance, Answer, Inlet, Finish, Spend, Cancel, Leave}
@@ -17,20 +17,20 @@ pub record JournalOf : Type 0 where
   pub steps : List (StepOf LeafAnswer)
 
 -- the number of the tenant whose journal it is
-abbrev pub owner_of : JournalOf → ℕ
-owner_of journal = journal.tenant
+abbrev pub owner_of_journal : JournalOf → ℕ
+owner_of_journal journal = journal.tenant
 
 -- the steps in a tenant's journal; none where it has no journal
 abbrev pub journal_in : List JournalOf → ℕ → List (StepOf LeafAnswer)
-journal_in journals number = said_of owner_of (λ journal. journal.steps) [] number journals
+journal_in journals number = read_by_number owner_of_journal (λ journal. journal.steps) [] number journals
 
 -- how many places a tenant's journal has; 0 where it has no journal
 abbrev pub places_in : List JournalOf → ℕ → ℕ
-places_in journals number = said_of owner_of (λ journal. journal.places) 0 number journals
+places_in journals number = read_by_number owner_of_journal (λ journal. journal.places) 0 number journals
 
 -- whether a tenant has a journal
 abbrev pub has_journal : ℕ → List JournalOf → Bool
-has_journal number journals = has_thing owner_of number journals
+has_journal number journals = has_by_number owner_of_journal number journals
 
 -- what a step makes of its tenant's reservation: an Admit begins it, and an AdmitMore raises it to this; None for
 -- any other step, which doesn't change it
@@ -86,11 +86,11 @@ longer step journal = record { tenant = journal.tenant; places = places_with (ra
 
 -- the journals, with one step added to a tenant's
 abbrev pub with_step : ℕ → StepOf LeafAnswer → List JournalOf → List JournalOf
-with_step number step journals = with_thing owner_of number (longer step) journals
+with_step number step journals = change_by_number owner_of_journal number (longer step) journals
 
 -- the journals without a tenant's
 abbrev pub without_journal : ℕ → List JournalOf → List JournalOf
-without_journal number journals = without_thing owner_of number journals
+without_journal number journals = remove_by_number owner_of_journal number journals
 
 -- how many steps all journals have together
 abbrev pub total_length : List JournalOf → ℕ
@@ -113,11 +113,11 @@ abbrev pub gone_by : StepOf LeafAnswer → List JournalOf → ℕ
 gone_by (Leave number) journals = length (journal_in journals number) + 1
 gone_by _ journals = 0
 
--- whether a step is neither an Admit nor a Leave
-abbrev pub goes_on : {A : Type 0} → StepOf A → Bool
-goes_on (Admit number quota) = false
-goes_on (Leave number) = false
-goes_on _ = true
+-- whether a taken step is appended to its tenant's journal: an Admit begins it, and a Leave takes it away
+abbrev pub is_appended : {A : Type 0} → StepOf A → Bool
+is_appended (Admit number quota) = false
+is_appended (Leave number) = false
+is_appended _ = true
 
 -- whether a step is a worker's or a Spend: its tenant itself makes its Admit, AdmitMore, Submit, Cancel and Leave
 abbrev pub is_worker_step : {A : Type 0} → StepOf A → Bool
@@ -154,6 +154,6 @@ pub record IsWritable (step : StepOf LeafAnswer) (journal : JournalOf) : Type 0 
   pub own : tenant_of step ≡ journal.tenant
   pub serial : serial_in step < 2 ^ 32
   pub place : length journal.steps < journal.places
-  pub going : goes_on step ≡ true
+  pub going : is_appended step ≡ true
   pub search : IsSearch step
   pub raises_not : raise_in step ≡ None

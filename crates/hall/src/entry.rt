@@ -9,7 +9,7 @@ ghost use Rattle.jamboree_core.specs.Replies.{IsSearch, AreRootWords};
 ghost use Rattle.jamboree_core.specs.jamboree_rules.Places.{frame_size};
 ghost use Rattle.sched_rules.specs.Runs.{tenant_of};
 ghost use Rattle.hall.specs.Entries.{is_long, is_long_step, short_steps, long_step, serial_in};
-ghost use Rattle.hall.specs.Journals.{goes_on};
+ghost use Rattle.hall.specs.Journals.{is_appended};
 
 use jamboree_core::jamboree::{Jamboree, LeafAnswer};
 use sched_rules::{Step, StepOf, Worker};
@@ -49,7 +49,7 @@ impl JournalEntry {
     /// The entry of a step, other than an Admit or a Leave: `Long` where the step is kept in a long entry.
     #[inline(always)]
     pub(crate) fn of(step: &Step<Jamboree>) -> JournalEntry
-        requires goes_on { goes_on step.now ≡ true }
+        requires is_appended { is_appended step.now ≡ true }
         requires serial { serial_in step.now < 2 ^ 32 }
         ensures long { is_long result ≡ is_long_step step.now }
         ensures short { is_long result ≡ false → short_steps (tenant_of step.now) result ≡ step.now ∷ [] }
@@ -92,7 +92,7 @@ impl LongEntry {
     /// The long entry of a step that is kept in one. An Admit isn't made here, but by `Journal::new`.
     #[inline(always)]
     pub(crate) fn of(step: &Step<Jamboree>) -> LongEntry
-        requires goes_on { goes_on step.now ≡ true }
+        requires is_appended { is_appended step.now ≡ true }
         requires long { is_long_step step.now ≡ true }
         requires search { IsSearch step.now }
         requires serial { serial_in step.now < 2 ^ 32 }

@@ -8,7 +8,7 @@ ghost use Rattle.jamboree_core.specs.jamboree_rules.Procedure.{jamboree};
 ghost use Rattle.jamboree_core.specs.Replies.{IsSearch};
 ghost use Rattle.sched_rules.specs.Runs.{tenant_of};
 ghost use Rattle.tenant_quota.specs.Quota.{IsWithinLimits};
-ghost use Rattle.hall.specs.Journals.{goes_on, raise_in, admitted_journal};
+ghost use Rattle.hall.specs.Journals.{is_appended, raise_in, admitted_journal};
 ghost use Rattle.hall.specs.Halls.{empty_hall, hall_after, count_of, IsExplained, IsDecided, KeepsEndedJobs};
 
 use crate::journal::{Journal, raise, write};
@@ -210,7 +210,7 @@ impl<A: Allocator + Clone> Hall<A> {
     #[inline(always)]
     fn go_on<const CALLER: u8>(&mut self, number: u64, step: &Step<Jamboree>) -> StepAnswer
         requires search { IsSearch step.now }
-        requires goes_on { goes_on step.now ≡ true }
+        requires is_appended { is_appended step.now ≡ true }
         requires raises_not { raise_in step.now ≡ None }
         requires own { tenant_of step.now ≡ number }
         ensures decided { IsDecided self.old step.now result self.new }

@@ -1,14 +1,14 @@
 //! The journal of one tenant, and where it stands among all.
 ghost use Rattle.std.specs.Prelude.{◌≡◌, ◌+◌, ◌++◌, ◌∷◌, ◌<◌, ◌≤◌, ◌^◌, [], true, None, length, IfOk, OnOk, OnErr};
 ghost use Rattle.tenant_quota.specs.Quota.{IsWithinLimits};
-ghost use Rattle.sched_rules.specs.Headline.{IsOneStep, IsKnown};
+ghost use Rattle.sched_rules.specs.Headline.{IsOneStep, AreNumbersGiven};
 ghost use Rattle.jamboree_core.specs.jamboree_rules.Procedure.{jamboree};
 ghost use Rattle.jamboree_core.specs.Replies.{IsSearch};
 ghost use Rattle.sched_rules.specs.Cores.{shared_refusal};
 ghost use Rattle.sched_rules.specs.Runs.{tenant_of};
 ghost use Rattle.number_index.specs.Places.{AreRising};
 ghost use Rattle.hall.specs.Entries.{is_long_step, serial_in};
-ghost use Rattle.hall.specs.Journals.{IsWritable, admitted_journal, goes_on, has_journal, journal_in, longer, owner_of, places_for, places_in, raise_count, raise_in, with_step};
+ghost use Rattle.hall.specs.Journals.{IsWritable, admitted_journal, is_appended, has_journal, journal_in, longer, owner_of_journal, places_for, places_in, raise_count, raise_in, with_step};
 
 use crate::entry::{JournalEntry, LongEntry};
 use jamboree_core::jamboree::Jamboree;
@@ -118,7 +118,7 @@ impl<A: Allocator> Journal<A> {
         ensures refused { OnErr result (self.new ≡ self.old) }
         ensures core_refused { OnErr result (core.new.shared ≡ core.old.shared) }
         ensures procedure { core.new.procedure ≡ core.old.procedure }
-        ensures known { OnOk result (IsKnown core.new.shared) }
+        ensures known { OnOk result (AreNumbersGiven core.new.shared) }
         ensures limits { IsWithinLimits reserve }
     {
         let raises = self.raises + 1;
@@ -142,9 +142,9 @@ impl<A: Allocator> Journal<A> {
 
 // A journal is found by its tenant's number.
 impl<A: Allocator> Numbered for Journal<A> {
-    ghost use Rattle.hall.specs.Journals.{owner_of};
+    ghost use Rattle.hall.specs.Journals.{owner_of_journal};
 
-    ghost number_of = { owner_of };
+    ghost number_of = { owner_of_journal };
 
     #[inline(always)]
     fn number(&self) -> u64 {
@@ -160,12 +160,12 @@ pub(crate) fn write<A: Allocator>(
     tenant: u64,
     step: &Step<Jamboree>,
 )
-    requires rising { AreRising owner_of journals.old.items }
+    requires rising { AreRising owner_of_journal journals.old.items }
     requires own { tenant_of step.now ≡ tenant }
     requires serial { serial_in step.now < 2 ^ 32 }
     requires there { has_journal tenant journals.old.items ≡ true }
     requires place { length (journal_in journals.old.items tenant) < places_in journals.old.items tenant }
-    requires goes_on { goes_on step.now ≡ true }
+    requires is_appended { is_appended step.now ≡ true }
     requires search { IsSearch step.now }
     requires raises_not { raise_in step.now ≡ None }
     ensures { journals.new.items ≡ with_step tenant step.now journals.old.items }
@@ -184,7 +184,7 @@ pub(crate) fn raise<A: Allocator + Clone>(
     tenant: u64,
     reserve: Reserve,
 ) -> Result<Did<Jamboree>, Refusal>
-    requires rising { AreRising owner_of journals.old.items }
+    requires rising { AreRising owner_of_journal journals.old.items }
     requires there { has_journal tenant journals.old.items ≡ true }
     requires few { raise_count (journal_in journals.old.items tenant) ≤ 69632 }
     requires place { length (journal_in journals.old.items tenant) < places_for reserve + (raise_count (journal_in journals.old.items tenant) + 1) }
@@ -194,7 +194,7 @@ pub(crate) fn raise<A: Allocator + Clone>(
     ensures refused { OnErr result (journals.new.items ≡ journals.old.items) }
     ensures core_refused { OnErr result (core.new.shared ≡ core.old.shared) }
     ensures procedure { core.new.procedure ≡ core.old.procedure }
-    ensures known { OnOk result (IsKnown core.new.shared) }
+    ensures known { OnOk result (AreNumbersGiven core.new.shared) }
     ensures limits { IsWithinLimits reserve }
 {
     let at = index.place_of(journals.as_slice(), tenant);

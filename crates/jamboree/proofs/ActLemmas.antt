@@ -10,7 +10,7 @@ use Rattle.othello_moves.specs.declared.choices.Choice.{Choice}
 use Rattle.othello_moves.specs.declared.choices.Choice.TheVariants.{Pass}
 use Rattle.othello_moves.specs.Choices.{choices, after}
 use Rattle.jamboree_rules.specs.sched_rules.declared.act.Act.{Act}
-use Rattle.jamboree_rules.specs.sched_rules.declared.act.Then.{Then}
+use Rattle.jamboree_rules.specs.sched_rules.declared.act.Continuation.{Continuation}
 use Rattle.jamboree_rules.specs.Frames.{Frame, board, choice_at, may_be_child, own_word, opp_word}
 use Rattle.jamboree_rules.specs.Places.{Spawned, Status, pairs_of}
 use Rattle.jamboree_rules.specs.Acts.{spawns, opening_on, first_search, tests, tests_from, act_by, act_of}
@@ -54,10 +54,10 @@ pub negated-more : (r s : ℤ) → IsScore (pos 200000) r s → to_z w32 (of_z w
 negated-more r s floor = omega (arith, ints)
 
 -- an act by its parts
-pub act-by : (stores stores' : List (ℕ × ℕ)) (after after' : Then) → stores ≡ stores' → after ≡ after' → ◌≡◌ {A = Act} (record { stores = stores; after = after }) (record { stores = stores'; after = after' })
+pub act-by : (stores stores' : List (ℕ × ℕ)) (after after' : Continuation) → stores ≡ stores' → after ≡ after' → ◌≡◌ {A = Act} (record { stores = stores; after = after }) (record { stores = stores'; after = after' })
 act-by stores stores' after after' es ea = rw (es, ea) refl
 
-pub spawns-by : (f : Frame) (role i : ℕ) (low low' high high' : ℤ) (after : Then) → after ≡ spawns f role i low high → low ≡ low' → high ≡ high' → after ≡ spawns f role i low' high'
+pub spawns-by : (f : Frame) (role i : ℕ) (low low' high high' : ℤ) (after : Continuation) → after ≡ spawns f role i low high → low ≡ low' → high ≡ high' → after ≡ spawns f role i low' high'
 spawns-by f role i low low' high high' after e el eh = e ∙ ap (λ (x : ℤ). spawns f role i x high) el ∙ ap (λ (x : ℤ). spawns f role i low' x) eh
 
 pub first-by : (f : Frame) (act : Act) → f.spawned ≡ 0 → act ≡ first_search true f → act ≡ first_search (f.spawned == 0) f

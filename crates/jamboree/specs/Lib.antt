@@ -6,4 +6,4 @@ pub mod Knowledge
 pub mod Replies
 pub mod Changes
 pub mod Plans
-pub mod Intakes
+pub mod InletPlans

@@ -1,8 +1,8 @@
 -- Representation: the act that a plan stands for.
 use Rattle.std.specs.Prelude.{◌+◌, [], ◌∷◌, true, false}
 use Rattle.jamboree_rules.specs.sched_rules.declared.act.Act.{Act}
-use Rattle.jamboree_rules.specs.sched_rules.declared.act.Then.{Then}
-use Rattle.jamboree_rules.specs.sched_rules.declared.act.Then.TheVariants.{Spawn, Wait, Compute, Return}
+use Rattle.jamboree_rules.specs.sched_rules.declared.act.Continuation.{Continuation}
+use Rattle.jamboree_rules.specs.sched_rules.declared.act.Continuation.TheVariants.{Spawn, Wait, Compute, Return}
 use Rattle.jamboree_rules.specs.Acts.{returns, opening}
 use Rattle.jamboree_rules.specs.Places.{Phase, Spawned, Status, pairs_of, given_words, frame_size}
 use Rattle.jamboree.specs.declared.plan.NewChild.{NewChild}
@@ -11,7 +11,7 @@ use Rattle.jamboree.specs.declared.plan.Plan.TheVariants.{Returns, Waits, Comput
 use Rattle.jamboree.specs.Numbers.{role_number}
 
 -- what an act does after its stores, where it opens this child
-abbrev pub spawn_of : NewChild → Then
+abbrev pub spawn_of : NewChild → Continuation
 spawn_of c = Spawn (given_words c.goal.depth c.goal.alpha c.goal.beta (role_number c.role) c.number) frame_size
 
 -- the act that a plan stands for (phase 4 is done; status 1 runs, 4 is searched again)

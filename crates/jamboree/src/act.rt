@@ -1,25 +1,25 @@
-//! The act of a plan, and the inlet of an intake.
+//! The act of a plan, and the inlet of a plan of one.
 ghost use Rattle.std.specs.Prelude.{◌≡◌, ◌≤◌, ◌++◌, ◌∷◌, [], length};
 ghost use Rattle.jamboree_rules.specs.Places.{OwnBits, OppBits, Status as ToStatus, pairs_of};
 ghost use Rattle.jamboree.specs.Numbers.{status_number};
-ghost use Rattle.jamboree.specs.Intakes.{inlet_for, rest_said, settled, stores_for};
+ghost use Rattle.jamboree.specs.InletPlans.{inlet_for, rest_said, settled, stores_for};
 ghost use Rattle.jamboree.specs.Plans.{act_for, spawn_of};
 
 use crate::codes::NONE;
-use crate::entry::EntryRest;
-use crate::intake::{Intake, Said, Settling, Verdict};
+use crate::entry::PackedBound;
+use crate::inlet_plan::{ChildBound, InletPlan, SettledChoice, Verdict};
 use crate::phases::{Phase, Status};
 use crate::plan::{NewChild, Plan};
 use crate::view::{Change, set, spawn};
 use jamboree_rules::leaf_search::INF;
-use jamboree_rules::sched_rules::{Act, InletAct, Stores, Then};
+use jamboree_rules::sched_rules::{Act, Continuation, InletAct, Stores};
 use othello_board::Board;
 
 impl NewChild {
     /// The order to open this child. Adds the store of its choice's new entry, with this status and this rest, at the
     /// end of the stores.
     #[inline(always)]
-    fn open(&self, stores: &mut Stores, status: Status, rest: EntryRest) -> Then
+    fn open(&self, stores: &mut Stores, status: Status, rest: PackedBound) -> Continuation
         requires { length stores.old ≤ 7 }
         ensures stores { stores.new ≡ stores.old ++ pairs_of (ToStatus self.now.number (status_number status) rest.word ∷ []) }
         ensures after { result ≡ spawn_of self.now }
@@ -36,15 +36,15 @@ impl Plan {
         ensures { result ≡ act_for self }
     {
         match self {
-            Plan::Returns => return without_stores(Then::Return),
-            Plan::Waits => return without_stores(Then::Wait),
-            Plan::Computes => return without_stores(Then::Compute),
+            Plan::Returns => return without_stores(Continuation::Return),
+            Plan::Waits => return without_stores(Continuation::Wait),
+            Plan::Computes => return without_stores(Continuation::Compute),
             Plan::Ends => {
                 let mut stores = Stores::new();
                 set(&mut stores, Change::Phase(Phase::Done));
                 return Act {
                     stores,
-                    after: Then::Return,
+                    after: Continuation::Return,
                 };
             }
             Plan::Computed(board) => {
@@ -53,7 +53,7 @@ impl Plan {
                 set(&mut stores, Change::Phase(Phase::Computing));
                 return Act {
                     stores,
-                    after: Then::Compute,
+                    after: Continuation::Compute,
                 };
             }
             Plan::Counts(board, count) => {
@@ -66,7 +66,7 @@ impl Plan {
                 set(&mut stores, Change::Spawned(0));
                 return Act {
                     stores,
-                    after: Then::Grow(count),
+                    after: Continuation::Grow(count),
                 };
             }
             Plan::Starts(child, rest) => {
@@ -97,7 +97,7 @@ fn set_board(stores: &mut Stores, board: Board)
 /// Adds, at the end of the stores, those for a choice that is settled: the frame's best score, its best choice where
 /// this one's code is given, and the choice's entry.
 #[inline(always)]
-fn settle(stores: &mut Stores, told: Settling, code: Option<u64>)
+fn settle(stores: &mut Stores, told: SettledChoice, code: Option<u64>)
     requires { length stores.old ≤ 5 }
     ensures { stores.new ≡ stores.old ++ settled told code }
 {
@@ -114,7 +114,7 @@ fn settle(stores: &mut Stores, told: Settling, code: Option<u64>)
 
 /// The act of a frame that stores nothing and does this.
 #[inline(always)]
-fn without_stores(after: Then) -> Act
+fn without_stores(after: Continuation) -> Act
     ensures { result ≡ record { stores = []; after = after } }
 {
     Act {
@@ -123,13 +123,13 @@ fn without_stores(after: Then) -> Act
     }
 }
 
-impl Said {
+impl ChildBound {
     /// What is now known of the choice, as the rest of its entry (all but the status).
     #[inline(always)]
-    fn rest(&self) -> EntryRest
+    fn rest(&self) -> PackedBound
         ensures { result.word ≡ rest_said self.now }
     {
-        EntryRest::saying(self.known)
+        PackedBound::saying(self.known)
     }
 }
 
@@ -166,7 +166,7 @@ impl Verdict {
     }
 }
 
-impl Intake {
+impl InletPlan {
     /// The act of the frame's inlet: the verdict's stores, whether all else below the frame is aborted, and that the
     /// frame is woken.
     #[inline(always)]

@@ -22,28 +22,28 @@ pub(crate) struct Known {
 
 /// An entry without its status, as a word: the kind and the score that are known of a choice, or 0 for nothing.
 #[derive(Clone, Copy)]
-pub(crate) struct EntryRest {
+pub(crate) struct PackedBound {
     word: u64,
     ghost fits: { word ≤ 2305843009213693951 },
 }
 
-impl EntryRest {
+impl PackedBound {
     /// The rest of this entry: all of it but its status.
     #[inline(always)]
-    pub(crate) fn of(entry: u64) -> EntryRest
+    pub(crate) fn of(entry: u64) -> PackedBound
         ensures { result.word ≡ entry_rest entry }
     {
-        EntryRest { word: entry / 8 }
+        PackedBound { word: entry / 8 }
     }
 
     /// The rest with this kind and this score.
     #[inline(always)]
-    pub(crate) fn saying(known: Known) -> EntryRest
+    pub(crate) fn saying(known: Known) -> PackedBound
         requires low { negsuc 999999 ≤ℤ known.score }
         requires high { known.score ≤ℤ pos 1000000 }
         ensures { result.word ≡ rest_with known.kind known.score }
     {
-        EntryRest {
+        PackedBound {
             word: kind_number(known.kind) + 4 * word_of_score(known.score),
         }
     }
@@ -116,5 +116,5 @@ pub(crate) fn is_entry_of(entry: u64, status: Status) -> bool
 pub(crate) fn is_entry(entry: u64) -> bool
     ensures { result ≡ is_entry entry }
 {
-    entry % 8 <= 4 && EntryRest::of(entry).is_rest()
+    entry % 8 <= 4 && PackedBound::of(entry).is_rest()
 }

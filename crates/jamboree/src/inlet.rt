@@ -6,23 +6,23 @@ ghost use Rattle.othello_moves.specs.Choices.{choices};
 ghost use Rattle.jamboree_rules.specs.Frames.{floor, may_be_child};
 ghost use Rattle.jamboree_rules.specs.Places.{pairs_of};
 ghost use Rattle.jamboree_rules.specs.Acts.{seen, kind_of, found_rest, changes_by, changes_of, wakes, inlet_of};
-ghost use Rattle.jamboree.specs.Intakes.{inlet_for, stores_for, rest_said};
+ghost use Rattle.jamboree.specs.InletPlans.{inlet_for, stores_for, rest_said};
 ghost use Rattle.jamboree.specs.Views.{frame_in};
 
 use crate::codes::code_at;
 use crate::entry::Known;
 use crate::frame::View;
-use crate::intake::{Intake, Said, Settling, Verdict};
+use crate::inlet_plan::{ChildBound, InletPlan, SettledChoice, Verdict};
 use crate::next::floor;
 use crate::phases::Role;
 use jamboree_rules::othello_eval::BoundKind;
 
-/// The intake that stores nothing and only wakes the frame.
+/// The plan of an inlet that stores nothing and only wakes the frame.
 #[inline(always)]
-pub(crate) fn wakes() -> Intake
+pub(crate) fn wakes() -> InletPlan
     ensures { inlet_for result ≡ wakes }
 {
-    Intake {
+    InletPlan {
         verdict: Verdict::Nothing,
         abort: false,
     }
@@ -79,11 +79,11 @@ fn number_of(frame: &View, child: &View) -> usize
 /// What the inlet of `frame` does about a child that has returned. A score of at least beta ends the frame and
 /// aborts all else below it.
 #[inline(always)]
-pub(crate) fn takes_in(frame: &View, child: &View) -> Intake
+pub(crate) fn takes_in(frame: &View, child: &View) -> InletPlan
     requires { may_be_child (frame_in frame.now) (frame_in child.now) ≡ true }
     ensures { inlet_for result ≡ inlet_of (frame_in frame.now) (frame_in child.now) }
 {
-    Intake {
+    InletPlan {
         verdict: verdict_of(frame, child),
         abort: frame.goal.beta <= seen(child),
     }
@@ -127,12 +127,12 @@ fn ended(frame: &View, child: &View) -> Verdict
     let said = said(frame, child);
     let code = code_at(frame.board, said.number);
     let best = seen(child);
-    Verdict::Ended(Settling { best, said }, code)
+    Verdict::Ended(SettledChoice { best, said }, code)
 }
 
 /// The number of the child's choice, and what the child's score says of it.
 #[inline(always)]
-fn said(frame: &View, child: &View) -> Said
+fn said(frame: &View, child: &View) -> ChildBound
     requires { may_be_child (frame_in frame.now) (frame_in child.now) ≡ true }
     ensures number { result.number ≡ child.now.number }
     ensures inside { result.number < length (choices (cells frame.now.board)) }
@@ -141,7 +141,7 @@ fn said(frame: &View, child: &View) -> Said
     let number = number_of(frame, child);
     let score = seen(child);
     let kind = kind_of(child);
-    Said {
+    ChildBound {
         number,
         known: Known { score, kind },
     }
@@ -150,7 +150,7 @@ fn said(frame: &View, child: &View) -> Said
 /// What the child says of its choice, and the frame's best score from then on: the greater of its own and the
 /// child's.
 #[inline(always)]
-fn told(frame: &View, child: &View) -> Settling
+fn told(frame: &View, child: &View) -> SettledChoice
     requires { may_be_child (frame_in frame.now) (frame_in child.now) ≡ true }
     ensures best { result.best ≡ int_max frame.now.best (seen (frame_in child.now)) }
     ensures number { result.said.number ≡ child.now.number }
@@ -159,7 +159,7 @@ fn told(frame: &View, child: &View) -> Settling
 {
     let said = said(frame, child);
     let best = best_of(frame, child);
-    Settling { best, said }
+    SettledChoice { best, said }
 }
 
 /// The verdict on a test whose score isn't above its window: its choice is settled.

@@ -6,8 +6,8 @@
 //! is called outside the scheduler's lock), and what it stores of the answer. What these acts are is
 //! written in `jamboree_rules`, over a frame's board, window, phase and entries; the code reads a
 //! frame's words once into a typed view (`view`, the one module that knows places; `entry` takes the
-//! entry of a choice apart), decides by it on a plan or an intake (`plan`, `intake`), and answers with
-//! just these acts, each made once (`act`).
+//! entry of a choice apart), decides by it on a plan of an act or of an inlet (`plan`, `inlet_plan`), and
+//! answers with just these acts, each made once (`act`).
 //! A frame whose words don't have the form of a frame returns, and its inlet only wakes it. Where frames
 //! are known to fit, their form isn't tested.
 //!
@@ -30,7 +30,7 @@
 //! // the opening to depth 0: the root is computed by one worker; a deeper one has a place for each choice
 //! let jamboree = Jamboree::new(2)?;
 //! let root = stack.open(None, &root_words(&position, 0), 12)?;
-//! matches!(jamboree.next(&stack.sight(root)).after, Then::Compute);
+//! matches!(jamboree.next(&stack.sight(root)).after, Continuation::Compute);
 //! let answer = LeafAnswer::compute(jamboree.input(&stack.own(root)));
 //! jamboree.accept(&stack.own(root), &answer).as_slice() == [(8, 1_000_000), (9, 65), (7, 4)]
 //! ```
@@ -41,7 +41,7 @@ mod codes;
 mod entry;
 mod frame;
 mod inlet;
-mod intake;
+mod inlet_plan;
 mod next;
 mod phases;
 mod plan;

@@ -8,7 +8,7 @@ ghost use Rattle.jamboree.specs.Numbers.{role_number};
 ghost use Rattle.jamboree.specs.Plans.{act_for, spawn_of};
 ghost use Rattle.jamboree.specs.Views.{frame_in, frame_with, entries_of, statuses_in};
 
-use crate::entry::EntryRest;
+use crate::entry::PackedBound;
 use crate::frame::{Goal, View};
 use crate::phases::{Phase, Role};
 use crate::plan::{NewChild, Plan};
@@ -132,7 +132,7 @@ fn tests(frame: &View, words: &Words) -> Plan
 /// Searches the choice of this number again, with the window from the floor to beta. What its entry says of its
 /// value stays.
 #[inline(always)]
-fn search_again(frame: &View, number: usize, rest: EntryRest) -> Plan
+fn search_again(frame: &View, number: usize, rest: PackedBound) -> Plan
     requires deep { 0 < frame.now.goal.depth }
     requires choices { frame.now.count ≡ length (choices (cells frame.now.board)) }
     requires inside { number < frame.now.count }
@@ -145,7 +145,7 @@ fn search_again(frame: &View, number: usize, rest: EntryRest) -> Plan
 /// Tests the next choice, with the window of width one just above the floor. What its entry says of its value
 /// stays.
 #[inline(always)]
-fn test(frame: &View, number: usize, rest: EntryRest) -> Plan
+fn test(frame: &View, number: usize, rest: PackedBound) -> Plan
     requires deep { 0 < frame.now.goal.depth }
     requires choices { frame.now.count ≡ length (choices (cells frame.now.board)) }
     requires next { number ≡ (frame_in frame.now).spawned }

@@ -4,7 +4,7 @@
 //! end.
 ghost use Rattle.std.specs.Prelude.{◌≤◌, ◌≤ℤ◌, pos, negsuc};
 
-use crate::entry::EntryRest;
+use crate::entry::PackedBound;
 use crate::frame::Goal;
 use crate::phases::Role;
 use othello_board::Board;
@@ -42,8 +42,8 @@ pub(crate) enum Plan {
     Counts(Board, usize),
     /// It opens this child, for the first search of a choice or its test. The choice's entry keeps its rest (what is
     /// known of the choice); its status is `Runs`.
-    Starts(NewChild, EntryRest),
+    Starts(NewChild, PackedBound),
     /// It opens this child, to search a choice again. The choice's entry keeps its rest (what is known of the choice);
     /// its status is `RunsAgain`.
-    Again(NewChild, EntryRest),
+    Again(NewChild, PackedBound),
 }

@@ -8,7 +8,7 @@ ghost use Rattle.jamboree_rules.specs.Acts.{returns, act_of, next_act, wakes, in
 ghost use Rattle.jamboree_rules.specs.Leaves.{changes_of_answer};
 ghost use Rattle.jamboree_rules.specs.Fits.{AreFitting};
 ghost use Rattle.jamboree_rules.specs.sched_rules.Laws.{AllFit};
-ghost use Rattle.jamboree.specs.Intakes.{inlet_for};
+ghost use Rattle.jamboree.specs.InletPlans.{inlet_for};
 ghost use Rattle.jamboree.specs.Levels.{above_of};
 ghost use Rattle.jamboree.specs.Plans.{act_for};
 ghost use Rattle.jamboree.specs.Views.{frame_in, frame_with, entries_of};
@@ -16,7 +16,7 @@ ghost use Rattle.jamboree.specs.Views.{frame_in, frame_with, entries_of};
 use crate::codes::coded;
 use crate::frame::View;
 use crate::inlet::{takes_in, wakes};
-use crate::intake::Intake;
+use crate::inlet_plan::InletPlan;
 use crate::next::{board_under, later, of_root, opening};
 use crate::phases::{Phase, Role};
 use crate::plan::Plan;
@@ -184,18 +184,18 @@ fn plan_of(grain: u8, fitting: bool, sight: &Sight) -> Plan
 /// The inlet of `frame` for a returned child whose words are unchecked. Where they don't have the form of a
 /// frame, or can't be a child of `frame`, it only wakes it. `entries` are what a `View` leaves out, and don't
 /// matter.
-fn intake_unchecked(frame: &View, words: &Words) -> Intake
+fn plan_inlet_unchecked(frame: &View, words: &Words) -> InletPlan
     ensures { (entries : List ℕ) → inlet_for result ≡ (if is_formed words.now && may_be_child (frame_with frame.now entries) (frame_of words.now) then inlet_of (frame_with frame.now entries) (frame_of words.now) else wakes) }
 {
     if !is_formed(words) {
         return wakes();
     }
-    intake_under(frame, &view(words))
+    plan_inlet_under(frame, &view(words))
 }
 
 /// The inlet of `frame` for a returned child. One that can't be a child of it only wakes it.
 #[inline(always)]
-fn intake_under(frame: &View, child: &View) -> Intake
+fn plan_inlet_under(frame: &View, child: &View) -> InletPlan
     ensures { (own below : List ℕ) → inlet_for result ≡ (if may_be_child (frame_with frame.now own) (frame_with child.now below) then inlet_of (frame_with frame.now own) (frame_with child.now below) else wakes) }
 {
     if !child.may_be_under(frame) {
@@ -206,26 +206,26 @@ fn intake_under(frame: &View, child: &View) -> Intake
 
 /// The inlet of a frame in the words `own` for a returned child in the words `child`. The form of both is
 /// checked: where one of them doesn't have the form of a frame, the frame is only woken.
-fn intake_seen(own: &Words, child: &Words) -> Intake
+fn plan_inlet_seen(own: &Words, child: &Words) -> InletPlan
     ensures { inlet_for result ≡ inlet_act own.now child.now }
 {
     if !is_formed(own) {
         return wakes();
     }
-    intake_unchecked(&view(own), child)
+    plan_inlet_unchecked(&view(own), child)
 }
 
 /// The inlet of a frame in the words `own` for a returned child in the words `child`. Where `fitting` is true
 /// both are known to fit (`AreFitting`), and their form isn't checked.
 #[inline(always)]
-fn intake_of(fitting: bool, own: &Words, child: &Words) -> Intake
+fn plan_inlet_of(fitting: bool, own: &Words, child: &Words) -> InletPlan
     requires { fitting ≡ true → AllFit AreFitting (own.now ∷ child.now ∷ []) }
     ensures { inlet_for result ≡ inlet_act own.now child.now }
 {
     if !fitting {
-        return intake_seen(own, child);
+        return plan_inlet_seen(own, child);
     }
-    intake_under(&view(own), &view(child))
+    plan_inlet_under(&view(own), &view(child))
 }
 
 impl Procedure for Jamboree {
@@ -256,7 +256,7 @@ impl Procedure for Jamboree {
     /// it also stores that the frame is done, and aborts all else below it. Where the words don't have the form of a
     /// frame and of a child of it, it only wakes.
     fn inlet(&self, own: &Words, child: &Words) -> InletAct {
-        intake_seen(own, child).inlet()
+        plan_inlet_seen(own, child).inlet()
     }
 
     /// The frame's board, depth and window; the empty board to depth 0 where these are out of range.
@@ -295,7 +295,7 @@ impl Procedure for Jamboree {
     /// checked.
     #[inline(always)]
     fn inlet_of(&self, fitting: bool, own: &Words, child: &Words) -> InletAct {
-        intake_of(fitting, own, child).inlet()
+        plan_inlet_of(fitting, own, child).inlet()
     }
 
     /// The stores of `accept`. Where `fitting` is true the words are known to fit (`AreFitting`), and their form isn't

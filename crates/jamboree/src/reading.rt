@@ -5,7 +5,7 @@ ghost use Rattle.jamboree_rules.specs.Entries.{bounds_of};
 ghost use Rattle.jamboree.specs.Knowledge.{known_of, bound_by};
 
 use crate::codes::decoded;
-use crate::entry::{EntryRest, Known};
+use crate::entry::{Known, PackedBound};
 use crate::reply::{MOST, Reply};
 use crate::view::{kept_entries, kept_view};
 use jamboree_rules::othello_eval::{Bound, BoundKind};
@@ -24,7 +24,7 @@ fn known_in(entries: &[u64]) -> [Known; MOST]
     };
     let mut known = [nothing; MOST];
     for (number, entry) in entries.iter().enumerate() {
-        known[number] = EntryRest::of(*entry).known();
+        known[number] = PackedBound::of(*entry).known();
     }
     known
 }

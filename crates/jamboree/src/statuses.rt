@@ -4,7 +4,7 @@ ghost use Rattle.jamboree_rules.specs.Places.{status_of, are_entries};
 ghost use Rattle.jamboree_rules.specs.Acts.{first_open};
 ghost use Rattle.jamboree.specs.Views.{statuses_in, rests_in};
 
-use crate::entry::{EntryRest, is_entry, is_entry_of};
+use crate::entry::{PackedBound, is_entry, is_entry_of};
 use crate::phases::Status;
 use crate::view::{SIZE, entries, entry, first_number};
 use cactus_stack::{Words, charge};
@@ -78,9 +78,9 @@ pub(crate) fn has_failed(words: &Words, number: usize) -> bool
 /// What is known of the choice of this number, as its entry without the status; 0 where nothing is known or there is no
 /// such choice.
 #[inline(always)]
-pub(crate) fn rest_at(words: &Words, number: usize) -> EntryRest
+pub(crate) fn rest_at(words: &Words, number: usize) -> PackedBound
     requires { number ≤ 128 }
     ensures { result.word ≡ slice_index (rests_in words.now) number }
 {
-    EntryRest::of(entry(words, number).unwrap_or(0))
+    PackedBound::of(entry(words, number).unwrap_or(0))
 }

@@ -14,7 +14,7 @@ ghost use Rattle.jamboree.specs.Plans.{spawn_of};
 ghost use Rattle.jamboree.specs.Changes.{store_of, score_set, number_set};
 ghost use Rattle.jamboree.specs.Views.{head_of, frame_from, frame_with, entries_of, entries_in};
 
-use crate::entry::EntryRest;
+use crate::entry::PackedBound;
 use crate::frame::{Goal, View};
 use crate::phases::{Phase, Role, Status};
 use crate::plan::NewChild;
@@ -23,7 +23,7 @@ use crate::statuses::are_entries;
 use cactus_stack::Words;
 use jamboree_rules::Leaf;
 use jamboree_rules::leaf_search::INF;
-use jamboree_rules::sched_rules::{GivenWords, Stores, Then};
+use jamboree_rules::sched_rules::{Continuation, GivenWords, Stores};
 use othello_board::Board;
 use othello_moves::choice_count;
 use position_text::Position;
@@ -313,7 +313,7 @@ pub(crate) enum Change {
     /// The count of choices that were spawned.
     Spawned(usize),
     /// The whole entry of the choice of this number: its status, and what is known of it.
-    Status(usize, Status, EntryRest),
+    Status(usize, Status, PackedBound),
 }
 
 /// Adds the store that makes this change at the end of these stores, which have room for 8.
@@ -342,7 +342,7 @@ pub(crate) fn set(stores: &mut Stores, change: Change)
 /// The order to open this child with twelve words: its depth, window, role and number, and 0 in all other places. Its
 /// board is set at its first act.
 #[inline(always)]
-pub(crate) fn spawn(child: &NewChild) -> Then
+pub(crate) fn spawn(child: &NewChild) -> Continuation
     ensures { result ≡ spawn_of child.now }
 {
     let words = [
@@ -355,7 +355,7 @@ pub(crate) fn spawn(child: &NewChild) -> Then
         child.number as u64,
         0,
     ];
-    Then::Spawn(GivenWords::eight(words), SIZE)
+    Continuation::Spawn(GivenWords::eight(words), SIZE)
 }
 
 /// The frame in the words that a job keeps of its returned root.

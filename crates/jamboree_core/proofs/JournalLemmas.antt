@@ -12,8 +12,8 @@ use Rattle.sched_rules.specs.Functions.{Functions}
 use Rattle.sched_rules.specs.Trees.{Tenant, admitted_with}
 use Rattle.sched_rules.specs.Lone.{Outcome, lone}
 use Rattle.sched_rules.specs.Runs.{tenant_of, state_after, alone_from}
-use Rattle.sched_rules.specs.Cores.{Shared, tenant_in, shared_with}
-use Rattle.sched_rules.specs.Headline.{is_admission, IsKnown, IsOneStep}
+use Rattle.sched_rules.specs.Cores.{CoreState, tenant_in, shared_with}
+use Rattle.sched_rules.specs.Headline.{is_admission, AreNumbersGiven, IsOneStep}
 use Rattle.sched_rules.proofs.Tenants.{tenant_in-with_outcome, tenant_in_other-with_outcome}
 use Rattle.sched_rules.proofs.Isolation.{there, more-there, step-taken, shared-after-taken}
 use Rattle.sched_laws.specs.Fitted.{submits, origins_of}
@@ -107,26 +107,26 @@ longer functions before (first ∷ steps) tenant next step outcome taken comes i
     let rest = longer functions (state_after before (lone functions before first)) steps tenant next step outcome taken.1 comes is left in
     ((taken.0, rest.0), rest.1)
 
-pub journal-goes-on : {I A : Type 0} (functions : Functions I A) (before : Shared) (step : StepOf A) (did : DidOf I) (after : Shared) (journal : List (StepOf A)) (tenant next : Tenant) →
-    IsKnown before → IsOneStep functions before step (Ok did) after → tenant_in before.tenants (tenant_of step) ≡ Some tenant → tenant_in after.tenants (tenant_of step) ≡ Some next →
+pub journal-goes-on : {I A : Type 0} (functions : Functions I A) (before : CoreState) (step : StepOf A) (did : DidOf I) (after : CoreState) (journal : List (StepOf A)) (tenant next : Tenant) →
+    AreNumbersGiven before → IsOneStep functions before step (Ok did) after → tenant_in before.tenants (tenant_of step) ≡ Some tenant → tenant_in after.tenants (tenant_of step) ≡ Some next →
     IsJournalOf functions journal tenant → IsJournalOf functions (journal ++ step ∷ []) next
 journal-goes-on functions before step did after journal tenant next known one at at_after is =
     let t = step-taken functions before step did known one.answered in
     let after_is : after ≡ shared_with before step t.outcome.0 = one.left ∙ shared-after-taken functions before step did t in
-    let left : t.outcome.0 ≡ Some next = sym (tenant_in-with_outcome (tenant_of step) t.outcome.0 before.tenants) ∙ ap (λ (s : Shared). tenant_in s.tenants (tenant_of step)) (sym after_is) ∙ at_after in
+    let left : t.outcome.0 ≡ Some next = sym (tenant_in-with_outcome (tenant_of step) t.outcome.0 before.tenants) ∙ ap (λ (s : CoreState). tenant_in s.tenants (tenant_of step)) (sym after_is) ∙ at_after in
     let own : lone functions (Some tenant) step ≡ Ok t.outcome = ap (λ (o : Option Tenant). lone functions o step) (sym at) ∙ t.own in
     let on = longer functions None journal tenant next step t.outcome is.taken is.comes own left in
     record { taken = on.0; comes = on.1 }
 
 -- an admission begins a journal
-pub journal-begins : {I A : Type 0} (functions : Functions I A) (before : Shared) (number : ℕ) (quota : Quota) (did : DidOf I) (after : Shared) → IsKnown before →
+pub journal-begins : {I A : Type 0} (functions : Functions I A) (before : CoreState) (number : ℕ) (quota : Quota) (did : DidOf I) (after : CoreState) → AreNumbersGiven before →
     IsOneStep {A = A} functions before (Admit number quota) (Ok did) after →
     (tenant_in after.tenants number ≡ Some (admitted_with quota)) × IsJournalOf {A = A} functions (Admit number quota ∷ []) (admitted_with quota)
 journal-begins {I} {A} functions before number quota did after known one =
     let step : StepOf A = Admit number quota in
     let t = step-taken functions before step did known one.answered in
     let after_is : after ≡ shared_with before step t.outcome.0 = one.left ∙ shared-after-taken functions before step did t in
-    let found = ap (λ (s : Shared). tenant_in s.tenants number) after_is ∙ tenant_in-with_outcome number t.outcome.0 before.tenants in
+    let found = ap (λ (s : CoreState). tenant_in s.tenants number) after_is ∙ tenant_in-with_outcome number t.outcome.0 before.tenants in
     (found ∙ admitted-left functions (tenant_in before.tenants number) number quota t.outcome t.own, record { taken = (tt, tt); comes = refl })
   where
     admitted-left : (functions : Functions I A) (own : Option Tenant) (number : ℕ) (quota : Quota) (outcome : Outcome I) → lone {A = A} functions own (Admit number quota) ≡ Ok outcome → outcome.0 ≡ Some (admitted_with quota)
@@ -136,9 +136,9 @@ journal-begins {I} {A} functions before number quota did after known one =
     admitted-left functions (Some tenant) number quota outcome is = let e : ◌≡◌ {A = Result (Outcome I) Refusal} (Err OldTenant) (Ok outcome) = is in absurd cc
 
 -- a step changes its own tenant alone
-pub others-stay : {I A : Type 0} (functions : Functions I A) (before : Shared) (step : StepOf A) (answer : Result (DidOf I) Refusal) (after : Shared) (number : ℕ) → IsKnown before →
+pub others-stay : {I A : Type 0} (functions : Functions I A) (before : CoreState) (step : StepOf A) (answer : Result (DidOf I) Refusal) (after : CoreState) (number : ℕ) → AreNumbersGiven before →
     IsOneStep functions before step answer after → tenant_of step ≢ number → tenant_in after.tenants number ≡ tenant_in before.tenants number
-others-stay functions before step (Err refusal) after number known one other = ap (λ (s : Shared). tenant_in s.tenants number) one.left
+others-stay functions before step (Err refusal) after number known one other = ap (λ (s : CoreState). tenant_in s.tenants number) one.left
 others-stay functions before step (Ok did) after number known one other =
     let t = step-taken functions before step did known one.answered in
-    ap (λ (s : Shared). tenant_in s.tenants number) (one.left ∙ shared-after-taken functions before step did t) ∙ tenant_in_other-with_outcome number (tenant_of step) t.outcome.0 before.tenants other
+    ap (λ (s : CoreState). tenant_in s.tenants number) (one.left ∙ shared-after-taken functions before step did t) ∙ tenant_in_other-with_outcome number (tenant_of step) t.outcome.0 before.tenants other

@@ -5,7 +5,7 @@ pub use Rattle.sched_laws.proofs.EndedJobs as sched_laws_EndedJobs
 pub use Rattle.sched_laws.proofs.Parts as sched_laws_Parts
 pub use Rattle.sched_laws.proofs.Shaped as sched_laws_Shaped
 pub mod Replying
-pub mod Opening
+pub mod OpeningReply
 pub mod Possible
 pub mod Serving
 pub mod JournalLemmas

@@ -5,7 +5,7 @@ use Rattle.std.proofs.lemmas.Bool.{cases_Bool}
 use Rattle.sched_rules.specs.declared.job.Job.{Job}
 use Rattle.sched_rules.specs.declared.job.Job.TheVariants.{Live, Done, Spent as SpentJob, Cancelled as CancelledJob}
 use Rattle.sched_rules.specs.Trees.{Tree, Tenant, job_at}
-use Rattle.sched_rules.specs.Cores.{Shared, tenant_in}
+use Rattle.sched_rules.specs.Cores.{CoreState, tenant_in}
 use Rattle.sched_rules.specs.Views.{job_of}
 use Rattle.sched_laws.specs.Fitted.{JobsFit, JobFits}
 use Rattle.jamboree_rules.specs.Fits.{AreFitting, IsRoot}
@@ -37,7 +37,7 @@ search-at tree (origin ∷ origins) (first ∷ jobs) number job fit is = elim (c
   | inr other ↦ search-at tree origins jobs (number - 1) job fit.1 (rw other at is)
 ]
 
-pub served-job : (shared : Shared) (tenant number : ℕ) (job : Job) → ServesSearches (tenant_in shared.tenants tenant) → job_of shared tenant number ≡ Some job → IsOfSearch job
+pub served-job : (shared : CoreState) (tenant number : ℕ) (job : Job) → ServesSearches (tenant_in shared.tenants tenant) → job_of shared tenant number ≡ Some job → IsOfSearch job
 served-job shared tenant number job serves at = by (tenant_in shared.tenants tenant) serves at
   where
     by : (own : Option Tenant) → ServesSearches own → option_and_then (λ (t : Tenant). job_at t.jobs number) own ≡ Some job → IsOfSearch job
@@ -71,14 +71,14 @@ is-to origin (Done words) outcome holds is =
 is-to origin SpentJob outcome holds is = subst (IsTo origin) (sym is) tt
 is-to origin CancelledJob outcome holds is = subst (IsTo origin) (sym is) tt
 
-pub answers-asked : (shared : Shared) (tenant number : ℕ) (origins : List (List ℕ)) (owner : Tenant) (job : Job) (outcome : Outcome) → tenant_in shared.tenants tenant ≡ Some owner → TenantSearches origins owner →
+pub answers-asked : (shared : CoreState) (tenant number : ℕ) (origins : List (List ℕ)) (owner : Tenant) (job : Job) (outcome : Outcome) → tenant_in shared.tenants tenant ≡ Some owner → TenantSearches origins owner →
     job_of shared tenant number ≡ Some job → IsOutcomeOf job outcome → AnswersTo (origin_at origins number) (Some outcome)
 answers-asked shared tenant number origins owner job outcome there searches at is =
     let found : job_at owner.jobs number ≡ Some job = sym (ap (λ (o : Option Tenant). option_and_then (λ (t : Tenant). job_at t.jobs number) o) there) ∙ at in
     let held = reply-at origins owner.jobs number job (tenant-replies origins owner searches) found in
     rw held.1 (is-to held.0 job outcome held.2 is)
 
-pub none-asked : (shared : Shared) (tenant number : ℕ) (origins : List (List ℕ)) (owner : Tenant) → tenant_in shared.tenants tenant ≡ Some owner → TenantSearches origins owner →
+pub none-asked : (shared : CoreState) (tenant number : ℕ) (origins : List (List ℕ)) (owner : Tenant) → tenant_in shared.tenants tenant ≡ Some owner → TenantSearches origins owner →
     job_of shared tenant number ≡ None → AnswersTo (origin_at origins number) None
 none-asked shared tenant number origins owner there searches at =
     let found : job_at owner.jobs number ≡ None = sym (ap (λ (o : Option Tenant). option_and_then (λ (t : Tenant). job_at t.jobs number) o) there) ∙ at in

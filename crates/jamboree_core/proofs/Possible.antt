@@ -14,11 +14,11 @@ use Rattle.sched_rules.specs.declared.step.DidOf.{DidOf}
 use Rattle.sched_rules.specs.declared.step.DidOf.TheVariants.{Admitted}
 use Rattle.tenant_quota.specs.Quota.{Quota}
 use Rattle.sched_rules.specs.Runs.{tenant_of, answer_of}
-use Rattle.sched_rules.specs.Cores.{Shared, tenant_in, meets_busy, admit_tests, shared_refusal, reservations_in, reserved_by, is_beyond, unless_beyond, judged}
+use Rattle.sched_rules.specs.Cores.{CoreState, tenant_in, meets_busy, admit_tests, shared_refusal, reservations_in, reserved_by, is_beyond, unless_beyond, step_result}
 use Rattle.sched_rules.specs.Headline.{IsAnswerTo, IsAnswerToStep, IsAnswerToAdmit}
 use Rattle.sched_rules.specs.Trees.{Tree, Tenant, admitted_with, sight, words_in, is_outside, has_child, job_at}
-use Rattle.sched_rules.specs.Laws.{Mark, Neither, Computes, HasReturned, mark_of, ParentFits}
-use Rattle.sched_rules.specs.Lone.{Outcome, unless, refusal_in, lone, first_step, lone_step, is_lower, raised, at_frame, is_run_by, is_computed_by, is_returned, is_bad_act, act_of, take_tests, steal_tests, taken_by, advance_tests, advanced, answer_tests, answered, inlet_tests, inlet_under, taken_in, finish_tests, finished, is_spendable, spent, cancelled}
+use Rattle.sched_rules.specs.Laws.{Mark, Neither, Computes, HasReturned, mark_of_state, ParentFits}
+use Rattle.sched_rules.specs.Lone.{Outcome, unless, refusal_in, lone, first_step, lone_step, is_lower, raised, at_frame, is_run_by, is_computed_by, is_returned, is_bad_act, act_by_sight, take_tests, steal_tests, taken_by, advance_tests, advanced, answer_tests, answered, inlet_tests, inlet_under, taken_in, finish_tests, finished, is_spendable, spent, cancelled}
 use Rattle.sched_laws.specs.Shapes.{IsShaped, AreShaped}
 use Rattle.sched_laws.specs.Fitted.{TenantFits, CoreFits, submits}
 use Rattle.sched_laws.proofs.Answers.{shaped-in}
@@ -58,10 +58,10 @@ at-none-bad {X} frames s step each = by (frame_at frames s) refl
 
 module _ (grain : ℕ) (origins : Lists) (tenant : Tenant) (shape : IsShaped tenant) (fitting : TenantFits AreFitting IsRoot origins tenant) where
   -- the next act of a frame that runs
-  act-good : (s : ℕ) (f : F) → frame_at tenant.frames s ≡ Some f → mark_of f.state ≡ Neither → is_bad_act f.value (has_child tenant.frames f.serial) (act_of (jamboree grain) tenant f) ≡ false
+  act-good : (s : ℕ) (f : F) → frame_at tenant.frames s ≡ Some f → mark_of_state f.state ≡ Neither → is_bad_act f.value (has_child tenant.frames f.serial) (act_by_sight (jamboree grain) tenant f) ≡ false
   act-good s f at free =
       let at_own : frame_at tenant.frames f.serial ≡ Some f = ap (frame_at tenant.frames) (found-serial tenant.frames s f at) ∙ at in
-      (kept-above (is_bad_act f.value (has_child tenant.frames f.serial) (act_of (jamboree grain) tenant f) ≡ false) AreFitting IsRoot tenant.frames f.serial f f.value shape.tree shape.childless fitting.frames at_own
+      (kept-above (is_bad_act f.value (has_child tenant.frames f.serial) (act_by_sight (jamboree grain) tenant f) ≡ false) AreFitting IsRoot tenant.frames f.serial f f.value shape.tree shape.childless fitting.frames at_own
       (has-origin AreFitting IsRoot origins tenant f.serial f shape fitting at_own) (λ origin above older younger seen parent. (law at_own origin above older younger seen parent, parent))).0
     where
       law : frame_at tenant.frames f.serial ≡ Some f → (origin : List ℕ) (above older younger : Lists) → sight tenant.frames f.path ≡ f.value ∷ above → ParentFits AreFitting IsRoot origin above older f.value younger →
@@ -74,7 +74,7 @@ module _ (grain : ℕ) (origins : Lists) (tenant : Tenant) (shape : IsShaped ten
           ∙ next-possible grain origin f.value above older younger (kids tenant.frames f.serial) fit parent
 
   -- what is stored of an answer to a frame that computes
-  answer-good : (s : ℕ) (f : F) (answer : LeafAnswer) → frame_at tenant.frames s ≡ Some f → mark_of f.state ≡ Computes → is_outside (accepts f.value answer) f.value ≡ false
+  answer-good : (s : ℕ) (f : F) (answer : LeafAnswer) → frame_at tenant.frames s ≡ Some f → mark_of_state f.state ≡ Computes → is_outside (accepts f.value answer) f.value ≡ false
   answer-good s f answer at marked =
       let leaf = returned-childless tenant s f shape at (λ e. let both : Neither ≡ Computes = sym e ∙ marked in absurd cc) in
       let R : Mark → Type 0 = λ m. AreFitting f.value (kids tenant.frames s) m in
@@ -82,12 +82,12 @@ module _ (grain : ℕ) (origins : Lists) (tenant : Tenant) (shape : IsShaped ten
       accept-possible f.value answer (subst P (ap values_of leaf) (subst R marked (fits-holds AreFitting tenant.frames fitting.frames s f at)))
 
   -- what the inlet of a returned frame stores
-  inlet-good : (s parent : ℕ) (f : F) → frame_at tenant.frames s ≡ Some f → parent_of f.path ≡ Some parent → mark_of f.state ≡ HasReturned → is_outside (inlet_act (words_in tenant.frames parent) f.value).stores (words_in tenant.frames parent) ≡ false
+  inlet-good : (s parent : ℕ) (f : F) → frame_at tenant.frames s ≡ Some f → parent_of f.path ≡ Some parent → mark_of_state f.state ≡ HasReturned → is_outside (inlet_act (words_in tenant.frames parent) f.value).stores (words_in tenant.frames parent) ≡ false
   inlet-good s parent f at named marked =
       let g = there-found tenant.frames parent (under-there tenant.frames s parent f shape.tree at named) in
       let u = named-under tenant.frames s parent f shape.tree at named in
       let above_same = found-same tenant.frames u.0.parent parent u.0.above g.0 u.1 u.0.there g.1 in
-      let free : mark_of g.0.state ≡ Neither = ap (λ (y : F). mark_of y.state) (sym above_same) ∙ parent-neither tenant.frames s f shape.tree shape.childless at u.0 in
+      let free : mark_of_state g.0.state ≡ Neither = ap (λ (y : F). mark_of_state y.state) (sym above_same) ∙ parent-neither tenant.frames s f shape.tree shape.childless at u.0 in
       let own : words_in tenant.frames parent ≡ g.0.value = words-found tenant.frames parent g.0 g.1 in
       let leaf = returned-childless tenant s f shape at (λ e. let both : Neither ≡ HasReturned = sym e ∙ marked in absurd cc) in
       let R : Mark → Type 0 = λ m. AreFitting f.value (kids tenant.frames s) m in
@@ -109,8 +109,8 @@ module _ (grain : ℕ) (origins : Lists) (tenant : Tenant) (shape : IsShaped ten
   possible (Steal worker from name) none = at-none-bad tenant.frames name.serial (λ frame. unless (steal_tests tenant worker from frame) (taken_by {I = Leaf} tenant worker frame)) (λ f at.
       not-bad (steal_tests tenant worker from f) (taken_by {I = Leaf} tenant worker f) ((λ e. absurd cc), λ n. ((λ e. absurd cc), λ n. ((λ e. absurd cc), λ n. ((λ e. absurd cc), λ n. tt)))))
   possible (Advance worker name) none =
-      at-none-bad tenant.frames name.serial (λ frame. unless (advance_tests tenant worker frame (act_of (jamboree grain) tenant frame)) (advanced (jamboree grain) tenant worker name frame (act_of (jamboree grain) tenant frame))) (λ f at.
-      not-bad (advance_tests tenant worker f (act_of (jamboree grain) tenant f)) (advanced (jamboree grain) tenant worker name f (act_of (jamboree grain) tenant f))
+      at-none-bad tenant.frames name.serial (λ frame. unless (advance_tests tenant worker frame (act_by_sight (jamboree grain) tenant frame)) (advanced (jamboree grain) tenant worker name frame (act_by_sight (jamboree grain) tenant frame))) (λ f at.
+      not-bad (advance_tests tenant worker f (act_by_sight (jamboree grain) tenant f)) (advanced (jamboree grain) tenant worker name f (act_by_sight (jamboree grain) tenant f))
       ((λ e. absurd cc), λ runs. ((λ e. absurd cc), λ n. ((λ e. act-good name.serial f at (run-free worker f.state (not-false (is_run_by worker f.state) runs))), λ n. ((λ e. absurd cc), λ n. ((λ e. absurd cc), λ n. tt))))))
   possible (Answer worker name answer) none =
       at-none-bad tenant.frames name.serial (λ frame. unless (answer_tests (jamboree grain) tenant worker frame answer) (answered (jamboree grain) tenant worker frame answer)) (λ f at.
@@ -157,10 +157,10 @@ own-none-bad answer true (Ok outcome) told none = λ e. let said : ◌≡◌ {A 
 own-none-bad answer false (Ok outcome) told none = λ e. let said : ◌≡◌ {A = Result (DidOf Leaf) Refusal} (Ok outcome.1) (Err BadAct) = sym (told.2 refl refl) ∙ e in absurd cc
 
 -- the tenant of a step, where it is there, has its shape, and its jobs are searches, submitted with these words
-abbrev pub IsOfSearches : Lists → Shared → StepOf LeafAnswer → Type 0
+abbrev pub IsOfSearches : Lists → CoreState → StepOf LeafAnswer → Type 0
 IsOfSearches origins before step = (tenant : Tenant) → tenant_in before.tenants (tenant_of step) ≡ Some tenant → IsShaped tenant × TenantFits AreFitting IsRoot origins tenant
 
-step-none-bad : (grain : ℕ) (origins : Lists) (before : Shared) (step : StepOf LeafAnswer) (answer : Result (DidOf Leaf) Refusal) → IsOfSearches origins before step → submits step ≡ [] →
+step-none-bad : (grain : ℕ) (origins : Lists) (before : CoreState) (step : StepOf LeafAnswer) (answer : Result (DidOf Leaf) Refusal) → IsOfSearches origins before step → submits step ≡ [] →
     IsAnswerToStep (jamboree grain) before step answer → answer ≢ Err BadAct
 step-none-bad grain origins before step answer own none right = by (tenant_in before.tenants (tenant_of step)) refl
   where
@@ -172,15 +172,15 @@ step-none-bad grain origins before step answer own none right = by (tenant_in be
         (rw at (possible grain origins tenant is.0 is.1 step none))
 
 -- an admission, of which BadAct isn't judged
-admission-none-bad : (grain : ℕ) (before : Shared) (step : StepOf LeafAnswer) (answer : Result (DidOf Leaf) Refusal) → shared_refusal (jamboree grain) before step ≢ Some BadAct → IsAnswerToAdmit (jamboree grain) before step answer → answer ≢ Err BadAct
+admission-none-bad : (grain : ℕ) (before : CoreState) (step : StepOf LeafAnswer) (answer : Result (DidOf Leaf) Refusal) → shared_refusal (jamboree grain) before step ≢ Some BadAct → IsAnswerToAdmit (jamboree grain) before step answer → answer ≢ Err BadAct
 admission-none-bad grain before step answer none right = by (shared_refusal (jamboree grain) before step) refl
   where
-    judged-good : (came : Result (Outcome Leaf) Refusal) → refusal_in came ≢ Some BadAct → answer_of came ≢ Err BadAct
-    judged-good (Ok outcome) none = λ e. absurd cc
-    judged-good (Err refusal) none = λ e. let is : refusal ≡ BadAct = cc in none (ap (λ (r : Refusal). Some r) is)
+    step_result-good : (came : Result (Outcome Leaf) Refusal) → refusal_in came ≢ Some BadAct → answer_of came ≢ Err BadAct
+    step_result-good (Ok outcome) none = λ e. absurd cc
+    step_result-good (Err refusal) none = λ e. let is : refusal ≡ BadAct = cc in none (ap (λ (r : Refusal). Some r) is)
 
-    either : (answer ≡ answer_of (judged (jamboree grain) before step)) ⊎ (◌≡◌ {A = Result (DidOf Leaf) Refusal} answer (Err OutOfMemory)) → answer ≢ Err BadAct
-    either (inl is) = λ e. judged-good (judged (jamboree grain) before step) none (sym is ∙ e)
+    either : (answer ≡ answer_of (step_result (jamboree grain) before step)) ⊎ (◌≡◌ {A = Result (DidOf Leaf) Refusal} answer (Err OutOfMemory)) → answer ≢ Err BadAct
+    either (inl is) = λ e. step_result-good (step_result (jamboree grain) before step) none (sym is ∙ e)
     either (inr is) = λ e. let both : ◌≡◌ {A = Result (DidOf Leaf) Refusal} (Err OutOfMemory) (Err BadAct) = sym is ∙ e in absurd cc
 
     by : (refusal : Option Refusal) → shared_refusal (jamboree grain) before step ≡ refusal → answer ≢ Err BadAct
@@ -190,12 +190,12 @@ admission-none-bad grain before step answer none right = by (shared_refusal (jam
         let is : refusal ≡ BadAct = cc in none (at ∙ ap (λ (r : Refusal). Some r) is)
 
 -- an admission is refused by OldTenant or Full
-admit-none-bad : (grain : ℕ) (before : Shared) (number : ℕ) (quota : Quota) → shared_refusal {A = LeafAnswer} (jamboree grain) before (Admit number quota) ≢ Some BadAct
+admit-none-bad : (grain : ℕ) (before : CoreState) (number : ℕ) (quota : Quota) → shared_refusal {A = LeafAnswer} (jamboree grain) before (Admit number quota) ≢ Some BadAct
 admit-none-bad grain before number quota =
     not-bad {X = Outcome Leaf} (admit_tests before number quota) (Some (admitted_with quota), Admitted) ((λ e. absurd cc), λ n. ((λ e. absurd cc), λ n. tt))
 
 -- a further reservation by NoTenant, Lower or Full
-more-none-bad : (grain : ℕ) (before : Shared) (number : ℕ) (quota : Quota) → shared_refusal {A = LeafAnswer} (jamboree grain) before (AdmitMore number quota) ≢ Some BadAct
+more-none-bad : (grain : ℕ) (before : CoreState) (number : ℕ) (quota : Quota) → shared_refusal {A = LeafAnswer} (jamboree grain) before (AdmitMore number quota) ≢ Some BadAct
 more-none-bad grain before number quota =
     unless-none (is_beyond (reservations_in before) (reserved_by (tenant_in before.tenants number)) quota) (lone (jamboree grain) (tenant_in before.tenants number) (AdmitMore number quota)) (own (tenant_in before.tenants number))
   where
@@ -209,7 +209,7 @@ more-none-bad grain before number quota =
     own (Some tenant) = not-bad {X = Outcome Leaf} ((is_lower tenant.reserve quota, Lower) ∷ []) (raised tenant quota) ((λ e. absurd cc), λ n. tt)
 
 -- each step whose tenant's jobs are searches
-pub tenant-none-bad : (grain : ℕ) (origins : Lists) (before : Shared) (step : StepOf LeafAnswer) (answer : Result (DidOf Leaf) Refusal) → IsOfSearches origins before step → submits step ≡ [] →
+pub tenant-none-bad : (grain : ℕ) (origins : Lists) (before : CoreState) (step : StepOf LeafAnswer) (answer : Result (DidOf Leaf) Refusal) → IsOfSearches origins before step → submits step ≡ [] →
     IsAnswerTo (jamboree grain) before step answer → answer ≢ Err BadAct
 tenant-none-bad grain origins before (Admit number quota) answer own none right = admission-none-bad grain before (Admit number quota) answer (admit-none-bad grain before number quota) (right.0 refl)
 tenant-none-bad grain origins before (AdmitMore number quota) answer own none right = admission-none-bad grain before (AdmitMore number quota) answer (more-none-bad grain before number quota) (right.0 refl)
@@ -225,7 +225,7 @@ tenant-none-bad grain origins before (Cancel number job) answer own none right =
 tenant-none-bad grain origins before (Leave number) answer own none right = step-none-bad grain origins before (Leave number) answer own none (right.1 refl)
 
 -- each step of a core of searches
-pub answer-none-bad : (grain : ℕ) (origins : ℕ → Lists) (before : Shared) (step : StepOf LeafAnswer) (answer : Result (DidOf Leaf) Refusal) → AreShaped before.tenants → CoreFits AreFitting IsRoot origins before → submits step ≡ [] →
+pub answer-none-bad : (grain : ℕ) (origins : ℕ → Lists) (before : CoreState) (step : StepOf LeafAnswer) (answer : Result (DidOf Leaf) Refusal) → AreShaped before.tenants → CoreFits AreFitting IsRoot origins before → submits step ≡ [] →
     IsAnswerTo (jamboree grain) before step answer → answer ≢ Err BadAct
 answer-none-bad grain origins before step answer shaped core =
     tenant-none-bad grain (origins (tenant_of step)) before step answer (λ tenant at. (shaped-in (tenant_of step) before.tenants tenant shaped at, core.tenants (tenant_of step) tenant at))

@@ -9,10 +9,10 @@ use Rattle.sched_rules.specs.declared.step.StepOf.{StepOf}
 use Rattle.sched_rules.specs.declared.step.StepOf.TheVariants.{Admit, AdmitMore, Submit, Take, Steal, Advance, Answer, Inlet, Finish, Spend, Cancel, Leave}
 use Rattle.sched_rules.specs.declared.step.DidOf.{DidOf}
 use Rattle.sched_rules.specs.Trees.{Tree, Tenant, kept_words}
-use Rattle.sched_rules.specs.Laws.{HasReturned, mark_of, EachFits}
+use Rattle.sched_rules.specs.Laws.{HasReturned, mark_of_state, EachFits}
 use Rattle.sched_rules.specs.Runs.{only}
 use Rattle.sched_rules.specs.Cores.{shared_by_nobody, tenant_in}
-use Rattle.sched_rules.specs.Headline.{AreAnswersTo, after_answers, taken}
+use Rattle.sched_rules.specs.Headline.{AreAnswersTo, after_answers, taken_steps}
 use Rattle.sched_laws.specs.Fitted.{JobsFit, TenantFits, submits, RootFits, RootsFit, origins_of}
 use Rattle.sched_laws.proofs.Levels.{IsLawful}
 use Rattle.sched_laws.proofs.FitAnswers.{run-fits, nobody-fits}
@@ -63,13 +63,13 @@ lawful grain = record { next = next-keeps (jamboree grain) grain refl; inlet = i
 
 -- a tenant fits after any list of searches
 pub searched : (grain : ℕ) (totals : Quota) (steps : List (StepOf LeafAnswer)) (answers : List (Result (DidOf Leaf) Refusal)) (number : ℕ) (tenant : Tenant) →
-    AreAnswersTo (jamboree grain) (shared_by_nobody totals) steps answers → AreSearches (taken steps answers) →
+    AreAnswersTo (jamboree grain) (shared_by_nobody totals) steps answers → AreSearches (taken_steps steps answers) →
     tenant_in (after_answers (jamboree grain) (shared_by_nobody totals) steps answers).tenants number ≡ Some tenant →
-    TenantFits AreFitting IsRoot (origins_of (only number (taken steps answers))) tenant
+    TenantFits AreFitting IsRoot (origins_of (only number (taken_steps steps answers))) tenant
 searched grain totals steps answers number tenant right searches at =
     let core = run-fits (jamboree grain) AreFitting IsRoot (λ n. []) (shared_by_nobody totals) steps answers
     (lawful grain) tt tt
-    (nobody-fits AreFitting IsRoot totals) right (searches-fit (taken steps answers) searches) in
+    (nobody-fits AreFitting IsRoot totals) right (searches-fit (taken_steps steps answers) searches) in
     core.tenants number tenant at
 
 same-table : (own opp depth : ℕ) (bounds : List Bound) (f : Frame) → f.own ≡ own → f.opp ≡ opp → f.depth ≡ depth → IsTable f.depth (board f) bounds → IsTable depth (cells_of own opp) bounds
@@ -108,4 +108,4 @@ replies-held tree (origin ∷ origins) (CancelledJob ∷ jobs) fit = (tt, replie
 
 pub all-sound : (tree : Tree) (frames : List (TreeFrame (List ℕ))) → EachFits AreFitting tree frames → AreAllSound tree frames
 all-sound tree [] fit = tt
-all-sound tree (frame ∷ frames) fit = (fits-sound (frame.value) (values_of (children_of tree frame.serial)) (mark_of frame.state) fit.0, all-sound tree frames fit.1)
+all-sound tree (frame ∷ frames) fit = (fits-sound (frame.value) (values_of (children_of tree frame.serial)) (mark_of_state frame.state) fit.0, all-sound tree frames fit.1)

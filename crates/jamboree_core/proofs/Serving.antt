@@ -8,8 +8,8 @@ use Rattle.sched_rules.specs.declared.step.StepOf.{StepOf}
 use Rattle.sched_rules.specs.declared.step.DidOf.{DidOf}
 use Rattle.sched_rules.specs.Trees.{Tenant}
 use Rattle.sched_rules.specs.Runs.{tenant_of, only}
-use Rattle.sched_rules.specs.Cores.{Shared, shared_by_nobody, tenant_in}
-use Rattle.sched_rules.specs.Headline.{IsKnown, IsHeadline, taken}
+use Rattle.sched_rules.specs.Cores.{CoreState, shared_by_nobody, tenant_in}
+use Rattle.sched_rules.specs.Headline.{AreNumbersGiven, IsHeadline, taken_steps}
 use Rattle.sched_rules.proofs.Tenants.{tenant_in-new}
 use Rattle.sched_laws.specs.Fitted.{CoreFits, RootsFit, submits, origins_of, origins_after}
 use Rattle.sched_laws.proofs.FitAnswers.{nobody-fits}
@@ -31,26 +31,26 @@ tenant-replies origins tenant searches = replies-held tenant.frames origins tena
 pub tenant-sound : (origins : List (List ℕ)) (tenant : Tenant) → TenantSearches origins tenant → AreAllSound tenant.frames tenant.frames
 tenant-sound origins tenant searches = all-sound tenant.frames tenant.frames searches.fits.frames
 
-pub core-tenant : (origins : ℕ → List (List ℕ)) (shared : Shared) (number : ℕ) (tenant : Tenant) → CoreSearches origins shared → tenant_in shared.tenants number ≡ Some tenant → TenantSearches (origins number) tenant
+pub core-tenant : (origins : ℕ → List (List ℕ)) (shared : CoreState) (number : ℕ) (tenant : Tenant) → CoreSearches origins shared → tenant_in shared.tenants number ≡ Some tenant → TenantSearches (origins number) tenant
 core-tenant origins shared number tenant core at = record { fits = core.fits.tenants number tenant at; asked = core.asked number }
 
-pub core-serves : (origins : ℕ → List (List ℕ)) (shared : Shared) (number : ℕ) → CoreSearches origins shared → ServesSearches (tenant_in shared.tenants number)
+pub core-serves : (origins : ℕ → List (List ℕ)) (shared : CoreState) (number : ℕ) → CoreSearches origins shared → ServesSearches (tenant_in shared.tenants number)
 core-serves origins shared number core = by (tenant_in shared.tenants number) refl
   where
     by : (own : Option Tenant) → tenant_in shared.tenants number ≡ own → ServesSearches own
     by None at = tt
     by (Some tenant) at = (origins number, core-tenant origins shared number tenant core at)
 
-pub core-replies : (origins : ℕ → List (List ℕ)) (shared : Shared) → CoreSearches origins shared → HoldsReplies origins shared
+pub core-replies : (origins : ℕ → List (List ℕ)) (shared : CoreState) → CoreSearches origins shared → HoldsReplies origins shared
 core-replies origins shared core = record {
   replies = λ number tenant at. tenant-replies (origins number) tenant (core-tenant origins shared number tenant core at);
   sound = λ number tenant at. tenant-sound (origins number) tenant (core-tenant origins shared number tenant core at);
 }
 
 -- a core of tenants of searches
-pub core-whole : (origins : ℕ → List (List ℕ)) (shared : Shared) →
+pub core-whole : (origins : ℕ → List (List ℕ)) (shared : CoreState) →
     ((number : ℕ) (tenant : Tenant) → tenant_in shared.tenants number ≡ Some tenant → TenantSearches (origins number) tenant) →
-    ((number : ℕ) → tenant_in shared.tenants number ≡ None → origins number ≡ []) → IsKnown shared → CoreSearches origins shared
+    ((number : ℕ) → tenant_in shared.tenants number ≡ None → origins number ≡ []) → AreNumbersGiven shared → CoreSearches origins shared
 core-whole origins shared each none known = record {
   fits = record {
     tenants = λ number tenant at. (each number tenant at).fits;
@@ -89,7 +89,7 @@ only-searches number (step ∷ steps) are = elim (cases_Bool (eqb (tenant_of ste
   | inr other ↦ rw other (only-searches number steps are.1)
 ]
 
-searches-after-run : (origins : ℕ → List (List ℕ)) (before after : Shared) (steps : List (StepOf LeafAnswer)) → CoreSearches origins before → AreSearches steps →
+searches-after-run : (origins : ℕ → List (List ℕ)) (before after : CoreState) (steps : List (StepOf LeafAnswer)) → CoreSearches origins before → AreSearches steps →
     CoreFits AreFitting IsRoot (submitted_to origins steps) after → CoreSearches (submitted_to origins steps) after
 searches-after-run origins before after steps core searches fits = record {
   fits = fits;
@@ -97,31 +97,31 @@ searches-after-run origins before after steps core searches fits = record {
 }
 
 -- the headline in full, from what a run says
-pub headline-in-full : (grain : ℕ) (before : Shared) (steps : List (StepOf LeafAnswer)) (answered : List (Result (DidOf Leaf) Refusal)) (after : Shared) → IsHeadline (jamboree grain) before steps answered after →
-    ((origins : ℕ → List (List ℕ)) → CoreFits AreFitting IsRoot origins before → RootsFit AreFitting IsRoot (taken steps answered) → CoreFits AreFitting IsRoot (submitted_to origins (taken steps answered)) after) →
+pub headline-in-full : (grain : ℕ) (before : CoreState) (steps : List (StepOf LeafAnswer)) (answered : List (Result (DidOf Leaf) Refusal)) (after : CoreState) → IsHeadline (jamboree grain) before steps answered after →
+    ((origins : ℕ → List (List ℕ)) → CoreFits AreFitting IsRoot origins before → RootsFit AreFitting IsRoot (taken_steps steps answered) → CoreFits AreFitting IsRoot (submitted_to origins (taken_steps steps answered)) after) →
     IsHeadlineInFull grain before steps answered after
 headline-in-full grain before steps answered after tenants fitting = record {
   tenants = tenants;
   searches = λ origins core search. kept origins core search;
-  replies = λ origins core search. core-replies (submitted_to origins (taken steps answered)) after (kept origins core search);
+  replies = λ origins core search. core-replies (submitted_to origins (taken_steps steps answered)) after (kept origins core search);
 }
   where
-    kept : (origins : ℕ → List (List ℕ)) → CoreSearches origins before → AreSearches (taken steps answered) → CoreSearches (submitted_to origins (taken steps answered)) after
-    kept origins core search = searches-after-run origins before after (taken steps answered) core search (fitting origins core.fits (searches-fit (taken steps answered) search))
+    kept : (origins : ℕ → List (List ℕ)) → CoreSearches origins before → AreSearches (taken_steps steps answered) → CoreSearches (submitted_to origins (taken_steps steps answered)) after
+    kept origins core search = searches-after-run origins before after (taken_steps steps answered) core search (fitting origins core.fits (searches-fit (taken_steps steps answered) search))
 
 pub both-ok : {T E P Q R : Type 0} (r : Result T E) → OnOk r P → OnOk r Q → (P → Q → R) → OnOk r R
 both-ok (Ok value) p q make = make p q
 both-ok (Err error) p q make = tt
 
 -- of a list of searches, those that were taken are searches
-taken-searches : (steps : List (StepOf LeafAnswer)) (answers : List (Result (DidOf Leaf) Refusal)) → AreSearches steps → AreSearches (taken steps answers)
+taken-searches : (steps : List (StepOf LeafAnswer)) (answers : List (Result (DidOf Leaf) Refusal)) → AreSearches steps → AreSearches (taken_steps steps answers)
 taken-searches [] answers are = tt
 taken-searches (step ∷ steps) [] are = tt
 taken-searches (step ∷ steps) (Ok did ∷ answers) are = (are.0, taken-searches steps answers are.1)
 taken-searches (step ∷ steps) (Err refusal ∷ answers) are = taken-searches steps answers are.1
 
 -- the headline from a new core, and that its jobs are searches
-pub headline-from-new : (grain : ℕ) (totals : Quota) (before : Shared) (steps : List (StepOf LeafAnswer)) (answered : List (Result (DidOf Leaf) Refusal)) (after : Shared) → before ≡ shared_by_nobody totals → AreSearches steps →
+pub headline-from-new : (grain : ℕ) (totals : Quota) (before : CoreState) (steps : List (StepOf LeafAnswer)) (answered : List (Result (DidOf Leaf) Refusal)) (after : CoreState) → before ≡ shared_by_nobody totals → AreSearches steps →
     IsHeadlineInFull grain before steps answered after → IsHeadlineFromNew grain totals steps answered after × CoreSearches (submitted_by steps answered) after
 headline-from-new grain totals before steps answered after new are whole =
     let full = rw new at whole in

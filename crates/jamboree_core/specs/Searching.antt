@@ -5,8 +5,8 @@ use Rattle.sched_rules.specs.declared.step.StepOf.{StepOf}
 use Rattle.sched_rules.specs.declared.step.DidOf.{DidOf}
 use Rattle.sched_rules.specs.Trees.{Tenant}
 use Rattle.sched_rules.specs.Runs.{only}
-use Rattle.sched_rules.specs.Cores.{Shared, tenant_in}
-use Rattle.sched_rules.specs.Headline.{IsHeadline, taken}
+use Rattle.sched_rules.specs.Cores.{CoreState, tenant_in}
+use Rattle.sched_rules.specs.Headline.{IsHeadline, taken_steps}
 use Rattle.sched_laws.specs.Fitted.{TenantFits, CoreFits, origins_of}
 use Rattle.jamboree_rules.specs.declared.leaf.Leaf.{Leaf}
 use Rattle.jamboree_rules.specs.declared.leaf.LeafAnswer.{LeafAnswer}
@@ -32,7 +32,7 @@ ServesSearches (Some tenant) = (origins : List (List ℕ)) × TenantSearches ori
 
 -- the jobs of a core's tenants are searches, submitted with the words under each tenant's number; under a number
 -- that no tenant has had there are none
-pub record CoreSearches (origins : ℕ → List (List ℕ)) (shared : Shared) : Type 0 where
+pub record CoreSearches (origins : ℕ → List (List ℕ)) (shared : CoreState) : Type 0 where
   pub fits : CoreFits AreFitting IsRoot origins shared
   pub asked : (number : ℕ) → AreAllRootWords (origins number)
 
@@ -42,17 +42,17 @@ submitted_to origins steps number = origins number ++ origins_of (only number st
 
 -- what a core holds whose jobs are searches: each job that is done has the minimax value, the best choice and a
 -- table of what it was submitted with, in order, and every frame is sound
-pub record HoldsReplies (origins : ℕ → List (List ℕ)) (shared : Shared) : Type 0 where
+pub record HoldsReplies (origins : ℕ → List (List ℕ)) (shared : CoreState) : Type 0 where
   pub replies : (number : ℕ) (tenant : Tenant) → tenant_in shared.tenants number ≡ Some tenant → AreReplies (origins number) tenant.jobs
   pub sound : (number : ℕ) (tenant : Tenant) → tenant_in shared.tenants number ≡ Some tenant → AreAllSound tenant.frames tenant.frames
 
 -- what holds after a list of steps on a core that runs Jamboree with this grain. No tenant is disturbed, and a
 -- step is refused only for its own tenant's state or a busy worker. Where the core's jobs are searches, and so
 -- are those that the list's taken steps submit, they still are, and each completed reply is the minimax value
-pub record IsHeadlineInFull (grain : ℕ) (before : Shared) (steps : List (StepOf LeafAnswer)) (answers : List (Result (DidOf Leaf) Refusal)) (after : Shared) : Type 0 where
+pub record IsHeadlineInFull (grain : ℕ) (before : CoreState) (steps : List (StepOf LeafAnswer)) (answers : List (Result (DidOf Leaf) Refusal)) (after : CoreState) : Type 0 where
   pub tenants : IsHeadline (jamboree grain) before steps answers after
-  pub searches : (origins : ℕ → List (List ℕ)) → CoreSearches origins before → AreSearches (taken steps answers) → CoreSearches (submitted_to origins (taken steps answers)) after
-  pub replies : (origins : ℕ → List (List ℕ)) → CoreSearches origins before → AreSearches (taken steps answers) → HoldsReplies (submitted_to origins (taken steps answers)) after
+  pub searches : (origins : ℕ → List (List ℕ)) → CoreSearches origins before → AreSearches (taken_steps steps answers) → CoreSearches (submitted_to origins (taken_steps steps answers)) after
+  pub replies : (origins : ℕ → List (List ℕ)) → CoreSearches origins before → AreSearches (taken_steps steps answers) → HoldsReplies (submitted_to origins (taken_steps steps answers)) after
 
 -- the words that the job with this number, from 1 on, was submitted with; None where there is no such job
 abbrev pub origin_at : List (List ℕ) → ℕ → Option (List ℕ)

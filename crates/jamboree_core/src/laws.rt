@@ -7,8 +7,8 @@ ghost use Rattle.sched_rules.specs.declared.step.StepOf.TheVariants.{Admit};
 ghost use Rattle.sched_rules.specs.declared.step.DidOf.{DidOf};
 ghost use Rattle.sched_rules.specs.Trees.{Tenant, admitted_with, job_at};
 ghost use Rattle.sched_rules.specs.Runs.{tenant_of, only};
-ghost use Rattle.sched_rules.specs.Cores.{Shared, shared_by_nobody, tenant_in};
-ghost use Rattle.sched_rules.specs.Headline.{IsOneStep, IsKnown, IsAnswerTo, AreAnswersTo, after_answers, taken};
+ghost use Rattle.sched_rules.specs.Cores.{CoreState, shared_by_nobody, tenant_in};
+ghost use Rattle.sched_rules.specs.Headline.{IsOneStep, AreNumbersGiven, IsAnswerTo, AreAnswersTo, after_answers, taken_steps};
 ghost use Rattle.sched_laws.specs.Fitted.{origins_of, CoreFits, submits};
 ghost use Rattle.jamboree_rules.specs.declared.leaf.Leaf.{Leaf};
 ghost use Rattle.jamboree_rules.specs.declared.leaf.LeafAnswer.{LeafAnswer};
@@ -29,23 +29,23 @@ ghost use Rattle.jamboree_rules.specs.Fits.{AreFitting, IsRoot};
 /// the depth that its Submit carried. The k-th job is that of the tenant's k-th taken Submit.
 pub fn every_completed_reply_is_the_minimax_value()
     ensures { (grain : ℕ) (totals : Quota) (steps : List (StepOf LeafAnswer)) (answers : List (Result (DidOf Leaf) Refusal)) (number : ℕ) (tenant : Tenant) →
-        AreAnswersTo (jamboree grain) (shared_by_nobody totals) steps answers → AreSearches (taken steps answers) →
+        AreAnswersTo (jamboree grain) (shared_by_nobody totals) steps answers → AreSearches (taken_steps steps answers) →
         tenant_in (after_answers (jamboree grain) (shared_by_nobody totals) steps answers).tenants number ≡ Some tenant →
-        AreReplies (origins_of (only number (taken steps answers))) tenant.jobs }
+        AreReplies (origins_of (only number (taken_steps steps answers))) tenant.jobs }
 {}
 
 /// After any list of steps on a new core, by any workers for any tenants, where each taken Submit asks for a
 /// search: every frame of every tenant is sound (`IsSound`).
 pub fn every_frame_is_sound()
     ensures { (grain : ℕ) (totals : Quota) (steps : List (StepOf LeafAnswer)) (answers : List (Result (DidOf Leaf) Refusal)) (number : ℕ) (tenant : Tenant) →
-        AreAnswersTo (jamboree grain) (shared_by_nobody totals) steps answers → AreSearches (taken steps answers) →
+        AreAnswersTo (jamboree grain) (shared_by_nobody totals) steps answers → AreSearches (taken_steps steps answers) →
         tenant_in (after_answers (jamboree grain) (shared_by_nobody totals) steps answers).tenants number ≡ Some tenant →
         AreAllSound tenant.frames tenant.frames }
 {}
 
 /// On a core whose jobs are searches, only a step that submits a job can be refused with BadAct.
 pub fn bad_acts_come_of_submits_alone()
-    ensures { (grain : ℕ) (origins : ℕ → List (List ℕ)) (before : Shared) (step : StepOf LeafAnswer) (answer : Result (DidOf Leaf) Refusal) →
+    ensures { (grain : ℕ) (origins : ℕ → List (List ℕ)) (before : CoreState) (step : StepOf LeafAnswer) (answer : Result (DidOf Leaf) Refusal) →
         AreShaped before.tenants → CoreFits AreFitting IsRoot origins before → submits step ≡ [] →
         IsAnswerTo (jamboree grain) before step answer → answer ≢ Err BadAct }
 {}
@@ -67,13 +67,13 @@ pub fn what_a_tenant_of_searches_holds()
 /// that is done holds the minimax value and the best choice of what it was submitted with, and every frame is
 /// sound (`replies`).
 pub fn what_a_core_of_searches_holds()
-    ensures replies { (origins : ℕ → List (List ℕ)) (shared : Shared) → CoreSearches origins shared → HoldsReplies origins shared }
-    ensures tenant { (origins : ℕ → List (List ℕ)) (shared : Shared) (number : ℕ) (tenant : Tenant) →
+    ensures replies { (origins : ℕ → List (List ℕ)) (shared : CoreState) → CoreSearches origins shared → HoldsReplies origins shared }
+    ensures tenant { (origins : ℕ → List (List ℕ)) (shared : CoreState) (number : ℕ) (tenant : Tenant) →
         CoreSearches origins shared → tenant_in shared.tenants number ≡ Some tenant → TenantSearches (origins number) tenant }
-    ensures serves { (origins : ℕ → List (List ℕ)) (shared : Shared) (number : ℕ) → CoreSearches origins shared → ServesSearches (tenant_in shared.tenants number) }
-    ensures whole { (origins : ℕ → List (List ℕ)) (shared : Shared) →
+    ensures serves { (origins : ℕ → List (List ℕ)) (shared : CoreState) (number : ℕ) → CoreSearches origins shared → ServesSearches (tenant_in shared.tenants number) }
+    ensures whole { (origins : ℕ → List (List ℕ)) (shared : CoreState) →
         ((number : ℕ) (tenant : Tenant) → tenant_in shared.tenants number ≡ Some tenant → TenantSearches (origins number) tenant) →
-        ((number : ℕ) → tenant_in shared.tenants number ≡ None → origins number ≡ []) → IsKnown shared → CoreSearches origins shared }
+        ((number : ℕ) → tenant_in shared.tenants number ≡ None → origins number ≡ []) → AreNumbersGiven shared → CoreSearches origins shared }
 {}
 
 /// Where each Submit in a tenant's journal asks for a search, the tenant's jobs are searches, the k-th that of
@@ -98,13 +98,13 @@ pub fn a_table_is_of_its_tenants_own_steps()
 /// which its tenant is still there is added to its tenant's (`goes_on`); and no step, taken or refused, changes
 /// another tenant (`others`).
 pub fn how_journals_grow()
-    ensures begins { (grain : ℕ) (before : Shared) (number : ℕ) (quota : Quota) (did : DidOf Leaf) (after : Shared) →
-        IsKnown before → IsOneStep {A = LeafAnswer} (jamboree grain) before (Admit number quota) (Ok did) after →
+    ensures begins { (grain : ℕ) (before : CoreState) (number : ℕ) (quota : Quota) (did : DidOf Leaf) (after : CoreState) →
+        AreNumbersGiven before → IsOneStep {A = LeafAnswer} (jamboree grain) before (Admit number quota) (Ok did) after →
         (tenant_in after.tenants number ≡ Some (admitted_with quota)) × IsJournalOf {A = LeafAnswer} (jamboree grain) (Admit number quota ∷ []) (admitted_with quota) }
-    ensures goes_on { (grain : ℕ) (before : Shared) (step : StepOf LeafAnswer) (did : DidOf Leaf) (after : Shared) (journal : List (StepOf LeafAnswer)) (tenant next : Tenant) →
-        IsKnown before → IsOneStep (jamboree grain) before step (Ok did) after →
+    ensures goes_on { (grain : ℕ) (before : CoreState) (step : StepOf LeafAnswer) (did : DidOf Leaf) (after : CoreState) (journal : List (StepOf LeafAnswer)) (tenant next : Tenant) →
+        AreNumbersGiven before → IsOneStep (jamboree grain) before step (Ok did) after →
         tenant_in before.tenants (tenant_of step) ≡ Some tenant → tenant_in after.tenants (tenant_of step) ≡ Some next →
         IsJournalOf (jamboree grain) journal tenant → IsJournalOf (jamboree grain) (journal ++ step ∷ []) next }
-    ensures others { (grain : ℕ) (before : Shared) (step : StepOf LeafAnswer) (answer : Result (DidOf Leaf) Refusal) (after : Shared) (number : ℕ) →
-        IsKnown before → IsOneStep (jamboree grain) before step answer after → tenant_of step ≢ number → tenant_in after.tenants number ≡ tenant_in before.tenants number }
+    ensures others { (grain : ℕ) (before : CoreState) (step : StepOf LeafAnswer) (answer : Result (DidOf Leaf) Refusal) (after : CoreState) (number : ℕ) →
+        AreNumbersGiven before → IsOneStep (jamboree grain) before step answer after → tenant_of step ≢ number → tenant_in after.tenants number ≡ tenant_in before.tenants number }
 {}

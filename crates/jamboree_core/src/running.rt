@@ -4,7 +4,7 @@ ghost use Rattle.sched_rules.specs.declared.refusal.Refusal.{Refusal as RefusalO
 ghost use Rattle.sched_rules.specs.declared.refusal.Refusal.TheVariants.{BadAct, OutOfMemory};
 ghost use Rattle.sched_rules.specs.declared.step.DidOf.{DidOf};
 ghost use Rattle.sched_rules.specs.Cores.{tenant_in};
-ghost use Rattle.sched_rules.specs.Headline.{IsOneStep, IsKnown, is_admission};
+ghost use Rattle.sched_rules.specs.Headline.{IsOneStep, AreNumbersGiven, is_admission};
 ghost use Rattle.sched_laws.specs.Fitted.{origins_after, submits};
 ghost use Rattle.jamboree_rules.specs.declared.leaf.Leaf.{Leaf};
 ghost use Rattle.jamboree_rules.specs.Procedure.{jamboree};
@@ -29,8 +29,8 @@ pub fn step_search<A: Allocator + Clone>(
     ensures refused { OnErr result (core.new.shared ≡ core.old.shared) }
     ensures procedure { core.new.procedure ≡ core.old.procedure }
     ensures memory { is_admission step.now ≡ false → result ≢ Err OutOfMemory }
-    ensures known_before { IsKnown core.old.shared }
-    ensures known { IsKnown core.new.shared }
+    ensures known_before { AreNumbersGiven core.old.shared }
+    ensures known { AreNumbersGiven core.new.shared }
     ensures searching { (origins : ℕ → List (List ℕ)) → CoreSearches origins core.old.shared → (is_ok result ≡ true → IsSearch step.now)
         → CoreSearches (origins_after origins step.now result) core.new.shared }
 

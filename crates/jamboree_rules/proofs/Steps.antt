@@ -10,8 +10,8 @@ use Rattle.sched_rules.specs.cactus_stack.Nodes.{padded}
 use Rattle.othello_board.specs.Words.{cells_of}
 use Rattle.othello_moves.specs.Choices.{choices, plies}
 use Rattle.sched_rules.specs.declared.act.Act.{Act}
-use Rattle.sched_rules.specs.declared.act.Then.{Then}
-use Rattle.sched_rules.specs.declared.act.Then.TheVariants.{Grow, Wait, Compute, Return}
+use Rattle.sched_rules.specs.declared.act.Continuation.{Continuation}
+use Rattle.sched_rules.specs.declared.act.Continuation.TheVariants.{Grow, Wait, Compute, Return}
 use Rattle.sched_rules.specs.Trees.{stored, is_outside}
 use Rattle.sched_rules.specs.Lone.{is_bad_then, is_bad_act}
 use Rattle.sched_rules.specs.Laws.{NewChildFits, Mark, Neither, HasReturned, grown, children_after, mark_after, has_one}
@@ -87,7 +87,7 @@ inside-stored (change ∷ changes) w n len h =
     let place : (pair_of change).0 < 12 + n = inside-place n change h.0 in
     neither (nat_le (length w) (pair_of change).0) (is_outside (pairs_of changes) w) (lt-leb (length w) (pair_of change).0 (omega arith)) (inside-stored changes w n len h.1)
 
-good-act : (changes : List Change) (own : List ℕ) (n : ℕ) (has : Bool) (after : Then) → length own ≡ 12 + n → AreInside n changes → is_bad_then (length own) has after ≡ false →
+good-act : (changes : List Change) (own : List ℕ) (n : ℕ) (has : Bool) (after : Continuation) → length own ≡ 12 + n → AreInside n changes → is_bad_then (length own) has after ≡ false →
     is_bad_act own has (record { stores = pairs_of changes; after = after }) ≡ false
 good-act changes own n has after len inside fine = neither (is_outside (pairs_of changes) own) (is_bad_then (length own) has after) (inside-stored changes own n len inside) fine
 

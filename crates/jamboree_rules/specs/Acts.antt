@@ -9,8 +9,8 @@ use Rattle.leaf_search.specs.othello_eval.declared.bound.BoundKind.{BoundKind}
 use Rattle.leaf_search.specs.othello_eval.declared.bound.BoundKind.TheVariants.{Low, High, Exact}
 use Rattle.sched_rules.specs.declared.act.Act.{Act}
 use Rattle.sched_rules.specs.declared.act.InletAct.{InletAct}
-use Rattle.sched_rules.specs.declared.act.Then.{Then}
-use Rattle.sched_rules.specs.declared.act.Then.TheVariants.{Grow, Spawn, Wait, Compute, Return}
+use Rattle.sched_rules.specs.declared.act.Continuation.{Continuation}
+use Rattle.sched_rules.specs.declared.act.Continuation.TheVariants.{Grow, Spawn, Wait, Compute, Return}
 use Rattle.jamboree_rules.specs.Frames.{Frame, phase_computing, phase_done, phase_first, phase_new, phase_tests, role_again, role_first_child, role_test, status_failed, status_runs, status_runs_again, status_settled, board, choice_at, code_at, rest_at, floor, least, own_word, opp_word, may_be_child}
 use Rattle.jamboree_rules.specs.Places.{frame_of, is_formed, is_placed, Change, OwnBits, OppBits, Phase, Best, Chosen, Count, Spawned, Status, rest_with, pairs_of, given_words, frame_size}
 
@@ -20,7 +20,7 @@ returns = record { stores = []; after = Return }
 
 -- what an act does after its stores, where it opens a child that searches choice i, in this role and with this
 -- window. Its depth is less by one for a square, and the same for a pass
-abbrev pub spawns : Frame → ℕ → ℕ → ℤ → ℤ → Then
+abbrev pub spawns : Frame → ℕ → ℕ → ℤ → ℤ → Continuation
 spawns f role i alpha beta = Spawn (given_words (f.depth - plies (choice_at f i)) alpha beta role i) frame_size
 
 -- the first act of a new frame: it stores its board. At true one worker then computes it by itself, outside the

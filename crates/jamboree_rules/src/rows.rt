@@ -1,7 +1,7 @@
 //! The acts, tried on the opening searched to depth 1 with grain 0: each contract is computed from
 //! the definitions alone.
 ghost use Rattle.std.specs.Prelude.{◌≡◌, [], ◌∷◌, true, false};
-ghost use Rattle.sched_rules.specs.declared.act.Then.TheVariants.{Grow, Spawn, Wait, Compute, Return};
+ghost use Rattle.sched_rules.specs.declared.act.Continuation.TheVariants.{Grow, Spawn, Wait, Compute, Return};
 ghost use Rattle.jamboree_rules.specs.Acts.{next_act, inlet_act, returns, wakes};
 ghost use Rattle.jamboree_rules.specs.Rows.{entry, opened_with, opened, first_runs, first_runs_to, d3_to, tests_with, returned};
 

@@ -10,7 +10,7 @@ use Rattle.line_io.specs.Lines.{LineText, lines_of}
 use Rattle.line_io.specs.Leads.{Answers, IsPrefixOf}
 use Rattle.line_io.specs.Streams.{ReadAnswer, WriteAnswer}
 use Rattle.line_io.specs.Writes.{IsAnswered, written_texts, with_newline}
-use Rattle.line_io.specs.Runs.{Run, FunctionRun, IsBegun, IsOutput, answers_to, bytes_due, write_result}
+use Rattle.line_io.specs.Runs.{Run, FunctionRun, IsProperPrefix, IsOutput, answers_to, bytes_due, write_result}
 
 -- the texts, where each answer is the function's in the states that this fact holds of, and keeps it
 pub Answers-function : {A : Type 0} (answers : A → LineText → List ℕ → A → Type 0) (holds : A → Type 0) (answer : LineText → List ℕ) → ((a : A) (l : LineText) (t : List ℕ) (b : A) → holds a → answers a l t b → (t ≡ answer l) × holds b) → (a : A) (ls : List LineText) (ts : List (List ℕ)) (b : A) → holds a → Answers answers a ls ts b → ts ≡ map answer ls
@@ -27,7 +27,7 @@ answers-all answer pieces rest texts answered lines t e same none =
     sym (append-nil (concat pieces)) ∙ (ap (λ z. concat pieces ++ z) (sym none) ∙ (t ∙ (ap written_texts (e ∙ ap (map answer) same) ∙ flat_map-map with_newline answer lines)))
 
 -- a beginning of them
-answers-begun : (answer : LineText → List ℕ) (pieces : List (List ℕ)) (rest : List ℕ) (texts : List (List ℕ)) (answered lines : List LineText) → concat pieces ++ rest ≡ written_texts texts → texts ≡ map answer answered → IsPrefixOf answered lines → 0 < length rest → IsBegun (concat pieces) (answers_to answer lines)
+answers-begun : (answer : LineText → List ℕ) (pieces : List (List ℕ)) (rest : List ℕ) (texts : List (List ℕ)) (answered lines : List LineText) → concat pieces ++ rest ≡ written_texts texts → texts ≡ map answer answered → IsPrefixOf answered lines → 0 < length rest → IsProperPrefix (concat pieces) (answers_to answer lines)
 answers-begun answer pieces rest texts answered lines t e first some =
     let f : LineText → List ℕ = λ line. with_newline (answer line) in
     let same : concat pieces ++ rest ≡ flat_map f answered = t ∙ (ap written_texts e ∙ flat_map-map with_newline answer answered) in

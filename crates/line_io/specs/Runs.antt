@@ -44,13 +44,13 @@ abbrev pub answers_to : (LineText → List ℕ) → List LineText → List ℕ
 answers_to answer lines = flat_map (λ line. with_newline (answer line)) lines
 
 -- `written` is a beginning of `due`, but not all of it
-abbrev pub IsBegun : List ℕ → List ℕ → Type 0
-IsBegun written due = (rest : List ℕ) × (written ++ rest ≡ due) × (0 < length rest)
+abbrev pub IsProperPrefix : List ℕ → List ℕ → Type 0
+IsProperPrefix written due = (rest : List ℕ) × (written ++ rest ≡ due) × (0 < length rest)
 
 -- what was written of what was due: at Ok all of it, and where a write failed a beginning of it, but not all
 abbrev pub IsOutput : Result (Unit {0}) WriteFailed → List ℕ → List ℕ → Type 0
 IsOutput (Ok _) written due = written ≡ due
-IsOutput (Err _) written due = IsBegun written due
+IsOutput (Err _) written due = IsProperPrefix written due
 
 -- a run that answers by a function, as its reads and writes tell it: blocks were read and pieces written, and the
 -- pieces together are what `out` gives for the bytes whose lines are due (`bytes_due`), at fault 2 a beginning of that

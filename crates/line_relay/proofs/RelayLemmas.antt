@@ -17,12 +17,12 @@ use Rattle.line_relay.specs.declared.relaying.RelayEnd.TheVariants.{Line as by_l
 use Rattle.line_relay.specs.Asks.{Passed}
 use Rattle.line_relay.specs.Relays.{Turn, Found, Handled, TurnDone, EndsAt, IsRelayEnd, Relayed}
 use Rattle.line_relay.specs.Takes.{LineTaken, LineRead, CutShort}
-use Rattle.line_relay.specs.Verdicts.{Deed, Sends, Answers, deed_for, IsShort}
+use Rattle.line_relay.specs.Verdicts.{Deed, Sends, Answers, deed_for, IsShortLine}
 use Rattle.line_relay.proofs.TokenLemmas.{read-short}
 
 -- a line that was taken is short
-pub taken-short : {S : Type 0} (gives : S → ReadAnswer → S → Type 0) (from : S × List ℕ) (line : LineText) (to : S × List ℕ) → LineTaken gives from line to → IsShort line
-taken-short gives from line to x = subst IsShort (sym x.2) (read-short _)
+pub taken-short : {S : Type 0} (gives : S → ReadAnswer → S → Type 0) (from : S × List ℕ) (line : LineText) (to : S × List ℕ) → LineTaken gives from line to → IsShortLine line
+taken-short gives from line to x = subst IsShortLine (sym x.2) (read-short _)
 
 -- the fault of a server that gave no answer
 pub Found-sent : {S T J : Type 0} (gives : S → ReadAnswer → S → Type 0) (takes : T → WriteAnswer → T → Type 0) (hears : J → List ℕ → J → Type 0) (deed : Deed) (line : List ℕ) (server : Peer S T) (judge : J) (text : List ℕ) (u : Unit {0}) (server' : Peer S T) (judge' : J) → Sends line ≡ deed → Passed gives takes hears server judge line text (Ok u) server' judge' → Found gives takes hears deed server judge text (Ok true) server' judge'
@@ -87,8 +87,8 @@ module _ {C K S T J : Type 0} (reads : C → ReadAnswer → C → Type 0) (tells
   no_line-read : (s : C × List ℕ) (line : LineText) (b : Bool) (s' : C × List ℕ) → LineRead reads s line (Ok b) s' → b ≡ false → CutShort reads s Ended s'
   no_line-read s line b s' x e = subst (λ z. LineRead reads s line (Ok z) s') e x
 
-  pub line-short : (s : C × List ℕ) (line text : LineText) (b : Bool) (s' : C × List ℕ) → LineRead reads s line (Ok b) s' → b ≡ true → text ≡ line → IsShort text
-  line-short s line text b s' x e f = subst IsShort (sym f) (taken-short reads s line s' (line-read s line b s' x e))
+  pub line-short : (s : C × List ℕ) (line text : LineText) (b : Bool) (s' : C × List ℕ) → LineRead reads s line (Ok b) s' → b ≡ true → text ≡ line → IsShortLine text
+  line-short s line text b s' x e f = subst IsShortLine (sym f) (taken-short reads s line s' (line-read s line b s' x e))
 
   -- one turn more
   pub Turns-more : (client client' : Peer C K) (server : Peer S T) (judge : J) (line text : LineText) (b c : Bool) (k : K) (server' : Peer S T) (judge' : J) → TurnsSoFar client server judge → LineRead reads (client.source, client.ahead) line (Ok b) (client'.source, client'.ahead) → b ≡ true → client'.sink ≡ client.sink → text ≡ line → Handled tells gives takes judges hears text client'.sink server judge (Ok c) k server' judge' → c ≡ true → TurnsSoFar (record { source = client'.source; sink = k; ahead = client'.ahead }) server' judge'

@@ -9,7 +9,7 @@ use Rattle.line_io.specs.Lines.{LineText, Whole, TooLong, line_text}
 use Rattle.line_relay.specs.declared.judging.Verdict.{Verdict}
 use Rattle.line_relay.specs.declared.judging.Verdict.TheVariants.{Pass, Cut, Refuse, End}
 use Rattle.line_relay.specs.Tokens.{last_word, word_after, word_after_two, token_after, token_by, token_of, less_token, without_token}
-use Rattle.line_relay.specs.Verdicts.{Deed, Sends, Answers, Ends, deed_for, IsShort, IsShortText}
+use Rattle.line_relay.specs.Verdicts.{Deed, Sends, Answers, Ends, deed_for, IsShortLine, IsShortText}
 
 -- what follows the first space is shorter than this
 rest_short : Option (List ℕ × List ℕ) → ℕ → Type 0
@@ -84,7 +84,7 @@ sends : {a b : List ℕ} → Sends a ≡ Sends b → a ≡ b
 unfolding text_sent
 sends {a} {b} e = ap (λ d. text_sent d a) e
 
-pub sends-short : (verdict : Verdict) (line : LineText) (text : List ℕ) → IsShort line → Sends text ≡ deed_for verdict line → IsShortText text
+pub sends-short : (verdict : Verdict) (line : LineText) (text : List ℕ) → IsShortLine line → Sends text ≡ deed_for verdict line → IsShortText text
 sends-short Pass (Whole bytes) text short e = subst IsShortText (sym (sends e)) short
 sends-short Pass TooLong text short e = cc
 sends-short Cut (Whole bytes) text short e =
@@ -95,9 +95,9 @@ sends-short End line text short e = cc
 sends-short Cut TooLong text short e = cc
 
 -- a line that is read is short
-short-text : (t : Bool) (bytes : List ℕ) → nat_le (length bytes) 128 ≡ t → IsShort (cond t (Whole bytes) TooLong)
+short-text : (t : Bool) (bytes : List ℕ) → nat_le (length bytes) 128 ≡ t → IsShortLine (cond t (Whole bytes) TooLong)
 short-text true bytes e = grind (arith, nat_tests)
 short-text false bytes e = tt
 
-pub read-short : (bytes : List ℕ) → IsShort (line_text bytes)
+pub read-short : (bytes : List ℕ) → IsShortLine (line_text bytes)
 read-short bytes = short-text (nat_le (length bytes) 128) bytes refl

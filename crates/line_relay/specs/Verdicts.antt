@@ -26,6 +26,6 @@ abbrev pub IsShortText : List ℕ → Type 0
 IsShortText text = length text ≤ 128
 
 -- a line has at most 128 bytes, or is known to be too long
-abbrev pub IsShort : LineText → Type 0
-IsShort (Whole bytes) = IsShortText bytes
-IsShort TooLong = Unit {0}
+abbrev pub IsShortLine : LineText → Type 0
+IsShortLine (Whole bytes) = IsShortText bytes
+IsShortLine TooLong = Unit {0}

@@ -4,7 +4,7 @@ ghost use Rattle.line_io.specs.Held.{ended_line};
 ghost use Rattle.line_io.specs.Views.{text_of};
 ghost use Rattle.line_relay.specs.Asks.{Passed};
 ghost use Rattle.line_relay.specs.Relays.{Found, Handled, Relayed};
-ghost use Rattle.line_relay.specs.Verdicts.{deed_for, IsShort, IsShortText};
+ghost use Rattle.line_relay.specs.Verdicts.{deed_for, IsShortLine, IsShortText};
 
 use crate::ahead::Peer;
 use crate::asking::{RelayText, ask_server, write_line, write_refusal};
@@ -50,7 +50,7 @@ fn find_reply<S: Source, T: Sink, J: Judge>(
     verdict: Verdict,
     line: Line<'_>,
 ) -> Result<bool, ServerFault>
-    requires { IsShort (text_of line) }
+    requires { IsShortLine (text_of line) }
     ensures { Found S.gives T.takes J.hears (deed_for verdict (text_of line.entry)) server.old judge.old text.new.items result server.new judge.new }
 {
     match deed_for(verdict, line) {
@@ -74,7 +74,7 @@ fn take_turn<K: Sink, S: Source, T: Sink, J: Judge>(
     text: &mut RelayText,
     line: Line<'_>,
 ) -> Result<bool, RelayFault>
-    requires { IsShort (text_of line) }
+    requires { IsShortLine (text_of line) }
     ensures { Handled K.takes S.gives T.takes J.judges J.hears (text_of line.entry) sink.old server.old judge.old result sink.new server.new judge.new }
 {
     let verdict = judge.judge(line);

@@ -9,7 +9,7 @@ use Rattle.sched_rules.specs.declared.step.StepOf.TheVariants.{Submit}
 use Rattle.sched_rules.specs.declared.step.DidOf.{DidOf}
 use Rattle.sched_rules.specs.Runs.{tenant_of}
 use Rattle.sched_rules.specs.Trees.{Tenant}
-use Rattle.sched_rules.specs.Cores.{Shared, shared_by_nobody, tenant_in}
+use Rattle.sched_rules.specs.Cores.{CoreState, shared_by_nobody, tenant_in}
 use Rattle.jamboree_core.specs.sched_laws.Fitted.{submits, origins_after}
 use Rattle.jamboree_core.specs.jamboree_rules.declared.leaf.LeafAnswer.{LeafAnswer}
 use Rattle.jamboree_core.specs.jamboree_rules.Places.{root_words}
@@ -24,9 +24,9 @@ use Rattle.jamboree_core.proofs.Serving.{nobody-searches, core-tenant, core-serv
 use Rattle.lone_search.specs.Asked.{HasAsked, HasReserved}
 
 -- a core with no tenant was asked nothing
-pub nothing-asked : (totals : Quota) (shared : Shared) → shared ≡ shared_by_nobody totals → HasAsked [] shared
+pub nothing-asked : (totals : Quota) (shared : CoreState) → shared ≡ shared_by_nobody totals → HasAsked [] shared
 nothing-asked totals shared is =
-    let P : Shared → Type 0 = λ s. HasAsked [] s in
+    let P : CoreState → Type 0 = λ s. HasAsked [] s in
     subst P (sym is) (record { origins = λ number. []; are = refl; searches = nobody-searches totals })
 
 -- nothing is added
@@ -35,12 +35,12 @@ none-added true xs ys none = ap (λ (zs : List (List ℕ)). xs ++ zs) none ∙ a
 none-added false xs ys none = refl
 
 -- what a step keeps of a core of searches
-abbrev pub StepSearches : {I A : Type 0} → Shared → StepOf A → Result (DidOf I) Refusal → Shared → Type 0
+abbrev pub StepSearches : {I A : Type 0} → CoreState → StepOf A → Result (DidOf I) Refusal → CoreState → Type 0
 StepSearches before step answer after =
     (origins : ℕ → List (List ℕ)) → CoreSearches origins before → (is_ok answer ≡ true → IsSearch step) → CoreSearches (origins_after origins step answer) after
 
 -- a step that submits nothing keeps what was asked
-pub step-asks : {I : Type 0} (asked : List (List ℕ)) (before after : Shared) (step : StepOf LeafAnswer) (answer : Result (DidOf I) Refusal) → submits step ≡ [] → IsSearch step → StepSearches before step answer after → HasAsked asked before → HasAsked asked after
+pub step-asks : {I : Type 0} (asked : List (List ℕ)) (before after : CoreState) (step : StepOf LeafAnswer) (answer : Result (DidOf I) Refusal) → submits step ≡ [] → IsSearch step → StepSearches before step answer after → HasAsked asked before → HasAsked asked after
 step-asks asked before after step answer none search searching has =
     record {
       origins = origins_after has.origins step answer;
@@ -49,7 +49,7 @@ step-asks asked before after step answer none search searching has =
     }
 
 -- a Submit of tenant 1 that is taken adds its words
-pub submit-asks : {I : Type 0} (words : List ℕ) (size : ℕ) (before after : Shared) (did : DidOf I) → IsSearch {A = LeafAnswer} (Submit 1 words size) → StepSearches {A = LeafAnswer} before (Submit 1 words size) (Ok did) after → HasAsked [] before → HasAsked (words ∷ []) after
+pub submit-asks : {I : Type 0} (words : List ℕ) (size : ℕ) (before after : CoreState) (did : DidOf I) → IsSearch {A = LeafAnswer} (Submit 1 words size) → StepSearches {A = LeafAnswer} before (Submit 1 words size) (Ok did) after → HasAsked [] before → HasAsked (words ∷ []) after
 submit-asks words size before after did search searching has =
     record {
       origins = origins_after {A = LeafAnswer} has.origins (Submit 1 words size) (Ok did);
@@ -58,14 +58,14 @@ submit-asks words size before after did search searching has =
     }
 
 -- the tenant is one of searches
-pub asked-serves : (asked : List (List ℕ)) (shared : Shared) → HasAsked asked shared → ServesSearches (tenant_in shared.tenants 1)
+pub asked-serves : (asked : List (List ℕ)) (shared : CoreState) → HasAsked asked shared → ServesSearches (tenant_in shared.tenants 1)
 asked-serves asked shared has = core-serves has.origins shared 1 has.searches
 
 -- what is said of its job's outcome for the words that were asked
-abbrev pub TellsOf : Shared → Option Outcome → Type 0
+abbrev pub TellsOf : CoreState → Option Outcome → Type 0
 TellsOf shared outcome = (origins : List (List ℕ)) (owner : Tenant) → tenant_in shared.tenants 1 ≡ Some owner → TenantSearches origins owner → AnswersTo (origin_at origins 1) outcome
 
-pub outcome-to : (words : List ℕ) (quota : Quota) (shared : Shared) (outcome : Option Outcome) → HasReserved quota shared → HasAsked (words ∷ []) shared → TellsOf shared outcome → AnswersTo (Some words) outcome
+pub outcome-to : (words : List ℕ) (quota : Quota) (shared : CoreState) (outcome : Option Outcome) → HasReserved quota shared → HasAsked (words ∷ []) shared → TellsOf shared outcome → AnswersTo (Some words) outcome
 outcome-to words quota shared outcome reserved has tells =
     let to = tells (has.origins 1) reserved.tenant reserved.there (core-tenant has.origins shared 1 reserved.tenant has.searches reserved.there) in rw has.are at to
 

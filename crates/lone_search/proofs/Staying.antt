@@ -5,15 +5,15 @@ use Rattle.std.proofs.lemmas.Bool.{cases_Bool}
 use Rattle.frame_tree.specs.declared.names.FrameId.{FrameId}
 use Rattle.frame_tree.specs.Frames.{Frame, frame_at, parent_of}
 use Rattle.sched_rules.specs.declared.act.InletAct.{InletAct}
-use Rattle.sched_rules.specs.declared.act.Then.{Then}
-use Rattle.sched_rules.specs.declared.act.Then.TheVariants.{Grow, Spawn, Go, Wait, Compute, Return}
+use Rattle.sched_rules.specs.declared.act.Continuation.{Continuation}
+use Rattle.sched_rules.specs.declared.act.Continuation.TheVariants.{Grow, Spawn, Go, Wait, Compute, Return}
 use Rattle.sched_rules.specs.declared.refusal.Refusal.{Refusal}
 use Rattle.sched_rules.specs.declared.refusal.Refusal.TheVariants.{NotReturned, NotSpent}
 use Rattle.sched_rules.specs.declared.step.StepOf.{StepOf}
 use Rattle.sched_rules.specs.declared.step.StepOf.TheVariants.{Take, Steal, Advance, Answer, Inlet, Finish, Spend}
 use Rattle.sched_rules.specs.Functions.{Functions}
 use Rattle.sched_rules.specs.Trees.{Tenant, has_child, words_in}
-use Rattle.sched_rules.specs.Lone.{Outcome, unless, lone_step, counted, holding, take_tests, steal_tests, taken_by, act_of, advance_tests, then_done, advanced, answer_tests, answered, inlet_tests, does_wait, staying, taken_in, inlet_under, finish_tests, finished, is_spendable, spent}
+use Rattle.sched_rules.specs.Lone.{Outcome, unless, lone_step, counted, holding, take_tests, steal_tests, taken_by, act_by_sight, advance_tests, then_done, advanced, answer_tests, answered, inlet_tests, does_wait, staying, taken_in, inlet_under, finish_tests, finished, is_spendable, spent}
 use Rattle.jamboree_core.proofs.sched_laws_Shaped.{unless-passed, frame-found}
 use Rattle.jamboree_core.specs.jamboree_rules.declared.leaf.LeafAnswer.{LeafAnswer}
 use Rattle.pool_rules.specs.declared.turn.Action.{Action}
@@ -46,7 +46,7 @@ Stays tenant (Some after) = after.reserve ≡ tenant.reserve
 came : {I : Type 0} (tenant : Tenant) (effect outcome : Outcome I) → effect ≡ outcome → Stays tenant effect.0 → Stays tenant outcome.0
 came {I} tenant effect outcome is stays = let P : Outcome I → Type 0 = λ o. Stays tenant o.0 in subst P is stays
 
-then-stays : {I A : Type 0} (functions : Functions I A) (tenant t : Tenant) (worker : ℕ) (name : FrameId) (path words : List ℕ) (after : Then) →
+then-stays : {I A : Type 0} (functions : Functions I A) (tenant t : Tenant) (worker : ℕ) (name : FrameId) (path words : List ℕ) (after : Continuation) →
     t.reserve ≡ tenant.reserve → Stays tenant (then_done functions t worker name path words after).0
 then-stays functions tenant t worker name path words (Grow more) r = r
 then-stays functions tenant t worker name path words (Spawn given size) r = r
@@ -72,8 +72,8 @@ step-stays {I} functions tenant (Steal worker from name) outcome work is =
     let f = frame-found tenant.frames name.serial (λ frame. unless (steal_tests tenant worker from frame) (taken_by tenant worker frame)) outcome is in
     let p = unless-passed (steal_tests tenant worker from f.0) (taken_by {I = I} tenant worker f.0) outcome f.2 in came tenant (taken_by tenant worker f.0) outcome p.1 refl
 step-stays functions tenant (Advance worker name) outcome work is =
-    let f = frame-found tenant.frames name.serial (λ frame. unless (advance_tests tenant worker frame (act_of functions tenant frame)) (advanced functions tenant worker name frame (act_of functions tenant frame))) outcome is in
-    let act = act_of functions tenant f.0 in
+    let f = frame-found tenant.frames name.serial (λ frame. unless (advance_tests tenant worker frame (act_by_sight functions tenant frame)) (advanced functions tenant worker name frame (act_by_sight functions tenant frame))) outcome is in
+    let act = act_by_sight functions tenant f.0 in
     let p = unless-passed (advance_tests tenant worker f.0 act) (advanced functions tenant worker name f.0 act) outcome f.2 in
     came tenant (advanced functions tenant worker name f.0 act) outcome p.1 (then-stays functions tenant (counted (holding f.0.serial _ tenant)) worker name f.0.path _ act.after refl)
 step-stays functions tenant (Answer worker name answer) outcome work is =

@@ -11,8 +11,8 @@ use Rattle.sched_rules.specs.declared.step.DidOf.TheVariants.{Admitted}
 use Rattle.sched_rules.specs.Trees.{Tenant, admitted_with, left}
 use Rattle.sched_rules.specs.Lone.{Outcome, lone, lone_step, lone_refusal, refusal_in, submitted}
 use Rattle.sched_rules.specs.Runs.{tenant_of, answer_of}
-use Rattle.sched_rules.specs.Cores.{Shared, CoreOf, shared_by_nobody, shared_with, tenant_in}
-use Rattle.sched_rules.specs.Headline.{IsOneStep, IsKnown}
+use Rattle.sched_rules.specs.Cores.{CoreState, CoreOf, shared_by_nobody, shared_with, tenant_in}
+use Rattle.sched_rules.specs.Headline.{IsOneStep, AreNumbersGiven}
 use Rattle.sched_rules.proofs.Tenants.{tenant_in-with_outcome, tenant_in_other-with_outcome}
 use Rattle.sched_rules.proofs.Isolation.{IsTaken, step-taken, shared-after-taken}
 use Rattle.jamboree_core.proofs.sched_core_Stepping.{IsRunning, runs-begin, runs-on}
@@ -23,7 +23,7 @@ use Rattle.jamboree_core.specs.jamboree_rules.Procedure.{jamboree}
 use Rattle.jamboree_core.specs.jamboree_rules.Places.{root_words}
 use Rattle.jamboree_core.specs.Replies.{IsSearch}
 use Rattle.jamboree_core.specs.jamboree.declared.procedure.Jamboree.{Jamboree}
-use Rattle.lone_search.specs.Asked.{HasRun, HasReserved, WorksOn, IsWork, Keeps, IsBegun}
+use Rattle.lone_search.specs.Asked.{HasRun, HasReserved, WorksOn, IsWork, Keeps, IsNewCore}
 use Rattle.lone_search.proofs.Staying.{Stays, step-stays}
 use Rattle.lone_search.proofs.Asking.{StepSearches, step-asks, submit-asks, nothing-asked}
 
@@ -39,10 +39,10 @@ work-search (Spend name) work = (refl, tt)
 work-search _ work = absurd work
 
 -- a run goes on
-pub run-begins : (grain : ℕ) (totals : Quota) (shared : Shared) → shared ≡ shared_by_nobody totals → HasRun grain totals shared
+pub run-begins : (grain : ℕ) (totals : Quota) (shared : CoreState) → shared ≡ shared_by_nobody totals → HasRun grain totals shared
 run-begins grain totals shared is = record { steps = []; answers = []; right = tt; comes = is }
 
-pub run-on : (grain : ℕ) (totals : Quota) (before : Shared) (step : StepOf LeafAnswer) (answer : Result (DidOf Leaf) Refusal) (after : Shared) → HasRun grain totals before →
+pub run-on : (grain : ℕ) (totals : Quota) (before : CoreState) (step : StepOf LeafAnswer) (answer : Result (DidOf Leaf) Refusal) (after : CoreState) → HasRun grain totals before →
     IsOneStep (jamboree grain) before step answer after → HasRun grain totals after
 run-on grain totals before step answer after run one =
     let first = runs-begin (jamboree grain) (shared_by_nobody totals) [] in
@@ -51,20 +51,20 @@ run-on grain totals before step answer after run one =
     record { steps = run.steps ++ step ∷ []; answers = on.answered; right = on.right; comes = on.left }
 
 -- what a taken step leaves under number 1
-left-in : (grain : ℕ) (before : Shared) (step : StepOf LeafAnswer) (did : DidOf Leaf) (after : Shared) → IsOneStep (jamboree grain) before step (Ok did) after → (t : IsTaken (jamboree grain) before step did) →
+left-in : (grain : ℕ) (before : CoreState) (step : StepOf LeafAnswer) (did : DidOf Leaf) (after : CoreState) → IsOneStep (jamboree grain) before step (Ok did) after → (t : IsTaken (jamboree grain) before step did) →
     (tenant_of step ≡ 1 → tenant_in after.tenants 1 ≡ t.outcome.0) × (tenant_of step ≢ 1 → tenant_in after.tenants 1 ≡ tenant_in before.tenants 1)
 left-in grain before step did after one t =
     let is : after ≡ shared_with before step t.outcome.0 = one.left ∙ shared-after-taken (jamboree grain) before step did t in
-    let entries : tenant_in after.tenants 1 ≡ tenant_in (shared_with before step t.outcome.0).tenants 1 = ap (λ (s : Shared). tenant_in s.tenants 1) is in (
+    let entries : tenant_in after.tenants 1 ≡ tenant_in (shared_with before step t.outcome.0).tenants 1 = ap (λ (s : CoreState). tenant_in s.tenants 1) is in (
       (λ own. entries ∙ ap (λ n. tenant_in (shared_with before step t.outcome.0).tenants n) (sym own) ∙ tenant_in-with_outcome (tenant_of step) t.outcome.0 before.tenants),
       (λ other. entries ∙ tenant_in_other-with_outcome 1 (tenant_of step) t.outcome.0 before.tenants other),
     )
 
 -- the tenant stays, whoever's the worker's step is
-pub reserved-on : (grain : ℕ) (quota : Quota) (before : Shared) (step : StepOf LeafAnswer) (answer : Result (DidOf Leaf) Refusal) (after : Shared) → IsWork step → IsKnown before → HasReserved quota before →
+pub reserved-on : (grain : ℕ) (quota : Quota) (before : CoreState) (step : StepOf LeafAnswer) (answer : Result (DidOf Leaf) Refusal) (after : CoreState) → IsWork step → AreNumbersGiven before → HasReserved quota before →
     IsOneStep (jamboree grain) before step answer after → HasReserved quota after
 reserved-on grain quota before step (Err refusal) after work known has one =
-    record { tenant = has.tenant; there = ap (λ (s : Shared). tenant_in s.tenants 1) one.left ∙ has.there; reserve = has.reserve }
+    record { tenant = has.tenant; there = ap (λ (s : CoreState). tenant_in s.tenants 1) one.left ∙ has.there; reserve = has.reserve }
 reserved-on grain quota before step (Ok did) after work known has one =
     let t = step-taken (jamboree grain) before step did known one.answered in
     let left = left-in grain before step did after one t in
@@ -80,7 +80,7 @@ reserved-on grain quota before step (Ok did) after work known has one =
     by (Some tenant) at stays = record { tenant = tenant; there = at; reserve = stays ∙ has.reserve }
 
 -- a worker's step keeps what is worked on
-pub step-keeps : (before after : CoreOf Jamboree) (step : StepOf LeafAnswer) (answer : Result (DidOf Leaf) Refusal) → IsWork step → IsKnown before.shared → after.procedure ≡ before.procedure →
+pub step-keeps : (before after : CoreOf Jamboree) (step : StepOf LeafAnswer) (answer : Result (DidOf Leaf) Refusal) → IsWork step → AreNumbersGiven before.shared → after.procedure ≡ before.procedure →
     IsOneStep (jamboree before.procedure.grain) before.shared step answer after.shared → StepSearches before.shared step answer after.shared → Keeps before after
 step-keeps before after step answer work known same one searching task works =
     let own : IsOneStep (jamboree task.grain) before.shared step answer after.shared = rw works.grain at one in
@@ -93,13 +93,13 @@ step-keeps before after step answer work known same one searching task works =
     }
 
 -- the tenant comes
-pub begins : (quota : Quota) (before after : CoreOf Jamboree) (did : DidOf Leaf) → before.shared ≡ shared_by_nobody quota → IsKnown before.shared → after.procedure ≡ before.procedure →
-    IsOneStep {A = LeafAnswer} (jamboree before.procedure.grain) before.shared (Admit 1 quota) (Ok did) after.shared → StepSearches {A = LeafAnswer} before.shared (Admit 1 quota) (Ok did) after.shared → IsBegun before.procedure.grain quota after
+pub begins : (quota : Quota) (before after : CoreOf Jamboree) (did : DidOf Leaf) → before.shared ≡ shared_by_nobody quota → AreNumbersGiven before.shared → after.procedure ≡ before.procedure →
+    IsOneStep {A = LeafAnswer} (jamboree before.procedure.grain) before.shared (Admit 1 quota) (Ok did) after.shared → StepSearches {A = LeafAnswer} before.shared (Admit 1 quota) (Ok did) after.shared → IsNewCore before.procedure.grain quota after
 begins quota before after did is known same one searching =
     let grain = before.procedure.grain in
     let t = step-taken {A = LeafAnswer} (jamboree grain) before.shared (Admit 1 quota) did known one.answered in
     let left = (left-in grain before.shared (Admit 1 quota) did after.shared one t).0 refl in
-    let fresh = left ∙ admitted-left t.outcome (ap (λ (o : Option Tenant). lone {A = LeafAnswer} (jamboree grain) o (Admit 1 quota)) (sym (ap (λ (s : Shared). tenant_in s.tenants 1) is)) ∙ t.own) in
+    let fresh = left ∙ admitted-left t.outcome (ap (λ (o : Option Tenant). lone {A = LeafAnswer} (jamboree grain) o (Admit 1 quota)) (sym (ap (λ (s : CoreState). tenant_in s.tenants 1) is)) ∙ t.own) in
     record {
       works = record {
         grain = ap (λ (p : Jamboree). p.grain) same;
@@ -126,10 +126,10 @@ submit-taken : (grain : ℕ) (quota : Quota) (own opp depth : ℕ) → IsWithinL
     lone_step {A = LeafAnswer} (jamboree grain) (admitted_with quota) (Submit 1 (root_words own opp depth) 12) ≡ Ok (submitted (admitted_with quota) 1 (root_words own opp depth) 12)
 submit-taken grain quota own opp depth limits = rw (some-nodes quota limits, some-segments quota limits) refl
 
-pub submits-on : (grain : ℕ) (quota : Quota) (own opp depth : ℕ) (before after : CoreOf Jamboree) (answer : Result (DidOf Leaf) Refusal) → IsWithinLimits quota → IsKnown before.shared → after.procedure ≡ before.procedure →
+pub submits-on : (grain : ℕ) (quota : Quota) (own opp depth : ℕ) (before after : CoreOf Jamboree) (answer : Result (DidOf Leaf) Refusal) → IsWithinLimits quota → AreNumbersGiven before.shared → after.procedure ≡ before.procedure →
     IsSearch {A = LeafAnswer} (Submit 1 (root_words own opp depth) 12) →
     IsOneStep {A = LeafAnswer} (jamboree before.procedure.grain) before.shared (Submit 1 (root_words own opp depth) 12) answer after.shared → StepSearches {A = LeafAnswer} before.shared (Submit 1 (root_words own opp depth) 12) answer after.shared →
-    IsBegun grain quota before → WorksOn (record { grain = grain; quota = quota; asked = root_words own opp depth ∷ [] }) after
+    IsNewCore grain quota before → WorksOn (record { grain = grain; quota = quota; asked = root_words own opp depth ∷ [] }) after
 submits-on grain quota own opp depth before after answer limits known same search one searching begun =
     by answer (rw begun.works.grain at one) searching
   where

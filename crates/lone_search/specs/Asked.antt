@@ -6,7 +6,7 @@ use Rattle.sched_rules.specs.declared.step.StepOf.{StepOf}
 use Rattle.sched_rules.specs.declared.step.StepOf.TheVariants.{Take, Steal, Advance, Answer, Inlet, Finish, Spend}
 use Rattle.sched_rules.specs.declared.step.DidOf.{DidOf}
 use Rattle.sched_rules.specs.Trees.{Tenant, admitted_with}
-use Rattle.sched_rules.specs.Cores.{Shared, CoreOf, shared_by_nobody, tenant_in}
+use Rattle.sched_rules.specs.Cores.{CoreState, CoreOf, shared_by_nobody, tenant_in}
 use Rattle.sched_rules.specs.Headline.{AreAnswersTo, after_answers}
 use Rattle.jamboree_core.specs.jamboree_rules.declared.leaf.Leaf.{Leaf}
 use Rattle.jamboree_core.specs.jamboree_rules.declared.leaf.LeafAnswer.{LeafAnswer}
@@ -15,21 +15,21 @@ use Rattle.jamboree_core.specs.jamboree.declared.procedure.Jamboree.{Jamboree}
 use Rattle.jamboree_core.specs.Searching.{CoreSearches}
 
 -- the core's jobs are searches, and those of tenant 1 were submitted with these words, in order
-pub record HasAsked (asked : List (List ℕ)) (shared : Shared) : Type 0 where
+pub record HasAsked (asked : List (List ℕ)) (shared : CoreState) : Type 0 where
   pub origins : ℕ → List (List ℕ)
   pub are : origins 1 ≡ asked
   pub searches : CoreSearches origins shared
 
 -- a new core of these totals, with this grain, came to this by a list of steps that were each answered as the
 -- definitions say
-pub record HasRun (grain : ℕ) (totals : Quota) (shared : Shared) : Type 0 where
+pub record HasRun (grain : ℕ) (totals : Quota) (shared : CoreState) : Type 0 where
   pub steps : List (StepOf LeafAnswer)
   pub answers : List (Result (DidOf Leaf) Refusal)
   pub right : AreAnswersTo (jamboree grain) (shared_by_nobody totals) steps answers
   pub comes : shared ≡ after_answers (jamboree grain) (shared_by_nobody totals) steps answers
 
 -- tenant 1 is there and reserves this
-pub record HasReserved (quota : Quota) (shared : Shared) : Type 0 where
+pub record HasReserved (quota : Quota) (shared : CoreState) : Type 0 where
   pub tenant : Tenant
   pub there : tenant_in shared.tenants 1 ≡ Some tenant
   pub reserve : tenant.reserve ≡ quota
@@ -65,6 +65,6 @@ IsWork (Spend name) = Unit {0}
 IsWork _ = ⊥
 
 -- a core all of which tenant 1 reserves, who was just admitted and has no job
-pub record IsBegun (grain : ℕ) (quota : Quota) (core : CoreOf Jamboree) : Type 0 where
+pub record IsNewCore (grain : ℕ) (quota : Quota) (core : CoreOf Jamboree) : Type 0 where
   pub works : WorksOn (record { grain = grain; quota = quota; asked = [] }) core
   pub fresh : tenant_in core.shared.tenants 1 ≡ Some (admitted_with quota)

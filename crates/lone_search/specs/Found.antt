@@ -3,8 +3,8 @@ use Rattle.std.specs.Prelude.{◌≡◌, ℕ, List, [], ◌∷◌, Option, Some,
 use Rattle.tenant_quota.specs.Quota.{Quota}
 use Rattle.sched_rules.specs.declared.job.Job.{Job}
 use Rattle.sched_rules.specs.declared.job.Job.TheVariants.{Live, Done as DoneJob, Spent as SpentJob, Cancelled as CancelledJob}
-use Rattle.sched_rules.specs.Cores.{Shared}
-use Rattle.sched_rules.specs.Views.{job_of, left_of}
+use Rattle.sched_rules.specs.Cores.{CoreState}
+use Rattle.sched_rules.specs.Views.{job_of, left_in_core}
 use Rattle.lone_search.specs.Asked.{HasAsked, HasRun, HasReserved}
 use Rattle.lone_search.specs.declared.found.Way.{Way}
 use Rattle.lone_search.specs.declared.found.Way.TheVariants.{Done, Spent, Stopped}
@@ -19,14 +19,14 @@ IsWayOf (Some SpentJob) way = way ≡ Spent
 IsWayOf (Some CancelledJob) way = way ≡ Stopped
 
 -- what was found says how job 1 of tenant 1 ended, and what that tenant has left
-pub record IsFoundIn (shared : Shared) (found : Searched) : Type 0 where
+pub record IsFoundIn (shared : CoreState) (found : Searched) : Type 0 where
   pub way : IsWayOf (job_of shared 1 1) found.way
-  pub left : left_of shared 1 ≡ Some found.left
+  pub left : left_in_core shared 1 ≡ Some found.left
 
 -- what was found is what a core came to from new: it has this grain and these totals, which tenant 1 reserves,
 -- and one job, which was submitted with these words
 pub record IsFoundBy (grain : ℕ) (totals : Quota) (words : List ℕ) (found : Searched) : Type 0 where
-  pub shared : Shared
+  pub shared : CoreState
   pub run : HasRun grain totals shared
   pub reserved : HasReserved totals shared
   pub asked : HasAsked (words ∷ []) shared

@@ -5,7 +5,7 @@ ghost use Rattle.othello_board.specs.Words.{cells};
 ghost use Rattle.othello_eval.specs.Minimax.{minimax, best_choice};
 ghost use Rattle.sched_rules.specs.Cores.{shared_by_nobody};
 ghost use Rattle.jamboree_core.specs.jamboree_rules.Places.{root_words};
-ghost use Rattle.lone_search.specs.Asked.{HasAsked, HasReserved, IsBegun, WorksOn};
+ghost use Rattle.lone_search.specs.Asked.{HasAsked, HasReserved, IsNewCore, WorksOn};
 ghost use Rattle.lone_search.specs.Found.{IsFoundIn};
 
 use crate::found::{Searched, Way};
@@ -31,7 +31,7 @@ pub(crate) fn admit<A: Allocator + Clone>(
     reserve: Reserve,
 ) -> Result<(), AllocError>
     requires { core.old.shared ≡ shared_by_nobody reserve }
-    ensures { IfOk result (λ done. IsBegun core.old.procedure.grain reserve core.new) }
+    ensures { IfOk result (λ done. IsNewCore core.old.procedure.grain reserve core.new) }
 {
     match step_search(core, &StepOf::Admit(TENANT, reserve)) {
         Ok(_) => Ok(()),
@@ -48,7 +48,7 @@ pub(crate) fn ask<A: Allocator + Clone>(
     depth: u8,
 )
     requires { depth ≤ 12 }
-    ensures { (grain : ℕ) (quota : Quota) → IsWithinLimits quota → IsBegun grain quota core.old
+    ensures { (grain : ℕ) (quota : Quota) → IsWithinLimits quota → IsNewCore grain quota core.old
         → WorksOn (record { grain = grain; quota = quota; asked = root_words position.now.board.own position.now.board.opp depth ∷ [] }) core.new }
 {
     let _ = step_search(core, &submit(TENANT, position, depth));

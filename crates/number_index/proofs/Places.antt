@@ -3,7 +3,7 @@ use Rattle.std.proofs.Common.{◌≡◌, ◌≢◌, ℕ, zero, suc, ◌<◌, ◌
 use Rattle.std.proofs.lemmas.Bool.{ltb-true, ltb-false, lt-ltb, eq-eqb, ne_eqb, eqb-true}
 use Rattle.std.proofs.lemmas.List.{get_or_default}
 use Rattle.std.specs.List.Sorted.{IsPartitionedBy, IsPartitionPoint}
-use Rattle.number_index.specs.Places.{count_below, thing_of, AreAbove, AreRising}
+use Rattle.number_index.specs.Places.{count_below, find_by_number, AreAbove, AreRising}
 
 pub above-at : {X : Type 0} (number_of : X → ℕ) (n : ℕ) (xs : List X) (k : ℕ) (d : X) → AreAbove number_of n xs → k < length xs → n < number_of (get_or xs k d)
 above-at number_of n [] k d above lt = absurd (omega arith)
@@ -58,39 +58,39 @@ count_below-found number_of n (x ∷ xs) (suc i) d rising within own =
     (λ above. absurd (omega arith))
 
 -- a thing of this number that stands there is the one that is found
-pub thing_of-found : {X : Type 0} (number_of : X → ℕ) (n : ℕ) (xs : List X) (i : ℕ) (x : X) → AreRising number_of xs → i < length xs → x ≡ get_or xs i x → number_of x ≡ n → thing_of number_of n xs ≡ Some x
-thing_of-found number_of n [] i x rising within at own = absurd (omega arith)
-thing_of-found number_of n (y ∷ ys) zero x rising within at own =
+pub find_by_number-found : {X : Type 0} (number_of : X → ℕ) (n : ℕ) (xs : List X) (i : ℕ) (x : X) → AreRising number_of xs → i < length xs → x ≡ get_or xs i x → number_of x ≡ n → find_by_number number_of n xs ≡ Some x
+find_by_number-found number_of n [] i x rising within at own = absurd (omega arith)
+find_by_number-found number_of n (y ∷ ys) zero x rising within at own =
     let own' : number_of y ≡ n = ap number_of (sym at) ∙ own in rw (eq-eqb (number_of y) n own') (ap Some (sym at))
-thing_of-found number_of n (y ∷ ys) (suc i) x rising within at own =
+find_by_number-found number_of n (y ∷ ys) (suc i) x rising within at own =
     let first : number_of y < number_of (get_or ys i x) = above-at number_of (number_of y) ys i x rising.0 (omega (arith, within)) in
     let here : number_of x ≡ number_of (get_or ys i x) = ap number_of at in
-    rw (ne_eqb (number_of y) n (omega arith)) (thing_of-found number_of n ys i x rising.1 (omega (arith, within)) at own)
+    rw (ne_eqb (number_of y) n (omega arith)) (find_by_number-found number_of n ys i x rising.1 (omega (arith, within)) at own)
 
 -- what is above a number is not of it
-thing_of-above : {X : Type 0} (number_of : X → ℕ) (n m : ℕ) (xs : List X) → n ≤ m → AreAbove number_of m xs → thing_of number_of n xs ≡ None
-thing_of-above number_of n m [] le above = refl
-thing_of-above number_of n m (x ∷ xs) le above =
-    let lt : m < number_of x = above.0 in rw (ne_eqb (number_of x) n (omega arith)) (thing_of-above number_of n m xs le above.1)
+find_by_number-above : {X : Type 0} (number_of : X → ℕ) (n m : ℕ) (xs : List X) → n ≤ m → AreAbove number_of m xs → find_by_number number_of n xs ≡ None
+find_by_number-above number_of n m [] le above = refl
+find_by_number-above number_of n m (x ∷ xs) le above =
+    let lt : m < number_of x = above.0 in rw (ne_eqb (number_of x) n (omega arith)) (find_by_number-above number_of n m xs le above.1)
 
 -- where another thing stands at the place, or none, there is none of this number
-pub thing_of-absent : {X : Type 0} (number_of : X → ℕ) (n : ℕ) (xs : List X) → AreRising number_of xs → ((d : X) → count_below number_of n xs < length xs → number_of (get_or xs (count_below number_of n xs) d) ≢ n) → thing_of number_of n xs ≡ None
-thing_of-absent number_of n [] rising other = refl
-thing_of-absent number_of n (x ∷ xs) rising other =
-    count_below-cases number_of n x xs (λ i. ((d : _) → i < suc (length xs) → number_of (get_or (x ∷ xs) i d) ≢ n) → thing_of number_of n (x ∷ xs) ≡ None)
-    (λ below others. rw (ne_eqb (number_of x) n (omega arith)) (thing_of-absent number_of n xs rising.1 (λ d within. others d (omega arith))))
-    (λ above others. rw (ne_eqb (number_of x) n (others x (omega arith))) (thing_of-above number_of n (number_of x) xs above rising.0)) other
+pub find_by_number-absent : {X : Type 0} (number_of : X → ℕ) (n : ℕ) (xs : List X) → AreRising number_of xs → ((d : X) → count_below number_of n xs < length xs → number_of (get_or xs (count_below number_of n xs) d) ≢ n) → find_by_number number_of n xs ≡ None
+find_by_number-absent number_of n [] rising other = refl
+find_by_number-absent number_of n (x ∷ xs) rising other =
+    count_below-cases number_of n x xs (λ i. ((d : _) → i < suc (length xs) → number_of (get_or (x ∷ xs) i d) ≢ n) → find_by_number number_of n (x ∷ xs) ≡ None)
+    (λ below others. rw (ne_eqb (number_of x) n (omega arith)) (find_by_number-absent number_of n xs rising.1 (λ d within. others d (omega arith))))
+    (λ above others. rw (ne_eqb (number_of x) n (others x (omega arith))) (find_by_number-above number_of n (number_of x) xs above rising.0)) other
 
 -- what was read at the place
 
-pub thing_of-read : {X : Type 0} (number_of : X → ℕ) (n : ℕ) (xs : List X) (i : ℕ) (x again : X) → AreRising number_of xs → i < length xs → x ≡ get_or xs i x → again ≡ get_or xs i again → number_of x ≡ n → Some again ≡ thing_of number_of n xs
-thing_of-read number_of n xs i x again rising within at at_again own =
+pub find_by_number-read : {X : Type 0} (number_of : X → ℕ) (n : ℕ) (xs : List X) (i : ℕ) (x again : X) → AreRising number_of xs → i < length xs → x ≡ get_or xs i x → again ≡ get_or xs i again → number_of x ≡ n → Some again ≡ find_by_number number_of n xs
+find_by_number-read number_of n xs i x again rising within at at_again own =
     let same : x ≡ again = at ∙ get_or_default xs i x again within ∙ sym at_again in
-    sym (thing_of-found number_of n xs i again rising within at_again (ap number_of (sym same) ∙ own))
+    sym (find_by_number-found number_of n xs i again rising within at_again (ap number_of (sym same) ∙ own))
 
-pub thing_of-other : {X : Type 0} (number_of : X → ℕ) (n : ℕ) (xs : List X) (i : ℕ) (x : X) → AreRising number_of xs → i ≡ count_below number_of n xs → i < length xs → x ≡ get_or xs i x → number_of x ≢ n → thing_of number_of n xs ≡ None
-thing_of-other number_of n xs i x rising place within at other =
-    thing_of-absent number_of n xs rising (λ d below own. other (ap number_of (at ∙ get_or_default xs i x d within ∙ ap (λ k. get_or xs k d) place) ∙ own))
+pub find_by_number-other : {X : Type 0} (number_of : X → ℕ) (n : ℕ) (xs : List X) (i : ℕ) (x : X) → AreRising number_of xs → i ≡ count_below number_of n xs → i < length xs → x ≡ get_or xs i x → number_of x ≢ n → find_by_number number_of n xs ≡ None
+find_by_number-other number_of n xs i x rising place within at other =
+    find_by_number-absent number_of n xs rising (λ d below own. other (ap number_of (at ∙ get_or_default xs i x d within ∙ ap (λ k. get_or xs k d) place) ∙ own))
 
-pub thing_of-past : {X : Type 0} (number_of : X → ℕ) (n : ℕ) (xs : List X) (i : ℕ) → AreRising number_of xs → i ≡ count_below number_of n xs → length xs ≤ i → thing_of number_of n xs ≡ None
-thing_of-past number_of n xs i rising place past = thing_of-absent number_of n xs rising (λ d below own. absurd (omega arith))
+pub find_by_number-past : {X : Type 0} (number_of : X → ℕ) (n : ℕ) (xs : List X) (i : ℕ) → AreRising number_of xs → i ≡ count_below number_of n xs → length xs ≤ i → find_by_number number_of n xs ≡ None
+find_by_number-past number_of n xs i rising place past = find_by_number-absent number_of n xs rising (λ d below own. absurd (omega arith))

@@ -10,29 +10,29 @@ count_below number_of n [] = 0
 count_below number_of n (x ∷ xs) = if nat_lt (number_of x) n then suc (count_below number_of n xs) else 0
 
 -- the first thing of this number; None where there is none
-abbrev pub thing_of : {X : Type 0} → (X → ℕ) → ℕ → List X → Option X
-thing_of number_of n [] = None
-thing_of number_of n (x ∷ xs) = if number_of x == n then Some x else thing_of number_of n xs
+abbrev pub find_by_number : {X : Type 0} → (X → ℕ) → ℕ → List X → Option X
+find_by_number number_of n [] = None
+find_by_number number_of n (x ∷ xs) = if number_of x == n then Some x else find_by_number number_of n xs
 
 -- whether there is a thing of this number
-abbrev pub has_thing : {X : Type 0} → (X → ℕ) → ℕ → List X → Bool
-has_thing number_of n [] = false
-has_thing number_of n (x ∷ xs) = (number_of x == n) || has_thing number_of n xs
+abbrev pub has_by_number : {X : Type 0} → (X → ℕ) → ℕ → List X → Bool
+has_by_number number_of n [] = false
+has_by_number number_of n (x ∷ xs) = (number_of x == n) || has_by_number number_of n xs
 
 -- what `say` gives for the first thing of this number; `none` where there is no such thing
-abbrev pub said_of : {X Y : Type 0} → (X → ℕ) → (X → Y) → Y → ℕ → List X → Y
-said_of number_of say none n [] = none
-said_of number_of say none n (x ∷ xs) = if number_of x == n then say x else said_of number_of say none n xs
+abbrev pub read_by_number : {X Y : Type 0} → (X → ℕ) → (X → Y) → Y → ℕ → List X → Y
+read_by_number number_of say none n [] = none
+read_by_number number_of say none n (x ∷ xs) = if number_of x == n then say x else read_by_number number_of say none n xs
 
 -- the list with the first thing of this number changed by `change`; the list itself where there is none
-abbrev pub with_thing : {X : Type 0} → (X → ℕ) → ℕ → (X → X) → List X → List X
-with_thing number_of n change [] = []
-with_thing number_of n change (x ∷ xs) = if number_of x == n then change x ∷ xs else x ∷ with_thing number_of n change xs
+abbrev pub change_by_number : {X : Type 0} → (X → ℕ) → ℕ → (X → X) → List X → List X
+change_by_number number_of n change [] = []
+change_by_number number_of n change (x ∷ xs) = if number_of x == n then change x ∷ xs else x ∷ change_by_number number_of n change xs
 
 -- the list without the first thing of this number; the list itself where there is none
-abbrev pub without_thing : {X : Type 0} → (X → ℕ) → ℕ → List X → List X
-without_thing number_of n [] = []
-without_thing number_of n (x ∷ xs) = if number_of x == n then xs else x ∷ without_thing number_of n xs
+abbrev pub remove_by_number : {X : Type 0} → (X → ℕ) → ℕ → List X → List X
+remove_by_number number_of n [] = []
+remove_by_number number_of n (x ∷ xs) = if number_of x == n then xs else x ∷ remove_by_number number_of n xs
 
 -- the list with one more thing, in front of the first whose number isn't below its own; at the end where there is none
 abbrev pub inserted : {X : Type 0} → (X → ℕ) → X → List X → List X

@@ -3,7 +3,7 @@
 //! Seen as the list of its 256 guesses, each below 64. Nothing that is promised of an answer rests on them.
 ghost use Rattle.std.specs.Prelude.{◌≡◌, ◌<◌, length, replicate, nat_lt, option_copied, slice_index_or, IfSome};
 ghost use Rattle.number_index.specs.Guesses.{with_places};
-ghost use Rattle.number_index.specs.Places.{count_below, thing_of, AreRising};
+ghost use Rattle.number_index.specs.Places.{count_below, find_by_number, AreRising};
 
 use crate::numbered::Numbered;
 use std::marker::Model;
@@ -75,7 +75,7 @@ impl TenantIndex {
     #[inline(always)]
     pub fn find<'a, T: Numbered>(&self, things: &'a [T], number: u64) -> Option<&'a T>
         requires { AreRising T.number_of things.now }
-        ensures { option_copied result ≡ thing_of T.number_of number things.now }
+        ensures { option_copied result ≡ find_by_number T.number_of number things.now }
     {
         match self.guessed(things, number) {
             Some(at) => Some(&things[at]),
@@ -114,7 +114,7 @@ fn search<T: Numbered>(things: &[T], number: u64) -> usize
 #[inline(never)]
 fn look_up<T: Numbered>(things: &[T], number: u64) -> Option<&T>
     requires { AreRising T.number_of things.now }
-    ensures { option_copied result ≡ thing_of T.number_of number things.now }
+    ensures { option_copied result ≡ find_by_number T.number_of number things.now }
 {
     let at = search(things, number);
     if at < things.len() && things[at].number() == number {

@@ -4,12 +4,13 @@ ghost use Rattle.gate_session.specs.Deals.{IsGrantFor};
 
 use crate::counts::Tally;
 use crate::register::Register;
-use crate::shared::Shared;
+use crate::shared::{Shared, micros};
 use customer_book::{Ask, Cause, Grant, Refusal, Who};
 use gate_rules::{Said, read_answer};
 use gate_session::{Books, Note};
 use gate_texts::{SessionRow, push_session};
 use protocol::split_at_space;
+use site_plan::Directory;
 use std::alloc::Global;
 use std::cell::Cell;
 use std::sync::Wait;
@@ -30,6 +31,47 @@ const OFTEN: u64 = 256;
 enum Timed {
     Hello(Instant),
     Wait(Instant),
+}
+
+/// What the log says of a session beside what was counted.
+#[derive(Clone, Copy)]
+struct Session {
+    number: u64,
+    who: Who,
+    class: u8,
+    server: usize,
+    ask: Ask,
+    micros: u64,
+}
+
+/// A session's line of the log, with what was counted in all.
+fn line_of(
+    alloc: Global,
+    directory: &Directory,
+    session: &Session,
+    whole: &Tally,
+    end: &str,
+) -> Option<String> {
+    let server = directory.servers.get(session.server).copied()?;
+    let class = directory.classes.get(session.class as usize)?;
+    let customer = directory.name_of(alloc, session.who).ok()?;
+    let row = SessionRow {
+        number: session.number,
+        customer: customer.as_str(),
+        class: class.as_str(),
+        server,
+        segments: session.ask.segments,
+        nodes: session.ask.nodes,
+        micros: session.micros,
+        lines: whole.lines,
+        bytes: whole.bytes,
+        done: whole.done,
+        spent: whole.spent,
+        end,
+    };
+    let mut out = String::new(alloc);
+    push_session(&mut out, &row).ok()?;
+    Some(out)
 }
 
 /// A session's way to the book.
@@ -84,28 +126,17 @@ impl<'a, R: Clock + Wait> Clerk<'a, R> {
 
     /// The session's line of the log; None where it never had a grant.
     pub(crate) fn log_of(&self, alloc: Global, number: u64, end: &str) -> Option<String> {
-        let register = self.shared.lock.lock(self.rt);
-        let server = register.directory.servers.get(self.server.get()?).copied()?;
-        let customer = register.directory.name_of(alloc, self.account.get()).ok()?;
-        let class = register.directory.classes.get(self.class.get() as usize)?;
-        let whole = self.whole.get();
-        let row = SessionRow {
+        let session = Session {
             number,
-            customer: customer.as_str(),
-            class: class.as_str(),
-            server,
-            segments: self.ask.get().segments,
-            nodes: self.ask.get().nodes,
+            who: self.account.get(),
+            class: self.class.get(),
+            server: self.server.get()?,
+            ask: self.ask.get(),
             micros: self.shared.moment(self.rt).saturating_sub(self.start),
-            lines: whole.lines,
-            bytes: whole.bytes,
-            done: whole.done,
-            spent: whole.spent,
-            end,
         };
-        let mut out = String::new(alloc);
-        push_session(&mut out, &row).ok()?;
-        Some(out)
+        let whole = self.whole.get();
+        let register = self.shared.lock.lock(self.rt);
+        line_of(alloc, &register.directory, &session, &whole, end)
     }
 
     /// Waits before a refusal, as it says.
@@ -250,11 +281,6 @@ impl<'a, R: Clock + Wait> Clerk<'a, R> {
             self.timed.set(Instant::now(self.rt).ok().map(Timed::Wait));
         }
     }
-}
-
-/// Microseconds, as many as a number can say.
-fn micros(time: Duration) -> u64 {
-    u64::try_from(time.as_micros()).unwrap_or(u64::MAX)
 }
 
 /// Whether a refusal comes from what others of the customer, or other guests, have.

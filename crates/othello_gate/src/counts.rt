@@ -3,7 +3,7 @@ ghost use Rattle.std.specs.Prelude.{◌≡◌};
 ghost use Rattle.othello_gate.specs.Rows.{row_of};
 
 use customer_book::{CLASSES, Who};
-use gate_texts::{Buckets, Counts};
+use gate_texts::{BUCKETS, Buckets, Counts};
 use std::alloc::{AllocError, Global};
 
 /// The counts of the guests together, and of each named customer, in each class.
@@ -50,8 +50,8 @@ impl Tally {
 /// The histogram with another's counts added.
 fn sum_of(one: Buckets, other: &Buckets) -> Buckets {
     let mut sum = one;
-    for (count, more) in sum.counts.iter_mut().zip(other.counts.iter()) {
-        *count = count.saturating_add(*more);
+    for place in 0..BUCKETS {
+        sum.counts[place] = sum.counts[place].saturating_add(other.counts[place]);
     }
     sum.sum = sum.sum.saturating_add(other.sum);
     sum
@@ -68,6 +68,11 @@ pub(crate) fn row_of(who: Who) -> usize
     }
 }
 
+/// These counts in each class. (They are its argument, as a proof that sees each number of such a constant takes long.)
+fn in_each_class(counts: Counts) -> [Counts; CLASSES] {
+    [counts; CLASSES]
+}
+
 impl Table {
     /// No counts yet, of so many named customers.
     pub(crate) fn new(alloc: Global, customers: usize) -> Result<Table, AllocError> {
@@ -81,7 +86,7 @@ impl Table {
     /// Rows for so many named customers.
     pub(crate) fn widen(&mut self, customers: usize) -> Result<(), AllocError> {
         let count = self.rows.len().max(customers.saturating_add(1));
-        self.rows.resize(count, [Counts::NONE; CLASSES])
+        self.rows.resize(count, in_each_class(Counts::NONE))
     }
 
     /// All counts of the guests, or of the named customer of this number.

@@ -38,7 +38,7 @@ pub(crate) struct Incoming<'r, R> {
 }
 
 /// What is given at the end of a connection's bytes, so that what stands behind the last LF is a line as any other.
-#[derive(Clone, Copy, Debug, PartialEq, Eq)]
+#[derive(Clone, Copy)]
 enum Last {
     /// Nothing.
     Nothing,

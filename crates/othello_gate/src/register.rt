@@ -9,7 +9,7 @@ use gate_session::KnownServers;
 use site_file::{FileFault, read_site_again};
 use site_plan::{Directory, SitePlan};
 use std::alloc::{AllocError, Global};
-use thiserror::Error;
+use std::fmt;
 
 /// What a file says of amounts, beside the book, which keeps its own.
 #[derive(Drop)]
@@ -68,20 +68,29 @@ pub(crate) struct Register {
 }
 
 /// Why a file isn't gone by.
-#[derive(Debug, Drop, Error)]
+#[derive(Drop)]
 pub(crate) enum ReloadFault {
     /// It is wrong, or there was no memory to read it.
-    #[error("{0}")]
     File(FileFault),
     /// There was no memory.
-    #[error("no memory for what the file says")]
     Memory,
     /// The book can't go by it now.
-    #[error("{0}")]
     Book(ReplanFault),
     /// An address at which the gate listens can't change while it serves.
-    #[error("`listen` and `control` can't change while the gate serves")]
     Listen,
+}
+
+impl fmt::Display for ReloadFault {
+    fn fmt<W: fmt::Write>(&self, f: &mut fmt::Formatter<W>) -> fmt::Result {
+        match self {
+            ReloadFault::File(fault) => fmt::Display::fmt(fault, f),
+            ReloadFault::Memory => f.write_str("no memory for what the file says"),
+            ReloadFault::Book(fault) => fmt::Display::fmt(fault, f),
+            ReloadFault::Listen => f.write_str(
+                "`listen` and `control` can't change while the gate serves",
+            ),
+        }
+    }
 }
 
 impl Register {

@@ -2,7 +2,7 @@
 use crate::logging::Log;
 use crate::register::Register;
 use std::sync::{Condvar, Mutex};
-use std::time::{Clock, Instant};
+use std::time::{Clock, Duration, Instant};
 
 /// What all threads share.
 #[derive(Drop)]
@@ -21,10 +21,13 @@ impl Shared {
     /// Microseconds since the gate began.
     pub(crate) fn moment(&self, clock: &impl Clock) -> u64 {
         match (self.start, Instant::now(clock)) {
-            (Some(start), Ok(now)) => u64::try_from(
-                now.duration_since(start).as_micros(),
-            ).unwrap_or(u64::MAX),
+            (Some(start), Ok(now)) => micros(now.duration_since(start)),
             _ => 0,
         }
     }
+}
+
+/// Microseconds, as many as a number can say.
+pub(crate) fn micros(time: Duration) -> u64 {
+    u64::try_from(time.as_micros()).unwrap_or(u64::MAX)
 }

@@ -145,14 +145,14 @@ fn push_server<'a>(
     register: &'a Register,
     number: usize,
 ) -> Result<(), AllocError> {
-    let (Some(address), Some(server)) = (
-        register.directory.servers.get(number),
-        register.amounts.servers.get(number),
-    ) else {
+    let Some(address) = register.directory.servers.get(number).copied() else {
+        return Ok(());
+    };
+    let Some(server) = register.amounts.servers.get(number).copied() else {
         return Ok(());
     };
     all.servers.push(ServerRow {
-        address: *address,
+        address,
         class: class_name(register, server.class),
         used: register.book.used(Part::At(number)),
         whole: Amount {

@@ -15,8 +15,8 @@ use std::net::{Ipv4Addr, Net, SocketAddr, TcpListener, TcpStream};
 use std::sync::Wait;
 use std::sync::ledger::Blank;
 use std::thread::Threads;
-use tcp_server::desk::{Config, Desk, Hall, Hands, PARTS};
-use tcp_server::steal_pool::{Announce, Open};
+use tcp_server::desk::{Config, Desk, DeskLedger, Hall, PARTS};
+use tcp_server::steal_pool::{Announce, OpenGate};
 use tcp_server::{ServeFault, ServerConfig, serve_announced};
 use thiserror::Error;
 
@@ -109,7 +109,7 @@ pub fn serve_as_asked<L, R, K: Sink, E: Sink>(
     errors: &mut E,
 ) -> u8
 where
-    L: Hands + Send + Sync,
+    L: DeskLedger + Send + Sync,
     R: Net<Listener = TcpListener, Stream = TcpStream> + Threads + Wait + Sync,
     requires name { blank.name ≡ L.name }
     requires parts { (blank.parts ≡ L.parts) × (L.all ≡ L.parts) × (L.all ≡ PARTS) }
@@ -135,7 +135,7 @@ fn serve_at<L, R, K: Sink>(
     sink: &mut K,
 ) -> Result<(), Unserved>
 where
-    L: Hands + Send + Sync,
+    L: DeskLedger + Send + Sync,
     R: Net<Listener = TcpListener, Stream = TcpStream> + Threads + Wait + Sync,
     requires name { blank.name ≡ L.name }
     requires parts { (blank.parts ≡ L.parts) × (L.all ≡ L.parts) × (L.all ≡ PARTS) }
@@ -164,7 +164,7 @@ fn serve_from<L, R, K: Sink>(
     sink: &mut K,
 ) -> Result<(), Unserved>
 where
-    L: Hands + Send + Sync,
+    L: DeskLedger + Send + Sync,
     R: Net<Listener = TcpListener, Stream = TcpStream> + Threads + Wait + Sync,
     requires { L.all ≡ L.parts }
     ensures { IfOk result (λ _. IsServed K.takes sink.old asked.sessions sink.new) }
@@ -179,7 +179,7 @@ where
         address,
     };
     let config = ServerConfig::new(asked.sessions, asked.workers);
-    let (told, _end) = serve_announced(rt, alloc, desk, listener, config, &Open, call)?;
+    let (told, _end) = serve_announced(rt, alloc, desk, listener, config, &OpenGate, call)?;
     let Listening { sink: told, .. } = told;
     if is_ended(alloc, told, asked.sessions) {
         Ok(())

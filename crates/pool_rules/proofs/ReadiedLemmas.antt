@@ -5,30 +5,30 @@ use Rattle.frame_tree.specs.declared.names.State.TheVariants.{Ready, Running, Co
 use Rattle.frame_tree.specs.Frames.{Frame, frame_at, parent_of, root_of, IsReadyAt, IsTree}
 use Rattle.sched_rules.specs.declared.act.Act.{Act}
 use Rattle.sched_rules.specs.declared.act.InletAct.{InletAct}
-use Rattle.sched_rules.specs.declared.act.Then.{Then}
-use Rattle.sched_rules.specs.declared.act.Then.TheVariants.{Grow, Spawn, Go, Wait, Compute, Return}
+use Rattle.sched_rules.specs.declared.act.Continuation.{Continuation}
+use Rattle.sched_rules.specs.declared.act.Continuation.TheVariants.{Grow, Spawn, Go, Wait, Compute, Return}
 use Rattle.sched_rules.specs.declared.refusal.Refusal.{Refusal}
 use Rattle.sched_rules.specs.declared.refusal.Refusal.TheVariants.{NotSpent}
 use Rattle.sched_rules.specs.declared.step.StepOf.{StepOf}
 use Rattle.sched_rules.specs.declared.step.StepOf.TheVariants.{Take, Steal, Spend}
 use Rattle.sched_rules.specs.declared.step.DidOf.TheVariants.{Went, Waited, Returned as HasReturned, TakenIn}
 use Rattle.sched_rules.specs.Functions.{Functions}
-use Rattle.sched_rules.specs.Trees.{Tree, Tenant, with_words, has_child, words_in, stored, is_root}
+use Rattle.sched_rules.specs.Trees.{Tree, Tenant, with_frame_words, has_child, words_in, stored, is_root}
 use Rattle.sched_rules.specs.Runs.{tenant_of}
-use Rattle.sched_rules.specs.Lone.{Outcome, unless, at_frame, lone_step, take_tests, steal_tests, taken_by, act_of, advance_tests, advanced, then_done, holding, in_state, counted, does_wait, aborted_beside, answer_tests, answered, inlet_tests, inlet_under, taken_in, staying, finish_tests, finished, spent, is_spendable}
+use Rattle.sched_rules.specs.Lone.{Outcome, unless, at_frame, lone_step, take_tests, steal_tests, taken_by, act_by_sight, advance_tests, advanced, then_done, holding, in_state, counted, does_wait, aborted_beside, answer_tests, answered, inlet_tests, inlet_under, taken_in, staying, finish_tests, finished, spent, is_spendable}
 use Rattle.jamboree_rules.specs.declared.leaf.Leaf.{Leaf}
 use Rattle.jamboree_rules.specs.declared.leaf.LeafAnswer.{LeafAnswer}
 use Rattle.pool_rules.specs.declared.turn.Action.{Action}
 use Rattle.pool_rules.specs.declared.turn.Action.TheVariants.{Get, Run, Bring, TakeIn, Finish}
 use Rattle.pool_rules.specs.declared.turn.Holding.{Holding}
 use Rattle.pool_rules.specs.declared.turn.Holding.TheVariants.{Nothing, Next, Computing as IsComputed, GivingUp}
-use Rattle.pool_rules.specs.Turns.{readied, task_at, frame_of, step_of, offered}
-use Rattle.pool_rules.specs.Readied.{frames_in, IsNoneForgotten, PushesWhatItReadied}
-use Rattle.pool_rules.proofs.ReadyFrames.{ready-with_state, ready-with_other, ready-with_words, ready-without, ready-aborted, ready-without_job, ready-push}
+use Rattle.pool_rules.specs.Turns.{readied, task_at, frame_of_action, step_of, offered}
+use Rattle.pool_rules.specs.Readied.{frames_of_tenant, IsNoneForgotten, PushesWhatItReadied}
+use Rattle.pool_rules.proofs.ReadyFrames.{ready-with_state, ready-with_other, ready-with_frame_words, ready-without, ready-aborted, ready-without_job, ready-push}
 
 -- no ready frame is forgotten by what a worker's step did
 abbrev Names : Tree → ℕ → ℕ → Outcome Leaf → Type 0
-Names before tenant worker outcome = IsNoneForgotten tenant before (frames_in outcome.0) (task_at worker (readied outcome.1))
+Names before tenant worker outcome = IsNoneForgotten tenant before (frames_of_tenant outcome.0) (task_at worker (readied outcome.1))
 
 -- frames of which each that is ready was ready before
 abbrev NoneMore : Tree → Tree → Type 0
@@ -49,10 +49,10 @@ taken-names : (before : Tenant) (tenant worker : ℕ) (frame : Frame (List ℕ))
 taken-names before tenant worker frame serial home ready = inl (ready-with_other frame.serial (Running worker) before.frames serial home refl ready)
 
 -- what comes after the stores
-then-names : (functions : Functions Leaf LeafAnswer) (first : Tree) (before : Tenant) (worker : ℕ) (name : FrameId) (path words : List ℕ) (after : Then) → NoneMore first before.frames →
+then-names : (functions : Functions Leaf LeafAnswer) (first : Tree) (before : Tenant) (worker : ℕ) (name : FrameId) (path words : List ℕ) (after : Continuation) → NoneMore first before.frames →
     Names first name.tenant worker (then_done functions before worker name path words after)
 then-names functions first before worker name path words (Grow more) none serial home ready =
-    inl (none serial home (ready-with_words name.serial (words ++ replicate more 0) before.frames serial home ready))
+    inl (none serial home (ready-with_frame_words name.serial (words ++ replicate more 0) before.frames serial home ready))
 then-names functions first before worker name path words (Spawn given size) none serial home ready =
     elim (ready-push before.frames _ serial home ready) [
       | inl was ↦ inl (none serial home was)
@@ -77,14 +77,14 @@ advanced-names : (functions : Functions Leaf LeafAnswer) (before : Tenant) (work
 advanced-names functions before worker name frame act =
     let words = stored act.stores frame.value in
     then-names functions before.frames (counted (holding frame.serial words before)) worker name frame.path words act.after
-    (λ serial home ready. ready-with_words frame.serial words before.frames serial home ready)
+    (λ serial home ready. ready-with_frame_words frame.serial words before.frames serial home ready)
 
 -- Answer
 answered-names : (functions : Functions Leaf LeafAnswer) (before : Tenant) (tenant worker : ℕ) (frame : Frame (List ℕ)) (answer : LeafAnswer) → Names before.frames tenant worker (answered functions before worker frame answer)
 answered-names functions before tenant worker frame answer serial home ready =
     let words = stored (functions.accept frame.value answer) frame.value in
-    inl (ready-with_words frame.serial words before.frames serial home
-    (ready-with_other frame.serial (Running worker) (with_words frame.serial words before.frames) serial home refl ready))
+    inl (ready-with_frame_words frame.serial words before.frames serial home
+    (ready-with_other frame.serial (Running worker) (with_frame_words frame.serial words before.frames) serial home refl ready))
 
 -- the frames that stay at an inlet
 staying-names : (before : Tree) (child parent : ℕ) (abort : Bool) → IsTree before → NoneMore before (staying before child parent abort)
@@ -99,7 +99,7 @@ inlet-names before worker name parent act tree =
     let words = stored act.stores (words_in frames parent) in
     let after : Tenant = counted (holding parent words (record before { frames = frames })) in
     let gone = aborted_beside before.frames name.serial parent act.abort in
-    let same : NoneMore before.frames after.frames = λ serial home ready. staying-names before.frames name.serial parent act.abort tree serial home (ready-with_words parent words frames serial home ready) in
+    let same : NoneMore before.frames after.frames = λ serial home ready. staying-names before.frames name.serial parent act.abort tree serial home (ready-with_frame_words parent words frames serial home ready) in
     let N : Bool → Type 0 = λ b. Names before.frames name.tenant worker (if b then (Some (in_state parent (Ready worker) after), TakenIn (Some (record name { serial = parent })) gone) else (Some after, TakenIn None gone)) in
     elim is_woken as N [
       | true ↦
@@ -124,12 +124,12 @@ finished-names : (before : Tenant) (tenant worker : ℕ) (frame : Frame (List �
 finished-names before tenant worker frame tree serial home ready = inl (ready-without_job frame.serial before.frames serial home tree ready)
 
 -- Spend
-spent-names : (before : Tenant) (tenant : ℕ) (frame : Frame (List ℕ)) → IsTree before.frames → IsNoneForgotten tenant before.frames (frames_in (spent {I = Leaf} before frame).0) None
+spent-names : (before : Tenant) (tenant : ℕ) (frame : Frame (List ℕ)) → IsTree before.frames → IsNoneForgotten tenant before.frames (frames_of_tenant (spent {I = Leaf} before frame).0) None
 spent-names before tenant frame tree serial home ready = inl (ready-without_job (root_of frame.path) before.frames serial home tree ready)
 
 -- each step of a worker
 action-names : (functions : Functions Leaf LeafAnswer) (before : Tenant) (worker : ℕ) (action : Action) → IsTree before.frames →
-    IfOk (lone_step functions before (step_of worker action)) (Names before.frames (frame_of action).tenant worker)
+    IfOk (lone_step functions before (step_of worker action)) (Names before.frames (frame_of_action action).tenant worker)
 action-names functions before worker (Get task) tree =
     let N = Names before.frames task.frame.tenant worker in
     let S : Bool → Type 0 = λ own. IfOk (lone_step functions before (if own then Take worker task.frame else Steal worker task.home task.frame)) N in
@@ -140,7 +140,7 @@ action-names functions before worker (Get task) tree =
 action-names functions before worker (Run name) tree =
     let N = Names before.frames name.tenant worker in
     frame-taken N (frame_at before.frames name.serial) _ (λ frame.
-    let act = act_of functions before frame in
+    let act = act_by_sight functions before frame in
     unless-taken N (advance_tests before worker frame act) (advanced functions before worker name frame act) (advanced-names functions before worker name frame act))
 action-names functions before worker (Bring name answer) tree =
     let N = Names before.frames name.tenant worker in
@@ -155,14 +155,14 @@ action-names functions before worker (Finish name) tree =
 
 -- a job that is spent
 spend-names : (functions : Functions Leaf LeafAnswer) (before : Tenant) (name : FrameId) → IsTree before.frames →
-    IfOk (lone_step functions before (Spend name)) (λ outcome. IsNoneForgotten name.tenant before.frames (frames_in outcome.0) None)
+    IfOk (lone_step functions before (Spend name)) (λ outcome. IsNoneForgotten name.tenant before.frames (frames_of_tenant outcome.0) None)
 spend-names functions before name tree =
-    let N : Outcome Leaf → Type 0 = λ outcome. IsNoneForgotten name.tenant before.frames (frames_in outcome.0) None in
+    let N : Outcome Leaf → Type 0 = λ outcome. IsNoneForgotten name.tenant before.frames (frames_of_tenant outcome.0) None in
     frame-taken N (frame_at before.frames name.serial) _ (λ frame.
     unless-taken N ((not (is_spendable functions before frame), NotSpent) ∷ []) (spent before frame) (spent-names before name.tenant frame tree))
 
 -- whose step it is
-pub tenant_of-step_of : (worker : ℕ) (action : Action) → tenant_of (step_of worker action) ≡ (frame_of action).tenant
+pub tenant_of-step_of : (worker : ℕ) (action : Action) → tenant_of (step_of worker action) ≡ (frame_of_action action).tenant
 tenant_of-step_of worker (Get task) =
     elim (task.home == worker) as (λ own. tenant_of {A = LeafAnswer} (if own then Take worker task.frame else Steal worker task.home task.frame) ≡ task.frame.tenant) [ true ↦ refl | false ↦ refl ]
 tenant_of-step_of worker (Run name) = refl
@@ -176,10 +176,10 @@ pub pushes-readied : (functions : Functions Leaf LeafAnswer) (tenant : Tenant) (
 pushes-readied functions tenant worker Nothing step tree same = absurd cc
 pushes-readied functions tenant worker (Next action) step tree same =
     let its : step_of worker action ≡ step = cc in
-    let F : ℕ → Type 0 = λ number. IfOk (lone_step functions tenant (step_of worker action)) (λ outcome. IsNoneForgotten number tenant.frames (frames_in outcome.0) (task_at worker (readied outcome.1))) in
+    let F : ℕ → Type 0 = λ number. IfOk (lone_step functions tenant (step_of worker action)) (λ outcome. IsNoneForgotten number tenant.frames (frames_of_tenant outcome.0) (task_at worker (readied outcome.1))) in
     let names : F (tenant_of (step_of worker action)) = subst F (sym (tenant_of-step_of worker action)) (action-names functions tenant worker action tree) in
     subst (λ (s : StepOf LeafAnswer). PushesWhatItReadied functions tenant worker (Next action) s) its names
 pushes-readied functions tenant worker (IsComputed frame leaf) step tree same = absurd cc
 pushes-readied functions tenant worker (GivingUp action) step tree same =
-    let its : Spend (frame_of action) ≡ step = cc in
-    subst (λ (s : StepOf LeafAnswer). PushesWhatItReadied functions tenant worker (GivingUp action) s) its (spend-names functions tenant (frame_of action) tree)
+    let its : Spend (frame_of_action action) ≡ step = cc in
+    subst (λ (s : StepOf LeafAnswer). PushesWhatItReadied functions tenant worker (GivingUp action) s) its (spend-names functions tenant (frame_of_action action) tree)

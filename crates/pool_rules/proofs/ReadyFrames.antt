@@ -7,7 +7,7 @@ use Rattle.frame_tree.specs.Frames.{Frame, frame_at, has_frame, IsReadyAt, IsTre
 use Rattle.frame_tree.specs.TreeLaws.{if_kept}
 use Rattle.frame_tree.proofs.TreeLaws.{frame_at-left, frame_at-right, frame_at-push}
 use Rattle.frame_tree.proofs.TreeChanges.{frame_at-without, frame_at_other-without, frame_at-aborted}
-use Rattle.sched_rules.specs.Trees.{Tree, with_words, without_job}
+use Rattle.sched_rules.specs.Trees.{Tree, with_frame_words, without_job}
 use Rattle.sched_rules.specs.Lone.{does_wait}
 
 -- another state in a frame: it is ready where it was, or it is that frame, and the state is Ready
@@ -34,18 +34,18 @@ ready-with_other n state xs s home never ready = elim (ready-with_state n state 
 ]
 
 -- other words make none ready
-pub ready-with_words : (n : ℕ) (words : List ℕ) (xs : Tree) (s home : ℕ) → IsReadyAt (frame_at (with_words n words xs) s) home → IsReadyAt (frame_at xs s) home
-ready-with_words n words [] s home ready = ready
-ready-with_words n words (x ∷ xs) s home ready = elim (cases_Bool (eqb x.serial n)) [
+pub ready-with_frame_words : (n : ℕ) (words : List ℕ) (xs : Tree) (s home : ℕ) → IsReadyAt (frame_at (with_frame_words n words xs) s) home → IsReadyAt (frame_at xs s) home
+ready-with_frame_words n words [] s home ready = ready
+ready-with_frame_words n words (x ∷ xs) s home ready = elim (cases_Bool (eqb x.serial n)) [
   | inl same ↦
       elim (cases_Bool (eqb x.serial s)) [
         | inl here ↦ rw here (rw (same, here) at ready)
-        | inr gone ↦ rw gone (ready-with_words n words xs s home (rw (same, gone) at ready))
+        | inr gone ↦ rw gone (ready-with_frame_words n words xs s home (rw (same, gone) at ready))
       ]
   | inr other ↦
       elim (cases_Bool (eqb x.serial s)) [
         | inl here ↦ rw here (rw (other, here) at ready)
-        | inr gone ↦ rw gone (ready-with_words n words xs s home (rw (other, gone) at ready))
+        | inr gone ↦ rw gone (ready-with_frame_words n words xs s home (rw (other, gone) at ready))
       ]
 ]
 
@@ -88,15 +88,15 @@ ready-push xs y s home ready =
     ]
 
 -- where all serials are below one, they are so with other words
-pub below-with_words : (top n : ℕ) (words : List ℕ) (xs : Tree) → AllBelow top xs → AllBelow top (with_words n words xs)
-below-with_words top n words [] below = tt
-below-with_words top n words (x ∷ xs) below = elim (cases_Bool (eqb x.serial n)) [
-  | inl same ↦ rw same (below.0, below-with_words top n words xs below.1)
-  | inr other ↦ rw other (below.0, below-with_words top n words xs below.1)
+pub below-with_frame_words : (top n : ℕ) (words : List ℕ) (xs : Tree) → AllBelow top xs → AllBelow top (with_frame_words n words xs)
+below-with_frame_words top n words [] below = tt
+below-with_frame_words top n words (x ∷ xs) below = elim (cases_Bool (eqb x.serial n)) [
+  | inl same ↦ rw same (below.0, below-with_frame_words top n words xs below.1)
+  | inr other ↦ rw other (below.0, below-with_frame_words top n words xs below.1)
 ]
 
 -- the frame that is woken is ready, whatever its words became
-pub ready-woken : (p home : ℕ) (words : List ℕ) (xs : Tree) → does_wait (frame_at xs p) ≡ true → IsReadyAt (frame_at (with_state p (Ready home) (with_words p words xs)) p) home
+pub ready-woken : (p home : ℕ) (words : List ℕ) (xs : Tree) → does_wait (frame_at xs p) ≡ true → IsReadyAt (frame_at (with_state p (Ready home) (with_frame_words p words xs)) p) home
 ready-woken p home words [] waits = absurd cc
 ready-woken p home words (x ∷ xs) waits = elim (cases_Bool (eqb x.serial p)) [
   | inl same ↦ rw (same, same, same) refl

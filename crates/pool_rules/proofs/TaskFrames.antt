@@ -4,8 +4,8 @@ use Rattle.frame_tree.specs.declared.names.FrameId.{FrameId}
 use Rattle.frame_tree.specs.declared.names.State.TheVariants.{Ready, Waiting, Returned}
 use Rattle.frame_tree.specs.Frames.{Frame, frame_at, parent_of, AllBelow}
 use Rattle.sched_rules.specs.declared.act.InletAct.{InletAct}
-use Rattle.sched_rules.specs.declared.act.Then.{Then}
-use Rattle.sched_rules.specs.declared.act.Then.TheVariants.{Grow, Spawn, Go, Wait, Compute, Return}
+use Rattle.sched_rules.specs.declared.act.Continuation.{Continuation}
+use Rattle.sched_rules.specs.declared.act.Continuation.TheVariants.{Grow, Spawn, Go, Wait, Compute, Return}
 use Rattle.sched_rules.specs.declared.refusal.Refusal.TheVariants.{NotSpent}
 use Rattle.sched_rules.specs.declared.step.StepOf.{StepOf}
 use Rattle.sched_rules.specs.declared.step.StepOf.TheVariants.{Take, Steal, Spend}
@@ -13,24 +13,24 @@ use Rattle.sched_rules.specs.declared.step.DidOf.TheVariants.{Went, Waited, Retu
 use Rattle.sched_rules.specs.Functions.{Functions}
 use Rattle.sched_rules.specs.Trees.{Tenant, has_child, words_in, stored, is_root}
 use Rattle.sched_rules.specs.Runs.{tenant_of}
-use Rattle.sched_rules.specs.Lone.{Outcome, lone_step, take_tests, steal_tests, taken_by, act_of, advance_tests, advanced, then_done, holding, in_state, counted, does_wait, aborted_beside, answer_tests, answered, inlet_tests, inlet_under, taken_in, staying, finish_tests, finished, spent, is_spendable}
+use Rattle.sched_rules.specs.Lone.{Outcome, lone_step, take_tests, steal_tests, taken_by, act_by_sight, advance_tests, advanced, then_done, holding, in_state, counted, does_wait, aborted_beside, answer_tests, answered, inlet_tests, inlet_under, taken_in, staying, finish_tests, finished, spent, is_spendable}
 use Rattle.jamboree_rules.specs.declared.leaf.Leaf.{Leaf}
 use Rattle.jamboree_rules.specs.declared.leaf.LeafAnswer.{LeafAnswer}
 use Rattle.pool_rules.specs.declared.turn.Action.{Action}
 use Rattle.pool_rules.specs.declared.turn.Action.TheVariants.{Get, Run, Bring, TakeIn, Finish}
 use Rattle.pool_rules.specs.declared.turn.Holding.{Holding}
 use Rattle.pool_rules.specs.declared.turn.Holding.TheVariants.{Nothing, Next, Computing as IsComputed, GivingUp}
-use Rattle.pool_rules.specs.Turns.{readied, task_at, frame_of, step_of, offered}
-use Rattle.pool_rules.specs.Readied.{frames_in, IsOfAReadyFrame, PushesWhatIsReady}
-use Rattle.pool_rules.proofs.ReadyFrames.{below-with_words, ready-woken, ready-pushed}
+use Rattle.pool_rules.specs.Turns.{readied, task_at, frame_of_action, step_of, offered}
+use Rattle.pool_rules.specs.Readied.{frames_of_tenant, IsOfAReadyFrame, PushesWhatIsReady}
+use Rattle.pool_rules.proofs.ReadyFrames.{below-with_frame_words, ready-woken, ready-pushed}
 use Rattle.pool_rules.proofs.ReadiedLemmas.{unless-taken, frame-taken, tenant_of-step_of}
 
 -- the task of what a worker's step did is of a ready frame
 abbrev IsTasked : ℕ → ℕ → Outcome Leaf → Type 0
-IsTasked tenant worker outcome = IsOfAReadyFrame tenant (frames_in outcome.0) (task_at worker (readied outcome.1))
+IsTasked tenant worker outcome = IsOfAReadyFrame tenant (frames_of_tenant outcome.0) (task_at worker (readied outcome.1))
 
 -- what comes after the stores
-then-ready : (functions : Functions Leaf LeafAnswer) (before : Tenant) (worker : ℕ) (name : FrameId) (path words : List ℕ) (after : Then) → AllBelow (before.serials + 1) before.frames →
+then-ready : (functions : Functions Leaf LeafAnswer) (before : Tenant) (worker : ℕ) (name : FrameId) (path words : List ℕ) (after : Continuation) → AllBelow (before.serials + 1) before.frames →
     IsTasked name.tenant worker (then_done functions before worker name path words after)
 then-ready functions before worker name path words (Grow more) below = tt
 then-ready functions before worker name path words (Spawn given size) below =
@@ -66,7 +66,7 @@ under-ready functions before worker name frame (Some parent) =
 
 -- each step of a worker
 action-ready : (functions : Functions Leaf LeafAnswer) (before : Tenant) (worker : ℕ) (action : Action) → AllBelow (before.serials + 1) before.frames →
-    IfOk (lone_step functions before (step_of worker action)) (IsTasked (frame_of action).tenant worker)
+    IfOk (lone_step functions before (step_of worker action)) (IsTasked (frame_of_action action).tenant worker)
 action-ready functions before worker (Get task) below =
     let R = IsTasked task.frame.tenant worker in
     let S : Bool → Type 0 = λ own. IfOk (lone_step functions before (if own then Take worker task.frame else Steal worker task.home task.frame)) R in
@@ -77,10 +77,10 @@ action-ready functions before worker (Get task) below =
 action-ready functions before worker (Run name) below =
     let R = IsTasked name.tenant worker in
     frame-taken R (frame_at before.frames name.serial) _ (λ frame.
-    let act = act_of functions before frame in
+    let act = act_by_sight functions before frame in
     let words = stored act.stores frame.value in
     unless-taken R (advance_tests before worker frame act) (advanced functions before worker name frame act)
-    (then-ready functions (counted (holding frame.serial words before)) worker name frame.path words act.after (below-with_words (before.serials + 1) frame.serial words before.frames below)))
+    (then-ready functions (counted (holding frame.serial words before)) worker name frame.path words act.after (below-with_frame_words (before.serials + 1) frame.serial words before.frames below)))
 action-ready functions before worker (Bring name answer) below =
     let R = IsTasked name.tenant worker in
     frame-taken R (frame_at before.frames name.serial) _ (λ frame. unless-taken R (answer_tests functions before worker frame answer) (answered functions before worker frame answer) tt)
@@ -91,9 +91,9 @@ action-ready functions before worker (Finish name) below =
     frame-taken R (frame_at before.frames name.serial) _ (λ frame. unless-taken R (finish_tests before worker frame) (finished before frame) tt)
 
 -- a job that is spent
-spend-ready : (functions : Functions Leaf LeafAnswer) (before : Tenant) (name : FrameId) → IfOk (lone_step functions before (Spend name)) (λ outcome. IsOfAReadyFrame name.tenant (frames_in outcome.0) None)
+spend-ready : (functions : Functions Leaf LeafAnswer) (before : Tenant) (name : FrameId) → IfOk (lone_step functions before (Spend name)) (λ outcome. IsOfAReadyFrame name.tenant (frames_of_tenant outcome.0) None)
 spend-ready functions before name =
-    let R : Outcome Leaf → Type 0 = λ outcome. IsOfAReadyFrame name.tenant (frames_in outcome.0) None in
+    let R : Outcome Leaf → Type 0 = λ outcome. IsOfAReadyFrame name.tenant (frames_of_tenant outcome.0) None in
     frame-taken R (frame_at before.frames name.serial) _ (λ frame. unless-taken R ((not (is_spendable functions before frame), NotSpent) ∷ []) (spent before frame) tt)
 
 -- a worker pushes frames that are ready, and no others
@@ -102,10 +102,10 @@ pub pushes-ready : (functions : Functions Leaf LeafAnswer) (tenant : Tenant) (wo
 pushes-ready functions tenant worker Nothing step below same = absurd cc
 pushes-ready functions tenant worker (Next action) step below same =
     let its : step_of worker action ≡ step = cc in
-    let F : ℕ → Type 0 = λ number. IfOk (lone_step functions tenant (step_of worker action)) (λ outcome. IsOfAReadyFrame number (frames_in outcome.0) (task_at worker (readied outcome.1))) in
+    let F : ℕ → Type 0 = λ number. IfOk (lone_step functions tenant (step_of worker action)) (λ outcome. IsOfAReadyFrame number (frames_of_tenant outcome.0) (task_at worker (readied outcome.1))) in
     let ready : F (tenant_of (step_of worker action)) = subst F (sym (tenant_of-step_of worker action)) (action-ready functions tenant worker action below) in
     subst (λ (s : StepOf LeafAnswer). PushesWhatIsReady functions tenant worker (Next action) s) its ready
 pushes-ready functions tenant worker (IsComputed frame leaf) step below same = absurd cc
 pushes-ready functions tenant worker (GivingUp action) step below same =
-    let its : Spend (frame_of action) ≡ step = cc in
-    subst (λ (s : StepOf LeafAnswer). PushesWhatIsReady functions tenant worker (GivingUp action) s) its (spend-ready functions tenant (frame_of action))
+    let its : Spend (frame_of_action action) ≡ step = cc in
+    subst (λ (s : StepOf LeafAnswer). PushesWhatIsReady functions tenant worker (GivingUp action) s) its (spend-ready functions tenant (frame_of_action action))

@@ -13,9 +13,9 @@ use Rattle.pool_rules.specs.declared.turn.Holding.{Holding}
 use Rattle.pool_rules.specs.Turns.{turn_after}
 
 -- the frames of a tenant; none where it isn't there
-abbrev pub frames_in : Option Tenant → Tree
-frames_in None = []
-frames_in (Some tenant) = tenant.frames
+abbrev pub frames_of_tenant : Option Tenant → Tree
+frames_of_tenant None = []
+frames_of_tenant (Some tenant) = tenant.frames
 
 -- each frame that is ready after a step was ready at the same home before it, or is the frame of this task
 abbrev pub IsNoneForgotten : ℕ → Tree → Tree → Option Task → Type 0
@@ -28,7 +28,7 @@ IsNoneForgotten tenant before after task =
 abbrev pub PushesWhatItReadied : Functions Leaf LeafAnswer → Tenant → ℕ → Holding → StepOf LeafAnswer → Type 0
 PushesWhatItReadied functions tenant worker holding step =
     IfOk (lone functions (Some tenant) step) (λ outcome.
-    IsNoneForgotten (tenant_of step) tenant.frames (frames_in outcome.0) (turn_after worker holding (Ok outcome.1)).task)
+    IsNoneForgotten (tenant_of step) tenant.frames (frames_of_tenant outcome.0) (turn_after worker holding (Ok outcome.1)).task)
 
 -- a task, if there is one, is of a frame of this tenant that is ready at the task's home
 abbrev pub IsOfAReadyFrame : ℕ → Tree → Option Task → Type 0
@@ -40,4 +40,4 @@ IsOfAReadyFrame tenant after (Some task) = (task.frame.tenant ≡ tenant) × IsR
 abbrev pub PushesWhatIsReady : Functions Leaf LeafAnswer → Tenant → ℕ → Holding → StepOf LeafAnswer → Type 0
 PushesWhatIsReady functions tenant worker holding step =
     IfOk (lone functions (Some tenant) step) (λ outcome.
-    IsOfAReadyFrame (tenant_of step) (frames_in outcome.0) (turn_after worker holding (Ok outcome.1)).task)
+    IsOfAReadyFrame (tenant_of step) (frames_of_tenant outcome.0) (turn_after worker holding (Ok outcome.1)).task)

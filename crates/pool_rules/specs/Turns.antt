@@ -18,12 +18,12 @@ use Rattle.pool_rules.specs.declared.turn.Holding.TheVariants.{Nothing, Next, Co
 use Rattle.pool_rules.specs.declared.turn.Turn.{Turn}
 
 -- the frame that an action is about
-abbrev pub frame_of : Action → FrameId
-frame_of (Get task) = task.frame
-frame_of (Run frame) = frame
-frame_of (Bring frame answer) = frame
-frame_of (TakeIn frame) = frame
-frame_of (Finish frame) = frame
+abbrev pub frame_of_action : Action → FrameId
+frame_of_action (Get task) = task.frame
+frame_of_action (Run frame) = frame
+frame_of_action (Bring frame answer) = frame
+frame_of_action (TakeIn frame) = frame
+frame_of_action (Finish frame) = frame
 
 -- the step for an action: a task of the worker's own is taken, another's is stolen from its home; a running frame
 -- advances; an answer is brought; a returned frame is taken in by its parent, and a returned root is finished
@@ -40,30 +40,30 @@ abbrev pub offered : ℕ → Holding → Option (StepOf LeafAnswer)
 offered worker Nothing = None
 offered worker (Next action) = Some (step_of worker action)
 offered worker (Computing frame leaf) = None
-offered worker (GivingUp action) = Some (Spend (frame_of action))
+offered worker (GivingUp action) = Some (Spend (frame_of_action action))
 
 -- what a worker holds after what a step on a frame did. A frame that it got, that went on, grew, opened a child
 -- or has its answer runs on; one that waits is let go; one that computes is computed; one that has returned is
 -- taken in by its parent, or finished where it is a root. Once the frame is taken in, or its job has ended, the
 -- worker holds nothing
-abbrev pub held_after : FrameId → DidOf Leaf → Holding
-held_after frame Admitted = Nothing
-held_after frame AdmittedMore = Nothing
-held_after frame (Submitted job root) = Nothing
-held_after frame Took = Next (Run frame)
-held_after frame Went = Next (Run frame)
-held_after frame Grew = Next (Run frame)
-held_after frame (Spawned child) = Next (Run frame)
-held_after frame Waited = Nothing
-held_after frame (IsComputing leaf) = Computing frame leaf
-held_after frame (Returned false) = Next (TakeIn frame)
-held_after frame (Returned true) = Next (Finish frame)
-held_after frame Answered = Next (Run frame)
-held_after frame (TakenIn woken aborted) = Nothing
-held_after frame (Finished job) = Nothing
-held_after frame (Spent job) = Nothing
-held_after frame Cancelled = Nothing
-held_after frame Left = Nothing
+abbrev pub holding_after : FrameId → DidOf Leaf → Holding
+holding_after frame Admitted = Nothing
+holding_after frame AdmittedMore = Nothing
+holding_after frame (Submitted job root) = Nothing
+holding_after frame Took = Next (Run frame)
+holding_after frame Went = Next (Run frame)
+holding_after frame Grew = Next (Run frame)
+holding_after frame (Spawned child) = Next (Run frame)
+holding_after frame Waited = Nothing
+holding_after frame (IsComputing leaf) = Computing frame leaf
+holding_after frame (Returned false) = Next (TakeIn frame)
+holding_after frame (Returned true) = Next (Finish frame)
+holding_after frame Answered = Next (Run frame)
+holding_after frame (TakenIn woken aborted) = Nothing
+holding_after frame (Finished job) = Nothing
+holding_after frame (Spent job) = Nothing
+holding_after frame Cancelled = Nothing
+holding_after frame Left = Nothing
 
 -- the frame that became ready by what a step did: a child that was opened, a parent that was woken
 abbrev pub readied : DidOf Leaf → Option FrameId
@@ -112,7 +112,7 @@ turn holding = record { holding = holding; task = None }
 -- a frame
 abbrev pub turn_after : ℕ → Holding → Result (DidOf Leaf) Refusal → Turn
 turn_after worker Nothing answer = turn Nothing
-turn_after worker (Next action) (Ok did) = record { holding = held_after (frame_of action) did; task = task_at worker (readied did) }
+turn_after worker (Next action) (Ok did) = record { holding = holding_after (frame_of_action action) did; task = task_at worker (readied did) }
 turn_after worker (Next action) (Err refusal) = turn (if is_short refusal then GivingUp action else Nothing)
 turn_after worker (Computing frame leaf) answer = turn (Computing frame leaf)
 turn_after worker (GivingUp action) (Ok did) = turn Nothing

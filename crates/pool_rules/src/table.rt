@@ -1,7 +1,7 @@
 //! The table of the worker's turn, row by row.
 ghost use Rattle.std.specs.Prelude.{◌≡◌, Ok, Err, Some};
 ghost use Rattle.pool_rules.specs.declared.turn.Holding.TheVariants.{Next, GivingUp};
-ghost use Rattle.pool_rules.specs.Turns.{held_after, readied, task_at, is_short, turn, turn_after};
+ghost use Rattle.pool_rules.specs.Turns.{holding_after, readied, task_at, is_short, turn, turn_after};
 
 use crate::task::Task;
 use crate::turn::{Action, Holding, Turn};
@@ -50,7 +50,7 @@ pub(crate) fn done(worker: Worker, action: Action, answer: Result<DidOf<Leaf>, R
 /// be copied for another.
 #[inline(always)]
 fn after(worker: Worker, frame: FrameId, did: DidOf<Leaf>) -> Turn
-    ensures { result ≡ record { holding = held_after frame did; task = task_at worker (readied did) } }
+    ensures { result ≡ record { holding = holding_after frame did; task = task_at worker (readied did) } }
 {
     match did {
         DidOf::Took | DidOf::Went | DidOf::Grew | DidOf::Answered => {

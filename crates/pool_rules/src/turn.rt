@@ -50,12 +50,12 @@ pub struct Turn {
 
 impl Action {
     ghost use Rattle.std.specs.Prelude.{◌≡◌};
-    ghost use Rattle.pool_rules.specs.Turns.{frame_of, step_of};
+    ghost use Rattle.pool_rules.specs.Turns.{frame_of_action, step_of};
 
     /// The frame that it is about.
     #[inline(always)]
     pub fn frame(&self) -> FrameId
-        ensures { result ≡ frame_of self.now }
+        ensures { result ≡ frame_of_action self.now }
     {
         match self {
             Action::Get(task) => task.frame,

@@ -13,7 +13,7 @@ use Rattle.othello_board.proofs.CellLemmas.{map-range_same, map-map, cell_at-cel
 use Rattle.position_text.specs.declared.positions.Side.{Side}
 use Rattle.position_text.specs.declared.positions.Side.TheVariants.{Black, White}
 use Rattle.position_text.specs.declared.positions.Position.{Position}
-use Rattle.position_text.specs.Spelling.{Spells, IsBadCell, IsBadSide, spelled, side_spelled, mark_of}
+use Rattle.position_text.specs.Spelling.{Spells, IsBadCell, IsBadSide, spelled, side_spelled, mark_of_cell}
 use Rattle.position_text.specs.Readings.{all_of, marks_of, mover_of, seen_by}
 
 all_of_some : {X : Type 0} (f : ℕ → X) (xs : List ℕ) → all_of (map (λ s. Some (f s)) xs) ≡ Some (map f xs)
@@ -21,7 +21,7 @@ all_of_some f [] = refl
 all_of_some f (x ∷ xs) = ap (option_map (λ ys. f x ∷ ys)) (all_of_some f xs)
 
 -- a side sees its marks as the cells that they are
-pub seen-mark_of : (side : Side) (cell : Cell) → seen_by side (mark_of side cell) ≡ cell
+pub seen-mark_of : (side : Side) (cell : Cell) → seen_by side (mark_of_cell side cell) ≡ cell
 seen-mark_of Black Empty = refl
 seen-mark_of Black Own = refl
 seen-mark_of Black Opp = refl
@@ -29,27 +29,27 @@ seen-mark_of White Empty = refl
 seen-mark_of White Own = refl
 seen-mark_of White Opp = refl
 
-map_seen : (side : Side) (board : List Cell) → map (seen_by side) (map (mark_of side) board) ≡ board
+map_seen : (side : Side) (board : List Cell) → map (seen_by side) (map (mark_of_cell side) board) ≡ board
 map_seen side [] = refl
 map_seen side (cell ∷ more) = rw (seen-mark_of side cell, map_seen side more) refl
 
 -- ---- a text that spells a position
 
-pub marks_of-spelled : (text : List ℕ) (p : Position) → Spells text p → marks_of text ≡ Some (map (mark_of p.side) (cells p.board))
+pub marks_of-spelled : (text : List ℕ) (p : Position) → Spells text p → marks_of text ≡ Some (map (mark_of_cell p.side) (cells p.board))
 unfolding squares
 marks_of-spelled text p s =
     let own = p.board.own in
     let opp = p.board.opp in
-    ap all_of (map-range_same (λ q. spelled (slice_index text q)) (λ q. Some (mark_of p.side (cell_of own opp q))) 0 64
-    (λ q low high. s.each q (omega arith) ∙ ap (λ cell. Some (mark_of p.side cell)) (cell_at-cells_of own opp q (omega arith))))
-    ∙ all_of_some (λ q. mark_of p.side (cell_of own opp q)) squares
-    ∙ ap Some (sym (map-map (mark_of p.side) (cell_of own opp) squares))
+    ap all_of (map-range_same (λ q. spelled (slice_index text q)) (λ q. Some (mark_of_cell p.side (cell_of own opp q))) 0 64
+    (λ q low high. s.each q (omega arith) ∙ ap (λ cell. Some (mark_of_cell p.side cell)) (cell_at-cells_of own opp q (omega arith))))
+    ∙ all_of_some (λ q. mark_of_cell p.side (cell_of own opp q)) squares
+    ∙ ap Some (sym (map-map (mark_of_cell p.side) (cell_of own opp) squares))
 
 pub mover_of-spelled : (text : List ℕ) (p : Position) → Spells text p → mover_of text ≡ Some p.side
 mover_of-spelled text p s = ap (λ t. cond t (side_spelled (slice_index text 65)) None) (eq-eqb (slice_index text 64) 32 s.space) ∙ s.side
 
 -- its marks, seen by the side to move, are the board
-pub seen_of-spelled : (p : Position) → map (seen_by p.side) (map (mark_of p.side) (cells p.board)) ≡ cells p.board
+pub seen_of-spelled : (p : Position) → map (seen_by p.side) (map (mark_of_cell p.side) (cells p.board)) ≡ cells p.board
 seen_of-spelled p = map_seen p.side (cells p.board)
 
 -- ---- a text that has a fault

@@ -12,14 +12,14 @@ use Rattle.position_text.specs.declared.positions.Side.TheVariants.{Black, White
 use Rattle.position_text.specs.declared.positions.Position.{Position}
 use Rattle.position_text.specs.declared.faults.TextFault.{TextFault}
 use Rattle.position_text.specs.declared.marks.Mark.TheVariants.{Disc, Blank}
-use Rattle.position_text.specs.Spelling.{side_spelled, mark_of, Spells, FitsWords}
+use Rattle.position_text.specs.Spelling.{side_spelled, mark_of_cell, Spells, FitsWords}
 use Rattle.position_text.specs.Discs.{mark_at, HoldsFirst}
 use Rattle.othello_board.proofs.BitLemmas.{apart}
 use Rattle.othello_board.proofs.CellLemmas.{cell_at-cells_of}
 use Rattle.position_text.proofs.BoardCells.{board_same_from_cells}
 
 -- a side sees different cells where different marks stand
-mark_of-injective : (side : Side) (a b : Cell) → mark_of side a ≡ mark_of side b → a ≡ b
+mark_of-injective : (side : Side) (a b : Cell) → mark_of_cell side a ≡ mark_of_cell side b → a ≡ b
 mark_of-injective Black Own Own h = refl
 mark_of-injective Black Own Opp h = cc
 mark_of-injective Black Own Empty h = cc
@@ -51,7 +51,7 @@ one_position text p q fits fits_too this that =
     let side : p.side ≡ q.side = cc (this.side, that.side) in
     position_same p q
     (board_same_from_cells p.board q.board fits.0 fits.1 fits_too.0 fits_too.1 (λ s below.
-    let marks : mark_of p.side (cell_at (cells p.board) s) ≡ mark_of p.side (cell_at (cells q.board) s) =
+    let marks : mark_of_cell p.side (cell_at (cells p.board) s) ≡ mark_of_cell p.side (cell_at (cells q.board) s) =
     rw side (cc (this.each s below, that.each s below, side)) in
     sym (cell_at-cells_of p.board.own p.board.opp s below)
     ∙ mark_of-injective p.side (cell_at (cells p.board) s) (cell_at (cells q.board) s) marks
@@ -59,13 +59,13 @@ one_position text p q fits fits_too this that =
     side
 
 -- the cell of two bits, seen by black and by white
-seen_by_black : (x y : Bool) → mark_of Black (cond x Own (cond y Opp Empty)) ≡ cond x (Disc Black) (cond y (Disc White) Blank)
+seen_by_black : (x y : Bool) → mark_of_cell Black (cond x Own (cond y Opp Empty)) ≡ cond x (Disc Black) (cond y (Disc White) Blank)
 seen_by_black true true = refl
 seen_by_black true false = refl
 seen_by_black false true = refl
 seen_by_black false false = refl
 
-seen_by_white : (a b : ℕ) → a < 2 → b < 2 → min a b ≡ 0 → mark_of White (cond (nat_eq b 1) Own (cond (nat_eq a 1) Opp Empty)) ≡ cond (nat_eq a 1) (Disc Black) (cond (nat_eq b 1) (Disc White) Blank)
+seen_by_white : (a b : ℕ) → a < 2 → b < 2 → min a b ≡ 0 → mark_of_cell White (cond (nat_eq b 1) Own (cond (nat_eq a 1) Opp Empty)) ≡ cond (nat_eq a 1) (Disc Black) (cond (nat_eq b 1) (Disc White) Blank)
 seen_by_white zero zero p q h = refl
 seen_by_white zero (suc zero) p q h = refl
 seen_by_white (suc zero) zero p q h = refl
@@ -76,7 +76,7 @@ seen_by_white a (suc (suc b)) p q h = absurd (omega arith)
 -- what stands on a square, from the board that a side sees
 mark_seen : (black white : ℕ) (b : Board) (side : Side) (s : ℕ) → bit_and black white ≡ 0
     → (side ≡ Black → (b.own ≡ black) × (b.opp ≡ white)) → (side ≡ White → (b.own ≡ white) × (b.opp ≡ black))
-    → mark_of side (cell_of b.own b.opp s) ≡ mark_at black white s
+    → mark_of_cell side (cell_of b.own b.opp s) ≡ mark_at black white s
 mark_seen black white b Black s disjoint if_black if_white =
     rw ((if_black refl).0, (if_black refl).1) (seen_by_black (nat_eq (bit_at black s) 1) (nat_eq (bit_at white s) 1))
 mark_seen black white b White s disjoint if_black if_white =

@@ -10,12 +10,12 @@ use Rattle.position_text.specs.declared.positions.Side.TheVariants.{Black, White
 use Rattle.position_text.specs.declared.positions.Position.{Position}
 use Rattle.position_text.specs.declared.marks.Mark.{Mark}
 use Rattle.position_text.specs.declared.marks.Mark.TheVariants.{Disc, Blank}
-use Rattle.position_text.specs.Spelling.{spelled, side_spelled, mark_of, byte_of, written, Spells}
+use Rattle.position_text.specs.Spelling.{spelled, side_spelled, mark_of_cell, byte_of, written, Spells}
 use Rattle.othello_board.proofs.CellLemmas.{length-cells_of}
 
 -- how the cell of a square is written
 abbrev pub byte_at : Position → ℕ → ℕ
-byte_at p s = byte_of (mark_of p.side (cell_at (cells p.board) s))
+byte_at p s = byte_of (mark_of_cell p.side (cell_at (cells p.board) s))
 
 -- a text of 66 bytes that is written like this position
 pub record IsWritten (text : List ℕ) (p : Position) : Type 0 where
@@ -26,14 +26,14 @@ pub record IsWritten (text : List ℕ) (p : Position) : Type 0 where
 
 -- the bytes of the cells
 abbrev front : Position → List ℕ
-front p = map (λ cell. byte_of (mark_of p.side cell)) (cells p.board)
+front p = map (λ cell. byte_of (mark_of_cell p.side cell)) (cells p.board)
 
 length-front : (p : Position) → length (front p) ≡ 64
-length-front p = length-map (cells p.board) (λ cell. byte_of (mark_of p.side cell)) ∙ length-cells_of p.board.own p.board.opp
+length-front p = length-map (cells p.board) (λ cell. byte_of (mark_of_cell p.side cell)) ∙ length-cells_of p.board.own p.board.opp
 
 get_or-front : (p : Position) (s : ℕ) → s < 64 → get_or (front p) s 0 ≡ byte_at p s
 get_or-front p s below =
-    get_or-map (λ cell. byte_of (mark_of p.side cell)) (cells p.board) s Empty 0 (omega (arith, length-cells_of p.board.own p.board.opp))
+    get_or-map (λ cell. byte_of (mark_of_cell p.side cell)) (cells p.board) s Empty 0 (omega (arith, length-cells_of p.board.own p.board.opp))
 
 pub written_is : (p : Position) → IsWritten (written p) p
 written_is p =
@@ -71,7 +71,7 @@ side_spelled-byte_of White = refl
 pub written_spells : (text : List ℕ) (p : Position) → IsWritten text p → Spells text p
 written_spells text p this = record {
   len = this.len;
-  each = λ s below. rw (this.each s below) (spelled-byte_of (mark_of p.side (cell_at (cells p.board) s)));
+  each = λ s below. rw (this.each s below) (spelled-byte_of (mark_of_cell p.side (cell_at (cells p.board) s)));
   space = this.space;
   side = rw this.side (side_spelled-byte_of p.side);
 }

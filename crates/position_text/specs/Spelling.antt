@@ -35,16 +35,16 @@ other_side Black = White
 other_side White = Black
 
 -- the mark of a cell as this side sees it: an own disc has the colour of this side, an opposing one that of the other
-abbrev pub mark_of : Side → Cell → Mark
-mark_of side Own = Disc side
-mark_of side Opp = Disc (other_side side)
-mark_of side Empty = Blank
+abbrev pub mark_of_cell : Side → Cell → Mark
+mark_of_cell side Own = Disc side
+mark_of_cell side Opp = Disc (other_side side)
+mark_of_cell side Empty = Blank
 
 -- a text spells a position: it has 66 bytes, each of the first 64 spells what stands on its cell,
 -- then come a space and a spelling of the side
 pub record Spells (text : List ℕ) (p : Position) : Type 0 where
   pub len : length text ≡ 66
-  pub each : (s : ℕ) → s < 64 → spelled (slice_index text s) ≡ Some (mark_of p.side (cell_at (cells p.board) s))
+  pub each : (s : ℕ) → s < 64 → spelled (slice_index text s) ≡ Some (mark_of_cell p.side (cell_at (cells p.board) s))
   pub space : slice_index text 64 ≡ byte " "
   pub side : side_spelled (slice_index text 65) ≡ Some p.side
 
@@ -56,7 +56,7 @@ byte_of Blank = byte "-"
 
 -- the written text of a position, in X, O and - alone
 abbrev pub written : Position → List ℕ
-written p = map (λ cell. byte_of (mark_of p.side cell)) (cells p.board) ++ byte " " ∷ byte_of (Disc p.side) ∷ []
+written p = map (λ cell. byte_of (mark_of_cell p.side cell)) (cells p.board) ++ byte " " ∷ byte_of (Disc p.side) ∷ []
 
 -- both words of the position's board are below 2^64, as in every position of the code
 abbrev pub FitsWords : Position → Type 0

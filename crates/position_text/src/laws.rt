@@ -5,7 +5,7 @@ ghost use Rattle.othello_board.specs.Words.{cells};
 ghost use Rattle.position_text.specs.declared.positions.Position.{Position};
 ghost use Rattle.position_text.specs.declared.positions.Side.{Side};
 ghost use Rattle.position_text.specs.Readings.{marks_of, mover_of, seen_by};
-ghost use Rattle.position_text.specs.Spelling.{Spells, IsBadCell, IsBadSide, FitsWords, mark_of, written};
+ghost use Rattle.position_text.specs.Spelling.{Spells, IsBadCell, IsBadSide, FitsWords, mark_of_cell, written};
 
 use super::faults::TextFault;
 use super::positions::Position;
@@ -46,9 +46,9 @@ pub fn read_again(position: &Position) -> Result<Position, TextFault>
 /// of its board and its side, and the side sees the mark of a cell as that cell. With a bad cell there are no marks;
 /// with a bad side there are marks but no side to move.
 pub fn readings_of_texts()
-    ensures marks { (text : List ℕ) (p : Position) → Spells text p → marks_of text ≡ Some (map (mark_of p.side) (cells p.board)) }
+    ensures marks { (text : List ℕ) (p : Position) → Spells text p → marks_of text ≡ Some (map (mark_of_cell p.side) (cells p.board)) }
     ensures mover { (text : List ℕ) (p : Position) → Spells text p → mover_of text ≡ Some p.side }
-    ensures seen { (side : Side) (cell : Cell) → seen_by side (mark_of side cell) ≡ cell }
+    ensures seen { (side : Side) (cell : Cell) → seen_by side (mark_of_cell side cell) ≡ cell }
     ensures bad_cell { (text : List ℕ) (at : ℕ) → IsBadCell text at → marks_of text ≡ None }
     ensures bad_side { (text : List ℕ) → IsBadSide text → mover_of text ≡ None }
     ensures cells_before_bad_side { (text : List ℕ) → IsBadSide text → IsSome (marks_of text) }

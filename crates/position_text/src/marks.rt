@@ -1,6 +1,6 @@
 //! What one byte of a text spells.
 ghost use Rattle.std.specs.Prelude.{◌≡◌};
-ghost use Rattle.position_text.specs.Spelling.{spelled, side_spelled, mark_of, byte_of, other_side};
+ghost use Rattle.position_text.specs.Spelling.{spelled, side_spelled, mark_of_cell, byte_of, other_side};
 
 use super::positions::Side;
 use othello_board::Cell;
@@ -58,8 +58,8 @@ fn other_side(side: Side) -> Side
 }
 
 /// The mark of a cell as this side sees it: an own disc has this side's colour, an opposing one that of the other.
-pub fn mark_of(side: Side, cell: Cell) -> Mark
-    ensures { result ≡ mark_of side cell }
+pub fn mark_of_cell(side: Side, cell: Cell) -> Mark
+    ensures { result ≡ mark_of_cell side cell }
 {
     match cell {
         Cell::Own => Mark::Disc(side),

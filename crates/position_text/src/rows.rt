@@ -3,7 +3,7 @@ ghost use Rattle.std.specs.Prelude.{◌≡◌, ◌++◌, map, codes, Some, None}
 ghost use Rattle.std.specs.Str.{byte};
 ghost use Rattle.othello_board.specs.Words.{cells};
 ghost use Rattle.position_text.specs.declared.positions.Side.TheVariants.{Black, White};
-ghost use Rattle.position_text.specs.Spelling.{spelled, side_spelled, mark_of, written};
+ghost use Rattle.position_text.specs.Spelling.{spelled, side_spelled, mark_of_cell, written};
 ghost use Rattle.position_text.specs.Rows.{opening, opening_cells, white_to_move};
 
 /// The written text of the opening, and of the same discs with White to move.
@@ -15,7 +15,7 @@ pub fn opening_is_written()
 /// Small letters, the star and the full stop spell the opening too.
 pub fn opening_is_spelled()
     ensures cells { map spelled (codes "...........................oX......xO...........................")
-        ≡ map (λ cell. Some (mark_of Black cell)) (cells opening.board) }
+        ≡ map (λ cell. Some (mark_of_cell Black cell)) (cells opening.board) }
     ensures side { side_spelled (byte "*") ≡ Some Black }
 {}
 

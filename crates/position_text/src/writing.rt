@@ -2,7 +2,7 @@
 ghost use Rattle.std.specs.Prelude.{◌≡◌};
 ghost use Rattle.position_text.specs.Spelling.{Spells, written};
 
-use super::marks::{Mark, byte_of, mark_of};
+use super::marks::{Mark, byte_of, mark_of_cell};
 use super::positions::Position;
 
 /// The text of a position, written with `X`, `O` and `-` alone.
@@ -13,7 +13,7 @@ pub fn write(position: &Position) -> [u8; 66]
     let Position { board, side } = *position;
     let mut text = [b' '; 66];
     for square in 0..64u8 {
-        text[square as usize] = byte_of(mark_of(side, board.cell(square)));
+        text[square as usize] = byte_of(mark_of_cell(side, board.cell(square)));
     }
     text[65] = byte_of(Mark::Disc(side));
     text

@@ -5,8 +5,8 @@ ghost use Rattle.sched_rules.specs.declared.step.StepOf.{StepOf};
 ghost use Rattle.sched_rules.specs.declared.step.DidOf.{DidOf};
 ghost use Rattle.sched_rules.specs.Trees.{Tenant};
 ghost use Rattle.sched_rules.specs.Runs.{alone_from, answers_from, only};
-ghost use Rattle.sched_rules.specs.Cores.{Shared, tenant_in};
-ghost use Rattle.sched_rules.specs.Headline.{AreAnswersTo, IsKnown, after_answers, taken, told};
+ghost use Rattle.sched_rules.specs.Cores.{CoreState, tenant_in};
+ghost use Rattle.sched_rules.specs.Headline.{AreAnswersTo, AreNumbersGiven, after_answers, taken_steps, own_answers};
 
 use sched_rules::Procedure;
 use sched_rules::laws::no_tenant_is_disturbed;
@@ -14,10 +14,10 @@ use sched_rules::laws::no_tenant_is_disturbed;
 /// Tenant 7, which is there before a list of steps whose answers are right, is after the list what its own taken
 /// steps make of it alone, and was told what they give.
 pub fn seven_in_a_running_core<P: Procedure>()
-    ensures { (procedure : P) (before : Shared) (steps : List (StepOf P.Answer)) (answers : List (Result (DidOf P.Input) Refusal)) (tenant : Tenant) →
-        tenant_in before.tenants 7 ≡ Some tenant → IsKnown before → AreAnswersTo (P.functions procedure) before steps answers →
-        (tenant_in (after_answers (P.functions procedure) before steps answers).tenants 7 ≡ alone_from (P.functions procedure) (Some tenant) (only 7 (taken steps answers)))
-        × (told 7 steps answers ≡ answers_from (P.functions procedure) (Some tenant) (only 7 (taken steps answers))) }
+    ensures { (procedure : P) (before : CoreState) (steps : List (StepOf P.Answer)) (answers : List (Result (DidOf P.Input) Refusal)) (tenant : Tenant) →
+        tenant_in before.tenants 7 ≡ Some tenant → AreNumbersGiven before → AreAnswersTo (P.functions procedure) before steps answers →
+        (tenant_in (after_answers (P.functions procedure) before steps answers).tenants 7 ≡ alone_from (P.functions procedure) (Some tenant) (only 7 (taken_steps steps answers)))
+        × (own_answers 7 steps answers ≡ answers_from (P.functions procedure) (Some tenant) (only 7 (taken_steps steps answers))) }
 {
     no_tenant_is_disturbed::<P>();
 }

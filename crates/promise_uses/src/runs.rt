@@ -14,7 +14,7 @@ ghost use Rattle.sched_rules.specs.Trees.{Tenant, job_at, left, is_busy_in};
 ghost use Rattle.sched_rules.specs.Cores.{tenant_in};
 ghost use Rattle.sched_rules.specs.Lone.{lone_refusal};
 ghost use Rattle.sched_rules.specs.Runs.{alone};
-ghost use Rattle.sched_rules.specs.Headline.{told};
+ghost use Rattle.sched_rules.specs.Headline.{own_answers};
 ghost use Rattle.sched_laws.specs.Fitted.{origins_of};
 ghost use Rattle.jamboree_rules.specs.Entries.{bounds_of};
 ghost use Rattle.jamboree_rules.specs.Frames.{coded};
@@ -125,7 +125,7 @@ pub fn nine_is_undisturbed<A: Allocator + Clone>(
     ensures nobody { IfOk result (λ runs. own_steps 9 steps.now runs.0.answers.items ≡ own_steps 9 other_steps.now runs.1.answers.items →
         tenant_in runs.0.core.shared.tenants 9 ≡ None → tenant_in runs.1.core.shared.tenants 9 ≡ None) }
     ensures answers { IfOk result (λ runs. own_steps 9 steps.now runs.0.answers.items ≡ own_steps 9 other_steps.now runs.1.answers.items →
-        told 9 steps.now runs.0.answers.items ≡ told 9 other_steps.now runs.1.answers.items) }
+        own_answers 9 steps.now runs.0.answers.items ≡ own_answers 9 other_steps.now runs.1.answers.items) }
 {
     run_two(alloc, procedure, config, steps, other_config, other_steps)
 }
@@ -145,7 +145,7 @@ pub fn seven_alone<A: Allocator + Clone>(
         (tenant : Tenant) → tenant_in runs.0.core.shared.tenants 7 ≡ Some tenant →
         (same : Tenant) × (tenant_in runs.1.core.shared.tenants 7 ≡ Some same) × (tenant.jobs ≡ same.jobs) × (tenant.frames ≡ same.frames) × (tenant.reserve ≡ same.reserve) × (left tenant ≡ left same)) }
     ensures answers { IfOk result (λ runs. own.now ≡ own_steps 7 steps.now runs.0.answers.items → AreAdmissionsTaken own.now runs.1.answers.items →
-        told 7 steps.now runs.0.answers.items ≡ runs.1.answers.items) }
+        own_answers 7 steps.now runs.0.answers.items ≡ runs.1.answers.items) }
 {
     run_two(alloc, procedure, config, steps, config, own)
 }

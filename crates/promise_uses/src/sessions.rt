@@ -20,7 +20,7 @@ ghost use Rattle.session.specs.declared.faults.SessionFault.TheVariants.{Read, W
 ghost use Rattle.session.specs.Sessions.{session_lines, talk_result};
 ghost use Rattle.session.specs.Turns.{entries_text};
 
-use desk::{Desk, Hands};
+use desk::{Desk, DeskLedger};
 use line_io::{Sink, Source};
 use promises::serve;
 use session::{End, SessionFault};
@@ -41,7 +41,7 @@ pub fn third_answer<S, K, L, R, A>(
 where
     S: Source,
     K: Sink,
-    L: Hands,
+    L: DeskLedger,
     R: Wait,
     A: Allocator + Clone,
     requires { L.all ≡ L.parts }

@@ -4,14 +4,14 @@ use Rattle.std.specs.Prelude.{if◌then◌else◌, is_ok}
 use Rattle.std.proofs.lemmas.Bool.Decides.{nat_tests}
 use Rattle.tenant_quota.specs.Quota.{Quota}
 use Rattle.sched_rules.specs.declared.refusal.Refusal.{Refusal}
-use Rattle.sched_rules.specs.declared.step.StepOf.TheVariants.{Admit, AdmitMore, Submit, Take, Steal, Advance, Answer, Inlet, Finish, Spend, Cancel, Leave}
+use Rattle.sched_rules.specs.declared.step.StepOf.TheVariants.{Take, Steal, Inlet, Finish}
 use Rattle.sched_rules.specs.declared.step.DidOf.{DidOf}
 use Rattle.sched_rules.specs.Functions.{Functions}
 use Rattle.sched_rules.specs.Trees.{Tenant}
 use Rattle.sched_rules.specs.Lone.{Outcome, lone, refusal_in}
 use Rattle.sched_rules.specs.Runs.{tenant_of, only, state_after, answer_of, answers_from}
-use Rattle.sched_rules.specs.Cores.{Shared, shared_by_nobody, tenant_in, with_tenant, without_tenant, with_outcome, is_busy_elsewhere, meets_busy, shared_with}
-use Rattle.sched_rules.specs.Headline.{IsAnswerTo, AreAnswersTo, IsKnown, after_answer, is_admission, taken, told}
+use Rattle.sched_rules.specs.Cores.{CoreState, shared_by_nobody, tenant_in, with_tenant, without_tenant, with_outcome, is_busy_elsewhere, meets_busy, shared_with}
+use Rattle.sched_rules.specs.Headline.{IsAnswerTo, AreAnswersTo, AreNumbersGiven, after_answer, is_admission, taken_steps, own_answers}
 use Rattle.sched_rules.proofs.Isolation.{IsTaken, step-taken}
 use Rattle.sched_rules.proofs.Tenants.{tenant_in-with_outcome}
 use Rattle.jamboree_core.specs.jamboree_rules.declared.leaf.Leaf.{Leaf}
@@ -59,14 +59,7 @@ meets-nobody (Take worker name) es only = nobody-busy worker name.tenant es only
 meets-nobody (Steal worker from name) es only = nobody-busy worker name.tenant es only
 meets-nobody (Inlet worker name) es only = nobody-busy worker name.tenant es only
 meets-nobody (Finish worker name) es only = nobody-busy worker name.tenant es only
-meets-nobody (Admit number quota) es only = refl
-meets-nobody (AdmitMore number quota) es only = refl
-meets-nobody (Submit number words size) es only = refl
-meets-nobody (Advance worker name) es only = refl
-meets-nobody (Answer worker name answer) es only = refl
-meets-nobody (Spend name) es only = refl
-meets-nobody (Cancel number job) es only = refl
-meets-nobody (Leave number) es only = refl
+meets-nobody _ es only = refl
 
 -- ---- lists of one tenant's steps that it alone would take
 
@@ -74,14 +67,14 @@ abbrev AreAllOk : List SearchAnswer → Type 0
 AreAllOk [] = Unit {0}
 AreAllOk (answer ∷ answers) = (is_ok answer ≡ true) × AreAllOk answers
 
-told-ok : (number : ℕ) (steps : List SearchStep) (answers : List SearchAnswer) → AreAllOk (told number steps answers)
-told-ok number [] answers = tt
-told-ok number (step ∷ steps) [] = tt
-told-ok number (step ∷ steps) (Err refusal ∷ answers) = told-ok number steps answers
-told-ok number (step ∷ steps) (Ok did ∷ answers) =
-    elim (tenant_of step == number) as (λ b. AreAllOk (if b then Ok did ∷ told number steps answers else told number steps answers)) [
-      | true ↦ (refl, told-ok number steps answers)
-      | false ↦ told-ok number steps answers
+own_answers-ok : (number : ℕ) (steps : List SearchStep) (answers : List SearchAnswer) → AreAllOk (own_answers number steps answers)
+own_answers-ok number [] answers = tt
+own_answers-ok number (step ∷ steps) [] = tt
+own_answers-ok number (step ∷ steps) (Err refusal ∷ answers) = own_answers-ok number steps answers
+own_answers-ok number (step ∷ steps) (Ok did ∷ answers) =
+    elim (tenant_of step == number) as (λ b. AreAllOk (if b then Ok did ∷ own_answers number steps answers else own_answers number steps answers)) [
+      | true ↦ (refl, own_answers-ok number steps answers)
+      | false ↦ own_answers-ok number steps answers
     ]
 
 abbrev AreAllOf : ℕ → List SearchStep → Type 0
@@ -108,7 +101,7 @@ ok-else : (own : Result (Outcome Leaf) Refusal) (answer : SearchAnswer) → is_o
 ok-else (Ok outcome) answer ok is = ap (λ (a : SearchAnswer). is_ok a) (is refl)
 ok-else (Err refusal) answer ok is = absurd cc
 
-answered-ok : (f : Functions Leaf LeafAnswer) (before : Shared) (own : Option Tenant) (step : SearchStep) (answer : SearchAnswer) → AreOnly (tenant_of step) before.tenants → tenant_in before.tenants (tenant_of step) ≡ own →
+answered-ok : (f : Functions Leaf LeafAnswer) (before : CoreState) (own : Option Tenant) (step : SearchStep) (answer : SearchAnswer) → AreOnly (tenant_of step) before.tenants → tenant_in before.tenants (tenant_of step) ≡ own →
     is_ok (answer_of (lone f own step)) ≡ true → IsAnswerTo f before step answer → (is_admission step ≡ true → is_ok answer ≡ true) → is_ok answer ≡ true
 answered-ok f before own step answer only is ok right admitted =
     elim (is_admission step) as (λ b. is_admission step ≡ b → is_ok answer ≡ true) [
@@ -119,14 +112,14 @@ answered-ok f before own step answer only is ok right admitted =
     ] refl
 
 -- the core after a taken step
-left-by : (f : Functions Leaf LeafAnswer) (before : Shared) (step : SearchStep) (did : DidOf Leaf) (t : IsTaken f before step did) → after_answer f before step (Ok did) ≡ shared_with before step t.outcome.0
+left-by : (f : Functions Leaf LeafAnswer) (before : CoreState) (step : SearchStep) (did : DidOf Leaf) (t : IsTaken f before step did) → after_answer f before step (Ok did) ≡ shared_with before step t.outcome.0
 left-by f before step did t = rw t.among refl
 
 -- ---- the list
 
-all-taken : (f : Functions Leaf LeafAnswer) (number : ℕ) (before : Shared) (own : Option Tenant) (steps : List SearchStep) (answers : List SearchAnswer) →
-    IsKnown before → AreOnly number before.tenants → tenant_in before.tenants number ≡ own → AreAllOf number steps → AreAllOk (answers_from f own steps) →
-    AreAnswersTo f before steps answers → AreAdmissionsTaken steps answers → (taken steps answers ≡ steps) × (told number steps answers ≡ answers)
+all-taken : (f : Functions Leaf LeafAnswer) (number : ℕ) (before : CoreState) (own : Option Tenant) (steps : List SearchStep) (answers : List SearchAnswer) →
+    AreNumbersGiven before → AreOnly number before.tenants → tenant_in before.tenants number ≡ own → AreAllOf number steps → AreAllOk (answers_from f own steps) →
+    AreAnswersTo f before steps answers → AreAdmissionsTaken steps answers → (taken_steps steps answers ≡ steps) × (own_answers number steps answers ≡ answers)
 all-taken f number before own [] [] known sole is mine ok right admitted = (refl, refl)
 all-taken f number before own [] (answer ∷ answers) known sole is mine ok right admitted = absurd right
 all-taken f number before own (step ∷ steps) [] known sole is mine ok right admitted = absurd right
@@ -143,15 +136,15 @@ all-taken f number before own (step ∷ steps) (Ok did ∷ answers) known sole i
     let whose : (tenant_of step == number) ≡ true = (let is_own : tenant_of step ≡ number = mine.0 in grind (arith, nat_tests)) in
     (ap (λ (l : List SearchStep). step ∷ l) rest.0, rw whose (ap (λ (l : List SearchAnswer). Ok did ∷ l) rest.1))
 
-pub alone : (grain : ℕ) (totals other_totals : Quota) (steps other_steps : List SearchStep) (answers other_answers : List SearchAnswer) (after other_after : Shared) (number : ℕ) →
+pub alone : (grain : ℕ) (totals other_totals : Quota) (steps other_steps : List SearchStep) (answers other_answers : List SearchAnswer) (after other_after : CoreState) (number : ℕ) →
     IsHeadlineFromNew grain totals steps answers after → IsHeadlineFromNew grain other_totals other_steps other_answers other_after →
     other_steps ≡ own_steps number steps answers → AreAdmissionsTaken other_steps other_answers →
-    AreSame (tenant_in after.tenants number) (tenant_in other_after.tenants number) × (told number steps answers ≡ other_answers)
+    AreSame (tenant_in after.tenants number) (tenant_in other_after.tenants number) × (own_answers number steps answers ≡ other_answers)
 alone grain totals other_totals steps other_steps answers other_answers after other_after number one other are admitted =
     let f = jamboree grain in
-    let mine : AreAllOf number other_steps = rw are (only-all-of number (taken steps answers)) in
-    let said : told number steps answers ≡ answers_from f None other_steps = (one.tenants.undisturbed number).replies ∙ ap (λ (own : List SearchStep). answers_from f None own) (sym are) in
-    let ok : AreAllOk (answers_from f None other_steps) = subst AreAllOk said (told-ok number steps answers) in
+    let mine : AreAllOf number other_steps = rw are (only-all-of number (taken_steps steps answers)) in
+    let said : own_answers number steps answers ≡ answers_from f None other_steps = (one.tenants.undisturbed number).replies ∙ ap (λ (own : List SearchStep). answers_from f None own) (sym are) in
+    let ok : AreAllOk (answers_from f None other_steps) = subst AreAllOk said (own_answers-ok number steps answers) in
     let both = all-taken f number (shared_by_nobody other_totals) None other_steps other_answers tt tt refl mine ok other.tenants.refused admitted in
     let same : own_steps number other_steps other_answers ≡ other_steps = ap (λ (l : List SearchStep). only number l) both.0 ∙ only-same number other_steps mine in
     let und = undisturbed grain totals other_totals steps other_steps answers other_answers after other_after number one other (sym are ∙ sym same) in

@@ -5,10 +5,10 @@ use Rattle.sched_rules.specs.Functions.{Functions}
 use Rattle.sched_rules.specs.declared.refusal.Refusal.{Refusal}
 use Rattle.sched_rules.specs.declared.step.StepOf.{StepOf}
 use Rattle.sched_rules.specs.declared.step.DidOf.{DidOf}
-use Rattle.sched_rules.specs.Cores.{Shared}
+use Rattle.sched_rules.specs.Cores.{CoreState}
 use Rattle.sched_rules.specs.Headline.{AreAnswersTo, after_answer}
 
-pub as-many : {I A : Type 0} (functions : Functions I A) (before : Shared) (steps : List (StepOf A)) (answers : List (Result (DidOf I) Refusal)) → AreAnswersTo functions before steps answers → length answers ≡ length steps
+pub as-many : {I A : Type 0} (functions : Functions I A) (before : CoreState) (steps : List (StepOf A)) (answers : List (Result (DidOf I) Refusal)) → AreAnswersTo functions before steps answers → length answers ≡ length steps
 as-many functions before [] [] right = refl
 as-many functions before [] (answer ∷ answers) right = absurd right
 as-many functions before (step ∷ steps) [] right = absurd right

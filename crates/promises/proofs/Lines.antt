@@ -1,12 +1,11 @@
 -- What the words of a line are, by what it asks for.
-use Rattle.std.proofs.Common.{◌≡◌, ◌⊎◌, ℕ, ◌≤◌, inl, inr, Bool, true, false, List, [], ◌∷◌, ◌++◌, Option, Some, None, Result, Ok, Err, refl, ap, sym, subst, ◌∙◌, arith}
+use Rattle.std.proofs.Common.{◌≡◌, ◌⊎◌, ℕ, ◌≤◌, inl, inr, Bool, true, false, List, [], ◌∷◌, ◌++◌, Option, Some, None, Result, Ok, Err, refl, ap, subst, ◌∙◌, arith}
 use Rattle.std.specs.Prelude.{◌&&◌, codes, if◌then◌else◌, unwrap_or}
 use Rattle.std.specs.Option.{option_map, is_none}
 use Rattle.std.specs.Str.{bytes_eq}
 use Rattle.std.proofs.lemmas.Bool.Decides.{eqb_tells, nat_tests}
 use Rattle.std.proofs.lemmas.Slice.Eq.{bytes_eq-Decides}
 use Rattle.othello_board.specs.declared.cells.Cell.{Cell}
-use Rattle.position_text.specs.declared.positions.Side.{Side}
 use Rattle.tenant_quota.specs.Quota.{Quota, IsWithinLimits}
 use Rattle.line_io.specs.Lines.{LineText, Whole, TooLong}
 use Rattle.protocol.specs.declared.faults.ProtocolFault.{ProtocolFault}
@@ -177,21 +176,12 @@ seated-line (GetOf job) bytes reads = job-line (λ k. Makes (Get k)) (codes "GET
 seated-line (WaitOf job) bytes reads = job-line (λ k. Makes (Wait k)) (codes "WAIT") bytes (λ k is. is) job reads
 seated-line (CancelOf job) bytes reads = job-line (λ k. Makes (Cancel k)) (codes "CANCEL") bytes (λ k is. is) job reads
 seated-line (TableOf job) bytes reads = job-line Tabulates (codes "TABLE") bytes (λ k is. is) job reads
-seated-line QuotaForm bytes reads = ap (λ (l : List ℕ). Whole l) reads
-seated-line LiveForm bytes reads = ap (λ (l : List ℕ). Whole l) reads
-seated-line ByeForm bytes reads = ap (λ (l : List ℕ). Whole l) reads
+seated-line _ bytes reads = ap (λ (l : List ℕ). Whole l) reads
 
 early-line : (form : Form) (bytes : List ℕ) → Reads form bytes → Asks-so (early_request form) (Whole bytes)
 early-line (HelloOf segments nodes) bytes reads = quota-line Hello (codes "HELLO") bytes (λ quota is. is) segments nodes reads
-early-line (ReserveOf segments nodes) bytes reads = tt
-early-line (AskOf depth text) bytes reads = tt
-early-line (GetOf job) bytes reads = tt
-early-line (WaitOf job) bytes reads = tt
-early-line (CancelOf job) bytes reads = tt
-early-line (TableOf job) bytes reads = tt
-early-line QuotaForm bytes reads = tt
-early-line LiveForm bytes reads = tt
 early-line ByeForm bytes reads = ap (λ (l : List ℕ). Whole l) reads
+early-line _ bytes reads = tt
 
 form-line : (seated : Bool) (bytes : List ℕ) (found : Option Form) → form_of bytes ≡ found → Asks-so (form_request seated found) (Whole bytes)
 form-line seated bytes None at = tt

@@ -6,13 +6,13 @@ use Rattle.tenant_quota.specs.Quota.{Quota}
 use Rattle.sched_rules.specs.declared.refusal.Refusal.{Refusal}
 use Rattle.sched_rules.specs.declared.refusal.Refusal.TheVariants.{Busy}
 use Rattle.sched_rules.specs.declared.step.StepOf.{StepOf}
-use Rattle.sched_rules.specs.declared.step.StepOf.TheVariants.{Admit, AdmitMore, Submit, Take, Steal, Advance, Answer, Inlet, Finish, Spend, Cancel, Leave}
+use Rattle.sched_rules.specs.declared.step.StepOf.TheVariants.{Take, Steal, Inlet, Finish}
 use Rattle.sched_rules.specs.declared.step.DidOf.{DidOf}
 use Rattle.sched_rules.specs.Functions.{Functions}
 use Rattle.sched_rules.specs.Trees.{Tenant, is_busy_in}
 use Rattle.sched_rules.specs.Lone.{Outcome, lone, lone_refusal, refusal_in}
 use Rattle.sched_rules.specs.Runs.{tenant_of, answer_of}
-use Rattle.sched_rules.specs.Cores.{Shared, shared_by_nobody, tenant_in, with_tenant, without_tenant, with_outcome, is_busy_elsewhere, meets_busy, judged, shared_after}
+use Rattle.sched_rules.specs.Cores.{CoreState, shared_by_nobody, tenant_in, with_tenant, without_tenant, with_outcome, is_busy_elsewhere, meets_busy, step_result, shared_after}
 use Rattle.sched_rules.specs.Headline.{IsAnswerTo, IsAnswerToStep, AreAnswersTo, after_answer, after_answers}
 use Rattle.sched_rules.proofs.Isolation.{headline}
 use Rattle.sched_rules.proofs.Tenants.{tenant_in_other-with_tenant, tenant_in_other-without_tenant}
@@ -50,16 +50,16 @@ apart-with_outcome : (n : ℕ) (t : Option Tenant) (es : Entries) → AreApart e
 apart-with_outcome n None es apart = apart-without_tenant n es apart
 apart-with_outcome n (Some t) es apart = apart-with_tenant n t es apart
 
-apart-shared_after : {I A : Type 0} (before : Shared) (step : StepOf A) (result : Result (Outcome I) Refusal) → AreApart before.tenants → AreApart (shared_after before step result).tenants
+apart-shared_after : {I A : Type 0} (before : CoreState) (step : StepOf A) (result : Result (Outcome I) Refusal) → AreApart before.tenants → AreApart (shared_after before step result).tenants
 apart-shared_after before step (Err refusal) apart = apart
 apart-shared_after before step (Ok outcome) apart = apart-with_outcome (tenant_of step) outcome.0 before.tenants apart
 
-apart-after : {I A : Type 0} (functions : Functions I A) (before : Shared) (steps : List (StepOf A)) (answers : List (Result (DidOf I) Refusal)) → AreApart before.tenants → AreApart (after_answers functions before steps answers).tenants
+apart-after : {I A : Type 0} (functions : Functions I A) (before : CoreState) (steps : List (StepOf A)) (answers : List (Result (DidOf I) Refusal)) → AreApart before.tenants → AreApart (after_answers functions before steps answers).tenants
 apart-after functions before [] answers apart = apart
 apart-after functions before (step ∷ steps) [] apart = apart
 apart-after functions before (step ∷ steps) (Err refusal ∷ answers) apart = apart-after functions before steps answers apart
 apart-after functions before (step ∷ steps) (Ok did ∷ answers) apart =
-    apart-after functions (after_answer functions before step (Ok did)) steps answers (apart-shared_after before step (judged functions before step) apart)
+    apart-after functions (after_answer functions before step (Ok did)) steps answers (apart-shared_after before step (step_result functions before step) apart)
 
 -- ---- who is busy elsewhere
 
@@ -103,14 +103,7 @@ meets-there (Take worker name) es apart busy = record { worker = worker; free = 
 meets-there (Steal worker from name) es apart busy = record { worker = worker; free = refl; elsewhere = busy-there worker name.tenant es apart busy }
 meets-there (Inlet worker name) es apart busy = record { worker = worker; free = refl; elsewhere = busy-there worker name.tenant es apart busy }
 meets-there (Finish worker name) es apart busy = record { worker = worker; free = refl; elsewhere = busy-there worker name.tenant es apart busy }
-meets-there (Admit number quota) es apart busy = absurd cc
-meets-there (AdmitMore number quota) es apart busy = absurd cc
-meets-there (Submit number words size) es apart busy = absurd cc
-meets-there (Advance worker name) es apart busy = absurd cc
-meets-there (Answer worker name answer) es apart busy = absurd cc
-meets-there (Spend name) es apart busy = absurd cc
-meets-there (Cancel number job) es apart busy = absurd cc
-meets-there (Leave number) es apart busy = absurd cc
+meets-there _ es apart busy = absurd cc
 
 -- ---- one step that was refused
 
@@ -128,7 +121,7 @@ refused-for false (Ok outcome) refusal own_state busy_worker else_taken =
 -- ---- in a list
 
 -- the answers before it are right, and its own is
-split-answers : {I A : Type 0} (functions : Functions I A) (at : Shared) (before later : List (StepOf A)) (said more : List (Result (DidOf I) Refusal)) (step : StepOf A) (answer : Result (DidOf I) Refusal) → length said ≡ length before →
+split-answers : {I A : Type 0} (functions : Functions I A) (at : CoreState) (before later : List (StepOf A)) (said more : List (Result (DidOf I) Refusal)) (step : StepOf A) (answer : Result (DidOf I) Refusal) → length said ≡ length before →
     AreAnswersTo functions at (before ++ step ∷ later) (said ++ answer ∷ more) → AreAnswersTo functions at before said × IsAnswerTo functions (after_answers functions at before said) step answer
 split-answers functions at [] later [] more step answer len right = (tt, right.0)
 split-answers functions at [] later (a ∷ said) more step answer len right = absurd (omega arith)
@@ -137,7 +130,7 @@ split-answers functions at (s ∷ before) later (a ∷ said) more step answer le
     let rest = split-answers functions (after_answer functions at s a) before later said more step answer (omega arith) right.1 in ((right.0, rest.0), rest.1)
 
 -- a step that was refused after these, where each tenant is what its own steps give
-refused-there : (grain : ℕ) (at : Shared) (before : List SearchStep) (said : List SearchAnswer) (step : SearchStep) (refusal : Refusal) →
+refused-there : (grain : ℕ) (at : CoreState) (before : List SearchStep) (said : List SearchAnswer) (step : SearchStep) (refusal : Refusal) →
     ((number : ℕ) → tenant_in at.tenants number ≡ stands grain number before said) → AreApart at.tenants → IsAnswerToStep (jamboree grain) at step (Err refusal) →
     IsForOwnState grain before said step refusal ⊎ IsForBusyWorker grain before said step refusal
 refused-there grain at before said step refusal own apart right =
@@ -154,7 +147,7 @@ refused-there grain at before said step refusal own apart right =
           })
     ]
 
-pub refused-for-these : (grain : ℕ) (totals : Quota) (steps : List SearchStep) (answers : List SearchAnswer) (after : Shared) → IsHeadlineFromNew grain totals steps answers after → AreRefusedForThese grain steps answers
+pub refused-for-these : (grain : ℕ) (totals : Quota) (steps : List SearchStep) (answers : List SearchAnswer) (after : CoreState) → IsHeadlineFromNew grain totals steps answers after → AreRefusedForThese grain steps answers
 refused-for-these grain totals steps answers after whole before later said more step refusal steps_are answers_are len no_admission =
     let f = jamboree grain in
     let nobody = shared_by_nobody totals in

@@ -15,7 +15,7 @@ use Rattle.tenant_quota.specs.Quota.{Quota}
 use Rattle.sched_rules.specs.declared.job.Job.{Job}
 use Rattle.sched_rules.specs.declared.job.Job.TheVariants.{Done}
 use Rattle.sched_rules.specs.Trees.{Tenant, job_at}
-use Rattle.sched_rules.specs.Cores.{Shared, tenant_in}
+use Rattle.sched_rules.specs.Cores.{CoreState, tenant_in}
 use Rattle.jamboree_core.specs.jamboree_rules.Places.{root_words}
 use Rattle.jamboree_core.specs.Replies.{AreRootWords, IsReplyTo, HoldsReply, AreReplies}
 use Rattle.jamboree_core.specs.Searching.{AreAllRootWords, CoreSearches, origin_at}
@@ -89,7 +89,7 @@ reply-in-words own opp depth origin words are reply =
     let r = rw are at reply in
     record { own_is = r.own; opp_is = r.opp; depth_is = r.depth; value = r.value; choice = r.choice; table = true-table _ _ _ r.table }
 
-pub replies-to-submits : (grain : ℕ) (totals : Quota) (steps : List SearchStep) (answers : List SearchAnswer) (after : Shared) (number job : ℕ) (tenant : Tenant) (words : List ℕ) →
+pub replies-to-submits : (grain : ℕ) (totals : Quota) (steps : List SearchStep) (answers : List SearchAnswer) (after : CoreState) (number job : ℕ) (tenant : Tenant) (words : List ℕ) →
     IsHeadlineFromNew grain totals steps answers after → CoreSearches (submitted_by steps answers) after →
     tenant_in after.tenants number ≡ Some tenant → job_at tenant.jobs job ≡ Some (Done words) → RepliesToSubmit (own_steps number steps answers) job words
 replies-to-submits grain totals steps answers after number job tenant words whole searches there done =

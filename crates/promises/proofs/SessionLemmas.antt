@@ -21,16 +21,16 @@ use Rattle.session.specs.declared.standings.Analysis.{Analysis}
 use Rattle.session.specs.declared.standings.Live.{Live}
 use Rattle.session.specs.declared.standings.Standing.{Standing}
 use Rattle.session.specs.declared.standings.Standing.TheVariants.{Pending, Done, Spent, Cancelled}
-use Rattle.session.specs.Asks.{Asked, asked_at, asks_after, AllTrue, IsReplyTo, IsRefusedWhere, IsToldOf}
+use Rattle.session.specs.Asks.{Asked, asked_at, asks_after, AllTrue, IsOfficeReplyTo, IsRefusedWhere, IsToldOf}
 use Rattle.session.specs.Calls.{Call, Hello, Reserve, Ask, Get, Wait, Cancel, AskQuota, AskLive, Leave, OfficeReply, Welcome, Reserved, Job, Told, Ended, Rest, Alive, Gone, Refused}
 use Rattle.session.specs.Requests.{Request, Fault, Makes, Tabulates, Ends, request}
 use Rattle.session.specs.Turns.{LineTurn, Faulted, Made, Tabulated, Closed, turns, turn_text, reply_text, table_text, standing_text, table_standing_text, by_request, calls_in, leaving, next_reply, later_replies, seated_after}
 use Rattle.session.specs.Sessions.{calls_for, session_lines, talk_result, IsAnsweredOf, IsWrittenOf}
-use Rattle.session.specs.DoneLines.{with_request, asks_of_lines, IsTrueDone, IsTrueTable as IsTableOfAsk, StandingHolds, TableHolds, ReplyHolds, TableReplyHolds, EachDoneIsTrue, TrueSession}
+use Rattle.session.specs.DoneLines.{with_request, asks_of_lines, IsTrueDone, IsTrueAnalysis as IsTableOfAsk, StandingHolds, TableHolds, ReplyHolds, TableReplyHolds, EachDoneIsTrue, TrueSession}
 use Rattle.session.proofs.Served.{next_turns}
 use Rattle.session.proofs.TrueCalls.{all_true}
 use Rattle.promises.specs.Asking.{AsksFor}
-use Rattle.promises.specs.Sessions.{Said, begins, is_seated, IsAskedAs, IsAbout, IsErrText, IsOfNumber, IsOfQuota, IsQuestionLine, IsRefusedBy, IsTrueDoneText, IsTrueTableText, IsTrueText, AreTrueTexts, TrueBytes}
+use Rattle.promises.specs.Sessions.{Exchange, begins, is_seated, IsAskedAs, IsAbout, IsOfNumber, IsOfQuota, IsQuestionLine, IsRefusedBy, IsTrueDoneText, IsTrueTableText, IsTrueText, AreTrueTexts, TrueBytes}
 use Rattle.promises.proofs.Lines.{Asks-so, IsAskLine, line-asks}
 use Rattle.promises.proofs.Replied.{true-table}
 use Rattle.promises.proofs.Spelled.{asks-for}
@@ -38,7 +38,7 @@ use Rattle.promises.proofs.Spelled.{asks-for}
 -- ---- where an ask came from
 
 -- each JOB text before bears the number after that of the last ask
-abbrev AreJobsCounted : List Said → Type 0
+abbrev AreJobsCounted : List Exchange → Type 0
 AreJobsCounted [] = Unit {0}
 AreJobsCounted (said ∷ before) = (begins said.1 (codes "JOB ") ≡ true → said.1 ≡ codes "JOB " ++ decimal (length (asks_of_lines before) + 1)) × AreJobsCounted before
 
@@ -68,28 +68,28 @@ job-alone (b ∷ text) h =
     ]
 
 -- one line more does not part an ask from its line
-asked-later : (said : Said) (before : List Said) (job depth : ℕ) (position : Position) → begins said.1 (codes "WELCOME ") ≡ false → begins said.1 (codes "BYE") ≡ false → IsAskedAs before job depth position → IsAskedAs (said ∷ before) job depth position
+asked-later : (said : Exchange) (before : List Exchange) (job depth : ℕ) (position : Position) → begins said.1 (codes "WELCOME ") ≡ false → begins said.1 (codes "BYE") ≡ false → IsAskedAs before job depth position → IsAskedAs (said ∷ before) job depth position
 asked-later said before job depth position welcome bye from = record {
   later = said ∷ from.later;
   word = from.word;
   text = from.text;
   earlier = from.earlier;
-  is = ap (λ (l : List Said). said ∷ l) from.is;
+  is = ap (λ (l : List Exchange). said ∷ l) from.is;
   asks = from.asks;
   same = (welcome, bye, from.same);
 }
 
 -- the position that an ask was for
-record ComesFrom (before : List Said) (job : ℕ) (asked : Asked) : Type 0 where
+record ComesFrom (before : List Exchange) (job : ℕ) (asked : Asked) : Type 0 where
   pub position : Position
   pub from : IsAskedAs before job asked.depth position
   pub is : cells position.board ≡ asked.board
 
-later-from : (said : Said) (before : List Said) (job : ℕ) (asked : Asked) → begins said.1 (codes "WELCOME ") ≡ false → begins said.1 (codes "BYE") ≡ false → ComesFrom before job asked → ComesFrom (said ∷ before) job asked
+later-from : (said : Exchange) (before : List Exchange) (job : ℕ) (asked : Asked) → begins said.1 (codes "WELCOME ") ≡ false → begins said.1 (codes "BYE") ≡ false → ComesFrom before job asked → ComesFrom (said ∷ before) job asked
 later-from said before job asked welcome bye c = record { position = c.position; from = asked-later said before job asked.depth c.position welcome bye c.from; is = c.is }
 
 -- the line that was just answered by JOB
-just-asked : (line : LineText) (text : List ℕ) (before : List Said) (job : ℕ) (asked : Asked) → IsAskLine line asked.depth asked.board → text ≡ codes "JOB " ++ decimal job → ComesFrom ((line, text) ∷ before) job asked
+just-asked : (line : LineText) (text : List ℕ) (before : List Exchange) (job : ℕ) (asked : Asked) → IsAskLine line asked.depth asked.board → text ≡ codes "JOB " ++ decimal job → ComesFrom ((line, text) ∷ before) job asked
 just-asked line text before job asked ask said =
     let reads = asks-for ask.word ask.text ask.asked ask.reads in
     record {
@@ -107,7 +107,7 @@ just-asked line text before job asked ask said =
     }
 
 -- by what the line asks for that was answered by JOB
-by-ask : (line : LineText) (text : List ℕ) (before : List Said) (job : ℕ) (asked : Asked) (q : Request) → request true line ≡ q → begins text (codes "JOB ") ≡ true →
+by-ask : (line : LineText) (text : List ℕ) (before : List Exchange) (job : ℕ) (asked : Asked) (q : Request) → request true line ≡ q → begins text (codes "JOB ") ≡ true →
     text ≡ codes "JOB " ++ decimal (length (asks_of_lines before) + 1) → (asked_at (asks_of_lines before) job ≡ Some asked → ComesFrom before job asked) →
     asked_at (with_request (asks_of_lines before) q) job ≡ Some asked → ComesFrom ((line, text) ∷ before) job asked
 by-ask line text before job asked (Makes (Ask depth board side)) e is_job counted earlier at =
@@ -120,19 +120,9 @@ by-ask line text before job asked (Makes (Ask depth board side)) e is_job counte
           (let P : Asked → Type 0 = λ a. IsAskLine line a.depth a.board in subst P same ask)
           (counted ∙ ap (λ (n : ℕ). codes "JOB " ++ decimal n) (sym last.0))
     ]
-by-ask line text before job asked (Makes (Hello quota)) e is_job counted earlier at = let alone = job-alone text is_job in later-from (line, text) before job asked alone.0 alone.1 (earlier at)
-by-ask line text before job asked (Makes (Reserve quota)) e is_job counted earlier at = let alone = job-alone text is_job in later-from (line, text) before job asked alone.0 alone.1 (earlier at)
-by-ask line text before job asked (Makes (Get k)) e is_job counted earlier at = let alone = job-alone text is_job in later-from (line, text) before job asked alone.0 alone.1 (earlier at)
-by-ask line text before job asked (Makes (Wait k)) e is_job counted earlier at = let alone = job-alone text is_job in later-from (line, text) before job asked alone.0 alone.1 (earlier at)
-by-ask line text before job asked (Makes (Cancel k)) e is_job counted earlier at = let alone = job-alone text is_job in later-from (line, text) before job asked alone.0 alone.1 (earlier at)
-by-ask line text before job asked (Makes AskQuota) e is_job counted earlier at = let alone = job-alone text is_job in later-from (line, text) before job asked alone.0 alone.1 (earlier at)
-by-ask line text before job asked (Makes AskLive) e is_job counted earlier at = let alone = job-alone text is_job in later-from (line, text) before job asked alone.0 alone.1 (earlier at)
-by-ask line text before job asked (Makes Leave) e is_job counted earlier at = let alone = job-alone text is_job in later-from (line, text) before job asked alone.0 alone.1 (earlier at)
-by-ask line text before job asked (Fault fault) e is_job counted earlier at = let alone = job-alone text is_job in later-from (line, text) before job asked alone.0 alone.1 (earlier at)
-by-ask line text before job asked (Tabulates k) e is_job counted earlier at = let alone = job-alone text is_job in later-from (line, text) before job asked alone.0 alone.1 (earlier at)
-by-ask line text before job asked Ends e is_job counted earlier at = let alone = job-alone text is_job in later-from (line, text) before job asked alone.0 alone.1 (earlier at)
+by-ask line text before job asked _ e is_job counted earlier at = let alone = job-alone text is_job in later-from (line, text) before job asked alone.0 alone.1 (earlier at)
 
-by-answer : (line : LineText) (text : List ℕ) (before : List Said) (job : ℕ) (asked : Asked) (is_job is_welcome is_bye : Bool) → begins text (codes "JOB ") ≡ is_job → begins text (codes "WELCOME ") ≡ is_welcome → begins text (codes "BYE") ≡ is_bye →
+by-answer : (line : LineText) (text : List ℕ) (before : List Exchange) (job : ℕ) (asked : Asked) (is_job is_welcome is_bye : Bool) → begins text (codes "JOB ") ≡ is_job → begins text (codes "WELCOME ") ≡ is_welcome → begins text (codes "BYE") ≡ is_bye →
     (begins text (codes "JOB ") ≡ true → text ≡ codes "JOB " ++ decimal (length (asks_of_lines before) + 1)) → (asked_at (asks_of_lines before) job ≡ Some asked → ComesFrom before job asked) →
     asked_at (if is_job then with_request (asks_of_lines before) (request true line) else (if is_welcome then [] else (if is_bye then [] else asks_of_lines before))) job ≡ Some asked → ComesFrom ((line, text) ∷ before) job asked
 by-answer line text before job asked true welcome bye j w b counted earlier at = by-ask line text before job asked (request true line) refl j (counted j) earlier at
@@ -140,19 +130,19 @@ by-answer line text before job asked false true bye j w b counted earlier at = a
 by-answer line text before job asked false false true j w b counted earlier at = absurd cc
 by-answer line text before job asked false false false j w b counted earlier at = later-from (line, text) before job asked w b (earlier at)
 
-comes-from : (before : List Said) (job : ℕ) (asked : Asked) → AreJobsCounted before → asked_at (asks_of_lines before) job ≡ Some asked → ComesFrom before job asked
+comes-from : (before : List Exchange) (job : ℕ) (asked : Asked) → AreJobsCounted before → asked_at (asks_of_lines before) job ≡ Some asked → ComesFrom before job asked
 comes-from [] job asked counted at = absurd cc
 comes-from ((line, text) ∷ before) job asked counted at =
     by-answer line text before job asked (begins text (codes "JOB ")) (begins text (codes "WELCOME ")) (begins text (codes "BYE")) refl refl refl counted.0 (comes-from before job asked counted.1) at
 
 -- ---- one text
 
-done-text : (before : List Said) (line : LineText) (job : ℕ) (analysis : Analysis) → IsAbout (codes "GET" ∷ codes "WAIT" ∷ []) line job → AreJobsCounted before → IsTrueDone before job analysis → IsTrueDoneText before line (standing_text job (Done analysis))
+done-text : (before : List Exchange) (line : LineText) (job : ℕ) (analysis : Analysis) → IsAbout (codes "GET" ∷ codes "WAIT" ∷ []) line job → AreJobsCounted before → IsTrueDone before job analysis → IsTrueDoneText before line (standing_text job (Done analysis))
 done-text before line job analysis about counted holds =
     let c = comes-from before job holds.asked counted holds.is in
     record { job = job; depth = holds.asked.depth; position = c.position; about = about; asked = c.from; is = rw (holds.value, holds.choice, c.is) refl }
 
-table-of : (before : List Said) (line : LineText) (job : ℕ) (analysis : Analysis) → IsAbout (codes "TABLE" ∷ []) line job → AreJobsCounted before → IsTableOfAsk before job analysis → IsTrueTableText before line (table_standing_text job (Done analysis))
+table-of : (before : List Exchange) (line : LineText) (job : ℕ) (analysis : Analysis) → IsAbout (codes "TABLE" ∷ []) line job → AreJobsCounted before → IsTableOfAsk before job analysis → IsTrueTableText before line (table_standing_text job (Done analysis))
 table-of before line job analysis about counted holds =
     let c = comes-from before job holds.asked counted holds.is in record {
       job = job;
@@ -172,46 +162,46 @@ question-line line depth board ask =
     record { word = ask.word; text = ask.text; is = ask.is; depth = ask.asked.depth; position = reads.position; asks = reads.asks }
 
 -- a line that may be refused has no fault
-abbrev HasNoFault : List Said → LineText → List ℕ → Type 0
+abbrev HasNoFault : List Exchange → LineText → List ℕ → Type 0
 HasNoFault before line text = (fault : ProtocolFault) → request (is_seated before) line ≡ Fault fault → text ≡ error_text (fault_number fault)
 
-welcome-true : (before : List Said) (line : LineText) (quota : Quota) → IsOfQuota (codes "HELLO") line quota → HasNoFault before line (reply_text (Welcome quota)) → IsTrueText before line (reply_text (Welcome quota))
+welcome-true : (before : List Exchange) (line : LineText) (quota : Quota) → IsOfQuota (codes "HELLO") line quota → HasNoFault before line (reply_text (Welcome quota)) → IsTrueText before line (reply_text (Welcome quota))
 welcome-true before line quota about fault = record { known = refl; welcome = λ e. record { quota = quota; about = about; is = refl }; reserved = λ e. absurd cc; job = λ e. absurd cc; done = λ e. absurd cc; table = λ e. absurd cc; pending = λ e. absurd cc; spent = λ e. absurd cc; cancelled = λ e. absurd cc; quota = λ e. absurd cc; live = λ e. absurd cc; bye = λ e. absurd cc; err = λ e. absurd cc; fault = fault }
 
-reserved-true : (before : List Said) (line : LineText) (quota : Quota) → IsOfQuota (codes "RESERVE") line quota → HasNoFault before line (reply_text (Reserved quota)) → IsTrueText before line (reply_text (Reserved quota))
+reserved-true : (before : List Exchange) (line : LineText) (quota : Quota) → IsOfQuota (codes "RESERVE") line quota → HasNoFault before line (reply_text (Reserved quota)) → IsTrueText before line (reply_text (Reserved quota))
 reserved-true before line quota about fault = record { known = refl; welcome = λ e. absurd cc; reserved = λ e. record { quota = quota; about = about; is = refl }; job = λ e. absurd cc; done = λ e. absurd cc; table = λ e. absurd cc; pending = λ e. absurd cc; spent = λ e. absurd cc; cancelled = λ e. absurd cc; quota = λ e. absurd cc; live = λ e. absurd cc; bye = λ e. absurd cc; err = λ e. absurd cc; fault = fault }
 
-job-true : (before : List Said) (line : LineText) (number : ℕ) → number ≡ length (asks_of_lines before) + 1 → IsQuestionLine line → HasNoFault before line (reply_text (Job number)) → IsTrueText before line (reply_text (Job number))
+job-true : (before : List Exchange) (line : LineText) (number : ℕ) → number ≡ length (asks_of_lines before) + 1 → IsQuestionLine line → HasNoFault before line (reply_text (Job number)) → IsTrueText before line (reply_text (Job number))
 job-true before line number is about fault = record { known = refl; welcome = λ e. absurd cc; reserved = λ e. absurd cc; job = λ e. record { about = about; is = ap (λ (n : ℕ). codes "JOB " ++ decimal n) is }; done = λ e. absurd cc; table = λ e. absurd cc; pending = λ e. absurd cc; spent = λ e. absurd cc; cancelled = λ e. absurd cc; quota = λ e. absurd cc; live = λ e. absurd cc; bye = λ e. absurd cc; err = λ e. absurd cc; fault = fault }
 
-done-true : (before : List Said) (line : LineText) (job : ℕ) (analysis : Analysis) → IsAbout (codes "GET" ∷ codes "WAIT" ∷ []) line job → AreJobsCounted before → IsTrueDone before job analysis → HasNoFault before line (standing_text job (Done analysis)) → IsTrueText before line (standing_text job (Done analysis))
+done-true : (before : List Exchange) (line : LineText) (job : ℕ) (analysis : Analysis) → IsAbout (codes "GET" ∷ codes "WAIT" ∷ []) line job → AreJobsCounted before → IsTrueDone before job analysis → HasNoFault before line (standing_text job (Done analysis)) → IsTrueText before line (standing_text job (Done analysis))
 done-true before line job analysis about counted holds fault = record { known = refl; welcome = λ e. absurd cc; reserved = λ e. absurd cc; job = λ e. absurd cc; done = λ e. done-text before line job analysis about counted holds; table = λ e. absurd cc; pending = λ e. absurd cc; spent = λ e. absurd cc; cancelled = λ e. absurd cc; quota = λ e. absurd cc; live = λ e. absurd cc; bye = λ e. absurd cc; err = λ e. absurd cc; fault = fault }
 
-table-true : (before : List Said) (line : LineText) (job : ℕ) (analysis : Analysis) → IsAbout (codes "TABLE" ∷ []) line job → AreJobsCounted before → IsTableOfAsk before job analysis → HasNoFault before line (table_standing_text job (Done analysis)) → IsTrueText before line (table_standing_text job (Done analysis))
+table-true : (before : List Exchange) (line : LineText) (job : ℕ) (analysis : Analysis) → IsAbout (codes "TABLE" ∷ []) line job → AreJobsCounted before → IsTableOfAsk before job analysis → HasNoFault before line (table_standing_text job (Done analysis)) → IsTrueText before line (table_standing_text job (Done analysis))
 table-true before line job analysis about counted holds fault = record { known = refl; welcome = λ e. absurd cc; reserved = λ e. absurd cc; job = λ e. absurd cc; done = λ e. absurd cc; table = λ e. table-of before line job analysis about counted holds; pending = λ e. absurd cc; spent = λ e. absurd cc; cancelled = λ e. absurd cc; quota = λ e. absurd cc; live = λ e. absurd cc; bye = λ e. absurd cc; err = λ e. absurd cc; fault = fault }
 
-pending-true : (before : List Said) (line : LineText) (job : ℕ) → IsAbout (codes "GET" ∷ codes "WAIT" ∷ codes "TABLE" ∷ []) line job → HasNoFault before line (standing_text job Pending) → IsTrueText before line (standing_text job Pending)
+pending-true : (before : List Exchange) (line : LineText) (job : ℕ) → IsAbout (codes "GET" ∷ codes "WAIT" ∷ codes "TABLE" ∷ []) line job → HasNoFault before line (standing_text job Pending) → IsTrueText before line (standing_text job Pending)
 pending-true before line job about fault = record { known = refl; welcome = λ e. absurd cc; reserved = λ e. absurd cc; job = λ e. absurd cc; done = λ e. absurd cc; table = λ e. absurd cc; pending = λ e. record { job = job; about = about; is = refl }; spent = λ e. absurd cc; cancelled = λ e. absurd cc; quota = λ e. absurd cc; live = λ e. absurd cc; bye = λ e. absurd cc; err = λ e. absurd cc; fault = fault }
 
-spent-true : (before : List Said) (line : LineText) (job : ℕ) → IsAbout (codes "GET" ∷ codes "WAIT" ∷ codes "TABLE" ∷ []) line job → HasNoFault before line (standing_text job Spent) → IsTrueText before line (standing_text job Spent)
+spent-true : (before : List Exchange) (line : LineText) (job : ℕ) → IsAbout (codes "GET" ∷ codes "WAIT" ∷ codes "TABLE" ∷ []) line job → HasNoFault before line (standing_text job Spent) → IsTrueText before line (standing_text job Spent)
 spent-true before line job about fault = record { known = refl; welcome = λ e. absurd cc; reserved = λ e. absurd cc; job = λ e. absurd cc; done = λ e. absurd cc; table = λ e. absurd cc; pending = λ e. absurd cc; spent = λ e. record { job = job; about = about; is = refl }; cancelled = λ e. absurd cc; quota = λ e. absurd cc; live = λ e. absurd cc; bye = λ e. absurd cc; err = λ e. absurd cc; fault = fault }
 
-cancelled-true : (before : List Said) (line : LineText) (job : ℕ) → IsAbout (codes "GET" ∷ codes "WAIT" ∷ codes "TABLE" ∷ codes "CANCEL" ∷ []) line job → HasNoFault before line (standing_text job Cancelled) → IsTrueText before line (standing_text job Cancelled)
+cancelled-true : (before : List Exchange) (line : LineText) (job : ℕ) → IsAbout (codes "GET" ∷ codes "WAIT" ∷ codes "TABLE" ∷ codes "CANCEL" ∷ []) line job → HasNoFault before line (standing_text job Cancelled) → IsTrueText before line (standing_text job Cancelled)
 cancelled-true before line job about fault = record { known = refl; welcome = λ e. absurd cc; reserved = λ e. absurd cc; job = λ e. absurd cc; done = λ e. absurd cc; table = λ e. absurd cc; pending = λ e. absurd cc; spent = λ e. absurd cc; cancelled = λ e. record { job = job; about = about; is = refl }; quota = λ e. absurd cc; live = λ e. absurd cc; bye = λ e. absurd cc; err = λ e. absurd cc; fault = fault }
 
-rest-true : (before : List Said) (line : LineText) (left : Left) → line ≡ Whole (codes "QUOTA") → HasNoFault before line (reply_text (Rest left)) → IsTrueText before line (reply_text (Rest left))
+rest-true : (before : List Exchange) (line : LineText) (left : Left) → line ≡ Whole (codes "QUOTA") → HasNoFault before line (reply_text (Rest left)) → IsTrueText before line (reply_text (Rest left))
 rest-true before line left about fault = record { known = refl; welcome = λ e. absurd cc; reserved = λ e. absurd cc; job = λ e. absurd cc; done = λ e. absurd cc; table = λ e. absurd cc; pending = λ e. absurd cc; spent = λ e. absurd cc; cancelled = λ e. absurd cc; quota = λ e. record { about = about; left = left; is = refl }; live = λ e. absurd cc; bye = λ e. absurd cc; err = λ e. absurd cc; fault = fault }
 
-live-true : (before : List Said) (line : LineText) (live : Live) → line ≡ Whole (codes "LIVE") → HasNoFault before line (reply_text (Alive live)) → IsTrueText before line (reply_text (Alive live))
+live-true : (before : List Exchange) (line : LineText) (live : Live) → line ≡ Whole (codes "LIVE") → HasNoFault before line (reply_text (Alive live)) → IsTrueText before line (reply_text (Alive live))
 live-true before line live about fault = record { known = refl; welcome = λ e. absurd cc; reserved = λ e. absurd cc; job = λ e. absurd cc; done = λ e. absurd cc; table = λ e. absurd cc; pending = λ e. absurd cc; spent = λ e. absurd cc; cancelled = λ e. absurd cc; quota = λ e. absurd cc; live = λ e. record { about = about; live = live; is = refl }; bye = λ e. absurd cc; err = λ e. absurd cc; fault = fault }
 
-bye-true : (before : List Said) (line : LineText) → line ≡ Whole (codes "BYE") → HasNoFault before line (codes "BYE") → IsTrueText before line (codes "BYE")
+bye-true : (before : List Exchange) (line : LineText) → line ≡ Whole (codes "BYE") → HasNoFault before line (codes "BYE") → IsTrueText before line (codes "BYE")
 bye-true before line about fault = record { known = refl; welcome = λ e. absurd cc; reserved = λ e. absurd cc; job = λ e. absurd cc; done = λ e. absurd cc; table = λ e. absurd cc; pending = λ e. absurd cc; spent = λ e. absurd cc; cancelled = λ e. absurd cc; quota = λ e. absurd cc; live = λ e. absurd cc; bye = λ e. (about, refl); err = λ e. absurd cc; fault = fault }
 
-refused-true : (before : List Said) (line : LineText) (number : ℕ) → IsRefusedBy line number → HasNoFault before line (error_text number) → IsTrueText before line (error_text number)
+refused-true : (before : List Exchange) (line : LineText) (number : ℕ) → IsRefusedBy line number → HasNoFault before line (error_text number) → IsTrueText before line (error_text number)
 refused-true before line number by fault = record { known = refl; welcome = λ e. absurd cc; reserved = λ e. absurd cc; job = λ e. absurd cc; done = λ e. absurd cc; table = λ e. absurd cc; pending = λ e. absurd cc; spent = λ e. absurd cc; cancelled = λ e. absurd cc; quota = λ e. absurd cc; live = λ e. absurd cc; bye = λ e. absurd cc; err = λ e. record { number = number; is = refl; why = inr by }; fault = fault }
 
-fault-true : (before : List Said) (line : LineText) (fault : ProtocolFault) → request (is_seated before) line ≡ Fault fault → IsTrueText before line (error_text (fault_number fault))
+fault-true : (before : List Exchange) (line : LineText) (fault : ProtocolFault) → request (is_seated before) line ≡ Fault fault → IsTrueText before line (error_text (fault_number fault))
 fault-true before line fault is = record { known = refl; welcome = λ e. absurd cc; reserved = λ e. absurd cc; job = λ e. absurd cc; done = λ e. absurd cc; table = λ e. absurd cc; pending = λ e. absurd cc; spent = λ e. absurd cc; cancelled = λ e. absurd cc; quota = λ e. absurd cc; live = λ e. absurd cc; bye = λ e. absurd cc; err = λ e. record { number = fault_number fault; is = refl; why = inl (fault, is, refl) }; fault = λ other same. (let first : fault ≡ other = cc in ap (λ (f : ProtocolFault). error_text (fault_number f)) first) }
 
 -- ---- the line of an answer about a job
@@ -231,13 +221,13 @@ told-about : (line : LineText) (call : Call) (job : ℕ) → (call ≡ Get job) 
 told-about line call job (inl is) asks = of-get line job (subst (λ (c : Call). Asks-so (Makes c) line) is asks)
 told-about line call job (inr is) asks = of-wait line job (subst (λ (c : Call). Asks-so (Makes c) line) is asks)
 
-standing-true : (before : List Said) (line : LineText) (job : ℕ) (standing : Standing) → IsAbout (codes "GET" ∷ codes "WAIT" ∷ []) line job → AreJobsCounted before → StandingHolds before job standing → HasNoFault before line (standing_text job standing) → IsTrueText before line (standing_text job standing)
+standing-true : (before : List Exchange) (line : LineText) (job : ℕ) (standing : Standing) → IsAbout (codes "GET" ∷ codes "WAIT" ∷ []) line job → AreJobsCounted before → StandingHolds before job standing → HasNoFault before line (standing_text job standing) → IsTrueText before line (standing_text job standing)
 standing-true before line job Pending about counted holds fault = pending-true before line job (of-more (codes "GET" ∷ codes "WAIT" ∷ []) (codes "TABLE" ∷ []) line job about) fault
 standing-true before line job (Done analysis) about counted holds fault = done-true before line job analysis about counted holds fault
 standing-true before line job Spent about counted holds fault = spent-true before line job (of-more (codes "GET" ∷ codes "WAIT" ∷ []) (codes "TABLE" ∷ []) line job about) fault
 standing-true before line job Cancelled about counted holds fault = cancelled-true before line job (of-more (codes "GET" ∷ codes "WAIT" ∷ []) (codes "TABLE" ∷ codes "CANCEL" ∷ []) line job about) fault
 
-table-standing-true : (before : List Said) (line : LineText) (job : ℕ) (standing : Standing) → IsOfNumber (codes "TABLE") line job → AreJobsCounted before → TableHolds before job standing → HasNoFault before line (table_standing_text job standing) → IsTrueText before line (table_standing_text job standing)
+table-standing-true : (before : List Exchange) (line : LineText) (job : ℕ) (standing : Standing) → IsOfNumber (codes "TABLE") line job → AreJobsCounted before → TableHolds before job standing → HasNoFault before line (table_standing_text job standing) → IsTrueText before line (table_standing_text job standing)
 table-standing-true before line job Pending is counted holds fault = pending-true before line job (record { command = codes "TABLE"; one_of = (2, lit< tt, refl); line_is = is }) fault
 table-standing-true before line job (Done analysis) is counted holds fault = table-true before line job analysis (record { command = codes "TABLE"; one_of = (0, lit< tt, refl); line_is = is }) counted holds fault
 table-standing-true before line job Spent is counted holds fault = spent-true before line job (record { command = codes "TABLE"; one_of = (2, lit< tt, refl); line_is = is }) fault
@@ -267,10 +257,10 @@ table-refused line job number asks so h = record { command = codes "TABLE"; numb
 -- ---- what came of a line
 
 -- a line that asks for something has no fault
-abbrev AsksForSome : List Said → LineText → Type 0
+abbrev AsksForSome : List Exchange → LineText → Type 0
 AsksForSome before line = (fault : ProtocolFault) → request (is_seated before) line ≡ Fault fault → ⊥
 
-made-true : (before : List Said) (line : LineText) (call : Call) (reply : OfficeReply) (asks : List Asked) → Asks-so (Makes call) line → IsReplyTo call reply → IsRefusedWhere asks call reply → AreJobsCounted before → ReplyHolds before reply → AsksForSome before line → IsTrueText before line (reply_text reply)
+made-true : (before : List Exchange) (line : LineText) (call : Call) (reply : OfficeReply) (asks : List Asked) → Asks-so (Makes call) line → IsOfficeReplyTo call reply → IsRefusedWhere asks call reply → AreJobsCounted before → ReplyHolds before reply → AsksForSome before line → IsTrueText before line (reply_text reply)
 made-true before line call (Welcome quota) asks so to refused counted holds some = welcome-true before line quota (subst (λ (c : Call). Asks-so (Makes c) line) to so) (λ f e. absurd (some f e))
 made-true before line call (Reserved quota) asks so to refused counted holds some = reserved-true before line quota (subst (λ (c : Call). Asks-so (Makes c) line) to so) (λ f e. absurd (some f e))
 made-true before line call (Job number) asks so to refused counted holds some =
@@ -283,71 +273,55 @@ made-true before line call (Alive live) asks so to refused counted holds some = 
 made-true before line call Gone asks so to refused counted holds some = absurd (subst (λ (c : Call). Asks-so (Makes c) line) to so)
 made-true before line call (Refused number) asks so to refused counted holds some = refused-true before line number (refused-by line call number asks so refused) (λ f e. absurd (some f e))
 
-tabulated-true : (before : List Said) (line : LineText) (job : ℕ) (reply : OfficeReply) (asks : List Asked) → IsOfNumber (codes "TABLE") line job → IsReplyTo (Get job) reply → IsRefusedWhere asks (Get job) reply → AreJobsCounted before → TableReplyHolds before reply → AsksForSome before line → IsTrueText before line (table_text reply)
-tabulated-true before line job (Welcome quota) asks so to refused counted holds some = absurd (cc to)
-tabulated-true before line job (Reserved quota) asks so to refused counted holds some = absurd (cc to)
+tabulated-true : (before : List Exchange) (line : LineText) (job : ℕ) (reply : OfficeReply) (asks : List Asked) → IsOfNumber (codes "TABLE") line job → IsOfficeReplyTo (Get job) reply → IsRefusedWhere asks (Get job) reply → AreJobsCounted before → TableReplyHolds before reply → AsksForSome before line → IsTrueText before line (table_text reply)
 tabulated-true before line job (Job number) asks so to refused counted holds some = absurd (cc to.3)
 tabulated-true before line job (Told told standing) asks so (inl same) refused counted holds some =
     let is : job ≡ told = cc same in table-standing-true before line told standing (subst (λ (k : ℕ). IsOfNumber (codes "TABLE") line k) is so) counted holds (λ f e. absurd (some f e))
 tabulated-true before line job (Told told standing) asks so (inr other) refused counted holds some = absurd (cc other)
-tabulated-true before line job (Ended ended) asks so to refused counted holds some = absurd (cc to)
-tabulated-true before line job (Rest left) asks so to refused counted holds some = absurd (cc to)
-tabulated-true before line job (Alive live) asks so to refused counted holds some = absurd (cc to)
-tabulated-true before line job Gone asks so to refused counted holds some = absurd (cc to)
 tabulated-true before line job (Refused number) asks so to refused counted holds some = refused-true before line number (table-refused line job number asks so refused) (λ f e. absurd (some f e))
+tabulated-true before line job _ asks so to refused counted holds some = absurd (cc to)
 
 -- ---- whether a tenant is there after an answer
 
-told-seated : (before : List Said) (line : LineText) (job : ℕ) (standing : Standing) → is_seated ((line, standing_text job standing) ∷ before) ≡ is_seated before
+told-seated : (before : List Exchange) (line : LineText) (job : ℕ) (standing : Standing) → is_seated ((line, standing_text job standing) ∷ before) ≡ is_seated before
 told-seated before line job Pending = refl
-told-seated before line job (Done analysis) = refl
-told-seated before line job Spent = refl
-told-seated before line job Cancelled = refl
+told-seated before line job _ = refl
 
-table-seated : (before : List Said) (line : LineText) (job : ℕ) (standing : Standing) → is_seated ((line, table_standing_text job standing) ∷ before) ≡ is_seated before
+table-seated : (before : List Exchange) (line : LineText) (job : ℕ) (standing : Standing) → is_seated ((line, table_standing_text job standing) ∷ before) ≡ is_seated before
 table-seated before line job Pending = refl
-table-seated before line job (Done analysis) = refl
-table-seated before line job Spent = refl
-table-seated before line job Cancelled = refl
+table-seated before line job _ = refl
 
 -- the answer told without a table, and with it
-next-seated : (before : List Said) (line : LineText) (reply : OfficeReply)
+next-seated : (before : List Exchange) (line : LineText) (reply : OfficeReply)
     → (is_seated ((line, reply_text reply) ∷ before) ≡ seated_after (is_seated before) reply) × (is_seated ((line, table_text reply) ∷ before) ≡ seated_after (is_seated before) reply)
-next-seated before line (Welcome quota) = (refl, refl)
-next-seated before line (Reserved quota) = (refl, refl)
-next-seated before line (Job number) = (refl, refl)
 next-seated before line (Told job standing) = (told-seated before line job standing, table-seated before line job standing)
-next-seated before line (Ended job) = (refl, refl)
-next-seated before line (Rest left) = (refl, refl)
-next-seated before line (Alive live) = (refl, refl)
-next-seated before line Gone = (refl, refl)
-next-seated before line (Refused number) = (refl, refl)
+next-seated before line _ = (refl, refl)
 
 -- ---- all texts
 
-said_of : List LineText → List LineTurn → List Said
-said_of [] turned = []
-said_of (line ∷ lines) [] = []
-said_of (line ∷ lines) (turn ∷ turned) = (line, turn_text turn) ∷ said_of lines turned
+exchanges_of : List LineText → List LineTurn → List Exchange
+exchanges_of [] turned = []
+exchanges_of (line ∷ lines) [] = []
+exchanges_of (line ∷ lines) (turn ∷ turned) = (line, turn_text turn) ∷ exchanges_of lines turned
 
 -- what holds of the lines after this one, whatever came before them
 abbrev LaterTrue : List LineText → Type 0
 LaterTrue lines =
-    (before : List Said) (asks : List Asked) (seated : Bool) (replies : List OfficeReply) → seated ≡ is_seated before → AreJobsCounted before →
-    EachDoneIsTrue before lines (turns seated lines replies) → AllTrue asks (calls_in seated (turns seated lines replies)) → AreTrueTexts before (said_of lines (turns seated lines replies))
+    (before : List Exchange) (asks : List Asked) (seated : Bool) (replies : List OfficeReply) → seated ≡ is_seated before → AreJobsCounted before →
+    EachDoneIsTrue before lines (turns seated lines replies) → AllTrue asks (calls_in seated (turns seated lines replies)) → AreTrueTexts before (exchanges_of lines (turns seated lines replies))
 
 -- after a true text the jobs are counted still
-counted-more : (before : List Said) (line : LineText) (text : List ℕ) → IsTrueText before line text → AreJobsCounted before → AreJobsCounted ((line, text) ∷ before)
+counted-more : (before : List Exchange) (line : LineText) (text : List ℕ) → IsTrueText before line text → AreJobsCounted before → AreJobsCounted ((line, text) ∷ before)
 counted-more before line text here counted = (λ e. (here.job e).is, counted)
 
-after-bye : (before : List Said) (asks : List Asked) (seated : Bool) (line : LineText) (lines : List LineText) (replies : List OfficeReply) → LaterTrue lines → AreJobsCounted ((line, codes "BYE") ∷ before) →
-    EachDoneIsTrue ((line, codes "BYE") ∷ before) lines (turns false lines replies) → AllTrue asks (leaving seated ++ calls_in false (turns false lines replies)) → AreTrueTexts ((line, codes "BYE") ∷ before) (said_of lines (turns false lines replies))
+after-bye : (before : List Exchange) (asks : List Asked) (seated : Bool) (line : LineText) (lines : List LineText) (replies : List OfficeReply) → LaterTrue lines → AreJobsCounted ((line, codes "BYE") ∷ before) →
+    EachDoneIsTrue ((line, codes "BYE") ∷ before) lines (turns false lines replies) → AllTrue asks (leaving seated ++ calls_in false (turns false lines replies)) → AreTrueTexts ((line, codes "BYE") ∷ before) (exchanges_of lines (turns false lines replies))
 after-bye before asks true line lines replies later counted dones all = later ((line, codes "BYE") ∷ before) [] false replies refl counted dones all.1
 after-bye before asks false line lines replies later counted dones all = later ((line, codes "BYE") ∷ before) asks false replies refl counted dones all
 
-line-true : (q : Request) (before : List Said) (asks : List Asked) (seated : Bool) (line : LineText) (lines : List LineText) (replies : List OfficeReply) → request seated line ≡ q → LaterTrue lines → seated ≡ is_seated before → AreJobsCounted before →
-    EachDoneIsTrue before (line ∷ lines) (next_turns q seated lines replies) → AllTrue asks (calls_in seated (next_turns q seated lines replies)) → AreTrueTexts before (said_of (line ∷ lines) (next_turns q seated lines replies))
-unfolding said_of
+line-true : (q : Request) (before : List Exchange) (asks : List Asked) (seated : Bool) (line : LineText) (lines : List LineText) (replies : List OfficeReply) → request seated line ≡ q → LaterTrue lines → seated ≡ is_seated before → AreJobsCounted before →
+    EachDoneIsTrue before (line ∷ lines) (next_turns q seated lines replies) → AllTrue asks (calls_in seated (next_turns q seated lines replies)) → AreTrueTexts before (exchanges_of (line ∷ lines) (next_turns q seated lines replies))
+unfolding exchanges_of
 line-true (Fault fault) before asks seated line lines replies e later same counted dones all =
     let here = fault-true before line fault (subst (λ (s : Bool). request s line ≡ Fault fault) same e) in
     (here, later ((line, error_text (fault_number fault)) ∷ before) asks seated replies same (counted-more before line (error_text (fault_number fault)) here counted) dones.1 all)
@@ -372,18 +346,18 @@ line-true Ends before asks seated line lines replies e later same counted dones 
     (here, after-bye before asks seated line lines replies later (counted-more before line (codes "BYE") here counted) dones.1 all)
 
 texts-true : (lines : List LineText) → LaterTrue lines
-unfolding said_of
+unfolding exchanges_of
 texts-true [] before asks seated replies same counted dones all = tt
 texts-true (line ∷ lines) before asks seated replies same counted dones all = line-true (request seated line) before asks seated line lines replies refl (texts-true lines) same counted dones all
 
-first-said : (lines : List LineText) (turned : List LineTurn) → length turned ≡ length lines → map (λ s. s.0) (said_of lines turned) ≡ lines
-unfolding said_of
+first-said : (lines : List LineText) (turned : List LineTurn) → length turned ≡ length lines → map (λ s. s.0) (exchanges_of lines turned) ≡ lines
+unfolding exchanges_of
 first-said [] turned same = refl
 first-said (line ∷ lines) [] same = absurd (omega arith)
 first-said (line ∷ lines) (turn ∷ turned) same = ap (λ (l : List LineText). line ∷ l) (first-said lines turned (omega arith))
 
-second-said : (lines : List LineText) (turned : List LineTurn) → length turned ≡ length lines → map (λ s. s.1) (said_of lines turned) ≡ map turn_text turned
-unfolding said_of
+second-said : (lines : List LineText) (turned : List LineTurn) → length turned ≡ length lines → map (λ s. s.1) (exchanges_of lines turned) ≡ map turn_text turned
+unfolding exchanges_of
 second-said [] [] same = refl
 second-said [] (turn ∷ turned) same = absurd (omega arith)
 second-said (line ∷ lines) [] same = absurd (omega arith)
@@ -413,7 +387,7 @@ true-bytes gives takes source sink source' sink' r whole =
       blocks = s.blocks;
       last = s.last;
       pieces = s.pieces;
-      said = said_of s.answered turned;
+      said = exchanges_of s.answered turned;
       reads = s.reads;
       ends = s.ends;
       writes = s.writes;

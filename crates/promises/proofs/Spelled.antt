@@ -19,7 +19,7 @@ use Rattle.position_text.specs.declared.positions.Side.{Side}
 use Rattle.position_text.specs.declared.positions.Side.TheVariants.{Black, White}
 use Rattle.position_text.specs.declared.marks.Mark.{Mark}
 use Rattle.position_text.specs.declared.marks.Mark.TheVariants.{Disc, Blank}
-use Rattle.position_text.specs.Spelling.{Spells, spelled, side_spelled, mark_of}
+use Rattle.position_text.specs.Spelling.{Spells, spelled, side_spelled, mark_of_cell}
 use Rattle.position_text.specs.Readings.{all_of, marks_of, mover_of, seen_by}
 use Rattle.position_text.proofs.ReadingLemmas.{marks_of-spelled, seen_of-spelled}
 use Rattle.protocol.specs.declared.faults.ProtocolFault.TheVariants.{TooDeep}
@@ -93,8 +93,7 @@ apart-words p q differ = same_from_bits _ _ (λ i. no-bit p q differ i)
 
 one-cell : (cell : Cell) → (is_own_cell cell && is_opp_cell cell) ≡ false
 one-cell Empty = refl
-one-cell Own = refl
-one-cell Opp = refl
+one-cell _ = refl
 
 board_with : List Cell → Board
 board_with board = record {
@@ -105,8 +104,7 @@ board_with board = record {
 
 by-bits : (cell : Cell) → (if cond (is_own_cell cell) 1 0 == 1 then Own else (if cond (is_opp_cell cell) 1 0 == 1 then Opp else Empty)) ≡ cell
 by-bits Empty = refl
-by-bits Own = refl
-by-bits Opp = refl
+by-bits _ = refl
 
 cell-board_with : (board : List Cell) (s : ℕ) → s < 64 → cell_at (cells (board_with board)) s ≡ cell_at board s
 unfolding board_with
@@ -118,13 +116,10 @@ cell-board_with board s below =
 
 -- ---- what is read
 
-marked : (side : Side) (mark : Mark) → mark_of side (seen_by side mark) ≡ mark
+marked : (side : Side) (mark : Mark) → mark_of_cell side (seen_by side mark) ≡ mark
 marked Black (Disc Black) = refl
-marked Black (Disc White) = refl
-marked Black Blank = refl
 marked White (Disc Black) = refl
-marked White (Disc White) = refl
-marked White Blank = refl
+marked _ _ = refl
 
 -- each of these has a value
 first-of : {X : Type 0} (first : Option X) (more : List (Option X)) (xs : List X) → all_of (first ∷ more) ≡ Some xs → (x : X) × (ys : List X) × (first ≡ Some x) × (all_of more ≡ Some ys) × (xs ≡ x ∷ ys)
@@ -167,10 +162,10 @@ cell-seen Black marks s = get_or-map (seen_by Black) marks s Blank
 cell-seen White marks s = get_or-map (seen_by White) marks s Blank
 
 mark-there : (text : List ℕ) (marks : List Mark) (side : Side) → marks_of text ≡ Some marks → (s : ℕ) → s < 64 →
-    spelled (slice_index text s) ≡ Some (mark_of side (cell_at (cells (board_with (map (seen_by side) marks))) s))
+    spelled (slice_index text s) ≡ Some (mark_of_cell side (cell_at (cells (board_with (map (seen_by side) marks))) s))
 mark-there text marks side all s below =
-    let mark : mark_of side (cell_at (cells (board_with (map (seen_by side) marks))) s) ≡ get_or marks s Blank =
-    ap (mark_of side) (cell-board_with (map (seen_by side) marks) s below ∙ cell-seen side marks s) ∙ marked side (get_or marks s Blank) in
+    let mark : mark_of_cell side (cell_at (cells (board_with (map (seen_by side) marks))) s) ≡ get_or marks s Blank =
+    ap (mark_of_cell side) (cell-board_with (map (seen_by side) marks) s below ∙ cell-seen side marks s) ∙ marked side (get_or marks s Blank) in
     each-mark text marks all s below ∙ ap (λ (m : Mark). Some m) (sym mark)
 
 read-spells : (text : List ℕ) (marks : List Mark) (side : Side) → length text ≡ 66 → marks_of text ≡ Some marks → mover_of text ≡ Some side → IsRead text (map (seen_by side) marks) side
@@ -178,8 +173,8 @@ read-spells text marks side len all mover =
     let p : Position = record { board = board_with (map (seen_by side) marks); side = side } in
     let parts = mover-parts text side mover in
     let spells : Spells text p = record { len = len; each = mark-there text marks side all; space = parts.0; side = parts.1 } in
-    let marks_are : Some (map (mark_of side) (cells p.board)) ≡ Some marks = sym (marks_of-spelled text p spells) ∙ all in
-    let same : map (mark_of side) (cells p.board) ≡ marks = cc in
+    let marks_are : Some (map (mark_of_cell side) (cells p.board)) ≡ Some marks = sym (marks_of-spelled text p spells) ∙ all in
+    let same : map (mark_of_cell side) (cells p.board) ≡ marks = cc in
     record { position = p; spells = spells; is = sym (seen_of-spelled p) ∙ ap (λ (ms : List Mark). map (seen_by side) ms) same }
 
 -- what a word and a text ask for, where they ask for something

@@ -30,8 +30,8 @@ use Rattle.promises.specs.Asking.{AsksFor}
 use Rattle.promises.specs.Replies.{IsTrueTable}
 
 -- a line that was read, with the text that answered it
-abbrev pub Said : Type 0
-Said = LineText × List ℕ
+abbrev pub Exchange : Type 0
+Exchange = LineText × List ℕ
 
 -- whether a text begins with a word
 abbrev pub begins : List ℕ → List ℕ → Bool
@@ -39,17 +39,17 @@ begins text word = starts_with nat_eq text word
 
 -- none of these lines (the last comes first) was answered by WELCOME or BYE, so the session's tenant stayed the
 -- same
-abbrev pub KeepTenant : List Said → Type 0
+abbrev pub KeepTenant : List Exchange → Type 0
 KeepTenant [] = Unit {0}
 KeepTenant (said ∷ before) = (begins said.1 (codes "WELCOME ") ≡ false) × (begins said.1 (codes "BYE") ≡ false) × KeepTenant before
 
 -- one of the lines before (the last comes first) was `ASK`, a word, a space and a text, which ask for this
 -- position to this depth; it was answered by `JOB` and this number, and the tenant stayed the same since
-pub record IsAskedAs (before : List Said) (job depth : ℕ) (position : Position) : Type 0 where
-  pub later : List Said
+pub record IsAskedAs (before : List Exchange) (job depth : ℕ) (position : Position) : Type 0 where
+  pub later : List Exchange
   pub word : List ℕ
   pub text : List ℕ
-  pub earlier : List Said
+  pub earlier : List Exchange
   pub is : before ≡ later ++ (Whole (codes "ASK " ++ word ++ byte " " ∷ text), codes "JOB " ++ decimal job) ∷ earlier
   pub asks : AsksFor word text depth position
   pub same : KeepTenant later
@@ -86,7 +86,7 @@ pub record IsAbout (commands : List (List ℕ)) (line : LineText) (job : ℕ) : 
 
 -- a text is `DONE`, the number of a job, and the minimax value and the best choice of what that job asked for; its
 -- line is GET or WAIT of that job
-pub record IsTrueDoneText (before : List Said) (line : LineText) (text : List ℕ) : Type 0 where
+pub record IsTrueDoneText (before : List Exchange) (line : LineText) (text : List ℕ) : Type 0 where
   pub job : ℕ
   pub depth : ℕ
   pub position : Position
@@ -95,7 +95,7 @@ pub record IsTrueDoneText (before : List Said) (line : LineText) (text : List �
   pub is : text ≡ codes "DONE " ++ decimal job ++ codes " " ++ value_text (minimax depth (cells position.board)) (best_choice depth (cells position.board))
 
 -- a text is `TABLE`, the number of a job, and a true table of what that job asked for; its line is TABLE of that job
-pub record IsTrueTableText (before : List Said) (line : LineText) (text : List ℕ) : Type 0 where
+pub record IsTrueTableText (before : List Exchange) (line : LineText) (text : List ℕ) : Type 0 where
   pub job : ℕ
   pub depth : ℕ
   pub position : Position
@@ -135,7 +135,7 @@ pub record IsLiveText (line : LineText) (text : List ℕ) : Type 0 where
   pub is : text ≡ codes "LIVE " ++ pair_text live.frames live.words
 
 -- whether a tenant is there after these lines (the last comes first): from a WELCOME on, up to a BYE
-abbrev pub is_seated : List Said → Bool
+abbrev pub is_seated : List Exchange → Bool
 is_seated [] = false
 is_seated (said ∷ before) =
     if begins said.1 (codes "WELCOME ") then true
@@ -165,7 +165,7 @@ pub record IsRefusedBy (line : LineText) (number : ℕ) : Type 0 where
   pub among : Contains numbers number
 
 -- a text is `ERR` and a number: that of the line's first fault, or one by which its command may be refused
-pub record IsErrText (before : List Said) (line : LineText) (text : List ℕ) : Type 0 where
+pub record IsErrText (before : List Exchange) (line : LineText) (text : List ℕ) : Type 0 where
   pub number : ℕ
   pub is : text ≡ error_text number
   pub why : ((fault : ProtocolFault) × (request (is_seated before) line ≡ Fault fault) × (number ≡ fault_number fault)) ⊎ IsRefusedBy line number
@@ -179,7 +179,7 @@ first_words =
 -- an answer is true, by its line and the lines before it. It begins with one of the words, and that word says which
 -- line it answers, and what it says. A job has one more than the number of this tenant's ASK lines that were answered
 -- by JOB so far. A line that has a fault is answered by its first fault's number
-pub record IsTrueText (before : List Said) (line : LineText) (text : List ℕ) : Type 0 where
+pub record IsTrueText (before : List Exchange) (line : LineText) (text : List ℕ) : Type 0 where
   pub known : list_any (λ word. begins text word) first_words ≡ true
   pub welcome : begins text (codes "WELCOME ") ≡ true → IsQuotaNamed (codes "HELLO") line (codes "WELCOME") text
   pub reserved : begins text (codes "RESERVED ") ≡ true → IsQuotaNamed (codes "RESERVE") line (codes "RESERVED") text
@@ -197,7 +197,7 @@ pub record IsTrueText (before : List Said) (line : LineText) (text : List ℕ) :
 
 -- each of these answers is true, by its line and the lines before it; the last of the lines before all of them comes
 -- first
-abbrev pub AreTrueTexts : List Said → List Said → Type 0
+abbrev pub AreTrueTexts : List Exchange → List Exchange → Type 0
 AreTrueTexts before [] = Unit {0}
 AreTrueTexts before (said ∷ more) = IsTrueText before said.0 said.1 × AreTrueTexts (said ∷ before) more
 
@@ -208,7 +208,7 @@ pub record TrueBytes {S K : Type 0} (gives : S → ReadAnswer → S → Type 0) 
   pub blocks : List (List ℕ)
   pub last : List ReadAnswer
   pub pieces : List (List ℕ)
-  pub said : List Said
+  pub said : List Exchange
   pub reads : Leads gives source (map Gave blocks ++ last) source'
   pub ends : IsTalkEnd is_bye (talk_result r) (concat blocks) last
   pub writes : Leads takes sink (writes_of pieces (write_result (talk_result r))) sink'

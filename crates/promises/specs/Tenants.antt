@@ -8,7 +8,7 @@ use Rattle.sched_rules.specs.declared.step.DidOf.{DidOf}
 use Rattle.sched_rules.specs.Trees.{Tenant, left, is_busy_in}
 use Rattle.sched_rules.specs.Lone.{lone_refusal}
 use Rattle.sched_rules.specs.Runs.{tenant_of, only, alone}
-use Rattle.sched_rules.specs.Headline.{is_admission, taken}
+use Rattle.sched_rules.specs.Headline.{is_admission, taken_steps}
 use Rattle.jamboree_core.specs.jamboree_rules.declared.leaf.Leaf.{Leaf}
 use Rattle.jamboree_core.specs.jamboree_rules.declared.leaf.LeafAnswer.{LeafAnswer}
 use Rattle.jamboree_core.specs.jamboree_rules.Procedure.{jamboree}
@@ -23,7 +23,7 @@ SearchAnswer = Result (DidOf Leaf) Refusal
 
 -- the steps of a list that are this tenant's and were taken, in order
 abbrev pub own_steps : ℕ → List SearchStep → List SearchAnswer → List SearchStep
-own_steps number steps answers = only number (taken steps answers)
+own_steps number steps answers = only number (taken_steps steps answers)
 
 -- two tenants are in the same state: the same jobs, each with the same words where it is done; the same frames,
 -- in the same states and with the same words; and the same reserved and left

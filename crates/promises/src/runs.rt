@@ -3,7 +3,7 @@ ghost use Rattle.std.specs.Prelude.{◌≡◌, ℕ, List, Some, IfOk, length};
 ghost use Rattle.sched_rules.specs.declared.job.Job.TheVariants.{Done};
 ghost use Rattle.sched_rules.specs.Trees.{Tenant, job_at};
 ghost use Rattle.sched_rules.specs.Cores.{tenant_in};
-ghost use Rattle.sched_rules.specs.Headline.{told};
+ghost use Rattle.sched_rules.specs.Headline.{own_answers};
 ghost use Rattle.jamboree_core.specs.Replies.{AreSearches};
 ghost use Rattle.jamboree_core.specs.NewRuns.{IsHeadlineFromNew, submitted_by};
 ghost use Rattle.jamboree_core.specs.Searching.{CoreSearches};
@@ -89,11 +89,11 @@ pub fn run_two<A: Allocator + Clone>(
     ensures undisturbed { IfOk result (λ runs. (number : ℕ) →
         own_steps number steps.now runs.0.answers.items ≡ own_steps number other_steps.now runs.1.answers.items →
         AreSame (tenant_in runs.0.core.shared.tenants number) (tenant_in runs.1.core.shared.tenants number)
-        × (told number steps.now runs.0.answers.items ≡ told number other_steps.now runs.1.answers.items)) }
+        × (own_answers number steps.now runs.0.answers.items ≡ own_answers number other_steps.now runs.1.answers.items)) }
     ensures alone { IfOk result (λ runs. (number : ℕ) →
         other_steps.now ≡ own_steps number steps.now runs.0.answers.items → AreAdmissionsTaken other_steps.now runs.1.answers.items →
         AreSame (tenant_in runs.0.core.shared.tenants number) (tenant_in runs.1.core.shared.tenants number)
-        × (told number steps.now runs.0.answers.items ≡ runs.1.answers.items)) }
+        × (own_answers number steps.now runs.0.answers.items ≡ runs.1.answers.items)) }
 {
     let one = ran(alloc.clone()?, procedure, config, steps)?;
     let other = ran(alloc, procedure, other_config, other_steps)?;

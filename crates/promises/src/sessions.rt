@@ -2,7 +2,7 @@
 ghost use Rattle.std.specs.Prelude.{◌≡◌};
 ghost use Rattle.promises.specs.Sessions.{TrueBytes};
 
-use desk::{Desk, Hands};
+use desk::{Desk, DeskLedger};
 use desk_office::serve_desk;
 use line_io::{Sink, Source};
 use session::{End, SessionFault};
@@ -22,7 +22,7 @@ pub fn serve<S, K, L, R, A>(
 where
     S: Source,
     K: Sink,
-    L: Hands,
+    L: DeskLedger,
     R: Wait,
     A: Allocator + Clone,
     requires { L.all ≡ L.parts }

@@ -8,7 +8,7 @@ use Rattle.position_text.specs.declared.positions.Side.{Side}
 use Rattle.position_text.specs.declared.marks.Mark.{Mark}
 use Rattle.position_text.specs.declared.faults.TextFault.{TextFault}
 use Rattle.position_text.specs.declared.faults.TextFault.TheVariants.{Length, BadCell, BadSide}
-use Rattle.position_text.specs.Spelling.{Spells, IsBadCell, IsBadSide, mark_of}
+use Rattle.position_text.specs.Spelling.{Spells, IsBadCell, IsBadSide, mark_of_cell}
 use Rattle.position_text.specs.Readings.{marks_of, mover_of}
 use Rattle.position_text.proofs.ReadingLemmas.{marks_of-spelled, mover_of-spelled, seen_of-spelled, marks_of-bad_cell, marks_of-bad_side, mover_of-bad_side}
 use Rattle.protocol.specs.declared.faults.ProtocolFault.{ProtocolFault}
@@ -32,7 +32,7 @@ pub spelled_question : (depth : ℕ) (text : List ℕ) (p : Position) → Spells
 spelled_question depth text p s =
     long_enough depth text s.len
     ∙ ap (λ m. marks_question depth m (mover_of text)) (marks_of-spelled text p s)
-    ∙ ap (mover_question depth (map (mark_of p.side) (cells p.board))) (mover_of-spelled text p s)
+    ∙ ap (mover_question depth (map (mark_of_cell p.side) (cells p.board))) (mover_of-spelled text p s)
     ∙ ap (λ board. asks depth board p.side) (seen_of-spelled p)
 
 -- marks without a mover

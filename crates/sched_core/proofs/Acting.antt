@@ -6,53 +6,53 @@ use Rattle.frame_tree.specs.declared.names.State.{State}
 use Rattle.frame_tree.specs.declared.names.State.TheVariants.{Ready, Running, Computing, Waiting, Returned}
 use Rattle.frame_tree.specs.Frames.{Frame, frame_at}
 use Rattle.sched_rules.specs.declared.act.Act.{Act}
-use Rattle.sched_rules.specs.declared.act.Then.{Then}
-use Rattle.sched_rules.specs.declared.act.Then.TheVariants.{Grow, Spawn, Go, Wait, Compute, Return}
+use Rattle.sched_rules.specs.declared.act.Continuation.{Continuation}
+use Rattle.sched_rules.specs.declared.act.Continuation.TheVariants.{Grow, Spawn, Go, Wait, Compute, Return}
 use Rattle.sched_rules.specs.declared.step.StepOf.TheVariants.{Advance, Answer}
 use Rattle.sched_rules.specs.declared.step.DidOf.{DidOf}
 use Rattle.sched_rules.specs.declared.step.DidOf.TheVariants.{Went, Grew, Spawned, Waited, Computing as IsComputing, Returned as HasReturned}
 use Rattle.sched_rules.specs.Functions.{Functions}
 use Rattle.sched_rules.specs.Trees.{Tenant, stored, has_child, is_held_by, is_root}
-use Rattle.sched_rules.specs.Lone.{unless, act_tests, is_computed_by, is_run_by, holding, opened, in_state, answer_tests, answered, advance_tests, advanced, act_of, then_done}
+use Rattle.sched_rules.specs.Lone.{unless, act_tests, is_computed_by, is_run_by, holding, opened, in_state, answer_tests, answered, advance_tests, advanced, act_by_sight, then_done}
 use Rattle.sched_rules.specs.Changes.{on_tenant}
 use Rattle.sched_rules.specs.Views.{named}
-use Rattle.sched_rules.specs.Cores.{Shared, tenant_in, judged, shared_refusal}
-use Rattle.sched_laws.proofs.Words.{frame_at-with_words}
-use Rattle.sched_store.specs.Reads.{frames_in, serials_in, words_under, sight_of, may_hold, holds, is_busy_among}
-use Rattle.sched_core.specs.Judging.{IsCome}
+use Rattle.sched_rules.specs.Cores.{CoreState, tenant_in, step_result, shared_refusal}
+use Rattle.sched_laws.proofs.Words.{frame_at-with_frame_words}
+use Rattle.sched_store.specs.Reads.{frames_in_core, serials_in, words_under, sight_of, may_hold, holds, is_busy_among}
+use Rattle.sched_core.specs.StepResults.{IsCome}
 use Rattle.sched_core.specs.declared.engine.Seen.{Seen}
 use Rattle.sched_core.specs.Seeing.{GoesOn, IsRunning}
 use Rattle.sched_core.proofs.Deciding.{some-is, advance-told}
-use Rattle.sched_core.proofs.Going.{IsWith, IsGoing, AllPass, going, begins, then-changed}
+use Rattle.sched_core.proofs.TakenStep.{IsWith, IsGoing, AllPass, going, begins, then-changed}
 use Rattle.sched_core.proofs.Ending.{named-words}
 
 -- Answer and Advance
-pub answer-going : {I A : Type 0} (functions : Functions I A) (shared : Shared) (worker : ℕ) (name : FrameId) (answer : A) → None ≡ shared_refusal functions shared (Answer worker name answer) →
+pub answer-going : {I A : Type 0} (functions : Functions I A) (shared : CoreState) (worker : ℕ) (name : FrameId) (answer : A) → None ≡ shared_refusal functions shared (Answer worker name answer) →
     IsGoing functions shared (Answer worker name answer) name (λ tenant frame. answer_tests functions tenant worker frame answer) (λ tenant frame. answered functions tenant worker frame answer)
 answer-going functions shared worker name answer none =
     going functions shared (Answer worker name answer) name false (λ tenant frame. answer_tests functions tenant worker frame answer) (λ tenant frame. answered functions tenant worker frame answer) refl refl (λ tenant. refl) none
 
-pub advance-going : {I A : Type 0} (functions : Functions I A) (shared : Shared) (worker : ℕ) (name : FrameId) → None ≡ shared_refusal functions shared (Advance worker name) →
-    IsGoing functions shared (Advance worker name) name (λ tenant frame. advance_tests tenant worker frame (act_of functions tenant frame)) (λ tenant frame. advanced functions tenant worker name frame (act_of functions tenant frame))
+pub advance-going : {I A : Type 0} (functions : Functions I A) (shared : CoreState) (worker : ℕ) (name : FrameId) → None ≡ shared_refusal functions shared (Advance worker name) →
+    IsGoing functions shared (Advance worker name) name (λ tenant frame. advance_tests tenant worker frame (act_by_sight functions tenant frame)) (λ tenant frame. advanced functions tenant worker name frame (act_by_sight functions tenant frame))
 advance-going functions shared worker name none =
-    going functions shared (Advance worker name) name false (λ tenant frame. advance_tests tenant worker frame (act_of functions tenant frame)) (λ tenant frame. advanced functions tenant worker name frame (act_of functions tenant frame))
+    going functions shared (Advance worker name) name false (λ tenant frame. advance_tests tenant worker frame (act_by_sight functions tenant frame)) (λ tenant frame. advanced functions tenant worker name frame (act_by_sight functions tenant frame))
     refl refl (λ tenant. refl) none
 
 -- an act that may be done: no test applies, and this comes of it
-pub record IsSetOut {I A : Type 0} (functions : Functions I A) (shared : Shared) (worker : ℕ) (name : FrameId) (tenant : Tenant) (frame : Frame (List ℕ)) (act : Act) : Type 0 where
+pub record IsSetOut {I A : Type 0} (functions : Functions I A) (shared : CoreState) (worker : ℕ) (name : FrameId) (tenant : Tenant) (frame : Frame (List ℕ)) (act : Act) : Type 0 where
   pub owner : tenant_in shared.tenants name.tenant ≡ Some tenant
   pub found : frame_at tenant.frames name.serial ≡ Some frame
   pub passes : AllPass (advance_tests tenant worker frame act)
-  pub among : judged functions shared (Advance worker name) ≡ Ok (advanced functions tenant worker name frame act)
+  pub among : step_result functions shared (Advance worker name) ≡ Ok (advanced functions tenant worker name frame act)
 
-sets-out-as : {I A : Type 0} (functions : Functions I A) (shared : Shared) (worker : ℕ) (name : FrameId) (tenant other : Tenant) (frame another : Frame (List ℕ)) (act : Act) →
-    tenant_in shared.tenants name.tenant ≡ Some tenant → frame_at tenant.frames name.serial ≡ Some frame → other ≡ tenant → another ≡ frame → act ≡ act_of functions tenant frame →
-    AllPass (advance_tests other worker another (act_of functions other another)) → judged functions shared (Advance worker name) ≡ Ok (advanced functions other worker name another (act_of functions other another)) →
+sets-out-as : {I A : Type 0} (functions : Functions I A) (shared : CoreState) (worker : ℕ) (name : FrameId) (tenant other : Tenant) (frame another : Frame (List ℕ)) (act : Act) →
+    tenant_in shared.tenants name.tenant ≡ Some tenant → frame_at tenant.frames name.serial ≡ Some frame → other ≡ tenant → another ≡ frame → act ≡ act_by_sight functions tenant frame →
+    AllPass (advance_tests other worker another (act_by_sight functions other another)) → step_result functions shared (Advance worker name) ≡ Ok (advanced functions other worker name another (act_by_sight functions other another)) →
     IsSetOut functions shared worker name tenant frame act
 sets-out-as functions shared worker name tenant other frame another act owner found own same next passes among =
     record { owner = owner; found = found; passes = rw (own, same, ← next) at passes; among = rw (own, same, ← next) at among }
 
-pub sets-out : {I A : Type 0} (functions : Functions I A) (shared : Shared) (worker : ℕ) (name : FrameId) (tenant : Tenant) (frame : Frame (List ℕ)) (seen : Seen) (act : Act) →
+pub sets-out : {I A : Type 0} (functions : Functions I A) (shared : CoreState) (worker : ℕ) (name : FrameId) (tenant : Tenant) (frame : Frame (List ℕ)) (seen : Seen) (act : Act) →
     IsRunning shared name worker tenant frame seen → act ≡ functions.next (sight_of shared name) → Ok (tt {0}) ≡ unless (act_tests tenant frame act) (tt {0}) →
     IsSetOut functions shared worker name tenant frame act
 sets-out functions shared worker name tenant frame seen act is same told =
@@ -60,7 +60,7 @@ sets-out functions shared worker name tenant frame seen act is same told =
     let owner = is.seen_so.owner in
     let found = is.seen_so.found in
     let own : t.tenant ≡ tenant = some-is t.tenant tenant (sym t.owner ∙ owner) in
-    let next : act ≡ act_of functions tenant frame = rw (owner, found) at same in
+    let next : act ≡ act_by_sight functions tenant frame = rw (owner, found) at same in
     sets-out-as functions shared worker name tenant t.tenant frame t.frame act owner found own (one-frame name tenant t.tenant frame t.frame own found t.found) next t.passes t.among
   where
     one-frame : (name : FrameId) (tenant other : Tenant) (frame another : Frame (List ℕ)) → other ≡ tenant → frame_at tenant.frames name.serial ≡ Some frame → frame_at other.frames name.serial ≡ Some another → another ≡ frame
@@ -84,28 +84,28 @@ computes-holds worker Waiting is = absurd cc
 computes-holds worker Returned is = absurd cc
 
 -- and may go on holding it
-pub may-hold : (shared : Shared) (worker : ℕ) (name : FrameId) (tenant : Tenant) (frame : Frame (List ℕ)) → tenant_in shared.tenants name.tenant ≡ Some tenant → frame_at tenant.frames name.serial ≡ Some frame →
+pub may-hold : (shared : CoreState) (worker : ℕ) (name : FrameId) (tenant : Tenant) (frame : Frame (List ℕ)) → tenant_in shared.tenants name.tenant ≡ Some tenant → frame_at tenant.frames name.serial ≡ Some frame →
     is_held_by worker frame.state ≡ true → may_hold shared worker name ≡ true
 may-hold shared worker name tenant frame owner found held = rw (owner, found, held) (or-true (not (is_busy_among worker shared.tenants)))
 
 -- a frame with other words is still there
 pub held-found : (name : FrameId) (words : List ℕ) (tenant : Tenant) (frame : Frame (List ℕ)) → frame_at tenant.frames name.serial ≡ Some frame →
     frame_at (holding name.serial words tenant).frames name.serial ≡ Some (record frame { value = words })
-held-found name words tenant frame found = frame_at-with_words name.serial words tenant.frames frame found
+held-found name words tenant frame found = frame_at-with_frame_words name.serial words tenant.frames frame found
 
 pub held-at : (serial : ℕ) (words : List ℕ) (tenant : Tenant) (frame : Frame (List ℕ)) → frame_at tenant.frames serial ≡ Some frame →
     frame_at (holding serial words tenant).frames serial ≡ Some (record frame { value = words })
-held-at serial words tenant frame found = frame_at-with_words serial words tenant.frames frame found
+held-at serial words tenant frame found = frame_at-with_frame_words serial words tenant.frames frame found
 
 -- what comes after the stores of an act, case by case
-came : {I : Type 0} (number : ℕ) (tenant : Tenant) (before : Shared) (told did : DidOf I) (after : Shared) → IsWith before number tenant after → did ≡ told → IsCome number (Some tenant, told) before did after
+came : {I : Type 0} (number : ℕ) (tenant : Tenant) (before : CoreState) (told did : DidOf I) (after : CoreState) → IsWith before number tenant after → did ≡ told → IsCome number (Some tenant, told) before did after
 came number tenant before told did after is same = record { told = same; left = is.is }
 
-pub go-came : {I A : Type 0} (functions : Functions I A) (shared : Shared) (worker : ℕ) (name : FrameId) (tenant : Tenant) (frame : Frame (List ℕ)) (act : Then) → act ≡ Go →
+pub go-came : {I A : Type 0} (functions : Functions I A) (shared : CoreState) (worker : ℕ) (name : FrameId) (tenant : Tenant) (frame : Frame (List ℕ)) (act : Continuation) → act ≡ Go →
     tenant_in shared.tenants name.tenant ≡ Some tenant → IsCome name.tenant (then_done functions tenant worker name frame.path frame.value act) shared Went shared
 go-came functions shared worker name tenant frame act is owner = rw is (came name.tenant tenant shared Went Went shared (begins shared name.tenant tenant owner) refl)
 
-pub grow-came : {I A : Type 0} (functions : Functions I A) (shared now : Shared) (worker : ℕ) (name : FrameId) (tenant : Tenant) (frame : Frame (List ℕ)) (act : Then) (more : ℕ) → act ≡ Grow more →
+pub grow-came : {I A : Type 0} (functions : Functions I A) (shared now : CoreState) (worker : ℕ) (name : FrameId) (tenant : Tenant) (frame : Frame (List ℕ)) (act : Continuation) (more : ℕ) → act ≡ Grow more →
     tenant_in shared.tenants name.tenant ≡ Some tenant → frame_at tenant.frames name.serial ≡ Some frame →
     now ≡ on_tenant name.tenant (holding name.serial (words_under shared name ++ replicate more 0)) shared →
     IsCome name.tenant (then_done functions tenant worker name frame.path frame.value act) shared Grew now
@@ -115,7 +115,7 @@ grow-came functions shared now worker name tenant frame act more is owner found 
     rw is (came name.tenant (holding name.serial (frame.value ++ replicate more 0) tenant) shared Grew Grew now
     (then-changed _ _ _ _ now (holding name.serial (frame.value ++ replicate more 0)) (begins shared name.tenant tenant owner) grows') refl)
 
-pub spawn-came : {I A : Type 0} (functions : Functions I A) (shared now : Shared) (worker : ℕ) (name child : FrameId) (tenant : Tenant) (frame : Frame (List ℕ)) (act : Then) (given : List ℕ) (size : ℕ) → act ≡ Spawn given size →
+pub spawn-came : {I A : Type 0} (functions : Functions I A) (shared now : CoreState) (worker : ℕ) (name child : FrameId) (tenant : Tenant) (frame : Frame (List ℕ)) (act : Continuation) (given : List ℕ) (size : ℕ) → act ≡ Spawn given size →
     tenant_in shared.tenants name.tenant ≡ Some tenant → now ≡ on_tenant name.tenant (opened (Some name.serial) given size worker) shared →
     child ≡ record { tenant = name.tenant; serial = serials_in shared name.tenant + 1 } →
     IsCome name.tenant (then_done functions tenant worker name frame.path frame.value act) shared (Spawned child) now
@@ -125,7 +125,7 @@ spawn-came {I = I} functions shared now worker name child tenant frame act given
     rw is (came name.tenant (opened (Some name.serial) given size worker tenant) shared (Spawned (record name { serial = tenant.serials + 1 })) (Spawned child) now
     (then-changed _ _ _ _ now (opened (Some name.serial) given size worker) (begins shared name.tenant tenant owner) opens) told)
 
-pub compute-came : {I A : Type 0} (functions : Functions I A) (shared now : Shared) (worker : ℕ) (name : FrameId) (tenant : Tenant) (frame : Frame (List ℕ)) (act : Then) (input : I) → act ≡ Compute →
+pub compute-came : {I A : Type 0} (functions : Functions I A) (shared now : CoreState) (worker : ℕ) (name : FrameId) (tenant : Tenant) (frame : Frame (List ℕ)) (act : Continuation) (input : I) → act ≡ Compute →
     tenant_in shared.tenants name.tenant ≡ Some tenant → frame_at tenant.frames name.serial ≡ Some frame → now ≡ on_tenant name.tenant (in_state name.serial (Computing worker)) shared →
     input ≡ functions.input (words_under shared name) →
     IsCome name.tenant (then_done functions tenant worker name frame.path frame.value act) shared (IsComputing input) now
@@ -136,8 +136,8 @@ compute-came {I = I} functions shared now worker name tenant frame act input is 
     (then-changed _ _ _ _ now (in_state name.serial (Computing worker)) (begins shared name.tenant tenant owner) changes) told)
 
 -- Wait and Return, of a frame with a child
-pub waits-came : {I A : Type 0} (functions : Functions I A) (shared now : Shared) (worker : ℕ) (name : FrameId) (tenant : Tenant) (frame : Frame (List ℕ)) (act : Then) → (act ≡ Wait) ⊎ (act ≡ Return) →
-    tenant_in shared.tenants name.tenant ≡ Some tenant → has_child (frames_in shared name.tenant) name.serial ≡ true → now ≡ on_tenant name.tenant (in_state name.serial Waiting) shared →
+pub waits-came : {I A : Type 0} (functions : Functions I A) (shared now : CoreState) (worker : ℕ) (name : FrameId) (tenant : Tenant) (frame : Frame (List ℕ)) (act : Continuation) → (act ≡ Wait) ⊎ (act ≡ Return) →
+    tenant_in shared.tenants name.tenant ≡ Some tenant → has_child (frames_in_core shared name.tenant) name.serial ≡ true → now ≡ on_tenant name.tenant (in_state name.serial Waiting) shared →
     IsCome name.tenant (then_done functions tenant worker name frame.path frame.value act) shared Waited now
 waits-came functions shared now worker name tenant frame act (inl is) owner child changes =
     let own : has_child tenant.frames name.serial ≡ true = rw owner at child in
@@ -147,15 +147,15 @@ waits-came functions shared now worker name tenant frame act (inr is) owner chil
     rw (is, own) (came name.tenant (in_state name.serial Waiting tenant) shared Waited Waited now (then-changed _ _ _ _ now (in_state name.serial Waiting) (begins shared name.tenant tenant owner) changes) refl)
 
 -- and of one without
-pub wait-came : {I A : Type 0} (functions : Functions I A) (shared : Shared) (worker : ℕ) (name : FrameId) (tenant : Tenant) (frame : Frame (List ℕ)) (act : Then) → act ≡ Wait →
-    tenant_in shared.tenants name.tenant ≡ Some tenant → has_child (frames_in shared name.tenant) name.serial ≡ false →
+pub wait-came : {I A : Type 0} (functions : Functions I A) (shared : CoreState) (worker : ℕ) (name : FrameId) (tenant : Tenant) (frame : Frame (List ℕ)) (act : Continuation) → act ≡ Wait →
+    tenant_in shared.tenants name.tenant ≡ Some tenant → has_child (frames_in_core shared name.tenant) name.serial ≡ false →
     IsCome name.tenant (then_done functions tenant worker name frame.path frame.value act) shared Went shared
 wait-came functions shared worker name tenant frame act is owner leaf =
     let own : has_child tenant.frames name.serial ≡ false = rw owner at leaf in
     rw (is, own) (came name.tenant tenant shared Went Went shared (begins shared name.tenant tenant owner) refl)
 
-pub return-came : {I A : Type 0} (functions : Functions I A) (shared now : Shared) (worker : ℕ) (name : FrameId) (tenant : Tenant) (frame : Frame (List ℕ)) (act : Then) (top : Bool) → act ≡ Return →
-    tenant_in shared.tenants name.tenant ≡ Some tenant → frame_at tenant.frames name.serial ≡ Some frame → has_child (frames_in shared name.tenant) name.serial ≡ false →
+pub return-came : {I A : Type 0} (functions : Functions I A) (shared now : CoreState) (worker : ℕ) (name : FrameId) (tenant : Tenant) (frame : Frame (List ℕ)) (act : Continuation) (top : Bool) → act ≡ Return →
+    tenant_in shared.tenants name.tenant ≡ Some tenant → frame_at tenant.frames name.serial ≡ Some frame → has_child (frames_in_core shared name.tenant) name.serial ≡ false →
     now ≡ on_tenant name.tenant (in_state name.serial Returned) shared → top ≡ is_root frame.path →
     IsCome name.tenant (then_done functions tenant worker name frame.path frame.value act) shared (HasReturned top) now
 return-came {I = I} functions shared now worker name tenant frame act top is owner found leaf changes same =
@@ -172,19 +172,19 @@ run-held worker (Computing holder) runs = absurd cc
 run-held worker Waiting runs = runs
 run-held worker Returned runs = runs
 
-pub held-by-runner : (shared : Shared) (name : FrameId) (worker : ℕ) (after : Then) (tenant : Tenant) (frame : Frame (List ℕ)) → GoesOn shared name worker after tenant frame → holds worker (named shared name) ≡ true
+pub held-by-runner : (shared : CoreState) (name : FrameId) (worker : ℕ) (after : Continuation) (tenant : Tenant) (frame : Frame (List ℕ)) → GoesOn shared name worker after tenant frame → holds worker (named shared name) ≡ true
 held-by-runner shared name worker after tenant frame on =
     let owner = on.owner in
     let found = on.found in
     rw (owner, found) (run-held worker frame.state on.runs)
 
 -- an answer that the frame's tenant allows, once the procedure's stores of it are made
-pub record IsAnswered {I A : Type 0} (functions : Functions I A) (shared : Shared) (worker : ℕ) (name : FrameId) (answer : A) (now : Shared) : Type 0 where
+pub record IsAnswered {I A : Type 0} (functions : Functions I A) (shared : CoreState) (worker : ℕ) (name : FrameId) (answer : A) (now : CoreState) : Type 0 where
   pub going : IsGoing functions shared (Answer worker name answer) name (λ tenant frame. answer_tests functions tenant worker frame answer) (λ tenant frame. answered functions tenant worker frame answer)
   pub has_words : IsWith shared name.tenant (holding name.serial (stored (functions.accept going.frame.value answer) going.frame.value) going.tenant) now
   pub has_frame : frame_at (holding name.serial (stored (functions.accept going.frame.value answer) going.frame.value) going.tenant).frames name.serial ≡ Some (record going.frame { value = stored (functions.accept going.frame.value answer) going.frame.value })
 
-pub is-answered : {I A : Type 0} (functions : Functions I A) (shared : Shared) (worker : ℕ) (name : FrameId) (answer : A) (now : Shared) → None ≡ shared_refusal functions shared (Answer worker name answer) →
+pub is-answered : {I A : Type 0} (functions : Functions I A) (shared : CoreState) (worker : ℕ) (name : FrameId) (answer : A) (now : CoreState) → None ≡ shared_refusal functions shared (Answer worker name answer) →
     now ≡ on_tenant name.tenant (holding name.serial (stored (functions.accept (words_under shared name) answer) (words_under shared name))) shared → IsAnswered functions shared worker name answer now
 is-answered functions shared worker name answer now none is =
     let t = answer-going functions shared worker name answer none in

@@ -7,24 +7,24 @@ use Rattle.frame_tree.specs.declared.names.FrameId.{FrameId}
 use Rattle.frame_tree.specs.Frames.{Frame, frame_at, children_of}
 use Rattle.frame_tree.proofs.TreeLaws.{tree-rising}
 use Rattle.sched_rules.specs.declared.act.Act.{Act}
-use Rattle.sched_rules.specs.declared.act.Then.{Then}
-use Rattle.sched_rules.specs.declared.act.Then.TheVariants.{Grow, Spawn, Go, Wait, Compute, Return}
+use Rattle.sched_rules.specs.declared.act.Continuation.{Continuation}
+use Rattle.sched_rules.specs.declared.act.Continuation.TheVariants.{Grow, Spawn, Go, Wait, Compute, Return}
 use Rattle.sched_rules.specs.declared.step.StepOf.TheVariants.{Advance}
 use Rattle.sched_rules.specs.declared.step.DidOf.{DidOf}
 use Rattle.sched_rules.specs.Functions.{Functions}
-use Rattle.sched_rules.specs.Trees.{Tenant, has_child, stored, with_words, charged_for, is_outside, is_root}
+use Rattle.sched_rules.specs.Trees.{Tenant, has_child, stored, with_frame_words, charged_for, is_outside, is_root}
 use Rattle.sched_rules.specs.Lone.{holding, counted, is_bad_then, segments_for, then_done}
 use Rattle.sched_rules.specs.Changes.{on_tenant}
 use Rattle.sched_rules.specs.Views.{named}
-use Rattle.sched_rules.specs.Cores.{Shared, with_tenant, without_tenant, with_outcome}
+use Rattle.sched_rules.specs.Cores.{CoreState, with_tenant, without_tenant, with_outcome}
 use Rattle.sched_laws.specs.Shapes.{IsShaped, AreShaped}
 use Rattle.sched_laws.proofs.Answers.{shaped-in}
-use Rattle.sched_laws.proofs.Words.{length-stored, children_of-with_words, length-with_words, charged-with_words}
-use Rattle.sched_store.specs.Reads.{HasStepLeft, words_under}
+use Rattle.sched_laws.proofs.Words.{length-stored, children_of-with_frame_words, length-with_frame_words, charged-with_frame_words}
+use Rattle.sched_store.specs.Reads.{TenantHasStepLeft, words_under}
 use Rattle.sched_core.specs.Seeing.{GoesOn}
-use Rattle.sched_core.specs.Judging.{IsJudged, IsCome}
+use Rattle.sched_core.specs.StepResults.{FollowsResult, IsCome}
 use Rattle.sched_core.proofs.Deciding.{seen-serial}
-use Rattle.sched_core.proofs.Going.{IsWith, with_tenant-twice, begins, then-changed, step-left}
+use Rattle.sched_core.proofs.TakenStep.{IsWith, with_tenant-twice, begins, then-changed, step-left}
 use Rattle.sched_core.proofs.Ending.{named-words}
 use Rattle.sched_core.proofs.Acting.{IsSetOut, not-false, held-found}
 
@@ -49,7 +49,7 @@ act-inside : (outside rest : Bool) → (outside || rest) ≡ false → outside �
 act-inside true rest is = absurd cc
 act-inside false rest is = refl
 
-segments-as : (frame : Frame (List ℕ)) (words : List ℕ) (after : Then) → length words ≡ length frame.value → segments_for (record frame { value = words }) after ≡ segments_for frame after
+segments-as : (frame : Frame (List ℕ)) (words : List ℕ) (after : Continuation) → length words ≡ length frame.value → segments_for (record frame { value = words }) after ≡ segments_for frame after
 segments-as frame words (Grow more) same = rw same refl
 segments-as frame words (Spawn given size) same = refl
 segments-as frame words Go same = refl
@@ -57,29 +57,29 @@ segments-as frame words Wait same = refl
 segments-as frame words Compute same = refl
 segments-as frame words Return same = refl
 
-child-as : (serial : ℕ) (words : List ℕ) (tenant : Tenant) → IsShaped tenant → has_child (with_words serial words tenant.frames) serial ≡ has_child tenant.frames serial
+child-as : (serial : ℕ) (words : List ℕ) (tenant : Tenant) → IsShaped tenant → has_child (with_frame_words serial words tenant.frames) serial ≡ has_child tenant.frames serial
 child-as serial words tenant shape =
-    let children = children_of-with_words serial words tenant.frames serial shape.tree in
-    rw (children, length-with_words serial words (children_of tenant.frames serial)) refl
+    let children = children_of-with_frame_words serial words tenant.frames serial shape.tree in
+    rw (children, length-with_frame_words serial words (children_of tenant.frames serial)) refl
 
 charged-as : (serial : ℕ) (words : List ℕ) (tenant : Tenant) (frame : Frame (List ℕ)) → IsShaped tenant → frame_at tenant.frames serial ≡ Some frame → length words ≡ length frame.value →
-    charged_for (with_words serial words tenant.frames) ≡ charged_for tenant.frames
+    charged_for (with_frame_words serial words tenant.frames) ≡ charged_for tenant.frames
 charged-as serial words tenant frame shape found same =
-    let sum = charged-with_words serial words tenant.frames frame (tree-rising tenant.frames shape.tree) found in
+    let sum = charged-with_frame_words serial words tenant.frames frame (tree-rising tenant.frames shape.tree) found in
     let charges : charge (length words) ≡ charge (length frame.value) = ap charge same in
-    let both : charged_for (with_words serial words tenant.frames) + charge (length frame.value) ≡ charged_for tenant.frames + charge (length frame.value) = sum ∙ ap (λ n. charged_for tenant.frames + n) charges in
-    cancel (charged_for (with_words serial words tenant.frames)) (charged_for tenant.frames) (charge (length frame.value)) both
+    let both : charged_for (with_frame_words serial words tenant.frames) + charge (length frame.value) ≡ charged_for tenant.frames + charge (length frame.value) = sum ∙ ap (λ n. charged_for tenant.frames + n) charges in
+    cancel (charged_for (with_frame_words serial words tenant.frames)) (charged_for tenant.frames) (charge (length frame.value)) both
   where
     cancel : (a b c : ℕ) → a + c ≡ b + c → a ≡ b
     cancel a b c e = omega arith
 
 -- an act that may be done: the step is counted, and then the stores are done
-module _ {I A : Type 0} {functions : Functions I A} {shared : Shared} {worker : ℕ} {name : FrameId} {tenant : Tenant} {frame : Frame (List ℕ)} {act : Act} (t : IsSetOut functions shared worker name tenant frame act) where
+module _ {I A : Type 0} {functions : Functions I A} {shared : CoreState} {worker : ℕ} {name : FrameId} {tenant : Tenant} {frame : Frame (List ℕ)} {act : Act} (t : IsSetOut functions shared worker name tenant frame act) where
   -- a step is left to it
-  pub set-left : HasStepLeft shared name.tenant
+  pub set-left : TenantHasStepLeft shared name.tenant
   set-left = step-left _ _ _ _ (begins shared name.tenant tenant t.owner) t.passes.1.0
 
-  module _ {now : Shared} (is : now ≡ on_tenant name.tenant counted shared) where
+  module _ {now : CoreState} (is : now ≡ on_tenant name.tenant counted shared) where
     -- the tenant with the step counted
     counted-is : IsWith shared name.tenant (counted tenant) now
     counted-is = then-changed _ _ _ shared now counted (begins shared name.tenant tenant t.owner) is
@@ -96,7 +96,7 @@ module _ {I A : Type 0} {functions : Functions I A} {shared : Shared} {worker : 
     pub counted-inside : is_outside act.stores (words_under now name) ≡ false
     counted-inside = rw own-words (act-inside (is_outside act.stores frame.value) _ t.passes.1.1.0)
 
-    module _ {next : Shared} (stores : next ≡ on_tenant name.tenant (holding name.serial (stored act.stores (words_under now name))) now) (shaped : AreShaped shared.tenants) where
+    module _ {next : CoreState} (stores : next ≡ on_tenant name.tenant (holding name.serial (stored act.stores (words_under now name))) now) (shaped : AreShaped shared.tenants) where
       -- and with the stores
       stored-is : IsWith shared name.tenant (counted (holding name.serial (stored act.stores frame.value) tenant)) next
       stored-is = then-changed _ _ _ now next (holding name.serial (stored act.stores frame.value)) counted-is (rw own-words at stores)
@@ -119,10 +119,10 @@ module _ {I A : Type 0} {functions : Functions I A} {shared : Shared} {worker : 
           }
 
       -- which is judged by what comes of that
-      pub judged-advance : {root : Bool} {did : DidOf I} {after : Shared} → root ≡ is_root frame.path →
+      pub step_result-advance : {root : Bool} {did : DidOf I} {after : CoreState} → root ≡ is_root frame.path →
           ((before : Tenant) (going : Frame (List ℕ)) → GoesOn next name worker act.after before going → root ≡ is_root going.path →
-          IsCome name.tenant (then_done functions before worker name going.path going.value act.after) next did after) → IsJudged functions shared (Advance worker name) (Ok did) after
-      judged-advance root came =
+          IsCome name.tenant (then_done functions before worker name going.path going.value act.after) next did after) → FollowsResult functions shared (Advance worker name) (Ok did) after
+      step_result-advance root came =
           let come = came _ _ goes-on root in
           let among = rw (seen-serial tenant.frames name.serial frame t.found) at t.among in
           record { told = rw (among, come.told) refl; left = come.left ∙ rw (stored-is.is, outcome-with name.tenant _ _ shared.tenants, among) refl }

@@ -13,24 +13,24 @@ use Rattle.sched_rules.specs.declared.step.DidOf.TheVariants.{Admitted}
 use Rattle.sched_rules.specs.Functions.{Functions}
 use Rattle.sched_rules.specs.Trees.{Tenant, Tree, admitted_with, number_from, job_under}
 use Rattle.sched_rules.specs.Lone.{unless, submitted, submit_tests}
-use Rattle.sched_rules.specs.Headline.{IsKnown, AreNumbersTaken}
-use Rattle.sched_rules.specs.Cores.{Shared, tenant_in, judged, shared_refusal, admit_tests}
+use Rattle.sched_rules.specs.Headline.{AreNumbersGiven, AreNumbersTaken}
+use Rattle.sched_rules.specs.Cores.{CoreState, tenant_in, step_result, shared_refusal, admit_tests}
 use Rattle.sched_laws.specs.Shapes.{IsShaped, AreLiveRootsThere}
 use Rattle.sched_store.specs.Changes.{with_admitted}
-use Rattle.sched_core.specs.Judging.{IsJudged}
+use Rattle.sched_core.specs.StepResults.{FollowsResult}
 use Rattle.sched_core.proofs.Changing.{with_tenant-new}
 use Rattle.sched_core.proofs.Deciding.{not-elsewhere}
 use Rattle.sched_core.proofs.Ending.{root-found}
-use Rattle.sched_core.proofs.Going.{AllPass, all-pass, judged-taken}
+use Rattle.sched_core.proofs.TakenStep.{AllPass, all-pass, step_result-taken}
 
 -- Submit
-pub record IsSubmitting {I A : Type 0} (functions : Functions I A) (shared : Shared) (number : ℕ) (words : List ℕ) (size : ℕ) : Type 0 where
+pub record IsSubmitting {I A : Type 0} (functions : Functions I A) (shared : CoreState) (number : ℕ) (words : List ℕ) (size : ℕ) : Type 0 where
   pub tenant : Tenant
   pub owner : tenant_in shared.tenants number ≡ Some tenant
   pub passes : AllPass (submit_tests tenant words size)
-  pub among : judged functions shared (Submit number words size) ≡ Ok (submitted tenant number words size)
+  pub among : step_result functions shared (Submit number words size) ≡ Ok (submitted tenant number words size)
 
-pub submit-going : {I A : Type 0} (functions : Functions I A) (shared : Shared) (number : ℕ) (words : List ℕ) (size : ℕ) →
+pub submit-going : {I A : Type 0} (functions : Functions I A) (shared : CoreState) (number : ℕ) (words : List ℕ) (size : ℕ) →
     None ≡ shared_refusal functions shared (Submit number words size) → IsSubmitting functions shared number words size
 submit-going {I = I} functions shared number words size none = by-owner (tenant_in shared.tenants number) refl
   where
@@ -64,13 +64,13 @@ above : (number newest : ℕ) → ((number == 0) || nat_le number newest || nat_
 above number newest is_new = grind (arith, nat_tests)
 
 -- Admit, taken
-pub admit-taken : {I A : Type 0} (functions : Functions I A) (shared after : Shared) (number : ℕ) (quota : Quota) → IsKnown shared → None ≡ shared_refusal functions shared (Admit number quota) →
-    after ≡ with_admitted number quota shared → IsJudged functions shared (Admit number quota) (Ok Admitted) after
+pub admit-taken : {I A : Type 0} (functions : Functions I A) (shared after : CoreState) (number : ℕ) (quota : Quota) → AreNumbersGiven shared → None ≡ shared_refusal functions shared (Admit number quota) →
+    after ≡ with_admitted number quota shared → FollowsResult functions shared (Admit number quota) (Ok Admitted) after
 admit-taken {I = I} functions shared after number quota known none is =
     let passed = all-pass {I = I} false (admit_tests shared number quota) (Some (admitted_with quota), Admitted) (not-elsewhere _ ∙ sym none) in
     let nothing = tenant_in-new shared.newest number shared.tenants (above number shared.newest passed.1.0) known in
-    let among : judged functions shared (Admit number quota) ≡ Ok (Some (admitted_with quota), Admitted) = unless-only (admit_tests shared number quota) passed.1 in
-    judged-taken functions shared (Admit number quota) (Some (admitted_with quota), Admitted) (Ok Admitted) after among refl (rw (with_tenant-new number (admitted_with quota) shared.tenants nothing) is)
+    let among : step_result functions shared (Admit number quota) ≡ Ok (Some (admitted_with quota), Admitted) = unless-only (admit_tests shared number quota) passed.1 in
+    step_result-taken functions shared (Admit number quota) (Some (admitted_with quota), Admitted) (Ok Admitted) after among refl (rw (with_tenant-new number (admitted_with quota) shared.tenants nothing) is)
   where
     unless-only : {X : Type 0} {effect : X} (tests : List _) → AllPass tests → unless tests effect ≡ Ok effect
     unless-only [] passes = refl

@@ -13,10 +13,10 @@ use Rattle.sched_rules.specs.declared.step.StepOf.{StepOf}
 use Rattle.sched_rules.specs.declared.step.StepOf.TheVariants.{Take, Steal, Advance, Answer, Finish}
 use Rattle.sched_rules.specs.Functions.{Functions}
 use Rattle.sched_rules.specs.Trees.{Tenant, left, is_busy_in, is_outside, is_root, has_child}
-use Rattle.sched_rules.specs.Lone.{Outcome, unless, lone, refusal_in, is_ready_at, is_run_by, is_computed_by, is_returned, taken_by, finished, no_step, act_of, act_tests, advanced, answer_tests, answered, applies, is_spendable}
-use Rattle.sched_rules.specs.Cores.{Shared, tenant_in, is_busy_elsewhere, meets_busy, unless_busy, shared_refusal}
+use Rattle.sched_rules.specs.Lone.{Outcome, unless, lone, refusal_in, is_ready_at, is_run_by, is_computed_by, is_returned, taken_by, finished, no_step, act_by_sight, act_tests, advanced, answer_tests, answered, applies, is_spendable}
+use Rattle.sched_rules.specs.Cores.{CoreState, tenant_in, is_busy_elsewhere, meets_busy, unless_busy, shared_refusal}
 use Rattle.sched_core.specs.declared.engine.Seen.{Seen}
-use Rattle.sched_store.specs.Reads.{is_busy_among, AreAfter, AreRising, frames_in, sight_of, words_under}
+use Rattle.sched_store.specs.Reads.{is_busy_among, AreAfter, AreTenantsRising, frames_in_core, sight_of, words_under}
 use Rattle.sched_core.specs.Seeing.{IsSeen, IsRunning, missing_in, missing}
 
 -- no frame of a tenant that is there has a serial that isn't found
@@ -43,7 +43,7 @@ lost-in busy (Some tenant) serial alone refusal nobody nothing is =
       | false ↦ λ lacks. rw (nothing tenant (unfound tenant serial (frame_at tenant.frames serial) refl lacks)) (rw lacks at is)
     ] refl
 
-pub lost : {I A : Type 0} (functions : Functions I A) (shared : Shared) (step : StepOf A) (name : FrameId) (refusal : Refusal) →
+pub lost : {I A : Type 0} (functions : Functions I A) (shared : CoreState) (step : StepOf A) (name : FrameId) (refusal : Refusal) →
     shared_refusal functions shared step ≡ refusal_in (unless_busy (meets_busy step shared.tenants) (lone functions (tenant_in shared.tenants name.tenant) step)) → lone functions None step ≡ Err NoTenant →
     ((tenant : Tenant) → frame_at tenant.frames name.serial ≡ None → lone functions (Some tenant) step ≡ Err NoFrame) → missing shared name ≡ Some refusal → shared_refusal functions shared step ≡ Some refusal
 lost functions shared step name refusal among nobody nothing is =
@@ -74,7 +74,7 @@ or-swap false false elsewhere = refl
 pub some-is : {X : Type 0} (x y : X) → Some x ≡ Some y → x ≡ y
 some-is x y e = cc
 
-pub busy-among : (worker number : ℕ) (entries : List (ℕ × Tenant)) (tenant : Tenant) → AreRising entries → tenant_in entries number ≡ Some tenant →
+pub busy-among : (worker number : ℕ) (entries : List (ℕ × Tenant)) (tenant : Tenant) → AreTenantsRising entries → tenant_in entries number ≡ Some tenant →
     (is_busy_in worker tenant.frames || is_busy_elsewhere worker number entries) ≡ is_busy_among worker entries
 busy-among worker number [] tenant rising is = absurd cc
 busy-among worker number (entry ∷ entries) tenant rising is =
@@ -90,8 +90,8 @@ busy-among worker number (entry ∷ entries) tenant rising is =
     ] refl
 
 -- the tests with the worker's business anywhere as the last one
-pub busy-anywhere : {I : Type 0} (tests : List (Bool × Refusal)) (shared : Shared) (worker number : ℕ) (tenant : Tenant) (effect : Outcome I) →
-    AreRising shared.tenants → tenant_in shared.tenants number ≡ Some tenant →
+pub busy-anywhere : {I : Type 0} (tests : List (Bool × Refusal)) (shared : CoreState) (worker number : ℕ) (tenant : Tenant) (effect : Outcome I) →
+    AreTenantsRising shared.tenants → tenant_in shared.tenants number ≡ Some tenant →
     refusal_in (unless (tests ++ (is_busy_among worker shared.tenants, Busy) ∷ []) (tt {0}))
     ≡ refusal_in (unless_busy (is_busy_elsewhere worker number shared.tenants) (unless (tests ++ (is_busy_in worker tenant.frames, Busy) ∷ []) effect))
 busy-anywhere tests shared worker number tenant effect rising is =
@@ -116,8 +116,8 @@ second-part ((true, told) ∷ tests) others is = absurd cc
 second-part ((false, told) ∷ tests) others is = second-part tests others is
 
 -- Take, where the tenant and the frame are there
-pub take-decided : {I A : Type 0} (functions : Functions I A) (shared : Shared) (worker : ℕ) (name : FrameId) (tenant : Tenant) (frame : Frame (List ℕ)) (seen : Seen) →
-    IsSeen shared name tenant frame seen → AreRising shared.tenants →
+pub take-decided : {I A : Type 0} (functions : Functions I A) (shared : CoreState) (worker : ℕ) (name : FrameId) (tenant : Tenant) (frame : Frame (List ℕ)) (seen : Seen) →
+    IsSeen shared name tenant frame seen → AreTenantsRising shared.tenants →
     refusal_in (unless ((not (is_ready seen.state), NotReady) ∷ (not (is_ready_at worker seen.state), NotHere) ∷ (seen.left.steps == 0, NoSteps) ∷ (is_busy_among worker shared.tenants, Busy) ∷ []) (tt {0}))
     ≡ shared_refusal functions shared (Take worker name)
 take-decided {I = I} functions shared worker name tenant frame seen is rising =
@@ -125,8 +125,8 @@ take-decided {I = I} functions shared worker name tenant frame seen is rising =
     (busy-anywhere {I = I} ((not (is_ready frame.state), NotReady) ∷ (not (is_ready_at worker frame.state), NotHere) ∷ ((left tenant).steps == 0, NoSteps) ∷ []) shared worker name.tenant tenant (taken_by tenant worker frame) rising is.owner)
 
 -- Steal
-pub steal-decided : {I A : Type 0} (functions : Functions I A) (shared : Shared) (worker from : ℕ) (name : FrameId) (tenant : Tenant) (frame : Frame (List ℕ)) (seen : Seen) →
-    IsSeen shared name tenant frame seen → AreRising shared.tenants →
+pub steal-decided : {I A : Type 0} (functions : Functions I A) (shared : CoreState) (worker from : ℕ) (name : FrameId) (tenant : Tenant) (frame : Frame (List ℕ)) (seen : Seen) →
+    IsSeen shared name tenant frame seen → AreTenantsRising shared.tenants →
     refusal_in (unless ((not (is_ready seen.state), NotReady) ∷ (not (is_ready_at from seen.state) || (from == worker), NotHere) ∷ (seen.left.steps == 0, NoSteps) ∷ (is_busy_among worker shared.tenants, Busy) ∷ []) (tt {0}))
     ≡ shared_refusal functions shared (Steal worker from name)
 steal-decided {I = I} functions shared worker from name tenant frame seen is rising =
@@ -134,8 +134,8 @@ steal-decided {I = I} functions shared worker from name tenant frame seen is ris
     (busy-anywhere {I = I} ((not (is_ready frame.state), NotReady) ∷ (not (is_ready_at from frame.state) || (from == worker), NotHere) ∷ ((left tenant).steps == 0, NoSteps) ∷ []) shared worker name.tenant tenant (taken_by tenant worker frame) rising is.owner)
 
 -- Finish
-pub finish-decided : {I A : Type 0} (functions : Functions I A) (shared : Shared) (worker : ℕ) (name : FrameId) (tenant : Tenant) (frame : Frame (List ℕ)) (seen : Seen) →
-    IsSeen shared name tenant frame seen → AreRising shared.tenants →
+pub finish-decided : {I A : Type 0} (functions : Functions I A) (shared : CoreState) (worker : ℕ) (name : FrameId) (tenant : Tenant) (frame : Frame (List ℕ)) (seen : Seen) →
+    IsSeen shared name tenant frame seen → AreTenantsRising shared.tenants →
     refusal_in (unless ((not (is_returned seen.state) || not (is_root frame.path), NotReturned) ∷ (seen.left.steps == 0, NoSteps) ∷ (is_busy_among worker shared.tenants, Busy) ∷ []) (tt {0}))
     ≡ shared_refusal functions shared (Finish worker name)
 finish-decided {I = I} functions shared worker name tenant frame seen is rising =
@@ -143,24 +143,24 @@ finish-decided {I = I} functions shared worker name tenant frame seen is rising 
     (busy-anywhere {I = I} ((not (is_returned frame.state) || not (is_root frame.path), NotReturned) ∷ ((left tenant).steps == 0, NoSteps) ∷ []) shared worker name.tenant tenant (finished tenant frame) rising is.owner)
 
 -- by its tests, whichever way they were made
-pub finish-told : {I A : Type 0} (functions : Functions I A) (shared : Shared) (worker : ℕ) (name : FrameId) (tenant : Tenant) (frame : Frame (List ℕ)) (seen : Seen) (unfinished busy : Bool) (told : Result (Unit {0}) Refusal) →
-    IsSeen shared name tenant frame seen → AreRising shared.tenants → unfinished ≡ (not (is_returned seen.state) || not (is_root frame.path)) → busy ≡ is_busy_among worker shared.tenants →
+pub finish-told : {I A : Type 0} (functions : Functions I A) (shared : CoreState) (worker : ℕ) (name : FrameId) (tenant : Tenant) (frame : Frame (List ℕ)) (seen : Seen) (unfinished busy : Bool) (told : Result (Unit {0}) Refusal) →
+    IsSeen shared name tenant frame seen → AreTenantsRising shared.tenants → unfinished ≡ (not (is_returned seen.state) || not (is_root frame.path)) → busy ≡ is_busy_among worker shared.tenants →
     told ≡ unless ((unfinished, NotReturned) ∷ (seen.left.steps == 0, NoSteps) ∷ (busy, Busy) ∷ []) (tt {0}) → refusal_in told ≡ shared_refusal functions shared (Finish worker name)
 finish-told functions shared worker name tenant frame seen unfinished busy told is rising u b same =
     ap refusal_in same ∙ rw (u, b) (finish-decided functions shared worker name tenant frame seen is rising)
 
 -- Advance
-pub advance-decided : {I A : Type 0} (functions : Functions I A) (shared : Shared) (worker : ℕ) (name : FrameId) (tenant : Tenant) (frame : Frame (List ℕ)) (seen : Seen) (act : Act) →
+pub advance-decided : {I A : Type 0} (functions : Functions I A) (shared : CoreState) (worker : ℕ) (name : FrameId) (tenant : Tenant) (frame : Frame (List ℕ)) (seen : Seen) (act : Act) →
     IsSeen shared name tenant frame seen → act ≡ functions.next (sight_of shared name) →
     refusal_in (unless ((not (is_run_by worker seen.state), NotRunning) ∷ (seen.left.steps == 0, NoSteps) ∷ act_tests tenant frame act) (tt {0}))
     ≡ shared_refusal functions shared (Advance worker name)
 advance-decided functions shared worker name tenant frame seen act is same =
     rw (same, is.state, is.left, is.owner, is.found)
-    (no-effect ((not (is_run_by worker frame.state), NotRunning) ∷ no_step tenant ∷ act_tests tenant frame (act_of functions tenant frame)) (advanced functions tenant worker name frame (act_of functions tenant frame))
+    (no-effect ((not (is_run_by worker frame.state), NotRunning) ∷ no_step tenant ∷ act_tests tenant frame (act_by_sight functions tenant frame)) (advanced functions tenant worker name frame (act_by_sight functions tenant frame))
     ∙ sym (not-elsewhere _))
 
 -- Answer
-pub answer-decided : {I A : Type 0} (functions : Functions I A) (shared : Shared) (worker : ℕ) (name : FrameId) (answer : A) (tenant : Tenant) (frame : Frame (List ℕ)) (seen : Seen) →
+pub answer-decided : {I A : Type 0} (functions : Functions I A) (shared : CoreState) (worker : ℕ) (name : FrameId) (answer : A) (tenant : Tenant) (frame : Frame (List ℕ)) (seen : Seen) →
     IsSeen shared name tenant frame seen →
     refusal_in (unless ((not (is_computed_by worker seen.state), NotComputing) ∷ (not (functions.same (functions.asked answer) (functions.input (words_under shared name))), Mismatch)
     ∷ (seen.left.steps == 0, NoSteps) ∷ (is_outside (functions.accept (words_under shared name) answer) (words_under shared name), BadAct) ∷ []) (tt {0}))
@@ -186,15 +186,15 @@ seen-serial (other ∷ frames) serial frame is =
       | false ↦ λ different. seen-serial frames serial frame (rw different at is)
     ] refl
 
-pub seen-words : (shared : Shared) (name : FrameId) (tenant : Tenant) (frame : Frame (List ℕ)) (seen : Seen) → IsSeen shared name tenant frame seen → frame.value ≡ words_under shared name
+pub seen-words : (shared : CoreState) (name : FrameId) (tenant : Tenant) (frame : Frame (List ℕ)) (seen : Seen) → IsSeen shared name tenant frame seen → frame.value ≡ words_under shared name
 seen-words shared name tenant frame seen is = rw (is.owner, is.found) refl
 
-pub seen-child : (shared : Shared) (name : FrameId) (tenant : Tenant) (frame : Frame (List ℕ)) (seen : Seen) → IsSeen shared name tenant frame seen →
-    has_child tenant.frames frame.serial ≡ has_child (frames_in shared name.tenant) name.serial
+pub seen-child : (shared : CoreState) (name : FrameId) (tenant : Tenant) (frame : Frame (List ℕ)) (seen : Seen) → IsSeen shared name tenant frame seen →
+    has_child tenant.frames frame.serial ≡ has_child (frames_in_core shared name.tenant) name.serial
 seen-child shared name tenant frame seen is = rw (seen-serial tenant.frames name.serial frame is.found, is.owner) refl
 
 -- Advance, where the worker runs the frame and a step is left, by the tests of the act
-pub advance-goes : {I A : Type 0} (functions : Functions I A) (shared : Shared) (worker : ℕ) (name : FrameId) (tenant : Tenant) (frame : Frame (List ℕ)) (seen : Seen) (act : Act) (runs : Bool) (answer : Result (Unit {0}) Refusal) →
+pub advance-goes : {I A : Type 0} (functions : Functions I A) (shared : CoreState) (worker : ℕ) (name : FrameId) (tenant : Tenant) (frame : Frame (List ℕ)) (seen : Seen) (act : Act) (runs : Bool) (answer : Result (Unit {0}) Refusal) →
     IsSeen shared name tenant frame seen → act ≡ functions.next (sight_of shared name) → runs ≡ is_run_by worker seen.state →
     Ok (tt {0}) ≡ unless ((not runs, NotRunning) ∷ (seen.left.steps == 0, NoSteps) ∷ []) (tt {0}) →
     answer ≡ unless (act_tests tenant frame act) (tt {0}) →
@@ -204,7 +204,7 @@ advance-goes functions shared worker name tenant frame seen act runs answer is s
     ap refusal_in (told ∙ sym (second-part ((not (is_run_by worker seen.state), NotRunning) ∷ (seen.left.steps == 0, NoSteps) ∷ []) (act_tests tenant frame act) passes'))
     ∙ advance-decided functions shared worker name tenant frame seen act is same
 
-pub advance-told : {I A : Type 0} (functions : Functions I A) (shared : Shared) (worker : ℕ) (name : FrameId) (tenant : Tenant) (frame : Frame (List ℕ)) (seen : Seen) (act : Act) (answer : Result (Unit {0}) Refusal) →
+pub advance-told : {I A : Type 0} (functions : Functions I A) (shared : CoreState) (worker : ℕ) (name : FrameId) (tenant : Tenant) (frame : Frame (List ℕ)) (seen : Seen) (act : Act) (answer : Result (Unit {0}) Refusal) →
     IsRunning shared name worker tenant frame seen → act ≡ functions.next (sight_of shared name) → answer ≡ unless (act_tests tenant frame act) (tt {0}) →
     refusal_in answer ≡ shared_refusal functions shared (Advance worker name)
 advance-told functions shared worker name tenant frame seen act answer is same told =
@@ -222,7 +222,7 @@ root-is top seen path is root = unnot top (is_root path) (sym is ∙ root)
     unnot false false e = refl
 
 -- Answer, by its tests
-pub answer-told : {I A : Type 0} (functions : Functions I A) (shared : Shared) (worker : ℕ) (name : FrameId) (answer : A) (tenant : Tenant) (frame : Frame (List ℕ)) (seen : Seen)
+pub answer-told : {I A : Type 0} (functions : Functions I A) (shared : CoreState) (worker : ℕ) (name : FrameId) (answer : A) (tenant : Tenant) (frame : Frame (List ℕ)) (seen : Seen)
     (computes other outside : Bool) (told : Result (Unit {0}) Refusal) →
     IsSeen shared name tenant frame seen → computes ≡ is_computed_by worker seen.state →
     other ≡ not (functions.same (functions.asked answer) (functions.input (words_under shared name))) →
@@ -239,14 +239,14 @@ applies-is ((true, refusal) ∷ tests) = refl
 applies-is ((false, refusal) ∷ tests) = applies-is tests
 
 -- the job of a frame that runs may be given up where its next act can't be done
-pub spend-running : {I A : Type 0} (functions : Functions I A) (shared : Shared) (name : FrameId) (tenant : Tenant) (frame : Frame (List ℕ)) (seen : Seen) (act : Act) (holder : ℕ) (answer : Result (Unit {0}) Refusal) →
+pub spend-running : {I A : Type 0} (functions : Functions I A) (shared : CoreState) (name : FrameId) (tenant : Tenant) (frame : Frame (List ℕ)) (seen : Seen) (act : Act) (holder : ℕ) (answer : Result (Unit {0}) Refusal) →
     IsSeen shared name tenant frame seen → seen.state ≡ Running holder → seen.left.steps ≢ 0 → act ≡ functions.next (sight_of shared name) →
     answer ≡ unless (act_tests tenant frame act) (tt {0}) → is_err answer ≡ is_spendable functions tenant frame
 spend-running functions shared name tenant frame seen act holder answer is runs some same told =
     let steps : ((left tenant).steps == 0) ≡ false = rw is.left at (none-left seen.left.steps some) in
     let state : frame.state ≡ Running holder = sym is.state ∙ runs in
-    let next : act ≡ act_of functions tenant frame = rw (is.owner, is.found) at same in
-    rw (steps, state, told, next) (applies-is (act_tests tenant frame (act_of functions tenant frame)) ∙ sym (or-false _))
+    let next : act ≡ act_by_sight functions tenant frame = rw (is.owner, is.found) at same in
+    rw (steps, state, told, next) (applies-is (act_tests tenant frame (act_by_sight functions tenant frame)) ∙ sym (or-false _))
   where
     none-left : (n : ℕ) → n ≢ 0 → (n == 0) ≡ false
     none-left n some = grind (arith, nat_tests)

@@ -14,22 +14,22 @@ use Rattle.sched_rules.specs.Trees.{Tenant, has_child, job_at}
 use Rattle.sched_rules.specs.Lone.{ended, spent, finished, finish_tests, is_spendable}
 use Rattle.sched_rules.specs.Changes.{on_tenant, without_under, with_change}
 use Rattle.sched_rules.specs.Views.{named, job_of}
-use Rattle.sched_rules.specs.Cores.{Shared, tenant_in, judged, shared_refusal, with_tenant}
+use Rattle.sched_rules.specs.Cores.{CoreState, tenant_in, step_result, shared_refusal, with_tenant}
 use Rattle.sched_laws.specs.Shapes.{AreShaped}
 use Rattle.sched_laws.proofs.Answers.{shaped-in}
 use Rattle.sched_laws.proofs.Consequences.{live-root, root-above}
-use Rattle.sched_store.specs.Reads.{frames_in, words_under}
+use Rattle.sched_store.specs.Reads.{frames_in_core, words_under}
 use Rattle.sched_core.proofs.Changing.{with_change-there}
-use Rattle.sched_core.proofs.Going.{IsWith, IsGoing, going}
+use Rattle.sched_core.proofs.TakenStep.{IsWith, IsGoing, going}
 
 -- the tenant and the frame of a name
-pub record IsNamed (shared : Shared) (name : FrameId) : Type 0 where
+pub record IsNamed (shared : CoreState) (name : FrameId) : Type 0 where
   pub tenant : Tenant
   pub frame : Frame (List ℕ)
   pub owner : tenant_in shared.tenants name.tenant ≡ Some tenant
   pub found : frame_at tenant.frames name.serial ≡ Some frame
 
-pub named-there : (shared : Shared) (name : FrameId) → IsSome (named shared name) → IsNamed shared name
+pub named-there : (shared : CoreState) (name : FrameId) → IsSome (named shared name) → IsNamed shared name
 named-there shared name some = by-owner (tenant_in shared.tenants name.tenant) refl
   where
     by-frame : (tenant : Tenant) → tenant_in shared.tenants name.tenant ≡ Some tenant → (found : Option (Frame (List ℕ))) → frame_at tenant.frames name.serial ≡ found → IsNamed shared name
@@ -41,24 +41,24 @@ named-there shared name some = by-owner (tenant_in shared.tenants name.tenant) r
     by-owner (Some tenant) owner = by-frame tenant owner (frame_at tenant.frames name.serial) refl
 
 -- a frame of the tenant as it is now
-pub with-named : (before now : Shared) (name : FrameId) (tenant : Tenant) (frame : Frame (List ℕ)) → IsWith before name.tenant tenant now → frame_at tenant.frames name.serial ≡ Some frame → IsSome (named now name)
+pub with-named : (before now : CoreState) (name : FrameId) (tenant : Tenant) (frame : Frame (List ℕ)) → IsWith before name.tenant tenant now → frame_at tenant.frames name.serial ≡ Some frame → IsSome (named now name)
 with-named before now name tenant frame is found = let there = is.there in rw (there, found) refl
 
-pub found-named : (shared : Shared) (name : FrameId) (tenant : Tenant) (frame : Frame (List ℕ)) → tenant_in shared.tenants name.tenant ≡ Some tenant → frame_at tenant.frames name.serial ≡ Some frame → IsSome (named shared name)
+pub found-named : (shared : CoreState) (name : FrameId) (tenant : Tenant) (frame : Frame (List ℕ)) → tenant_in shared.tenants name.tenant ≡ Some tenant → frame_at tenant.frames name.serial ≡ Some frame → IsSome (named shared name)
 found-named shared name tenant frame owner found = rw (owner, found) refl
 
 -- the tenant is there
-pub with-there : (before now : Shared) (number : ℕ) (tenant : Tenant) → IsWith before number tenant now → IsSome (tenant_in now.tenants number)
+pub with-there : (before now : CoreState) (number : ℕ) (tenant : Tenant) → IsWith before number tenant now → IsSome (tenant_in now.tenants number)
 with-there before now number tenant is = let there = is.there in rw there refl
 
 -- one change of the tenant
-pub as-change : (before now : Shared) (number : ℕ) (tenant : Tenant) (change : Tenant → Tenant) → tenant_in before.tenants number ≡ Some tenant → IsWith before number (change tenant) now → now ≡ on_tenant number change before
+pub as-change : (before now : CoreState) (number : ℕ) (tenant : Tenant) (change : Tenant → Tenant) → tenant_in before.tenants number ≡ Some tenant → IsWith before number (change tenant) now → now ≡ on_tenant number change before
 as-change before now number tenant change owner is =
     let there : with_change number change before.tenants ≡ with_tenant number (change tenant) before.tenants = with_change-there number change before.tenants tenant owner in
     rw there is.is
 
 -- after an abort a frame has no child
-pub aborted-childless : (before now : Shared) (number serial : ℕ) (tenant : Tenant) → IsTree tenant.frames → IsWith before number (without_under serial tenant) now → has_child (frames_in now number) serial ≡ false
+pub aborted-childless : (before now : CoreState) (number serial : ℕ) (tenant : Tenant) → IsTree tenant.frames → IsWith before number (without_under serial tenant) now → has_child (frames_in_core now number) serial ≡ false
 aborted-childless before now number serial tenant tree is =
     let there = is.there in let leaf = aborted-leaf serial tenant.frames tree in rw (there, leaf) refl
 
@@ -75,13 +75,13 @@ pub root-found : (frames : List (Frame (List ℕ))) (serial : ℕ) → path_in f
 root-found frames serial is = there-found frames serial (path-there frames serial is)
 
 -- Cancel: the live job
-pub record IsLive {I A : Type 0} (functions : Functions I A) (shared : Shared) (number job root : ℕ) : Type 0 where
+pub record IsLive {I A : Type 0} (functions : Functions I A) (shared : CoreState) (number job root : ℕ) : Type 0 where
   pub tenant : Tenant
   pub owner : tenant_in shared.tenants number ≡ Some tenant
   pub job_is : job_at tenant.jobs job ≡ Some (Live root)
-  pub among : judged functions shared (Cancel number job) ≡ Ok (Some (ended root CancelledJob tenant), Cancelled)
+  pub among : step_result functions shared (Cancel number job) ≡ Ok (Some (ended root CancelledJob tenant), Cancelled)
 
-pub cancel-going : {I A : Type 0} (functions : Functions I A) (shared : Shared) (number job root : ℕ) → job_of shared number job ≡ Some (Live root) → IsLive functions shared number job root
+pub cancel-going : {I A : Type 0} (functions : Functions I A) (shared : CoreState) (number job root : ℕ) → job_of shared number job ≡ Some (Live root) → IsLive functions shared number job root
 cancel-going functions shared number job root is = by-owner (tenant_in shared.tenants number) refl
   where
     by-owner : (owner : Option Tenant) → tenant_in shared.tenants number ≡ owner → IsLive functions shared number job root
@@ -89,7 +89,7 @@ cancel-going functions shared number job root is = by-owner (tenant_in shared.te
     by-owner (Some tenant) owner = let at : job_at tenant.jobs job ≡ Some (Live root) = rw owner at is in record { tenant = tenant; owner = owner; job_is = at; among = rw (owner, at) refl }
 
 -- its root is there
-pub cancel-root : (shared : Shared) (number job root : ℕ) (tenant : Tenant) → AreShaped shared.tenants → tenant_in shared.tenants number ≡ Some tenant → job_at tenant.jobs job ≡ Some (Live root) →
+pub cancel-root : (shared : CoreState) (number job root : ℕ) (tenant : Tenant) → AreShaped shared.tenants → tenant_in shared.tenants number ≡ Some tenant → job_at tenant.jobs job ≡ Some (Live root) →
     IsSome (named shared (record { tenant = number; serial = root }))
 cancel-root shared number job root tenant shaped owner is =
     let shape = shaped-in number shared.tenants tenant shaped owner in
@@ -97,16 +97,16 @@ cancel-root shared number job root tenant shaped owner is =
     found-named shared (record { tenant = number; serial = root }) tenant found.0 owner found.1
 
 -- Finish and Spend
-pub finish-going : {I A : Type 0} (functions : Functions I A) (shared : Shared) (worker : ℕ) (name : FrameId) → None ≡ shared_refusal functions shared (Finish worker name) →
+pub finish-going : {I A : Type 0} (functions : Functions I A) (shared : CoreState) (worker : ℕ) (name : FrameId) → None ≡ shared_refusal functions shared (Finish worker name) →
     IsGoing functions shared (Finish worker name) name (λ tenant. finish_tests tenant worker) finished
 finish-going functions shared worker name none = going functions shared (Finish worker name) name _ (λ tenant. finish_tests tenant worker) finished refl refl (λ tenant. refl) none
 
-pub spend-going : {I A : Type 0} (functions : Functions I A) (shared : Shared) (name : FrameId) → None ≡ shared_refusal functions shared (Spend name) →
+pub spend-going : {I A : Type 0} (functions : Functions I A) (shared : CoreState) (name : FrameId) → None ≡ shared_refusal functions shared (Spend name) →
     IsGoing functions shared (Spend name) name (λ tenant frame. (not (is_spendable functions tenant frame), NotSpent) ∷ []) spent
 spend-going functions shared name none = going functions shared (Spend name) name false (λ tenant frame. (not (is_spendable functions tenant frame), NotSpent) ∷ []) spent refl refl (λ tenant. refl) none
 
 -- the root above a frame is there
-pub spend-root : (shared : Shared) (name : FrameId) (tenant : Tenant) (frame : Frame (List ℕ)) → AreShaped shared.tenants → tenant_in shared.tenants name.tenant ≡ Some tenant → frame_at tenant.frames name.serial ≡ Some frame →
+pub spend-root : (shared : CoreState) (name : FrameId) (tenant : Tenant) (frame : Frame (List ℕ)) → AreShaped shared.tenants → tenant_in shared.tenants name.tenant ≡ Some tenant → frame_at tenant.frames name.serial ≡ Some frame →
     IsSome (named shared (record { tenant = name.tenant; serial = root_of frame.path }))
 spend-root shared name tenant frame shaped owner found =
     let shape = shaped-in name.tenant shared.tenants tenant shaped owner in
@@ -114,6 +114,6 @@ spend-root shared name tenant frame shaped owner found =
     found-named shared (record { tenant = name.tenant; serial = root_of frame.path }) tenant root.0 owner root.1
 
 -- the words of a frame
-pub named-words : (shared : Shared) (name : FrameId) (tenant : Tenant) (frame : Frame (List ℕ)) → tenant_in shared.tenants name.tenant ≡ Some tenant → frame_at tenant.frames name.serial ≡ Some frame →
+pub named-words : (shared : CoreState) (name : FrameId) (tenant : Tenant) (frame : Frame (List ℕ)) → tenant_in shared.tenants name.tenant ≡ Some tenant → frame_at tenant.frames name.serial ≡ Some frame →
     words_under shared name ≡ frame.value
 named-words shared name tenant frame owner found = rw (owner, found) refl

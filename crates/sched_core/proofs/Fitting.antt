@@ -10,8 +10,8 @@ use Rattle.sched_rules.specs.declared.step.StepOf.{StepOf}
 use Rattle.sched_rules.specs.declared.step.DidOf.{DidOf}
 use Rattle.sched_rules.specs.Functions.{Functions}
 use Rattle.sched_rules.specs.Trees.{Tree, Tenant, sight}
-use Rattle.sched_rules.specs.Laws.{Fitting, Rooting, mark_of, AllFit, EveryFrameFits}
-use Rattle.sched_rules.specs.Cores.{Shared, shared_by_nobody}
+use Rattle.sched_rules.specs.Laws.{Fitting, Rooting, mark_of_state, AllFit, EveryFrameFits}
+use Rattle.sched_rules.specs.Cores.{CoreState, shared_by_nobody}
 use Rattle.sched_rules.specs.Headline.{IsOneStep}
 use Rattle.sched_laws.specs.Fitted.{RootFits, origins_after}
 use Rattle.sched_laws.proofs.Holds.{F, kids, fits-holds}
@@ -26,7 +26,7 @@ use Rattle.sched_core.proofs.Stepping.{kept-still, fits-still}
 
 -- a frame of a tree in which every frame fits
 found-fits : (fits : Fitting) (tree : Tree) (s : ℕ) (f : F) → EveryFrameFits fits tree → frame_at tree s ≡ Some f → FitsSomehow fits f
-found-fits fits tree s f every at = (kids tree s, mark_of f.state, fits-holds fits tree every s f at)
+found-fits fits tree s f every at = (kids tree s, mark_of_state f.state, fits-holds fits tree every s f at)
 
 -- and all that it sees
 sight-fits : (fits : Fitting) (tree : Tree) (s : ℕ) (f : F) → IsTree tree → EveryFrameFits fits tree → frame_at tree s ≡ Some f → AllFit fits (sight tree f.path)
@@ -42,23 +42,23 @@ sight-fits fits tree s f t every at = tree-induction Sees tree t top under s f a
     under f u above s at = rw (sight-under tree s f at u) (found-fits fits tree s f every at, above u.parent u.there)
 
 -- a frame that is there
-tenant-fits : (fits : Fitting) (rooted : Rooting) (shared : Shared) (name : FrameId) (tenant : Tenant) (frame : Frame (List ℕ)) (seen : Seen) → IsFitting fits rooted shared → IsSeen shared name tenant frame seen → EveryFrameFits fits tenant.frames
+tenant-fits : (fits : Fitting) (rooted : Rooting) (shared : CoreState) (name : FrameId) (tenant : Tenant) (frame : Frame (List ℕ)) (seen : Seen) → IsFitting fits rooted shared → IsSeen shared name tenant frame seen → EveryFrameFits fits tenant.frames
 tenant-fits fits rooted shared name tenant frame seen core is = (core.1.tenants name.tenant tenant is.owner).frames
 
-pub own-fits : (fits : Fitting) (rooted : Rooting) (shared : Shared) (name : FrameId) (tenant : Tenant) (frame : Frame (List ℕ)) (seen : Seen) → IsFitting fits rooted shared → IsSeen shared name tenant frame seen →
+pub own-fits : (fits : Fitting) (rooted : Rooting) (shared : CoreState) (name : FrameId) (tenant : Tenant) (frame : Frame (List ℕ)) (seen : Seen) → IsFitting fits rooted shared → IsSeen shared name tenant frame seen →
     AllFit fits (words_under shared name ∷ [])
 own-fits fits rooted shared name tenant frame seen core is =
     let every = tenant-fits fits rooted shared name tenant frame seen core is in
     rw (is.owner, is.found) (found-fits fits tenant.frames name.serial frame every is.found, tt)
 
-pub seen-fits : (fits : Fitting) (rooted : Rooting) (shared : Shared) (name : FrameId) (tenant : Tenant) (frame : Frame (List ℕ)) (seen : Seen) → IsFitting fits rooted shared → IsSeen shared name tenant frame seen →
+pub seen-fits : (fits : Fitting) (rooted : Rooting) (shared : CoreState) (name : FrameId) (tenant : Tenant) (frame : Frame (List ℕ)) (seen : Seen) → IsFitting fits rooted shared → IsSeen shared name tenant frame seen →
     AllFit fits (sight_of shared name)
 seen-fits fits rooted shared name tenant frame seen core is =
     let every = tenant-fits fits rooted shared name tenant frame seen core is in
     rw (is.owner, is.found) (sight-fits fits tenant.frames name.serial frame is.tree every is.found)
 
 -- and its parent
-pub parent-fits : (fits : Fitting) (rooted : Rooting) (shared : Shared) (name above : FrameId) (tenant : Tenant) (frame : Frame (List ℕ)) (seen : Seen) → IsFitting fits rooted shared → IsReturnedUnder shared name above tenant frame seen →
+pub parent-fits : (fits : Fitting) (rooted : Rooting) (shared : CoreState) (name above : FrameId) (tenant : Tenant) (frame : Frame (List ℕ)) (seen : Seen) → IsFitting fits rooted shared → IsReturnedUnder shared name above tenant frame seen →
     AllFit fits (words_under shared above ∷ words_under shared name ∷ [])
 parent-fits fits rooted shared name above tenant frame seen core is =
     let every = tenant-fits fits rooted shared name tenant frame seen core is.seen_so in
@@ -78,7 +78,7 @@ nobody-kept fits rooted totals =
     }
 
 -- a core keeps what it keeps
-pub kept-fitting : {I A : Type 0} (functions : Functions I A) (fits : Fitting) (rooted : Rooting) (before : Shared) (step : StepOf A) (answer : Result (DidOf I) Refusal) (after : Shared) (was is : Bool) → IsLawful functions fits rooted →
+pub kept-fitting : {I A : Type 0} (functions : Functions I A) (fits : Fitting) (rooted : Rooting) (before : CoreState) (step : StepOf A) (answer : Result (DidOf I) Refusal) (after : CoreState) (was is : Bool) → IsLawful functions fits rooted →
     IsKeptFitting fits rooted was before → IsOneStep functions before step answer after → (is ≡ true → was ≡ true) → (is ≡ true → is_ok answer ≡ true → RootFits fits rooted step) → IsKeptFitting fits rooted is after
 kept-fitting functions fits rooted before step answer after was is lawful core one earlier root =
     record {

@@ -20,21 +20,21 @@ use Rattle.sched_rules.specs.Trees.{Tenant, Tree, words_in, is_outside, has_chil
 use Rattle.sched_rules.specs.Lone.{Outcome, unless, lone, refusal_in, inlet_tests, taken_in, staying, aborted_beside, does_wait, is_waiting, is_returned, holding, counted, in_state}
 use Rattle.sched_rules.specs.Changes.{on_tenant}
 use Rattle.sched_rules.specs.Views.{named}
-use Rattle.sched_rules.specs.Cores.{Shared, tenant_in, is_busy_elsewhere, unless_busy, judged, shared_refusal}
+use Rattle.sched_rules.specs.Cores.{CoreState, tenant_in, is_busy_elsewhere, unless_busy, step_result, shared_refusal}
 use Rattle.sched_laws.specs.Shapes.{AreShaped}
 use Rattle.sched_laws.proofs.Answers.{shaped-in}
 use Rattle.sched_laws.proofs.Consequences.{returned-leaf}
-use Rattle.sched_store.specs.Reads.{is_busy_among, AreRising, words_under, frames_in, HasStepLeft}
+use Rattle.sched_store.specs.Reads.{is_busy_among, AreTenantsRising, words_under, frames_in_core, TenantHasStepLeft}
 use Rattle.sched_core.specs.declared.engine.Seen.{Seen}
 use Rattle.sched_core.specs.Seeing.{MayBeTakenIn, IsReturnedUnder}
-use Rattle.sched_core.specs.Judging.{IsJudged, staying_with}
+use Rattle.sched_core.specs.StepResults.{FollowsResult, staying_with}
 use Rattle.sched_core.proofs.Deciding.{some-is}
 use Rattle.sched_core.proofs.Parents.{inlet-told}
-use Rattle.sched_core.proofs.Going.{AllPass, all-pass, IsWith, begins, then-changed, step-left}
+use Rattle.sched_core.proofs.TakenStep.{AllPass, all-pass, IsWith, begins, then-changed, step-left}
 use Rattle.sched_core.proofs.Acting.{not-false, held-at}
 
 -- what an inlet that is taken comes to
-pub record IsInlet {I A : Type 0} (functions : Functions I A) (shared : Shared) (worker : ℕ) (name : FrameId) : Type 0 where
+pub record IsInlet {I A : Type 0} (functions : Functions I A) (shared : CoreState) (worker : ℕ) (name : FrameId) : Type 0 where
   pub tenant : Tenant
   pub frame : Frame (List ℕ)
   pub parent : ℕ
@@ -42,9 +42,9 @@ pub record IsInlet {I A : Type 0} (functions : Functions I A) (shared : Shared) 
   pub found : frame_at tenant.frames name.serial ≡ Some frame
   pub path : parent_of frame.path ≡ Some parent
   pub passes : AllPass (inlet_tests tenant worker frame parent (functions.inlet (words_in tenant.frames parent) frame.value))
-  pub among : judged functions shared (Inlet worker name) ≡ Ok (taken_in tenant worker name parent (functions.inlet (words_in tenant.frames parent) frame.value))
+  pub among : step_result functions shared (Inlet worker name) ≡ Ok (taken_in tenant worker name parent (functions.inlet (words_in tenant.frames parent) frame.value))
 
-pub inlet-going : {I A : Type 0} (functions : Functions I A) (shared : Shared) (worker : ℕ) (name : FrameId) → None ≡ shared_refusal functions shared (Inlet worker name) → IsInlet functions shared worker name
+pub inlet-going : {I A : Type 0} (functions : Functions I A) (shared : CoreState) (worker : ℕ) (name : FrameId) → None ≡ shared_refusal functions shared (Inlet worker name) → IsInlet functions shared worker name
 inlet-going {I = I} {A = A} functions shared worker name none = by-owner (tenant_in shared.tenants name.tenant) refl
   where
     refused : (refusal : Refusal) (alone : Result (Outcome I) Refusal) → alone ≡ Err refusal → None ≡ refusal_in (unless_busy (is_busy_elsewhere worker name.tenant shared.tenants) alone) → ⊥
@@ -76,20 +76,20 @@ pub same-tenant : (x y : Tenant) → Some x ≡ Some y → x ≡ y
 same-tenant x y e = cc
 
 -- an inlet that may be done: no test applies, and this comes of it
-pub record IsTakingIn {I A : Type 0} (functions : Functions I A) (shared : Shared) (worker : ℕ) (name above : FrameId) (tenant : Tenant) (frame : Frame (List ℕ)) (act : InletAct) : Type 0 where
+pub record IsTakingIn {I A : Type 0} (functions : Functions I A) (shared : CoreState) (worker : ℕ) (name above : FrameId) (tenant : Tenant) (frame : Frame (List ℕ)) (act : InletAct) : Type 0 where
   pub parent : ℕ
   pub is : above ≡ record { tenant = name.tenant; serial = parent }
   pub owner : tenant_in shared.tenants name.tenant ≡ Some tenant
   pub found : frame_at tenant.frames name.serial ≡ Some frame
   pub path : parent_of frame.path ≡ Some parent
   pub passes : AllPass (inlet_tests tenant worker frame parent act)
-  pub among : judged functions shared (Inlet worker name) ≡ Ok (taken_in tenant worker name parent act)
+  pub among : step_result functions shared (Inlet worker name) ≡ Ok (taken_in tenant worker name parent act)
 
-takes-in-as : {I A : Type 0} (functions : Functions I A) (shared : Shared) (worker : ℕ) (name above : FrameId) (tenant other : Tenant) (frame another : Frame (List ℕ)) (act : InletAct) (parent : ℕ) →
+takes-in-as : {I A : Type 0} (functions : Functions I A) (shared : CoreState) (worker : ℕ) (name above : FrameId) (tenant other : Tenant) (frame another : Frame (List ℕ)) (act : InletAct) (parent : ℕ) →
     tenant_in shared.tenants name.tenant ≡ Some tenant → frame_at tenant.frames name.serial ≡ Some frame → other ≡ tenant → another ≡ frame →
     name_of name.tenant (parent_of frame.path) ≡ Some above → parent_of another.path ≡ Some parent → act ≡ functions.inlet (words_under shared above) (words_under shared name) →
     AllPass (inlet_tests other worker another parent (functions.inlet (words_in other.frames parent) another.value)) →
-    judged functions shared (Inlet worker name) ≡ Ok (taken_in other worker name parent (functions.inlet (words_in other.frames parent) another.value)) →
+    step_result functions shared (Inlet worker name) ≡ Ok (taken_in other worker name parent (functions.inlet (words_in other.frames parent) another.value)) →
     IsTakingIn functions shared worker name above tenant frame act
 takes-in-as functions shared worker name above tenant other frame another act parent owner found own same names path does passes among =
     let path' : parent_of frame.path ≡ Some parent = rw same at path in
@@ -97,8 +97,8 @@ takes-in-as functions shared worker name above tenant other frame another act pa
     let does' : act ≡ functions.inlet (words_in tenant.frames parent) frame.value = does ∙ rw (is, owner, found) refl in
     record { parent = parent; is = is; owner = owner; found = found; path = path'; passes = rw (own, same, ← does') at passes; among = rw (own, same, ← does') at among }
 
-pub takes-in : {I A : Type 0} (functions : Functions I A) (shared : Shared) (worker : ℕ) (name above : FrameId) (tenant : Tenant) (frame : Frame (List ℕ)) (seen : Seen) (act : InletAct) →
-    IsReturnedUnder shared name above tenant frame seen → AreRising shared.tenants → act ≡ functions.inlet (words_under shared above) (words_under shared name) →
+pub takes-in : {I A : Type 0} (functions : Functions I A) (shared : CoreState) (worker : ℕ) (name above : FrameId) (tenant : Tenant) (frame : Frame (List ℕ)) (seen : Seen) (act : InletAct) →
+    IsReturnedUnder shared name above tenant frame seen → AreTenantsRising shared.tenants → act ≡ functions.inlet (words_under shared above) (words_under shared name) →
     Ok (tt {0}) ≡ unless ((is_outside act.stores (words_under shared above), BadAct) ∷ (is_busy_among worker shared.tenants, Busy) ∷ []) (tt {0}) →
     IsTakingIn functions shared worker name above tenant frame act
 takes-in functions shared worker name above tenant frame seen act is rising same told =
@@ -120,7 +120,7 @@ has-returned Waiting is = absurd cc
 has-returned Returned is = refl
 
 -- it may be taken in
-pub may-be-taken-in : {I A : Type 0} {functions : Functions I A} {shared : Shared} {worker : ℕ} {name above : FrameId} {tenant : Tenant} {frame : Frame (List ℕ)} {act : InletAct} →
+pub may-be-taken-in : {I A : Type 0} {functions : Functions I A} {shared : CoreState} {worker : ℕ} {name above : FrameId} {tenant : Tenant} {frame : Frame (List ℕ)} {act : InletAct} →
     IsTakingIn functions shared worker name above tenant frame act → AreShaped shared.tenants → MayBeTakenIn shared name above tenant frame
 may-be-taken-in {shared = shared} {name = name} {tenant = tenant} {frame = frame} t shaped =
     let shape = shaped-in name.tenant shared.tenants tenant shaped t.owner in
@@ -153,15 +153,15 @@ parent-stays frames child parent true frame above tree found path at = aborted-i
 parent-stays frames child parent false frame above tree found path at = stays-beside frames child parent frame above tree found path at
 
 -- the child is taken out, and the parent stays
-pub record IsTakenOut {I A : Type 0} (functions : Functions I A) (shared : Shared) (worker : ℕ) (name above : FrameId) (tenant : Tenant) (frame : Frame (List ℕ)) (act : InletAct) (now : Shared) : Type 0 where
+pub record IsTakenOut {I A : Type 0} (functions : Functions I A) (shared : CoreState) (worker : ℕ) (name above : FrameId) (tenant : Tenant) (frame : Frame (List ℕ)) (act : InletAct) (now : CoreState) : Type 0 where
   pub takes : IsTakingIn functions shared worker name above tenant frame act
   pub changed : IsWith shared name.tenant (staying_with name.serial takes.parent act.abort tenant) now
   pub parent : Frame (List ℕ)
   pub found : frame_at tenant.frames takes.parent ≡ Some parent
   pub stays : frame_at (staying tenant.frames name.serial takes.parent act.abort) takes.parent ≡ Some parent
 
-pub takes-out : {I A : Type 0} (functions : Functions I A) (shared : Shared) (worker : ℕ) (name above : FrameId) (tenant : Tenant) (frame : Frame (List ℕ)) (seen : Seen) (act : InletAct) (now : Shared) →
-    AreShaped shared.tenants → IsReturnedUnder shared name above tenant frame seen → AreRising shared.tenants → act ≡ functions.inlet (words_under shared above) (words_under shared name) →
+pub takes-out : {I A : Type 0} (functions : Functions I A) (shared : CoreState) (worker : ℕ) (name above : FrameId) (tenant : Tenant) (frame : Frame (List ℕ)) (seen : Seen) (act : InletAct) (now : CoreState) →
+    AreShaped shared.tenants → IsReturnedUnder shared name above tenant frame seen → AreTenantsRising shared.tenants → act ≡ functions.inlet (words_under shared above) (words_under shared name) →
     Ok (tt {0}) ≡ unless ((is_outside act.stores (words_under shared above), BadAct) ∷ (is_busy_among worker shared.tenants, Busy) ∷ []) (tt {0}) →
     now ≡ on_tenant name.tenant (staying_with name.serial above.serial act.abort) shared → IsTakenOut functions shared worker name above tenant frame act now
 takes-out functions shared worker name above tenant frame seen act now shaped is rising same told outs =
@@ -206,7 +206,7 @@ aborts-child frames child parent frame tree found path =
     child-under-parent frames parent child x tree at_child child_path))
 
 -- after that the parent's words are stored, the step is counted, and the parent is woken or not
-module _ {I A : Type 0} {functions : Functions I A} {shared : Shared} {worker : ℕ} {name above : FrameId} {tenant : Tenant} {frame : Frame (List ℕ)} {act : InletAct} {out : Shared}
+module _ {I A : Type 0} {functions : Functions I A} {shared : CoreState} {worker : ℕ} {name above : FrameId} {tenant : Tenant} {frame : Frame (List ℕ)} {act : InletAct} {out : CoreState}
     (o : IsTakenOut functions shared worker name above tenant frame act out) where
   -- the frames that stay
   abbrev frames : Tree
@@ -224,16 +224,16 @@ module _ {I A : Type 0} {functions : Functions I A} {shared : Shared} {worker : 
   pub still-inside : is_outside act.stores (words_under out above) ≡ false
   still-inside = rw (o.takes.is, o.changed.there, o.stays) (rw o.found at o.takes.passes.1.1.0)
 
-  module _ {next : Shared} (stores : next ≡ on_tenant above.tenant (holding above.serial (stored act.stores (words_under out above))) out) where
+  module _ {next : CoreState} (stores : next ≡ on_tenant above.tenant (holding above.serial (stored act.stores (words_under out above))) out) where
     -- the tenant with the stores
     stored-is : IsWith shared name.tenant (holding o.takes.parent words (record tenant { frames = frames })) next
     stored-is = then-changed _ _ _ out next (holding o.takes.parent words) o.changed (rw (o.takes.is, o.changed.there) at stores)
 
     -- a step is left to it
-    pub stored-left : HasStepLeft next name.tenant
+    pub stored-left : TenantHasStepLeft next name.tenant
     stored-left = step-left _ _ _ _ stored-is o.takes.passes.1.0
 
-    module _ {now : Shared} (counts : now ≡ on_tenant name.tenant counted next) where
+    module _ {now : CoreState} (counts : now ≡ on_tenant name.tenant counted next) where
       -- and with the step counted
       counted-is : IsWith shared name.tenant (counted (holding o.takes.parent words (record tenant { frames = frames }))) now
       counted-is = then-changed _ _ _ next now counted stored-is counts
@@ -243,20 +243,20 @@ module _ {I A : Type 0} {functions : Functions I A} {shared : Shared} {worker : 
       counted-there = rw (o.takes.is, counted-is.there, held-at o.takes.parent words (record tenant { frames = frames }) o.parent o.stays) refl
 
       -- what is answered and left, by whether the parent is woken
-      by-waking : (woken : Bool) {gone : ℕ} {after : Shared} → (does_wait (frame_at frames o.takes.parent) && (act.abort || act.wake || not (has_child frames o.takes.parent))) ≡ woken →
+      by-waking : (woken : Bool) {gone : ℕ} {after : CoreState} → (does_wait (frame_at frames o.takes.parent) && (act.abort || act.wake || not (has_child frames o.takes.parent))) ≡ woken →
           gone ≡ aborted_beside tenant.frames name.serial o.takes.parent act.abort → after ≡ (if woken then on_tenant above.tenant (in_state above.serial (Ready worker)) now else now) →
-          IsJudged functions shared (Inlet worker name) (Ok (TakenIn (if woken then Some above else None) gone)) after
+          FollowsResult functions shared (Inlet worker name) (Ok (TakenIn (if woken then Some above else None) gone)) after
       by-waking false wakes gone stays = record { told = rw (o.takes.among, wakes, gone) refl; left = rw (o.takes.among, wakes) (stays ∙ counted-is.is) }
       by-waking true wakes gone stays =
           let ready = then-changed _ _ _ now _ (in_state o.takes.parent (Ready worker)) counted-is (rw o.takes.is at stays) in
           record { told = rw (o.takes.is, o.takes.among, wakes, gone) refl; left = rw (o.takes.among, wakes) ready.is }
 
       -- a parent that waited is woken where the inlet says it, or no child is left
-      pub judged-inlet : (woken : Bool) {state : State} {waits : Bool} {gone : ℕ} {after : Shared} → ((parent : Frame (List ℕ)) → named shared above ≡ Some parent → state ≡ parent.state) → waits ≡ is_waiting state →
+      pub step_result-inlet : (woken : Bool) {state : State} {waits : Bool} {gone : ℕ} {after : CoreState} → ((parent : Frame (List ℕ)) → named shared above ≡ Some parent → state ≡ parent.state) → waits ≡ is_waiting state →
           ((before : Tenant) → tenant_in shared.tenants name.tenant ≡ Some before → gone ≡ aborted_beside before.frames name.serial above.serial act.abort) →
-          (waits && (act.abort || act.wake || not (has_child (frames_in out above.tenant) above.serial))) ≡ woken →
+          (waits && (act.abort || act.wake || not (has_child (frames_in_core out above.tenant) above.serial))) ≡ woken →
           after ≡ (if woken then on_tenant above.tenant (in_state above.serial (Ready worker)) now else now) →
-          IsJudged functions shared (Inlet worker name) (Ok (TakenIn (if woken then Some above else None) gone)) after
-      judged-inlet woken {waits = waits} seen waiting aborts wakes =
+          FollowsResult functions shared (Inlet worker name) (Ok (TakenIn (if woken then Some above else None) gone)) after
+      step_result-inlet woken {waits = waits} seen waiting aborts wakes =
           let waits_so : waits ≡ does_wait (frame_at frames o.takes.parent) = waiting ∙ ap is_waiting (seen o.parent (rw (o.takes.is, o.takes.owner, o.found) refl)) ∙ rw o.stays refl in
           by-waking woken (rw (o.takes.is, o.changed.there, waits_so) at wakes) (rw o.takes.is at (aborts tenant o.takes.owner))

@@ -9,7 +9,7 @@ pub mod Changing
 pub mod Looking
 pub mod Deciding
 pub mod Parents
-pub mod Going
+pub mod TakenStep
 pub mod Ending
 pub mod Beginning
 pub mod Raising

@@ -6,8 +6,8 @@ use Rattle.frame_tree.specs.Frames.{Frame, frame_at, has_frame}
 use Rattle.tenant_quota.specs.declared.account.Left.{Left}
 use Rattle.sched_rules.specs.declared.refusal.Refusal.TheVariants.{NoFrame}
 use Rattle.sched_rules.specs.Trees.{Tenant, left}
-use Rattle.sched_rules.specs.Cores.{Shared, tenant_in}
-use Rattle.sched_rules.specs.Views.{left_of, frame_of}
+use Rattle.sched_rules.specs.Cores.{CoreState, tenant_in}
+use Rattle.sched_rules.specs.Views.{left_in_core, frame_in_core}
 use Rattle.sched_core.specs.Seeing.{missing_in, missing}
 
 -- a frame that isn't found isn't there
@@ -29,5 +29,5 @@ unseen : {A B : Type 0} (f : A → B) (found : Option A) → option_map f found 
 unseen f None none = refl
 unseen f (Some x) none = absurd cc
 
-pub no-frame : (shared : Shared) (name : FrameId) (rest : Left) → left_of shared name.tenant ≡ Some rest → frame_of shared name ≡ None → missing shared name ≡ Some NoFrame
+pub no-frame : (shared : CoreState) (name : FrameId) (rest : Left) → left_in_core shared name.tenant ≡ Some rest → frame_in_core shared name ≡ None → missing shared name ≡ Some NoFrame
 no-frame shared name rest there none = lost (tenant_in shared.tenants name.tenant) name.serial rest there (unseen _ _ none)

@@ -12,14 +12,14 @@ use Rattle.sched_rules.specs.Functions.{Functions}
 use Rattle.sched_rules.specs.Trees.{Tenant, words_in, is_outside, left}
 use Rattle.sched_rules.specs.Lone.{unless, refusal_in, is_returned, taken_in}
 use Rattle.sched_rules.specs.Views.{named}
-use Rattle.sched_rules.specs.Cores.{Shared, shared_refusal}
+use Rattle.sched_rules.specs.Cores.{CoreState, shared_refusal}
 use Rattle.sched_core.specs.declared.engine.Seen.{Seen}
-use Rattle.sched_store.specs.Reads.{is_busy_among, AreRising, words_under}
+use Rattle.sched_store.specs.Reads.{is_busy_among, AreTenantsRising, words_under}
 use Rattle.sched_core.specs.Seeing.{IsSeen, IsReturnedUnder}
 use Rattle.sched_core.proofs.Deciding.{busy-anywhere, second-part, seen-words}
 
 -- the parent that is named
-pub record IsParent (shared : Shared) (name : FrameId) (tenant : Tenant) (frame : Frame (List ℕ)) (above : FrameId) : Type 0 where
+pub record IsParent (shared : CoreState) (name : FrameId) (tenant : Tenant) (frame : Frame (List ℕ)) (above : FrameId) : Type 0 where
   pub serial : ℕ
   pub path : parent_of frame.path ≡ Some serial
   pub is : above ≡ record { tenant = name.tenant; serial = serial }
@@ -30,7 +30,7 @@ parent-named : (number : ℕ) (parent : Option ℕ) (above : FrameId) → name_o
 parent-named number None above is = absurd cc
 parent-named number (Some serial) above is = (serial, refl, cc)
 
-pub parent-of : (shared : Shared) (name : FrameId) (tenant : Tenant) (frame : Frame (List ℕ)) (seen : Seen) (above : FrameId) →
+pub parent-of : (shared : CoreState) (name : FrameId) (tenant : Tenant) (frame : Frame (List ℕ)) (seen : Seen) (above : FrameId) →
     IsSeen shared name tenant frame seen → seen.parent ≡ Some above → IsParent shared name tenant frame above
 parent-of shared name tenant frame seen above is at =
     let p = parent-named name.tenant (parent_of frame.path) above (sym is.parent ∙ at) in
@@ -38,7 +38,7 @@ parent-of shared name tenant frame seen above is at =
     record { serial = p.0; path = p.1; is = p.2; parent = there.0; found = there.1 }
 
 -- it is there
-pub parent-there : (shared : Shared) (name : FrameId) (tenant : Tenant) (frame : Frame (List ℕ)) (seen : Seen) (above : FrameId) →
+pub parent-there : (shared : CoreState) (name : FrameId) (tenant : Tenant) (frame : Frame (List ℕ)) (seen : Seen) (above : FrameId) →
     IsSeen shared name tenant frame seen → seen.parent ≡ Some above → IsSome (named shared above)
 parent-there shared name tenant frame seen above is at =
     let p = parent-of shared name tenant frame seen above is at in
@@ -46,13 +46,13 @@ parent-there shared name tenant frame seen above is at =
     rw (p.is, owner, found) refl
 
 -- with these words
-pub parent-words : (shared : Shared) (name : FrameId) (tenant : Tenant) (frame : Frame (List ℕ)) (seen : Seen) (above : FrameId) (is : IsSeen shared name tenant frame seen) →
+pub parent-words : (shared : CoreState) (name : FrameId) (tenant : Tenant) (frame : Frame (List ℕ)) (seen : Seen) (above : FrameId) (is : IsSeen shared name tenant frame seen) →
     (p : IsParent shared name tenant frame above) → words_under shared above ≡ words_in tenant.frames p.serial
 parent-words shared name tenant frame seen above is p = rw (p.is, is.owner) refl
 
 -- Inlet of a frame under this parent, by its tests
-inlet-under : {I A : Type 0} (functions : Functions I A) (shared : Shared) (worker : ℕ) (name : FrameId) (tenant : Tenant) (frame : Frame (List ℕ)) (seen : Seen) (above : FrameId) (act : InletAct) (parent : ℕ) →
-    IsSeen shared name tenant frame seen → AreRising shared.tenants → parent_of frame.path ≡ Some parent → words_under shared above ≡ words_in tenant.frames parent →
+inlet-under : {I A : Type 0} (functions : Functions I A) (shared : CoreState) (worker : ℕ) (name : FrameId) (tenant : Tenant) (frame : Frame (List ℕ)) (seen : Seen) (above : FrameId) (act : InletAct) (parent : ℕ) →
+    IsSeen shared name tenant frame seen → AreTenantsRising shared.tenants → parent_of frame.path ≡ Some parent → words_under shared above ≡ words_in tenant.frames parent →
     act ≡ functions.inlet (words_under shared above) (words_under shared name) →
     refusal_in (unless ((not (is_returned seen.state), NotReturned) ∷ (seen.left.steps == 0, NoSteps) ∷ (is_outside act.stores (words_under shared above), BadAct) ∷ (is_busy_among worker shared.tenants, Busy) ∷ []) (tt {0}))
     ≡ shared_refusal functions shared (Inlet worker name)
@@ -63,8 +63,8 @@ inlet-under {I = I} functions shared worker name tenant frame seen above act par
     (busy-anywhere {I = I} ((not (is_returned frame.state), NotReturned) ∷ ((left tenant).steps == 0, NoSteps) ∷ (is_outside inlet.stores (words_in tenant.frames parent), BadAct) ∷ []) shared worker name.tenant tenant (taken_in tenant worker name parent inlet) rising is.owner)
 
 -- Inlet, by its tests
-pub inlet-decided : {I A : Type 0} (functions : Functions I A) (shared : Shared) (worker : ℕ) (name : FrameId) (tenant : Tenant) (frame : Frame (List ℕ)) (seen : Seen) (above : FrameId) (act : InletAct) →
-    IsSeen shared name tenant frame seen → AreRising shared.tenants → seen.parent ≡ Some above → act ≡ functions.inlet (words_under shared above) (words_under shared name) →
+pub inlet-decided : {I A : Type 0} (functions : Functions I A) (shared : CoreState) (worker : ℕ) (name : FrameId) (tenant : Tenant) (frame : Frame (List ℕ)) (seen : Seen) (above : FrameId) (act : InletAct) →
+    IsSeen shared name tenant frame seen → AreTenantsRising shared.tenants → seen.parent ≡ Some above → act ≡ functions.inlet (words_under shared above) (words_under shared name) →
     refusal_in (unless ((not (is_returned seen.state), NotReturned) ∷ (seen.left.steps == 0, NoSteps) ∷ (is_outside act.stores (words_under shared above), BadAct) ∷ (is_busy_among worker shared.tenants, Busy) ∷ []) (tt {0}))
     ≡ shared_refusal functions shared (Inlet worker name)
 inlet-decided functions shared worker name tenant frame seen above act is rising at same =
@@ -72,9 +72,9 @@ inlet-decided functions shared worker name tenant frame seen above act is rising
     inlet-under functions shared worker name tenant frame seen above act p.serial is rising p.path (parent-words shared name tenant frame seen above is p) same
 
 -- Inlet, where the frame has returned and a step is left, by the tests of the inlet
-pub inlet-goes : {I A : Type 0} (functions : Functions I A) (shared : Shared) (worker : ℕ) (name : FrameId) (tenant : Tenant) (frame : Frame (List ℕ)) (seen : Seen) (above : FrameId) (act : InletAct)
+pub inlet-goes : {I A : Type 0} (functions : Functions I A) (shared : CoreState) (worker : ℕ) (name : FrameId) (tenant : Tenant) (frame : Frame (List ℕ)) (seen : Seen) (above : FrameId) (act : InletAct)
     (returned outside busy : Bool) (answer : Result (Unit {0}) Refusal) →
-    IsSeen shared name tenant frame seen → AreRising shared.tenants → seen.parent ≡ Some above → act ≡ functions.inlet (words_under shared above) (words_under shared name) →
+    IsSeen shared name tenant frame seen → AreTenantsRising shared.tenants → seen.parent ≡ Some above → act ≡ functions.inlet (words_under shared above) (words_under shared name) →
     returned ≡ is_returned seen.state → outside ≡ is_outside act.stores (words_under shared above) → busy ≡ is_busy_among worker shared.tenants →
     Ok (tt {0}) ≡ unless ((not returned, NotReturned) ∷ (seen.left.steps == 0, NoSteps) ∷ []) (tt {0}) →
     answer ≡ unless ((outside, BadAct) ∷ (busy, Busy) ∷ []) (tt {0}) →
@@ -85,8 +85,8 @@ inlet-goes functions shared worker name tenant frame seen above act returned out
     ap refusal_in (told' ∙ sym (second-part ((not (is_returned seen.state), NotReturned) ∷ (seen.left.steps == 0, NoSteps) ∷ []) ((is_outside act.stores (words_under shared above), BadAct) ∷ (is_busy_among worker shared.tenants, Busy) ∷ []) passes'))
     ∙ inlet-decided functions shared worker name tenant frame seen above act is rising at same
 
-pub inlet-told : {I A : Type 0} (functions : Functions I A) (shared : Shared) (worker : ℕ) (name : FrameId) (tenant : Tenant) (frame : Frame (List ℕ)) (seen : Seen) (above : FrameId) (act : InletAct) (answer : Result (Unit {0}) Refusal) →
-    IsReturnedUnder shared name above tenant frame seen → AreRising shared.tenants → act ≡ functions.inlet (words_under shared above) (words_under shared name) →
+pub inlet-told : {I A : Type 0} (functions : Functions I A) (shared : CoreState) (worker : ℕ) (name : FrameId) (tenant : Tenant) (frame : Frame (List ℕ)) (seen : Seen) (above : FrameId) (act : InletAct) (answer : Result (Unit {0}) Refusal) →
+    IsReturnedUnder shared name above tenant frame seen → AreTenantsRising shared.tenants → act ≡ functions.inlet (words_under shared above) (words_under shared name) →
     answer ≡ unless ((is_outside act.stores (words_under shared above), BadAct) ∷ (is_busy_among worker shared.tenants, Busy) ∷ []) (tt {0}) →
     refusal_in answer ≡ shared_refusal functions shared (Inlet worker name)
 inlet-told functions shared worker name tenant frame seen above act answer is rising same told =

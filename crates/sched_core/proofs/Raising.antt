@@ -9,20 +9,20 @@ use Rattle.sched_rules.specs.Functions.{Functions}
 use Rattle.sched_rules.specs.Trees.{Tenant}
 use Rattle.sched_rules.specs.Lone.{is_lower, raised}
 use Rattle.sched_rules.specs.Changes.{on_tenant, with_reserve}
-use Rattle.sched_rules.specs.Cores.{Shared, tenant_in, reservations_in, reserved_by, is_beyond, judged, shared_refusal}
+use Rattle.sched_rules.specs.Cores.{CoreState, tenant_in, reservations_in, reserved_by, is_beyond, step_result, shared_refusal}
 use Rattle.sched_store.specs.Reads.{IsAboveOwn}
-use Rattle.sched_core.specs.Judging.{IsJudged}
-use Rattle.sched_core.proofs.Going.{judged-taken, begins, then-changed}
+use Rattle.sched_core.specs.StepResults.{FollowsResult}
+use Rattle.sched_core.proofs.TakenStep.{step_result-taken, begins, then-changed}
 
 -- what is taken
-pub record IsRaising {I A : Type 0} (functions : Functions I A) (shared : Shared) (number : ℕ) (quota : Quota) : Type 0 where
+pub record IsRaising {I A : Type 0} (functions : Functions I A) (shared : CoreState) (number : ℕ) (quota : Quota) : Type 0 where
   pub tenant : Tenant
   pub owner : tenant_in shared.tenants number ≡ Some tenant
   pub above : IsAboveOwn (tenant_in shared.tenants number) quota
   pub room : is_beyond (reservations_in shared) (reserved_by (tenant_in shared.tenants number)) quota ≡ false
-  pub among : judged functions shared (AdmitMore number quota) ≡ Ok (raised tenant quota)
+  pub among : step_result functions shared (AdmitMore number quota) ≡ Ok (raised tenant quota)
 
-pub raise-going : {I A : Type 0} (functions : Functions I A) (shared : Shared) (number : ℕ) (quota : Quota) → None ≡ shared_refusal functions shared (AdmitMore number quota) → IsRaising functions shared number quota
+pub raise-going : {I A : Type 0} (functions : Functions I A) (shared : CoreState) (number : ℕ) (quota : Quota) → None ≡ shared_refusal functions shared (AdmitMore number quota) → IsRaising functions shared number quota
 raise-going functions shared number quota none = by-owner (tenant_in shared.tenants number) refl
   where
     by-owner : (owner : Option Tenant) → tenant_in shared.tenants number ≡ owner → IsRaising functions shared number quota
@@ -35,10 +35,10 @@ raise-going functions shared number quota none = by-owner (tenant_in shared.tena
       ]
     ]
 
-pub raise-taken : {I A : Type 0} (functions : Functions I A) (shared after : Shared) (number : ℕ) (quota : Quota) → None ≡ shared_refusal functions shared (AdmitMore number quota) →
-    after ≡ on_tenant number (with_reserve quota) shared → IsJudged functions shared (AdmitMore number quota) (Ok AdmittedMore) after
+pub raise-taken : {I A : Type 0} (functions : Functions I A) (shared after : CoreState) (number : ℕ) (quota : Quota) → None ≡ shared_refusal functions shared (AdmitMore number quota) →
+    after ≡ on_tenant number (with_reserve quota) shared → FollowsResult functions shared (AdmitMore number quota) (Ok AdmittedMore) after
 raise-taken functions shared after number quota none is =
     let r = raise-going functions shared number quota none in
     let w = begins shared number r.tenant r.owner in
     let w1 = then-changed _ _ _ _ after (with_reserve quota) w is in
-    judged-taken functions shared (AdmitMore number quota) _ _ _ r.among refl w1.is
+    step_result-taken functions shared (AdmitMore number quota) _ _ _ r.among refl w1.is

@@ -5,16 +5,16 @@ use Rattle.frame_tree.specs.declared.names.FrameId.{FrameId}
 use Rattle.frame_tree.specs.Frames.{newest_ready_of}
 use Rattle.frame_tree.proofs.TreeLaws.{tree-rising}
 use Rattle.sched_rules.specs.Trees.{Tenant, left}
-use Rattle.sched_rules.specs.Cores.{Shared, tenant_in}
-use Rattle.sched_rules.specs.Views.{left_of, newest_ready_in}
+use Rattle.sched_rules.specs.Cores.{CoreState, tenant_in}
+use Rattle.sched_rules.specs.Views.{left_in_core, newest_ready_in}
 use Rattle.sched_laws.specs.Shapes.{IsShaped}
 use Rattle.sched_laws.proofs.Answers.{shaped-in}
 use Rattle.sched_laws.proofs.Sums.{left-segments, left-nodes, left-steps}
 use Rattle.sched_laws.proofs.Latest.{newest-found}
-use Rattle.sched_core.specs.Keeping.{IsKept, IsRestOf, IsNewestReadyOf}
+use Rattle.sched_core.specs.Keeping.{IsKeptCore, IsRestOf, IsNewestReadyOf}
 
 -- what a tenant has left
-pub rest-of : (shared : Shared) (number : ℕ) → IsKept shared → IfSome (left_of shared number) (λ rest. IsRestOf (tenant_in shared.tenants number) rest)
+pub rest-of : (shared : CoreState) (number : ℕ) → IsKeptCore shared → IfSome (left_in_core shared number) (λ rest. IsRestOf (tenant_in shared.tenants number) rest)
 rest-of shared number kept = by (tenant_in shared.tenants number) refl
   where
     by : (own : Option Tenant) → tenant_in shared.tenants number ≡ own → IfSome (option_map left own) (λ rest. IsRestOf own rest)
@@ -28,7 +28,7 @@ newest-in : (number : ℕ) (tenant : Tenant) (ready : Option (FrameId × ℕ)) �
 newest-in number tenant None shape is = tt
 newest-in number tenant (Some ready) shape is = newest-found number tenant.frames ready.0 ready.1 (tree-rising tenant.frames shape.tree) is
 
-pub newest-of : (shared : Shared) (number : ℕ) → IsKept shared → IfSome (newest_ready_in shared number) (λ ready. IsNewestReadyOf (tenant_in shared.tenants number) number ready.0 ready.1)
+pub newest-of : (shared : CoreState) (number : ℕ) → IsKeptCore shared → IfSome (newest_ready_in shared number) (λ ready. IsNewestReadyOf (tenant_in shared.tenants number) number ready.0 ready.1)
 newest-of shared number kept = by (tenant_in shared.tenants number) refl
   where
     by : (own : Option Tenant) → tenant_in shared.tenants number ≡ own → IfSome (option_and_then (λ tenant. newest_ready_of number tenant.frames) own) (λ ready. IsNewestReadyOf own number ready.0 ready.1)

@@ -9,42 +9,42 @@ use Rattle.sched_rules.specs.declared.step.DidOf.{DidOf}
 use Rattle.sched_rules.specs.Functions.{Functions}
 use Rattle.sched_rules.specs.Lone.{Outcome}
 use Rattle.sched_rules.specs.Runs.{answer_of}
-use Rattle.sched_rules.specs.Cores.{Shared, judged, shared_after, shared_refusal}
-use Rattle.sched_rules.specs.Headline.{is_admission, IsAnswerTo, IsOneStep, after_answer, after_answers, AreAnswersTo, IsHeadline, IsKnown}
+use Rattle.sched_rules.specs.Cores.{CoreState, step_result, shared_after, shared_refusal}
+use Rattle.sched_rules.specs.Headline.{is_admission, IsAnswerTo, IsOneStep, after_answer, after_answers, AreAnswersTo, IsHeadline, AreNumbersGiven}
 use Rattle.sched_rules.proofs.Isolation.{right-answer, step-taken, shared-after-taken, headline}
 use Rattle.sched_rules.specs.Laws.{Fitting, Rooting}
 use Rattle.sched_rules.specs.Runs.{only}
-use Rattle.sched_rules.specs.Headline.{taken}
+use Rattle.sched_rules.specs.Headline.{taken_steps}
 use Rattle.std.specs.Prelude.{OnErr, is_ok}
 use Rattle.sched_laws.specs.Fitted.{CoreFits, RootFits, RootsFit, origins_of, origins_after}
 use Rattle.sched_laws.proofs.Levels.{IsLawful}
 use Rattle.sched_laws.proofs.FitAnswers.{answer-keeps, run-fits}
 use Rattle.sched_laws.proofs.Answers.{shaped-answer}
 use Rattle.sched_laws.proofs.Sums.{reserved-answer}
-use Rattle.sched_core.specs.Keeping.{IsKept}
-use Rattle.sched_core.specs.Judging.{IsJudged, IsAdmitted}
+use Rattle.sched_core.specs.Keeping.{IsKeptCore}
+use Rattle.sched_core.specs.StepResults.{FollowsResult, IsAdmitted}
 
 -- the core after a step that was judged
-after-judged : {I A : Type 0} (functions : Functions I A) (before : Shared) (step : StepOf A) (judgement : Result (Outcome I) Refusal) (answer : Result (DidOf I) Refusal) →
-    judged functions before step ≡ judgement → answer ≡ answer_of judgement → shared_after before step judgement ≡ after_answer functions before step answer
-after-judged functions before step (Ok outcome) answer at is = rw (is, at) refl
-after-judged functions before step (Err refusal) answer at is = rw is refl
+after-step_result : {I A : Type 0} (functions : Functions I A) (before : CoreState) (step : StepOf A) (judgement : Result (Outcome I) Refusal) (answer : Result (DidOf I) Refusal) →
+    step_result functions before step ≡ judgement → answer ≡ answer_of judgement → shared_after before step judgement ≡ after_answer functions before step answer
+after-step_result functions before step (Ok outcome) answer at is = rw (is, at) refl
+after-step_result functions before step (Err refusal) answer at is = rw is refl
 
-pub one-step : {I A : Type 0} (functions : Functions I A) (before : Shared) (step : StepOf A) (answer : Result (DidOf I) Refusal) (after : Shared) →
-    IsJudged functions before step answer after → IsOneStep functions before step answer after
+pub one-step : {I A : Type 0} (functions : Functions I A) (before : CoreState) (step : StepOf A) (answer : Result (DidOf I) Refusal) (after : CoreState) →
+    FollowsResult functions before step answer after → IsOneStep functions before step answer after
 one-step functions before step answer after is =
     record {
       answered = rw is.told (right-answer functions before step);
-      left = is.left ∙ after-judged functions before step (judged functions before step) answer refl is.told;
+      left = is.left ∙ after-step_result functions before step (step_result functions before step) answer refl is.told;
     }
 
 -- an admission for which memory is wanting
-wanting : {I A : Type 0} (functions : Functions I A) (before : Shared) (step : StepOf A) → is_admission step ≡ true → shared_refusal functions before step ≡ None →
+wanting : {I A : Type 0} (functions : Functions I A) (before : CoreState) (step : StepOf A) → is_admission step ≡ true → shared_refusal functions before step ≡ None →
     IsAnswerTo functions before step (Err OutOfMemory)
 wanting functions before step admits none =
     (λ is. record { refused = λ refusal some. absurd (let wrong : Some refusal ≡ None = sym some ∙ none in cc); else_taken = λ same. inr refl }, λ is_not. absurd (true≢false (sym admits ∙ is_not)))
 
-pub one-admission : {I A : Type 0} (functions : Functions I A) (before : Shared) (step : StepOf A) (answer : Result (DidOf I) Refusal) (after : Shared) → is_admission step ≡ true →
+pub one-admission : {I A : Type 0} (functions : Functions I A) (before : CoreState) (step : StepOf A) (answer : Result (DidOf I) Refusal) (after : CoreState) → is_admission step ≡ true →
     IsAdmitted functions before step answer after → IsOneStep functions before step answer after
 one-admission functions before step answer after admits (inl is) = one-step functions before step answer after is
 one-admission functions before step answer after admits (inr is) =
@@ -52,21 +52,21 @@ one-admission functions before step answer after admits (inr is) =
     record { answered = rw out (wanting functions before step admits is.0); left = rw out stays }
 
 -- what follows from one step
-pub refused-stays : {I A : Type 0} (functions : Functions I A) (before : Shared) (step : StepOf A) (refusal : Refusal) (after : Shared) → IsOneStep functions before step (Err refusal) after → after ≡ before
+pub refused-stays : {I A : Type 0} (functions : Functions I A) (before : CoreState) (step : StepOf A) (refusal : Refusal) (after : CoreState) → IsOneStep functions before step (Err refusal) after → after ≡ before
 refused-stays functions before step refusal after is = is.left
 
-pub stays-on_err : {I A : Type 0} (functions : Functions I A) (before : Shared) (step : StepOf A) (answer : Result (DidOf I) Refusal) (after : Shared) → IsOneStep functions before step answer after → OnErr answer (after ≡ before)
+pub stays-on_err : {I A : Type 0} (functions : Functions I A) (before : CoreState) (step : StepOf A) (answer : Result (DidOf I) Refusal) (after : CoreState) → IsOneStep functions before step answer after → OnErr answer (after ≡ before)
 stays-on_err functions before step (Ok did) after is = tt
 stays-on_err functions before step (Err refusal) after is = is.left
 
 -- no tenant is there under a number that wasn't taken
-pub known-still : {I A : Type 0} (functions : Functions I A) (before : Shared) (step : StepOf A) (answer : Result (DidOf I) Refusal) (after : Shared) → IsKnown before → IsOneStep functions before step answer after → IsKnown after
+pub known-still : {I A : Type 0} (functions : Functions I A) (before : CoreState) (step : StepOf A) (answer : Result (DidOf I) Refusal) (after : CoreState) → AreNumbersGiven before → IsOneStep functions before step answer after → AreNumbersGiven after
 known-still functions before step (Ok did) after known is =
     let t = step-taken functions before step did known is.answered in rw (is.left, shared-after-taken functions before step did t) t.known
 known-still functions before step (Err refusal) after known is = rw is.left known
 
 -- a core keeps what it keeps
-pub kept-still : {I A : Type 0} (functions : Functions I A) (before : Shared) (step : StepOf A) (answer : Result (DidOf I) Refusal) (after : Shared) → IsKept before → IsOneStep functions before step answer after → IsKept after
+pub kept-still : {I A : Type 0} (functions : Functions I A) (before : CoreState) (step : StepOf A) (answer : Result (DidOf I) Refusal) (after : CoreState) → IsKeptCore before → IsOneStep functions before step answer after → IsKeptCore after
 kept-still functions before step answer after kept is =
     record {
       shaped = rw is.left (shaped-answer functions before step answer kept.shaped);
@@ -75,13 +75,13 @@ kept-still functions before step answer after kept is =
     }
 
 -- a list of steps, of which some were answered
-pub record IsRunning {I A : Type 0} (functions : Functions I A) (before : Shared) (steps : List (StepOf A)) (earlier items : List (Result (DidOf I) Refusal)) (now : Shared) : Type 0 where
+pub record IsRunning {I A : Type 0} (functions : Functions I A) (before : CoreState) (steps : List (StepOf A)) (earlier items : List (Result (DidOf I) Refusal)) (now : CoreState) : Type 0 where
   pub answered : List (Result (DidOf I) Refusal)
   pub appended : items ≡ earlier ++ answered
   pub right : AreAnswersTo functions before steps answered
   pub left : now ≡ after_answers functions before steps answered
 
-answers-snoc : {I A : Type 0} (functions : Functions I A) (before : Shared) (steps : List (StepOf A)) (answers : List (Result (DidOf I) Refusal)) (step : StepOf A) (answer : Result (DidOf I) Refusal) →
+answers-snoc : {I A : Type 0} (functions : Functions I A) (before : CoreState) (steps : List (StepOf A)) (answers : List (Result (DidOf I) Refusal)) (step : StepOf A) (answer : Result (DidOf I) Refusal) →
     AreAnswersTo functions before steps answers → IsAnswerTo functions (after_answers functions before steps answers) step answer → AreAnswersTo functions before (steps ++ step ∷ []) (answers ++ answer ∷ [])
 answers-snoc functions before [] [] step answer right is = (is, tt)
 answers-snoc functions before [] (other ∷ answers) step answer right is = absurd right
@@ -89,17 +89,17 @@ answers-snoc functions before (first ∷ steps) [] step answer right is = absurd
 answers-snoc functions before (first ∷ steps) (other ∷ answers) step answer right is =
     (right.0, answers-snoc functions (after_answer functions before first other) steps answers step answer right.1 is)
 
-after-snoc : {I A : Type 0} (functions : Functions I A) (before : Shared) (steps : List (StepOf A)) (answers : List (Result (DidOf I) Refusal)) (step : StepOf A) (answer : Result (DidOf I) Refusal) →
+after-snoc : {I A : Type 0} (functions : Functions I A) (before : CoreState) (steps : List (StepOf A)) (answers : List (Result (DidOf I) Refusal)) (step : StepOf A) (answer : Result (DidOf I) Refusal) →
     AreAnswersTo functions before steps answers → after_answers functions before (steps ++ step ∷ []) (answers ++ answer ∷ []) ≡ after_answer functions (after_answers functions before steps answers) step answer
 after-snoc functions before [] [] step answer right = refl
 after-snoc functions before [] (other ∷ answers) step answer right = absurd right
 after-snoc functions before (first ∷ steps) [] step answer right = absurd right
 after-snoc functions before (first ∷ steps) (other ∷ answers) step answer right = after-snoc functions (after_answer functions before first other) steps answers step answer right.1
 
-pub runs-begin : {I A : Type 0} (functions : Functions I A) (before : Shared) (items : List (Result (DidOf I) Refusal)) → IsRunning functions before [] items items before
+pub runs-begin : {I A : Type 0} (functions : Functions I A) (before : CoreState) (items : List (Result (DidOf I) Refusal)) → IsRunning functions before [] items items before
 runs-begin functions before items = record { answered = []; appended = sym (append-nil items); right = tt; left = refl }
 
-pub runs-on : {I A : Type 0} (functions : Functions I A) (before : Shared) (steps : List (StepOf A)) (earlier items : List (Result (DidOf I) Refusal)) (now : Shared) (step : StepOf A) (answer : Result (DidOf I) Refusal) (after : Shared) →
+pub runs-on : {I A : Type 0} (functions : Functions I A) (before : CoreState) (steps : List (StepOf A)) (earlier items : List (Result (DidOf I) Refusal)) (now : CoreState) (step : StepOf A) (answer : Result (DidOf I) Refusal) (after : CoreState) →
     IsRunning functions before steps earlier items now → IsOneStep functions now step answer after → IsRunning functions before (steps ++ step ∷ []) earlier (items ++ answer ∷ []) after
 runs-on functions before steps earlier items now step answer after runs is =
     record {
@@ -110,7 +110,7 @@ runs-on functions before steps earlier items now step answer after runs is =
     }
 
 -- at its end the headline holds
-pub runs-out : {I A : Type 0} (functions : Functions I A) (before : Shared) (steps : List (StepOf A)) (earlier items : List (Result (DidOf I) Refusal)) (now : Shared) → IsKnown before →
+pub runs-out : {I A : Type 0} (functions : Functions I A) (before : CoreState) (steps : List (StepOf A)) (earlier items : List (Result (DidOf I) Refusal)) (now : CoreState) → AreNumbersGiven before →
     IsRunning functions before steps earlier items now → (answered : List (Result (DidOf I) Refusal)) × (items ≡ earlier ++ answered) × IsHeadline functions before steps answered now
 runs-out functions before steps earlier items now known runs = (runs.answered, runs.appended, rw runs.left (headline functions before steps runs.answered known runs.right))
 
@@ -118,15 +118,15 @@ pub take-all : {X : Type 0} (xs : List X) (n : ℕ) → length xs ≤ n → take
 take-all xs n le = grind (arith, common_steps)
 
 -- a lawful procedure's frames go on fitting
-pub fits-still : {I A : Type 0} (functions : Functions I A) (fits : Fitting) (rooted : Rooting) (before : Shared) (step : StepOf A) (answer : Result (DidOf I) Refusal) (after : Shared) → IsLawful functions fits rooted → IsKept before →
+pub fits-still : {I A : Type 0} (functions : Functions I A) (fits : Fitting) (rooted : Rooting) (before : CoreState) (step : StepOf A) (answer : Result (DidOf I) Refusal) (after : CoreState) → IsLawful functions fits rooted → IsKeptCore before →
     IsOneStep functions before step answer after → (origins : ℕ → List (List ℕ)) → CoreFits fits rooted origins before → (is_ok answer ≡ true → RootFits fits rooted step) → CoreFits fits rooted (origins_after origins step answer) after
 fits-still functions fits rooted before step answer after lawful kept is origins core root =
     rw is.left (answer-keeps functions fits rooted origins before step answer lawful kept.known kept.shaped core root is.answered).1
 
 -- so over a list of steps
-pub fits-on : {I A : Type 0} (functions : Functions I A) (fits : Fitting) (rooted : Rooting) (before : Shared) (steps : List (StepOf A)) (earlier items : List (Result (DidOf I) Refusal)) (now : Shared) → IsLawful functions fits rooted → IsKept before →
+pub fits-on : {I A : Type 0} (functions : Functions I A) (fits : Fitting) (rooted : Rooting) (before : CoreState) (steps : List (StepOf A)) (earlier items : List (Result (DidOf I) Refusal)) (now : CoreState) → IsLawful functions fits rooted → IsKeptCore before →
     IsRunning functions before steps earlier items now → (answered : List (Result (DidOf I) Refusal)) → items ≡ earlier ++ answered → (origins : ℕ → List (List ℕ)) → CoreFits fits rooted origins before →
-    RootsFit fits rooted (taken steps answered) → CoreFits fits rooted (λ number. origins number ++ origins_of (only number (taken steps answered))) now
+    RootsFit fits rooted (taken_steps steps answered) → CoreFits fits rooted (λ number. origins number ++ origins_of (only number (taken_steps steps answered))) now
 fits-on functions fits rooted before steps earlier items now lawful kept runs answered appended origins core roots =
     let same : answered ≡ runs.answered = append-left earlier answered runs.answered (sym appended ∙ runs.appended) in
     let fit = run-fits functions fits rooted origins before steps runs.answered lawful kept.known kept.shaped core runs.right (rw same at roots) in

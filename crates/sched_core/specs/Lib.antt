@@ -1,4 +1,4 @@
 pub use Rattle.sched_laws.specs as sched_laws
 pub mod Seeing
-pub mod Judging
+pub mod StepResults
 pub mod Keeping

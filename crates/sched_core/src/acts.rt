@@ -4,10 +4,10 @@ ghost use Rattle.frame_tree.specs.Frames.{Frame, name_of, parent_of};
 ghost use Rattle.sched_rules.specs.Cores.{shared_refusal};
 ghost use Rattle.sched_rules.specs.Trees.{Tenant, left as left_for, has_child as has_child_in, is_outside as is_outside_of};
 ghost use Rattle.sched_rules.specs.Lone.{unless, act_tests, refusal_in, is_spendable as is_spendable_of, is_bad_inlet as is_bad_inlet_of, is_bad_then as is_bad_then_of};
-ghost use Rattle.sched_rules.specs.Views.{named, frame_of};
+ghost use Rattle.sched_rules.specs.Views.{named, frame_in_core};
 ghost use Rattle.sched_rules.specs.declared.refusal.Refusal.TheVariants.{BadAct, Busy};
 ghost use Rattle.sched_rules.specs.declared.step.StepOf.TheVariants.{Advance as AdvanceStep, Answer as AnswerStep, Inlet as InletStep};
-ghost use Rattle.sched_store.specs.Reads.{sight_of, words_under, frames_in, is_busy_among};
+ghost use Rattle.sched_store.specs.Reads.{sight_of, words_under, frames_in_core, is_busy_among};
 ghost use Rattle.sched_core.specs.Keeping.{IsFitting};
 ghost use Rattle.sched_core.specs.Seeing.{IsSeen, IsRunning, IsReturnedUnder};
 
@@ -15,7 +15,7 @@ use crate::decide::{first_of_four, is_computed_by, is_outside, is_returned, is_r
 use crate::engine::{Engine, Found, Seen, known, look_in, own};
 use cactus_stack::Words;
 use frame_tree::{FrameId, State};
-use sched_rules::{Act, InletAct, Procedure, Refusal, Stores, Then, Worker};
+use sched_rules::{Act, Continuation, InletAct, Procedure, Refusal, Stores, Worker};
 use sched_store::Store;
 use std::alloc::Allocator;
 use tenant_quota::Left;
@@ -157,12 +157,16 @@ impl<P: Procedure, A: Allocator> Engine<P, A> {
 /// Whether a frame has a child. It is looked up for Compute alone, which needs a frame without one; for any
 /// other act, where it doesn't matter, the answer is false.
 #[inline(always)]
-fn has_child_for<A: Allocator>(store: &Store<A>, name: FrameId, after: &Then) -> bool
-    ensures { (words : ℕ) → is_bad_then_of words (has_child_in (frames_in store.now name.tenant) name.serial) after.now ≡ is_bad_then_of words result after.now }
+fn has_child_for<A: Allocator>(store: &Store<A>, name: FrameId, after: &Continuation) -> bool
+    ensures { (words : ℕ) → is_bad_then_of words (has_child_in (frames_in_core store.now name.tenant) name.serial) after.now ≡ is_bad_then_of words result after.now }
 {
     match after {
-        Then::Compute => store.has_child(name),
-        Then::Grow(_) | Then::Spawn(_, _) | Then::Go | Then::Wait | Then::Return => false,
+        Continuation::Compute => store.has_child(name),
+        Continuation::Grow(_)
+        | Continuation::Spawn(_, _)
+        | Continuation::Go
+        | Continuation::Wait
+        | Continuation::Return => false,
     }
 }
 

@@ -2,11 +2,11 @@
 ghost use Rattle.std.specs.Prelude.{◌≡◌, Ok, Err, MatchResult};
 ghost use Rattle.sched_rules.specs.declared.refusal.Refusal.TheVariants.{OutOfMemory};
 ghost use Rattle.sched_rules.specs.Cores.{shared_refusal};
-ghost use Rattle.sched_rules.specs.Headline.{IsKnown};
+ghost use Rattle.sched_rules.specs.Headline.{AreNumbersGiven};
 ghost use Rattle.sched_rules.specs.Lone.{refusal_in};
 ghost use Rattle.sched_rules.specs.declared.step.StepOf.TheVariants.{Admit as AdmitStep, AdmitMore as AdmitMoreStep, Submit as SubmitStep};
 ghost use Rattle.sched_laws.specs.Shapes.{AreShaped};
-ghost use Rattle.sched_core.specs.Judging.{IsJudged, IsAdmitted};
+ghost use Rattle.sched_core.specs.StepResults.{FollowsResult, IsAdmitted};
 
 use crate::decide::{charge, first_of, is_frame_size};
 use crate::engine::Engine;
@@ -25,7 +25,7 @@ impl<P: Procedure, A: Allocator> Engine<P, A> {
     /// Ok where an Admit of this number and reservation would be taken, if there is memory; else OldTenant or Full.
     pub(crate) fn may_admit(&self, number: u64, reserve: Reserve) -> Result<(), Refusal>
         ensures refusal { refusal_in result ≡ shared_refusal (P.functions self.now.procedure) self.now.store (AdmitStep number reserve) }
-        ensures known { IsKnown self.now.store }
+        ensures known { AreNumbersGiven self.now.store }
     {
         let newest = self.store.newest();
         first_of(&[
@@ -78,7 +78,7 @@ impl<P: Procedure, A: Allocator> Engine<P, A> {
     /// name. No step of the tenant is counted.
     pub(crate) fn submit(&mut self, number: u64, words: &[u64], size: usize) -> StepAnswer<P>
         requires { AreShaped self.old.store.tenants }
-        ensures judged { IsJudged (P.functions self.old.procedure) self.old.store (SubmitStep number words.now size) result self.new.store }
+        ensures step_result { FollowsResult (P.functions self.old.procedure) self.old.store (SubmitStep number words.now size) result self.new.store }
         ensures procedure { self.new.procedure ≡ self.old.procedure }
     {
         self.may_submit(number, words, size)?;

@@ -8,7 +8,7 @@ ghost use Rattle.sched_rules.specs.Lone.{unless, is_frame_size as is_frame_size_
 
 use cactus_stack::Words;
 use frame_tree::State;
-use sched_rules::{Act, Refusal, Then};
+use sched_rules::{Act, Continuation, Refusal};
 use tenant_quota::Left;
 
 /// The most words of a frame.
@@ -135,14 +135,14 @@ pub fn is_waiting(state: State) -> bool
 
 /// Whether what comes after the stores can't be done by a frame of so many words: a growth by 0 or beyond 128 words,
 /// a child of an invalid size, or Compute where `has_child`. What the tenant has left isn't asked.
-pub fn is_bad_then(words: usize, has_child: bool, after: &Then) -> bool
+pub fn is_bad_then(words: usize, has_child: bool, after: &Continuation) -> bool
     ensures { result ≡ is_bad_then_of words has_child after.now }
 {
     match after {
-        Then::Grow(more) => *more == 0 || *more > MOST_WORDS.saturating_sub(words),
-        Then::Spawn(given, size) => !is_frame_size(given.as_slice(), *size),
-        Then::Compute => has_child,
-        Then::Go | Then::Wait | Then::Return => false,
+        Continuation::Grow(more) => *more == 0 || *more > MOST_WORDS.saturating_sub(words),
+        Continuation::Spawn(given, size) => !is_frame_size(given.as_slice(), *size),
+        Continuation::Compute => has_child,
+        Continuation::Go | Continuation::Wait | Continuation::Return => false,
     }
 }
 
@@ -155,10 +155,10 @@ pub fn is_bad_act(words: &Words, has_child: bool, act: &Act) -> bool
 }
 
 /// Whether this is Spawn, which opens a child.
-pub fn is_spawn(after: &Then) -> bool
+pub fn is_spawn(after: &Continuation) -> bool
     ensures { result ≡ is_spawn_of after.now }
 {
-    matches!(after, Then::Spawn(_, _))
+    matches!(after, Continuation::Spawn(_, _))
 }
 
 /// The segments that so many words take: a sixteenth, rounded up.
@@ -171,14 +171,14 @@ pub fn charge(words: usize) -> usize
 
 /// How many more segments an act that can be done takes, of a frame with so many words. Whether the frame has a child
 /// doesn't matter here (only Compute asks), so the requirement has `false`.
-pub fn segments_for(words: usize, after: &Then) -> usize
+pub fn segments_for(words: usize, after: &Continuation) -> usize
     requires { is_bad_then_of words false after.now ≡ false }
     ensures { (frame : Frame (List ℕ)) → length frame.value ≡ words → result ≡ segments_for_of frame after.now }
 {
     match after {
-        Then::Grow(more) => charge(words + *more) - charge(words),
-        Then::Spawn(_, size) => charge(*size),
-        Then::Go | Then::Wait | Then::Compute | Then::Return => 0,
+        Continuation::Grow(more) => charge(words + *more) - charge(words),
+        Continuation::Spawn(_, size) => charge(*size),
+        Continuation::Go | Continuation::Wait | Continuation::Compute | Continuation::Return => 0,
     }
 }
 

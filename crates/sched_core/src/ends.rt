@@ -8,7 +8,7 @@ ghost use Rattle.sched_rules.specs.declared.job.Job.TheVariants.{Live as LiveJob
 ghost use Rattle.sched_rules.specs.declared.step.StepOf.TheVariants.{Finish as FinishStep, Spend as SpendStep, Cancel as CancelStep, Leave as LeaveStep};
 ghost use Rattle.sched_laws.specs.Shapes.{AreShaped};
 ghost use Rattle.sched_store.specs.Ledgers.{is_live};
-ghost use Rattle.sched_core.specs.Judging.{IsJudged};
+ghost use Rattle.sched_core.specs.StepResults.{FollowsResult};
 
 use crate::decide::{first_of, is_unfinished};
 use crate::engine::{Engine, look, own};
@@ -79,7 +79,7 @@ impl<P: Procedure, A: Allocator> Engine<P, A> {
     /// step is counted. Tells the job's number.
     pub(crate) fn finish(&mut self, worker: Worker, name: FrameId) -> StepAnswer<P>
         requires { AreShaped self.old.store.tenants }
-        ensures judged { IsJudged (P.functions self.old.procedure) self.old.store (FinishStep worker name) result self.new.store }
+        ensures step_result { FollowsResult (P.functions self.old.procedure) self.old.store (FinishStep worker name) result self.new.store }
         ensures procedure { self.new.procedure ≡ self.old.procedure }
     {
         self.may_finish(worker, name)?;
@@ -93,7 +93,7 @@ impl<P: Procedure, A: Allocator> Engine<P, A> {
     /// Spend: a frame's job is given up, and all frames of the job are removed. Tells the job's number.
     pub(crate) fn spend(&mut self, name: FrameId) -> StepAnswer<P>
         requires { AreShaped self.old.store.tenants }
-        ensures judged { IsJudged (P.functions self.old.procedure) self.old.store (SpendStep name) result self.new.store }
+        ensures step_result { FollowsResult (P.functions self.old.procedure) self.old.store (SpendStep name) result self.new.store }
         ensures procedure { self.new.procedure ≡ self.old.procedure }
     {
         self.may_spend(name)?;
@@ -106,7 +106,7 @@ impl<P: Procedure, A: Allocator> Engine<P, A> {
     /// Cancel: the live job `job` of tenant `number` is cancelled, and its frames are removed.
     pub(crate) fn cancel(&mut self, number: u64, job: u64) -> StepAnswer<P>
         requires { AreShaped self.old.store.tenants }
-        ensures judged { IsJudged (P.functions self.old.procedure) self.old.store (CancelStep number job) result self.new.store }
+        ensures step_result { FollowsResult (P.functions self.old.procedure) self.old.store (CancelStep number job) result self.new.store }
         ensures procedure { self.new.procedure ≡ self.old.procedure }
     {
         let serial = self.live_root(number, job)?;
@@ -120,7 +120,7 @@ impl<P: Procedure, A: Allocator> Engine<P, A> {
 
     /// Leave: a tenant is removed, with its jobs and frames.
     pub(crate) fn leave(&mut self, number: u64) -> StepAnswer<P>
-        ensures judged { IsJudged (P.functions self.old.procedure) self.old.store (LeaveStep number) result self.new.store }
+        ensures step_result { FollowsResult (P.functions self.old.procedure) self.old.store (LeaveStep number) result self.new.store }
         ensures procedure { self.new.procedure ≡ self.old.procedure }
     {
         self.may_leave(number)?;

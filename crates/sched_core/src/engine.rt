@@ -3,7 +3,7 @@ ghost use Rattle.std.specs.Prelude.{◌≡◌, ℕ, List, Some, None, IsSome, If
 ghost use Rattle.frame_tree.specs.Frames.{Frame};
 ghost use Rattle.sched_rules.specs.Trees.{Tenant};
 ghost use Rattle.sched_rules.specs.Views.{named};
-ghost use Rattle.sched_store.specs.Reads.{words_under, sight_of, AreRising};
+ghost use Rattle.sched_store.specs.Reads.{words_under, sight_of, AreTenantsRising};
 ghost use Rattle.sched_core.specs.Seeing.{IsSeen, missing};
 
 use cactus_stack::{Sight, Words};
@@ -111,7 +111,7 @@ pub(crate) fn known<A: Allocator>(store: &Store<A>, name: FrameId) -> (State, Wo
     requires { IsSome (named store.now name) }
     ensures state { (frame : Frame (List ℕ)) → named store.now name ≡ Some frame → result.0 ≡ frame.state }
     ensures words { result.1 ≡ words_under store.now name }
-    ensures rising { AreRising store.now.tenants }
+    ensures rising { AreTenantsRising store.now.tenants }
 {
     match store.look_up(name) {
         Some(sighted) => (sighted.state, sighted.words),

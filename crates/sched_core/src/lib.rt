@@ -72,7 +72,7 @@ mod scheduler;
 mod steps;
 
 pub use sched_rules::{
-    Act, Config, Did, DidOf, GivenWords, InletAct, Job, JobWords, Procedure, Refusal, Step, StepOf,
-    Stores, Then, Worker,
+    Act, Config, Continuation, Did, DidOf, GivenWords, InletAct, Job, JobWords, Procedure, Refusal,
+    Step, StepOf, Stores, Worker,
 };
 pub use scheduler::Core;

@@ -6,8 +6,8 @@ ghost use Rattle.sched_rules.specs.Cores.{shared_refusal};
 ghost use Rattle.sched_rules.specs.Lone.{refusal_in, in_state, counted};
 ghost use Rattle.sched_rules.specs.Views.{named};
 ghost use Rattle.sched_rules.specs.declared.step.StepOf.TheVariants.{Take as TakeStep, Steal as StealStep};
-ghost use Rattle.sched_store.specs.Reads.{is_busy_among, may_hold, HasStepLeft};
-ghost use Rattle.sched_core.specs.Judging.{IsJudged};
+ghost use Rattle.sched_store.specs.Reads.{is_busy_among, may_hold, TenantHasStepLeft};
+ghost use Rattle.sched_core.specs.StepResults.{FollowsResult};
 
 use crate::decide::{first_of_four, is_out_of_reach, is_ready_at};
 use crate::engine::{Engine, look};
@@ -56,7 +56,7 @@ impl<P: Procedure, A: Allocator> Engine<P, A> {
 
     /// Take: the worker runs a ready frame whose home it is. A step is counted.
     pub(crate) fn take<const CALLER: u8>(&mut self, worker: Worker, name: FrameId) -> StepAnswer<P>
-        ensures judged { IsJudged (P.functions self.old.procedure) self.old.store (TakeStep worker name) result self.new.store }
+        ensures step_result { FollowsResult (P.functions self.old.procedure) self.old.store (TakeStep worker name) result self.new.store }
         ensures procedure { self.new.procedure ≡ self.old.procedure }
     {
         self.may_take::<CALLER>(worker, name)?;
@@ -67,7 +67,7 @@ impl<P: Procedure, A: Allocator> Engine<P, A> {
     /// Steal: the worker runs a ready frame whose home is `from`, another worker or 0 for the hall. A step is
     /// counted.
     pub(crate) fn steal(&mut self, worker: Worker, from: u8, name: FrameId) -> StepAnswer<P>
-        ensures judged { IsJudged (P.functions self.old.procedure) self.old.store (StealStep worker from name) result self.new.store }
+        ensures step_result { FollowsResult (P.functions self.old.procedure) self.old.store (StealStep worker from name) result self.new.store }
         ensures procedure { self.new.procedure ≡ self.old.procedure }
     {
         self.may_steal(worker, from, name)?;
@@ -81,7 +81,7 @@ impl<P: Procedure, A: Allocator> Engine<P, A> {
     pub(crate) fn run(&mut self, worker: Worker, name: FrameId)
         requires there { IsSome (named self.old.store name) }
         requires free { may_hold self.old.store worker name ≡ true }
-        requires left { HasStepLeft self.old.store name.tenant }
+        requires left { TenantHasStepLeft self.old.store name.tenant }
         ensures ran { self.new.store ≡ on_tenant name.tenant counted (on_tenant name.tenant (in_state name.serial (Running worker)) self.old.store) }
         ensures procedure { self.new.procedure ≡ self.old.procedure }
     {

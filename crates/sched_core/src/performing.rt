@@ -9,17 +9,17 @@ ghost use Rattle.sched_rules.specs.Lone.{does_wait, then_done, aborted_beside};
 ghost use Rattle.sched_rules.specs.Cores.{tenant_in};
 ghost use Rattle.sched_rules.specs.Changes.{on_tenant};
 ghost use Rattle.sched_rules.specs.declared.step.StepOf.TheVariants.{Advance as AdvanceStep, Answer as AnswerStep, Inlet as InletStep};
-ghost use Rattle.sched_store.specs.Reads.{frames_in};
+ghost use Rattle.sched_store.specs.Reads.{frames_in_core};
 ghost use Rattle.sched_core.specs.Keeping.{IsFitting, IsKeptFitting};
 ghost use Rattle.sched_core.specs.Seeing.{GoesOn, MayBeTakenIn};
-ghost use Rattle.sched_core.specs.Judging.{IsJudged, IsCome, staying_with};
+ghost use Rattle.sched_core.specs.StepResults.{FollowsResult, IsCome, staying_with};
 
 use crate::acts::{may_do, may_take_in};
 use crate::decide::is_waiting;
 use crate::engine::{Engine, Found, known, own};
 use crate::steps::StepAnswer;
 use frame_tree::{FrameId, State};
-use sched_rules::{Did, DidOf, InletAct, Procedure, Then, Worker};
+use sched_rules::{Continuation, Did, DidOf, InletAct, Procedure, Worker};
 use sched_store::Store;
 use std::alloc::Allocator;
 
@@ -34,7 +34,7 @@ impl<P: Procedure, A: Allocator> Engine<P, A> {
         fitting: bool,
     ) -> StepAnswer<P>
         requires { fitting ≡ true → IsFitting (P.fits self.old.procedure) (P.rooted self.old.procedure) self.old.store }
-        ensures judged { IsJudged (P.functions self.old.procedure) self.old.store (AnswerStep worker name answer.now) result self.new.store }
+        ensures step_result { FollowsResult (P.functions self.old.procedure) self.old.store (AnswerStep worker name answer.now) result self.new.store }
         ensures procedure { self.new.procedure ≡ self.old.procedure }
     {
         let stores = self.accepted::<CALLER>(worker, name, answer, fitting)?;
@@ -52,7 +52,7 @@ impl<P: Procedure, A: Allocator> Engine<P, A> {
         fitting: bool,
     ) -> StepAnswer<P>
         requires { IsKeptFitting (P.fits self.old.procedure) (P.rooted self.old.procedure) fitting self.old.store }
-        ensures judged { IsJudged (P.functions self.old.procedure) self.old.store (AdvanceStep worker name) result self.new.store }
+        ensures step_result { FollowsResult (P.functions self.old.procedure) self.old.store (AdvanceStep worker name) result self.new.store }
         ensures procedure { self.new.procedure ≡ self.old.procedure }
     {
         let Found { seen, words, sight } = self.running(worker, name)?;
@@ -67,18 +67,24 @@ impl<P: Procedure, A: Allocator> Engine<P, A> {
     /// Does what comes after the stores of an act, and tells what was done. `is_root` says whether the frame is a
     /// root.
     #[inline(always)]
-    fn go_on(&mut self, worker: Worker, name: FrameId, is_root: bool, after: &Then) -> Did<P>
+    fn go_on(
+        &mut self,
+        worker: Worker,
+        name: FrameId,
+        is_root: bool,
+        after: &Continuation,
+    ) -> Did<P>
         requires { (tenant : Tenant) × (frame : Frame (List ℕ)) × GoesOn self.old.store name worker after.now tenant frame }
         ensures came { (tenant : Tenant) (frame : Frame (List ℕ)) → GoesOn self.old.store name worker after.now tenant frame → is_root ≡ is_root_path frame.path
             → IsCome name.tenant (then_done (P.functions self.old.procedure) tenant worker name frame.path frame.value after.now) self.old.store result self.new.store }
         ensures procedure { self.new.procedure ≡ self.old.procedure }
     {
         match after {
-            Then::Grow(more) => {
+            Continuation::Grow(more) => {
                 self.store.grow(name, *more);
                 DidOf::Grew
             }
-            Then::Spawn(words, size) => DidOf::Spawned(
+            Continuation::Spawn(words, size) => DidOf::Spawned(
                 self.store.open(
                     name.tenant,
                     Some(name.serial),
@@ -87,21 +93,21 @@ impl<P: Procedure, A: Allocator> Engine<P, A> {
                     worker.number(),
                 ),
             ),
-            Then::Go => DidOf::Went,
-            Then::Wait => {
+            Continuation::Go => DidOf::Went,
+            Continuation::Wait => {
                 if !self.store.has_child(name) {
                     return DidOf::Went;
                 }
                 self.store.let_go(worker, name, State::Waiting);
                 DidOf::Waited
             }
-            Then::Compute => {
+            Continuation::Compute => {
                 let input = self.procedure.input(&own(&self.store, name));
                 self.store
                     .hold(worker, name, State::Computing(worker.number()));
                 DidOf::Computing(input)
             }
-            Then::Return => {
+            Continuation::Return => {
                 if self.store.has_child(name) {
                     self.store.let_go(worker, name, State::Waiting);
                     return DidOf::Waited;
@@ -123,7 +129,7 @@ impl<P: Procedure, A: Allocator> Engine<P, A> {
         fitting: bool,
     ) -> StepAnswer<P>
         requires { IsKeptFitting (P.fits self.old.procedure) (P.rooted self.old.procedure) fitting self.old.store }
-        ensures judged { IsJudged (P.functions self.old.procedure) self.old.store (InletStep worker name) result self.new.store }
+        ensures step_result { FollowsResult (P.functions self.old.procedure) self.old.store (InletStep worker name) result self.new.store }
         ensures procedure { self.new.procedure ≡ self.old.procedure }
     {
         let (own, parent) = self.returned(name)?;
@@ -166,7 +172,7 @@ fn is_to_wake<A: Allocator>(
     is_waiting: bool,
     act: &InletAct,
 ) -> bool
-    ensures { result ≡ (is_waiting && (act.now.abort || act.now.wake || not (has_child_in (frames_in store.now name.tenant) name.serial))) }
+    ensures { result ≡ (is_waiting && (act.now.abort || act.now.wake || not (has_child_in (frames_in_core store.now name.tenant) name.serial))) }
 {
     is_waiting && (act.abort || act.wake || !store.has_child(name))
 }

@@ -4,12 +4,12 @@ ghost use Rattle.sched_rules.specs.declared.refusal.Refusal.{Refusal as RefusalO
 ghost use Rattle.sched_rules.specs.declared.refusal.Refusal.TheVariants.{OutOfMemory};
 ghost use Rattle.sched_rules.specs.declared.step.DidOf.{DidOf};
 ghost use Rattle.sched_rules.specs.Cores.{shared_by_nobody, shared_refusal, tenant_in, charged_in};
-ghost use Rattle.sched_rules.specs.Headline.{IsOneStep, IsHeadline, IsKnown, is_admission, taken};
+ghost use Rattle.sched_rules.specs.Headline.{IsOneStep, IsHeadline, AreNumbersGiven, is_admission, taken_steps};
 ghost use Rattle.sched_rules.specs.Runs.{only};
 ghost use Rattle.sched_laws.specs.Fitted.{CoreFits, RootFits, RootsFit, origins_of, origins_after};
-ghost use Rattle.sched_rules.specs.Views.{left_of, job_of, frame_of, words_of_frame, live_of, newest_ready_in, ready_count, free_in};
+ghost use Rattle.sched_rules.specs.Views.{left_in_core, job_of, frame_in_core, words_of_frame, live_of, newest_ready_in, ready_count, free_in};
 ghost use Rattle.sched_store.specs.Reads.{IsReadyIn};
-ghost use Rattle.sched_core.specs.Keeping.{IsKept, IsRestOf, IsNewestReadyOf};
+ghost use Rattle.sched_core.specs.Keeping.{IsKeptCore, IsRestOf, IsNewestReadyOf};
 
 use crate::asking::stays_fitting;
 use crate::engine::Engine;
@@ -68,10 +68,10 @@ impl<P: Procedure, A: Allocator> Core<P, A> {
         ensures refused { OnErr result (self.new.shared ≡ self.old.shared) }
         ensures procedure { self.new.procedure ≡ self.old.procedure }
         ensures memory { is_admission step.now ≡ false → result ≢ Err OutOfMemory }
-        ensures known_before { IsKnown self.old.shared }
-        ensures known { IsKnown self.new.shared }
-        ensures kept_before { IsKept self.old.shared }
-        ensures kept { IsKept self.new.shared }
+        ensures known_before { AreNumbersGiven self.old.shared }
+        ensures known { AreNumbersGiven self.new.shared }
+        ensures kept_before { IsKeptCore self.old.shared }
+        ensures kept { IsKeptCore self.new.shared }
 
         // If all frames fit before the step, and so does the new root of a taken Submit, then all fit after it. The
         // same holds of jobs: each live root, and what each done job keeps, belongs to the words that the job was
@@ -94,10 +94,10 @@ impl<P: Procedure, A: Allocator> Core<P, A> {
         ensures refused { OnErr result (self.new.shared ≡ self.old.shared) }
         ensures procedure { self.new.procedure ≡ self.old.procedure }
         ensures memory { is_admission step.now ≡ false → result ≢ Err OutOfMemory }
-        ensures known_before { IsKnown self.old.shared }
-        ensures known { IsKnown self.new.shared }
-        ensures kept_before { IsKept self.old.shared }
-        ensures kept { IsKept self.new.shared }
+        ensures known_before { AreNumbersGiven self.old.shared }
+        ensures known { AreNumbersGiven self.new.shared }
+        ensures kept_before { IsKeptCore self.old.shared }
+        ensures kept { IsKeptCore self.new.shared }
 
         // If all frames fit before the step, and so does the new root of a taken Submit, then all fit after it. The
         // same holds of jobs: each live root, and what each done job keeps, belongs to the words that the job was
@@ -132,8 +132,8 @@ impl<P: Procedure, A: Allocator> Core<P, A> {
             × IsHeadline (P.functions self.old.procedure) self.old.shared steps.now answered self.new.shared) }
         ensures fitting { OnOk result ((answered : List (Result (DidOf P.Input) RefusalOf)) → answers.new.items ≡ answers.old.items ++ answered
             → (origins : ℕ → List (List ℕ)) → CoreFits (P.fits self.old.procedure) (P.rooted self.old.procedure) origins self.old.shared
-            → RootsFit (P.fits self.old.procedure) (P.rooted self.old.procedure) (taken steps.now answered)
-            → CoreFits (P.fits self.old.procedure) (P.rooted self.old.procedure) (λ number. origins number ++ origins_of (only number (taken steps.now answered))) self.new.shared) }
+            → RootsFit (P.fits self.old.procedure) (P.rooted self.old.procedure) (taken_steps steps.now answered)
+            → CoreFits (P.fits self.old.procedure) (P.rooted self.old.procedure) (λ number. origins number ++ origins_of (only number (taken_steps steps.now answered))) self.new.shared) }
         ensures untried { OnErr result ((self.new.shared ≡ self.old.shared) × (answers.new.items ≡ answers.old.items)) }
         ensures procedure { self.new.procedure ≡ self.old.procedure }
     {
@@ -149,7 +149,7 @@ impl<P: Procedure, A: Allocator> Core<P, A> {
 
     /// What a tenant has left, which with what it used is what it reserved; `None` where it isn't there.
     pub fn left(&self, tenant: u64) -> Option<Left>
-        ensures is { result ≡ left_of self.now.shared tenant }
+        ensures is { result ≡ left_in_core self.now.shared tenant }
         ensures whole { IfSome result (λ left. IsRestOf (tenant_in self.now.shared.tenants tenant) left) }
     {
         self.engine.store.left(tenant)
@@ -164,7 +164,7 @@ impl<P: Procedure, A: Allocator> Core<P, A> {
 
     /// The parent and the state of a frame; `None` where it isn't there. A root has no parent.
     pub fn frame(&self, name: FrameId) -> Option<(Option<FrameId>, State)>
-        ensures { result ≡ frame_of self.now.shared name }
+        ensures { result ≡ frame_in_core self.now.shared name }
     {
         self.engine.store.find(name)
     }

@@ -12,7 +12,7 @@ use Rattle.sched_rules.specs.Functions.{Functions}
 use Rattle.sched_rules.specs.Trees.{Tenant, admitted_with}
 use Rattle.sched_rules.specs.Lone.{Outcome, lone}
 use Rattle.sched_rules.specs.Runs.{tenant_of}
-use Rattle.sched_rules.specs.Cores.{Shared, tenant_in, with_tenant, without_tenant, with_outcome, meets_busy, admit_tests, unless_busy, unless_beyond, is_beyond, reserved_by, reservations_in, step_among, judged, shared_after}
+use Rattle.sched_rules.specs.Cores.{CoreState, tenant_in, with_tenant, without_tenant, with_outcome, meets_busy, admit_tests, unless_busy, unless_beyond, is_beyond, reserved_by, reservations_in, step_among, step_result, shared_after}
 use Rattle.sched_rules.specs.Headline.{after_answer, after_answers}
 use Rattle.sched_laws.specs.Shapes.{IsShaped, AreShaped}
 use Rattle.sched_laws.proofs.Shaped.{LeftShaped, unless-passed, step-shaped, admitted-shaped, came}
@@ -64,7 +64,7 @@ not-beyond false (Ok own) outcome is = (refl, is)
 not-beyond {I} true (Ok own) outcome is = (let e : ◌≡◌ {A = Result (Outcome I) Refusal} (Err Full) (Ok outcome) = is in absurd cc)
 
 -- what was taken of an admission of more
-pub more-taken : {I A : Type 0} (functions : Functions I A) (before : Shared) (number : ℕ) (quota : Quota) (outcome : Outcome I) → judged {A = A} functions before (AdmitMore number quota) ≡ Ok outcome →
+pub more-taken : {I A : Type 0} (functions : Functions I A) (before : CoreState) (number : ℕ) (quota : Quota) (outcome : Outcome I) → step_result {A = A} functions before (AdmitMore number quota) ≡ Ok outcome →
     (is_beyond (reservations_in before) (reserved_by (tenant_in before.tenants number)) quota ≡ false) × (lone {A = A} functions (tenant_in before.tenants number) (AdmitMore number quota) ≡ Ok outcome)
 more-taken {A = A} functions before number quota outcome is =
     let own = tenant_in before.tenants number in
@@ -77,28 +77,28 @@ own-shaped n es all = by (tenant_in es n) refl
     by None is = tt
     by (Some t) is = shaped-in n es t all is
 
-among-shaped : {I A : Type 0} (functions : Functions I A) (before : Shared) (step : StepOf A) (outcome : Outcome I) → step_among functions before step ≡ Ok outcome → AreShaped before.tenants → LeftShaped outcome.0
+among-shaped : {I A : Type 0} (functions : Functions I A) (before : CoreState) (step : StepOf A) (outcome : Outcome I) → step_among functions before step ≡ Ok outcome → AreShaped before.tenants → LeftShaped outcome.0
 among-shaped functions before step outcome is all =
     lone-shaped functions (tenant_in before.tenants (tenant_of step)) step outcome
     (not-busy (meets_busy step before.tenants) (lone functions (tenant_in before.tenants (tenant_of step)) step) outcome is) (own-shaped (tenant_of step) before.tenants all)
 
-pub judged-shaped : {I A : Type 0} (functions : Functions I A) (before : Shared) (step : StepOf A) (outcome : Outcome I) → judged functions before step ≡ Ok outcome → AreShaped before.tenants → LeftShaped outcome.0
-judged-shaped {I} functions before (Admit number quota) outcome is all =
+pub step_result-shaped : {I A : Type 0} (functions : Functions I A) (before : CoreState) (step : StepOf A) (outcome : Outcome I) → step_result functions before step ≡ Ok outcome → AreShaped before.tenants → LeftShaped outcome.0
+step_result-shaped {I} functions before (Admit number quota) outcome is all =
     let effect : Outcome I = (Some (admitted_with quota), Admitted) in
     let p = unless-passed (admit_tests before number quota) effect outcome is in came LeftShaped effect outcome p.1 (admitted-shaped quota)
-judged-shaped {A = A} functions before (AdmitMore number quota) outcome is all =
+step_result-shaped {A = A} functions before (AdmitMore number quota) outcome is all =
     lone-shaped {A = A} functions (tenant_in before.tenants number) (AdmitMore number quota) outcome (more-taken {A = A} functions before number quota outcome is).1 (own-shaped number before.tenants all)
-judged-shaped functions before step outcome is all = among-shaped functions before step outcome is all
+step_result-shaped functions before step outcome is all = among-shaped functions before step outcome is all
 
-after-shaped : {I A : Type 0} (functions : Functions I A) (before : Shared) (step : StepOf A) (came_to : Result (Outcome I) Refusal) → judged functions before step ≡ came_to → AreShaped before.tenants → AreShaped (shared_after before step came_to).tenants
+after-shaped : {I A : Type 0} (functions : Functions I A) (before : CoreState) (step : StepOf A) (came_to : Result (Outcome I) Refusal) → step_result functions before step ≡ came_to → AreShaped before.tenants → AreShaped (shared_after before step came_to).tenants
 after-shaped functions before step (Err refusal) is all = all
-after-shaped functions before step (Ok outcome) is all = outcome-shaped (tenant_of step) outcome.0 before.tenants (judged-shaped functions before step outcome is all) all
+after-shaped functions before step (Ok outcome) is all = outcome-shaped (tenant_of step) outcome.0 before.tenants (step_result-shaped functions before step outcome is all) all
 
-pub shaped-answer : {I A : Type 0} (functions : Functions I A) (before : Shared) (step : StepOf A) (answer : Result (DidOf I) Refusal) → AreShaped before.tenants → AreShaped (after_answer functions before step answer).tenants
+pub shaped-answer : {I A : Type 0} (functions : Functions I A) (before : CoreState) (step : StepOf A) (answer : Result (DidOf I) Refusal) → AreShaped before.tenants → AreShaped (after_answer functions before step answer).tenants
 shaped-answer functions before step (Err refusal) all = all
-shaped-answer functions before step (Ok did) all = after-shaped functions before step (judged functions before step) refl all
+shaped-answer functions before step (Ok did) all = after-shaped functions before step (step_result functions before step) refl all
 
-pub shaped-answers : {I A : Type 0} (functions : Functions I A) (before : Shared) (steps : List (StepOf A)) (answers : List (Result (DidOf I) Refusal)) → AreShaped before.tenants → AreShaped (after_answers functions before steps answers).tenants
+pub shaped-answers : {I A : Type 0} (functions : Functions I A) (before : CoreState) (steps : List (StepOf A)) (answers : List (Result (DidOf I) Refusal)) → AreShaped before.tenants → AreShaped (after_answers functions before steps answers).tenants
 shaped-answers functions before [] answers all = all
 shaped-answers functions before (step ∷ steps) [] all = all
 shaped-answers functions before (step ∷ steps) (answer ∷ answers) all =

@@ -11,16 +11,16 @@ use Rattle.frame_tree.proofs.TreeValues.{root-there}
 use Rattle.sched_rules.specs.declared.job.Job.{Job}
 use Rattle.sched_rules.specs.declared.job.Job.TheVariants.{Live}
 use Rattle.sched_rules.specs.Trees.{Tree, Tenant, account_in, charged_for, is_root, job_at, is_live_at, number_from, job_under}
-use Rattle.sched_rules.specs.Laws.{mark_of}
+use Rattle.sched_rules.specs.Laws.{mark_of_state}
 use Rattle.sched_laws.specs.Shapes.{IsShaped, live_count, AreRootsLive, IsRootThere, AreLiveRootsThere, HaveWords}
 use Rattle.sched_laws.proofs.Shaped.{returned-childless}
 
 -- a frame that has returned or computes has no child
 pub returned-leaf : (tenant : Tenant) (s : ℕ) (f : Frame (List ℕ)) → IsShaped tenant → frame_at tenant.frames s ≡ Some f → f.state ≡ Returned → children_of tenant.frames s ≡ []
-returned-leaf tenant s f shape at is = returned-childless tenant s f shape at (λ e. let k = ap mark_of is in absurd cc)
+returned-leaf tenant s f shape at is = returned-childless tenant s f shape at (λ e. let k = ap mark_of_state is in absurd cc)
 
 pub computing-leaf : (tenant : Tenant) (s worker : ℕ) (f : Frame (List ℕ)) → IsShaped tenant → frame_at tenant.frames s ≡ Some f → f.state ≡ Computing worker → children_of tenant.frames s ≡ []
-computing-leaf tenant s worker f shape at is = returned-childless tenant s f shape at (λ e. let k = ap mark_of is in absurd cc)
+computing-leaf tenant s worker f shape at is = returned-childless tenant s f shape at (λ e. let k = ap mark_of_state is in absurd cc)
 
 -- the root of a live job is there
 job-there : (tree : Tree) (jobs : List Job) (number root : ℕ) → AreLiveRootsThere tree jobs → job_at jobs number ≡ Some (Live root) → path_in tree root ≡ root ∷ []

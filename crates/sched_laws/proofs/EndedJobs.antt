@@ -4,14 +4,14 @@ use Rattle.std.proofs.lemmas.Bool.{cases_Bool}
 use Rattle.frame_tree.specs.declared.names.FrameId.{FrameId}
 use Rattle.frame_tree.specs.Frames.{frame_at, root_of}
 use Rattle.sched_rules.specs.declared.act.InletAct.{InletAct}
-use Rattle.sched_rules.specs.declared.act.Then.{Then}
-use Rattle.sched_rules.specs.declared.act.Then.TheVariants.{Wait, Return}
+use Rattle.sched_rules.specs.declared.act.Continuation.{Continuation}
+use Rattle.sched_rules.specs.declared.act.Continuation.TheVariants.{Wait, Return}
 use Rattle.sched_rules.specs.declared.job.Job.{Job}
 use Rattle.sched_rules.specs.declared.job.Job.TheVariants.{Live, Cancelled as CancelledJob}
 use Rattle.sched_rules.specs.declared.step.StepOf.{StepOf}
 use Rattle.sched_rules.specs.Functions.{Functions}
 use Rattle.sched_rules.specs.Trees.{Tenant, words_in, has_child, job_at, is_live_at, with_ended}
-use Rattle.sched_rules.specs.Lone.{Outcome, lone_step, counted, holding, act_of, then_done, does_wait, staying, taken_in}
+use Rattle.sched_rules.specs.Lone.{Outcome, lone_step, counted, holding, act_by_sight, then_done, does_wait, staying, taken_in}
 use Rattle.sched_laws.specs.Ended.{HasEnded, KeepsEnded}
 use Rattle.sched_laws.proofs.Shaped.{by-effects}
 
@@ -36,7 +36,7 @@ at-ended root end (x ∷ xs) number job has at = elim (cases_Bool (eqb number 1)
   | inr later ↦ rw later (at-ended root end xs (number - 1) job has (rw later at at))
 ]
 
-then-ended : {I A : Type 0} (functions : Functions I A) (t : Tenant) (worker : ℕ) (name : FrameId) (path words : List ℕ) (after : Then) → KeepsEnded t.jobs (then_done functions t worker name path words after).0
+then-ended : {I A : Type 0} (functions : Functions I A) (t : Tenant) (worker : ℕ) (name : FrameId) (path words : List ℕ) (after : Continuation) → KeepsEnded t.jobs (then_done functions t worker name path words after).0
 then-ended functions t worker name path words Wait = elim (cases_Bool (has_child t.frames name.serial)) [ inl some ↦ rw some (λ number job has at. at) | inr none ↦ rw none (λ number job has at. at) ]
 then-ended functions t worker name path words Return = elim (cases_Bool (has_child t.frames name.serial)) [ inl some ↦ rw some (λ number job has at. at) | inr none ↦ rw none (λ number job has at. at) ]
 then-ended functions t worker name path words _ = λ number job has at. at
@@ -51,7 +51,7 @@ step-ended {I} functions tenant step outcome is = by-effects functions tenant st
   at_raise = λ number quota _ enough k job has at. at;
   at_submit = λ number words size _ passed k job has at. at-append tenant.jobs _ k job at;
   at_take = λ worker serial f found ready some k job has at. at;
-  at_advance = λ worker name f found passed. then-ended functions (counted (holding f.serial _ tenant)) worker name f.path _ (act_of functions tenant f).after;
+  at_advance = λ worker name f found passed. then-ended functions (counted (holding f.serial _ tenant)) worker name f.path _ (act_by_sight functions tenant f).after;
   at_answer = λ worker serial f answer found passed k job has at. at;
   at_inlet = λ worker name f parent found named passed. inlet-ended I tenant worker name parent (functions.inlet (words_in tenant.frames parent) f.value);
   at_finish = λ worker serial f found passed k job has at. at-ended f.serial _ tenant.jobs k job has at;

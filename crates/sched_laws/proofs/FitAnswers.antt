@@ -15,10 +15,10 @@ use Rattle.sched_rules.specs.Trees.{Tenant, admitted_with}
 use Rattle.sched_rules.specs.Laws.{Fitting, Rooting}
 use Rattle.sched_rules.specs.Lone.{Outcome, lone, lone_step, submit_tests, submitted}
 use Rattle.sched_rules.specs.Runs.{tenant_of, only}
-use Rattle.sched_rules.specs.Cores.{Shared, shared_by_nobody, tenant_in, with_outcome, meets_busy, admit_tests, judged, newest_after, shared_with}
-use Rattle.sched_rules.specs.Headline.{is_admission, IsAnswerTo, AreAnswersTo, after_answer, after_answers, taken, IsKnown}
+use Rattle.sched_rules.specs.Cores.{CoreState, shared_by_nobody, tenant_in, with_outcome, meets_busy, admit_tests, step_result, newest_after, shared_with}
+use Rattle.sched_rules.specs.Headline.{is_admission, IsAnswerTo, AreAnswersTo, after_answer, after_answers, taken_steps, AreNumbersGiven}
 use Rattle.sched_rules.proofs.Tenants.{tenant_in-with_outcome, tenant_in_other-with_outcome, known-number}
-use Rattle.sched_rules.proofs.Isolation.{step-taken, there, more-there, above, newest-stays, judged-step, shared-after-taken}
+use Rattle.sched_rules.proofs.Isolation.{step-taken, there, more-there, above, newest-stays, step_result-step, shared-after-taken}
 use Rattle.sched_laws.specs.Shapes.{IsShaped, AreShaped}
 use Rattle.sched_laws.specs.Fitted.{TenantFits, CoreFits, submits, origins_of, RootFits, RootsFit, origins_after, StaysFitting}
 use Rattle.sched_laws.proofs.Shaped.{unless-passed, came, first-passed, by-effects}
@@ -35,19 +35,19 @@ same-origins : (fits : Fitting) (rooted : Rooting) (origins : Lists) (o : Option
 same-origins fits rooted origins o left = let P : Lists → Type 0 = λ os. LeftFits fits rooted os o in subst P (sym (append-nil origins)) left
 
 -- the number of an admission that was taken is above all
-admitted-above : {I A : Type 0} (functions : Functions I A) (before : Shared) (number : ℕ) (quota : Quota) (outcome : Outcome I) → judged {A = A} functions before (Admit number quota) ≡ Ok outcome → (before.newest < number) × ((Some (admitted_with quota), Admitted) ≡ outcome)
+admitted-above : {I A : Type 0} (functions : Functions I A) (before : CoreState) (number : ℕ) (quota : Quota) (outcome : Outcome I) → step_result {A = A} functions before (Admit number quota) ≡ Ok outcome → (before.newest < number) × ((Some (admitted_with quota), Admitted) ≡ outcome)
 admitted-above {I} functions before number quota outcome is =
     let effect : Outcome I = (Some (admitted_with quota), Admitted) in
     let p = unless-passed (admit_tests before number quota) effect outcome is in
     (above number before.newest (first-passed _ _ p.0), p.1)
 
 -- a taken step that is no admission is taken alone
-pub taken-alone : {I A : Type 0} (functions : Functions I A) (before : Shared) (step : StepOf A) (outcome : Outcome I) → is_admission step ≡ false → judged functions before step ≡ Ok outcome → lone functions (tenant_in before.tenants (tenant_of step)) step ≡ Ok outcome
+pub taken-alone : {I A : Type 0} (functions : Functions I A) (before : CoreState) (step : StepOf A) (outcome : Outcome I) → is_admission step ≡ false → step_result functions before step ≡ Ok outcome → lone functions (tenant_in before.tenants (tenant_of step)) step ≡ Ok outcome
 taken-alone functions before step outcome no_admission is =
-    not-busy (meets_busy step before.tenants) (lone functions (tenant_in before.tenants (tenant_of step)) step) outcome (sym (judged-step functions before step no_admission) ∙ is)
+    not-busy (meets_busy step before.tenants) (lone functions (tenant_in before.tenants (tenant_of step)) step) outcome (sym (step_result-step functions before step no_admission) ∙ is)
 
 -- so is an admission of more, of a tenant that is there
-pub taken-more-there : {I A : Type 0} (functions : Functions I A) (before : Shared) (number : ℕ) (quota : Quota) (outcome : Outcome I) → judged {A = A} functions before (AdmitMore number quota) ≡ Ok outcome → tenant_in before.tenants number ≢ None
+pub taken-more-there : {I A : Type 0} (functions : Functions I A) (before : CoreState) (number : ℕ) (quota : Quota) (outcome : Outcome I) → step_result {A = A} functions before (AdmitMore number quota) ≡ Ok outcome → tenant_in before.tenants number ≢ None
 taken-more-there {A = A} functions before number quota outcome is = more-there {A = A} functions (tenant_in before.tenants number) number quota outcome (more-taken {A = A} functions before number quota outcome is).1
 
 -- an admission is of a new tenant, or of more for one that is there
@@ -63,29 +63,29 @@ admission (AdmitMore number quota) is = inr (number, quota, refl)
 admission _ is = absurd (false≢true is)
 
 -- the greatest number after a taken step: the step's tenant has one that is no greater, and it is no less than before
-numbers-after : {I A : Type 0} (functions : Functions I A) (before : Shared) (step : StepOf A) (outcome : Outcome I) → IsKnown before → judged functions before step ≡ Ok outcome → (tenant_of step ≤ newest_after before.newest step) × (before.newest ≤ newest_after before.newest step)
+numbers-after : {I A : Type 0} (functions : Functions I A) (before : CoreState) (step : StepOf A) (outcome : Outcome I) → AreNumbersGiven before → step_result functions before step ≡ Ok outcome → (tenant_of step ≤ newest_after before.newest step) × (before.newest ≤ newest_after before.newest step)
 numbers-after {A = A} functions before step outcome known is = elim (cases_Bool (is_admission step)) [
   | inr no_admission ↦ (let le = known-number before.newest (tenant_of step) before.tenants known (there functions _ step outcome no_admission (taken-alone functions before step outcome no_admission is)) in
       let same = newest-stays before.newest step no_admission in (omega (arith, le, same), omega (arith, same)))
   | inl admits ↦ elim (admission step admits) [
-    | inl a ↦ (let p = admitted-above functions before a.0 a.1 outcome (ap (judged functions before) (sym a.2) ∙ is) in
+    | inl a ↦ (let p = admitted-above functions before a.0 a.1 outcome (ap (step_result functions before) (sym a.2) ∙ is) in
         let own : tenant_of step ≡ a.0 = ap tenant_of a.2 in
         let newest : newest_after before.newest step ≡ a.0 = ap (newest_after before.newest) a.2 in (omega (arith, own, newest), omega (arith, newest, p.0)))
-    | inr m ↦ (let le = known-number before.newest m.0 before.tenants known (taken-more-there {A = A} functions before m.0 m.1 outcome (ap (judged functions before) (sym m.2) ∙ is)) in
+    | inr m ↦ (let le = known-number before.newest m.0 before.tenants known (taken-more-there {A = A} functions before m.0 m.1 outcome (ap (step_result functions before) (sym m.2) ∙ is)) in
         let own : tenant_of step ≡ m.0 = ap tenant_of m.2 in
         let newest : newest_after before.newest step ≡ before.newest = ap (newest_after before.newest) m.2 in (omega (arith, own, newest, le), omega (arith, newest)))
   ]
 ]
 
 -- whatever a step is answered
-pub known-answer : {I A : Type 0} (functions : Functions I A) (before : Shared) (step : StepOf A) (answer : Result (DidOf I) Refusal) → IsKnown before → IsAnswerTo functions before step answer → IsKnown (after_answer functions before step answer)
+pub known-answer : {I A : Type 0} (functions : Functions I A) (before : CoreState) (step : StepOf A) (answer : Result (DidOf I) Refusal) → AreNumbersGiven before → IsAnswerTo functions before step answer → AreNumbersGiven (after_answer functions before step answer)
 known-answer functions before step (Err refusal) known right = known
 known-answer functions before step (Ok did) known right =
     let t = step-taken functions before step did known right in
-    let K : Shared → Type 0 = λ after. IsKnown after in subst K (sym (shared-after-taken functions before step did t)) t.known
+    let K : CoreState → Type 0 = λ after. AreNumbersGiven after in subst K (sym (shared-after-taken functions before step did t)) t.known
 
 -- the origins after a list of steps
-same-core : (fits : Fitting) (rooted : Rooting) (a b : ℕ → Lists) (shared : Shared) → ((number : ℕ) → a number ≡ b number) → CoreFits fits rooted a shared → CoreFits fits rooted b shared
+same-core : (fits : Fitting) (rooted : Rooting) (a b : ℕ → Lists) (shared : CoreState) → ((number : ℕ) → a number ≡ b number) → CoreFits fits rooted a shared → CoreFits fits rooted b shared
 same-core fits rooted a b shared same core = record {
   tenants = λ number tenant at. let P : Lists → Type 0 = λ os. TenantFits fits rooted os tenant in subst P (same number) (core.tenants number tenant at);
   unused = λ number low. sym (same number) ∙ core.unused number low;
@@ -135,7 +135,7 @@ module _ {I A : Type 0} (functions : Functions I A) (fits : Fitting) (rooted : R
   step-fits origins tenant step outcome lawful shape fitting root is = others-fit origins tenant step outcome lawful shape fitting refl is
 
   -- among several tenants: a step of a tenant that is there
-  among-fits : (origins : ℕ → Lists) (before : Shared) (step : StepOf A) (outcome : Outcome I) → IsLawful functions fits rooted → AreShaped before.tenants → CoreFits fits rooted origins before →
+  among-fits : (origins : ℕ → Lists) (before : CoreState) (step : StepOf A) (outcome : Outcome I) → IsLawful functions fits rooted → AreShaped before.tenants → CoreFits fits rooted origins before →
       RootFits fits rooted step → tenant_in before.tenants (tenant_of step) ≢ None → lone functions (tenant_in before.tenants (tenant_of step)) step ≡ Ok outcome → LeftFits fits rooted (origins (tenant_of step) ++ submits step) outcome.0
   among-fits origins before step outcome lawful shaped core root there is = by (tenant_in before.tenants (tenant_of step)) refl
     where
@@ -146,35 +146,35 @@ module _ {I A : Type 0} (functions : Functions I A) (fits : Fitting) (rooted : R
           (ap (λ o. lone functions o step) (sym e) ∙ is)
 
   -- a taken step: what its tenant comes to
-  admit-left : (origins : ℕ → Lists) (before : Shared) (number : ℕ) (quota : Quota) (outcome : Outcome I) → CoreFits fits rooted origins before →
-      judged {A = A} functions before (Admit number quota) ≡ Ok outcome → LeftFits fits rooted (origins number ++ []) outcome.0
+  admit-left : (origins : ℕ → Lists) (before : CoreState) (number : ℕ) (quota : Quota) (outcome : Outcome I) → CoreFits fits rooted origins before →
+      step_result {A = A} functions before (Admit number quota) ≡ Ok outcome → LeftFits fits rooted (origins number ++ []) outcome.0
   admit-left origins before number quota outcome core is =
       let p = admitted-above functions before number quota outcome is in
       let none : origins number ++ [] ≡ [] = append-nil (origins number) ∙ core.unused number p.0 in
       let P : Lists → Type 0 = λ os. LeftFits fits rooted os (Some (admitted_with quota)) in
       came (LeftFits fits rooted (origins number ++ [])) (Some (admitted_with quota), Admitted) outcome p.1 (subst P (sym none) (record { frames = tt; jobs = tt }))
 
-  more-left : (origins : ℕ → Lists) (before : Shared) (number : ℕ) (quota : Quota) (outcome : Outcome I) → IsLawful functions fits rooted → AreShaped before.tenants → CoreFits fits rooted origins before →
-      judged {A = A} functions before (AdmitMore number quota) ≡ Ok outcome → LeftFits fits rooted (origins number ++ []) outcome.0
+  more-left : (origins : ℕ → Lists) (before : CoreState) (number : ℕ) (quota : Quota) (outcome : Outcome I) → IsLawful functions fits rooted → AreShaped before.tenants → CoreFits fits rooted origins before →
+      step_result {A = A} functions before (AdmitMore number quota) ≡ Ok outcome → LeftFits fits rooted (origins number ++ []) outcome.0
   more-left origins before number quota outcome lawful shaped core is =
       among-fits origins before (AdmitMore number quota) outcome lawful shaped core tt (taken-more-there {A = A} functions before number quota outcome is) (more-taken {A = A} functions before number quota outcome is).1
 
-  taken-left : (origins : ℕ → Lists) (before : Shared) (step : StepOf A) (outcome : Outcome I) → IsLawful functions fits rooted → AreShaped before.tenants → CoreFits fits rooted origins before →
-      RootFits fits rooted step → judged functions before step ≡ Ok outcome → LeftFits fits rooted (origins (tenant_of step) ++ submits step) outcome.0
+  taken-left : (origins : ℕ → Lists) (before : CoreState) (step : StepOf A) (outcome : Outcome I) → IsLawful functions fits rooted → AreShaped before.tenants → CoreFits fits rooted origins before →
+      RootFits fits rooted step → step_result functions before step ≡ Ok outcome → LeftFits fits rooted (origins (tenant_of step) ++ submits step) outcome.0
   taken-left origins before step outcome lawful shaped core root is = elim (cases_Bool (is_admission step)) [
     | inr no_admission ↦ (let alone = taken-alone functions before step outcome no_admission is in
         among-fits origins before step outcome lawful shaped core root (there functions _ step outcome no_admission alone) alone)
     | inl admits ↦ elim (admission step admits) [
       | inl a ↦ (let P : StepOf A → Type 0 = λ st. LeftFits fits rooted (origins (tenant_of st) ++ submits st) outcome.0 in
-          subst P (sym a.2) (admit-left origins before a.0 a.1 outcome core (ap (judged functions before) (sym a.2) ∙ is)))
+          subst P (sym a.2) (admit-left origins before a.0 a.1 outcome core (ap (step_result functions before) (sym a.2) ∙ is)))
       | inr m ↦ (let P : StepOf A → Type 0 = λ st. LeftFits fits rooted (origins (tenant_of st) ++ submits st) outcome.0 in
-          subst P (sym m.2) (more-left origins before m.0 m.1 outcome lawful shaped core (ap (judged functions before) (sym m.2) ∙ is)))
+          subst P (sym m.2) (more-left origins before m.0 m.1 outcome lawful shaped core (ap (step_result functions before) (sym m.2) ∙ is)))
     ]
   ]
 
   -- a core after a taken step
-  core-after : (origins : ℕ → Lists) (before : Shared) (step : StepOf A) (did : DidOf I) (outcome : Outcome I) → IsLawful functions fits rooted → IsKnown before → AreShaped before.tenants → CoreFits fits rooted origins before →
-      RootFits fits rooted step → judged functions before step ≡ Ok outcome → CoreFits fits rooted (origins_after origins step (Ok did)) (shared_with before step outcome.0)
+  core-after : (origins : ℕ → Lists) (before : CoreState) (step : StepOf A) (did : DidOf I) (outcome : Outcome I) → IsLawful functions fits rooted → AreNumbersGiven before → AreShaped before.tenants → CoreFits fits rooted origins before →
+      RootFits fits rooted step → step_result functions before step ≡ Ok outcome → CoreFits fits rooted (origins_after origins step (Ok did)) (shared_with before step outcome.0)
   core-after origins before step did outcome lawful known shaped core root is = record {
     tenants = λ number tenant at. tenants number tenant at;
     unused = λ number low. unused number low;
@@ -199,17 +199,17 @@ module _ {I A : Type 0} (functions : Functions I A) (fits : Fitting) (rooted : R
           let numbers = numbers-after functions before step outcome known is in
           other number (λ e. omega (arith, e, low, numbers.0)) ∙ core.unused number (omega (arith, low, numbers.1))
 
-  pub answer-keeps : (origins : ℕ → Lists) (before : Shared) (step : StepOf A) (answer : Result (DidOf I) Refusal) → IsLawful functions fits rooted → IsKnown before → AreShaped before.tenants → CoreFits fits rooted origins before →
-      (is_ok answer ≡ true → RootFits fits rooted step) → IsAnswerTo functions before step answer → IsKnown (after_answer functions before step answer) × CoreFits fits rooted (origins_after origins step answer) (after_answer functions before step answer)
+  pub answer-keeps : (origins : ℕ → Lists) (before : CoreState) (step : StepOf A) (answer : Result (DidOf I) Refusal) → IsLawful functions fits rooted → AreNumbersGiven before → AreShaped before.tenants → CoreFits fits rooted origins before →
+      (is_ok answer ≡ true → RootFits fits rooted step) → IsAnswerTo functions before step answer → AreNumbersGiven (after_answer functions before step answer) × CoreFits fits rooted (origins_after origins step answer) (after_answer functions before step answer)
   answer-keeps origins before step (Err refusal) lawful known shaped core root right = (known, core)
   answer-keeps origins before step (Ok did) lawful known shaped core root right =
       let t = step-taken functions before step did known right in
       let is = shared-after-taken functions before step did t in
-      let P : Shared → Type 0 = λ after. CoreFits fits rooted (origins_after origins step (Ok did)) after in
-      let K : Shared → Type 0 = λ after. IsKnown after in
+      let P : CoreState → Type 0 = λ after. CoreFits fits rooted (origins_after origins step (Ok did)) after in
+      let K : CoreState → Type 0 = λ after. AreNumbersGiven after in
       (subst K (sym is) t.known, subst P (sym is) (core-after origins before step did t.outcome lawful known shaped core (root refl) t.among))
 
-  pub stays-fitting : (origins : ℕ → Lists) (before : Shared) (steps : List (StepOf A)) (answers : List (Result (DidOf I) Refusal)) → IsLawful functions fits rooted → IsKnown before → AreShaped before.tenants → CoreFits fits rooted origins before →
+  pub stays-fitting : (origins : ℕ → Lists) (before : CoreState) (steps : List (StepOf A)) (answers : List (Result (DidOf I) Refusal)) → IsLawful functions fits rooted → AreNumbersGiven before → AreShaped before.tenants → CoreFits fits rooted origins before →
       AreAnswersTo functions before steps answers → StaysFitting functions fits rooted origins before steps answers
   stays-fitting origins before [] answers lawful known shaped core right = core
   stays-fitting origins before (step ∷ steps) [] lawful known shaped core right = core
@@ -219,8 +219,8 @@ module _ {I A : Type 0} (functions : Functions I A) (fits : Fitting) (rooted : R
         stays-fitting (origins_after origins step answer) (after_answer functions before step answer) steps answers lawful next.0 (shaped-answer functions before step answer shaped) next.1 right.1,
   )
 
-  pub run-fits : (origins : ℕ → Lists) (before : Shared) (steps : List (StepOf A)) (answers : List (Result (DidOf I) Refusal)) → IsLawful functions fits rooted → IsKnown before → AreShaped before.tenants → CoreFits fits rooted origins before →
-      AreAnswersTo functions before steps answers → RootsFit fits rooted (taken steps answers) → CoreFits fits rooted (λ number. origins number ++ origins_of (only number (taken steps answers))) (after_answers functions before steps answers)
+  pub run-fits : (origins : ℕ → Lists) (before : CoreState) (steps : List (StepOf A)) (answers : List (Result (DidOf I) Refusal)) → IsLawful functions fits rooted → AreNumbersGiven before → AreShaped before.tenants → CoreFits fits rooted origins before →
+      AreAnswersTo functions before steps answers → RootsFit fits rooted (taken_steps steps answers) → CoreFits fits rooted (λ number. origins number ++ origins_of (only number (taken_steps steps answers))) (after_answers functions before steps answers)
   run-fits origins before [] answers lawful known shaped core right roots = same-core fits rooted origins _ before (λ number. sym (append-nil (origins number))) core
   run-fits origins before (step ∷ steps) [] lawful known shaped core right roots = absurd right
   run-fits origins before (step ∷ steps) (Err refusal ∷ answers) lawful known shaped core right roots =
@@ -228,5 +228,5 @@ module _ {I A : Type 0} (functions : Functions I A) (fits : Fitting) (rooted : R
   run-fits origins before (step ∷ steps) (Ok did ∷ answers) lawful known shaped core right roots =
       let answer : Result (DidOf I) Refusal = Ok did in
       let next = answer-keeps origins before step answer lawful known shaped core (λ is. roots.0) right.0 in
-      same-core fits rooted _ _ (after_answers functions (after_answer functions before step answer) steps answers) (λ number. origins-on origins step did (taken steps answers) number)
+      same-core fits rooted _ _ (after_answers functions (after_answer functions before step answer) steps answers) (λ number. origins-on origins step did (taken_steps steps answers) number)
       (run-fits (origins_after origins step answer) (after_answer functions before step answer) steps answers lawful next.0 (shaped-answer functions before step answer shaped) next.1 right.1 roots.1)

@@ -11,16 +11,16 @@ use Rattle.frame_tree.proofs.TreeValues.{tree-new_frame, new-frame-next, path_in
 use Rattle.sched_rules.specs.declared.job.Job.{Job}
 use Rattle.sched_rules.specs.declared.job.Job.TheVariants.{Live, Done}
 use Rattle.sched_rules.specs.Functions.{Functions}
-use Rattle.sched_rules.specs.Trees.{Tree, Tenant, words_of, words_in, with_words, stored, is_outside, is_root, without_job, kept_words}
-use Rattle.sched_rules.specs.Laws.{Fitting, Rooting, Mark, Neither, HasReturned, mark_of, AllFit, ParentFits, children_left, EveryFrameFits}
+use Rattle.sched_rules.specs.Trees.{Tree, Tenant, frame_words, words_in, with_frame_words, stored, is_outside, is_root, without_job, kept_words}
+use Rattle.sched_rules.specs.Laws.{Fitting, Rooting, Mark, Neither, HasReturned, mark_of_state, AllFit, ParentFits, children_left, EveryFrameFits}
 use Rattle.sched_rules.specs.Lone.{holding, opened, ended, staying}
 use Rattle.sched_laws.specs.Shapes.{IsShaped}
 use Rattle.sched_laws.specs.Fitted.{JobFits, JobsFit, TenantFits}
-use Rattle.sched_laws.proofs.Words.{with_words-alike, tree-with_words, paths-with_words, children_of-with_words, frame_at_other-with_words}
+use Rattle.sched_laws.proofs.Words.{with_frame_words-alike, tree-with_frame_words, paths-with_frame_words, children_of-with_frame_words, frame_at_other-with_frame_words}
 use Rattle.sched_laws.proofs.Parts.{path-there}
 use Rattle.sched_laws.proofs.Holds.{Lists, F, kids, fits-holds, holds-fits, among-kids, BeforeWithout, holds-without, BeforeAbort, holds-aborted, holds-push, holds-without_job}
 use Rattle.sched_laws.proofs.Levels.{IsLawful, words-found, IsKeptAbove, kept-above, holds-after-words, jobs-kept, jobs-append, has-origin, jobs-ended}
-use Rattle.sched_laws.proofs.Fits.{root-top, roots-with_words, all-fit}
+use Rattle.sched_laws.proofs.Fits.{root-top, roots-with_frame_words, all-fit}
 
 -- a root frame has the path of its serial alone
 root-found : (tree : Tree) (root : ℕ) → path_in tree root ≡ root ∷ [] → (f : F) × (frame_at tree root ≡ Some f) × (f.path ≡ root ∷ [])
@@ -43,7 +43,7 @@ ended-fits fits rooted origins tenant root job shape fitting is end =
     record {
       frames = holds-fits fits (without_job root tree) (tree-without_job root tree shape.tree)
           (holds-without_job (λ s w k m. fits w k m) root tree shape.tree (λ s f at other. fits-holds fits tree fitting.frames s f at) (λ f at. root-top tree root f at is));
-      jobs = jobs-ended fits rooted tree (without_job root tree) root job origins tenant.jobs end (λ r other there. ap words_of (root-without_job root tree r shape.tree other there)) shape.live fitting.jobs;
+      jobs = jobs-ended fits rooted tree (without_job root tree) root job origins tenant.jobs end (λ r other there. ap frame_words (root-without_job root tree r shape.tree other there)) shape.live fitting.jobs;
     }
 
 -- Finish
@@ -53,7 +53,7 @@ root-path (x ∷ []) is = refl
 root-path (x ∷ y ∷ path) is = absurd (let long = eqb-true (length (x ∷ y ∷ path)) 1 is in omega (arith, long))
 
 pub finish-fits : (fits : Fitting) (rooted : Rooting) (origins : Lists) (tenant : Tenant) (s : ℕ) (f : F) → IsShaped tenant → TenantFits fits rooted origins tenant → frame_at tenant.frames s ≡ Some f →
-    mark_of f.state ≡ HasReturned → children_of tenant.frames s ≡ [] → is_root f.path ≡ true → TenantFits fits rooted origins (ended f.serial (Done (kept_words f.value)) tenant)
+    mark_of_state f.state ≡ HasReturned → children_of tenant.frames s ≡ [] → is_root f.path ≡ true → TenantFits fits rooted origins (ended f.serial (Done (kept_words f.value)) tenant)
 finish-fits fits rooted origins tenant s f shape fitting at returned leaf is =
     let tree = tenant.frames in
     let own = found-serial tree s f at in
@@ -81,12 +81,12 @@ submit-fits fits rooted origins tenant words size shape fitting newborn belongs 
           (λ s f at. ((λ child. absurd (false≢true child)), (λ none. fits-holds fits tree fitting.frames s f at))));
       jobs = jobs-append fits rooted (tree ++ new ∷ []) origins words tenant.jobs (Live root)
           (jobs-kept fits rooted tree (tree ++ new ∷ []) origins tenant.jobs (λ r origin is was. let Q : List ℕ → Type 0 = λ w. rooted origin w in
-          subst Q (sym (ap words_of (frame_at-left tree (new ∷ []) r (path-there tree r is)))) was) shape.live fitting.jobs)
-          (subst P (sym (ap words_of (frame_at-push tree new shape.given))) belongs);
+          subst Q (sym (ap frame_words (frame_at-left tree (new ∷ []) r (path-there tree r is)))) was) shape.live fitting.jobs)
+          (subst P (sym (ap frame_words (frame_at-push tree new shape.given))) belongs);
     }
 
 -- the frames that stay at an inlet, with other words in the parent
-without-words : (n p : ℕ) (words : List ℕ) (tree : Tree) → frames_without n (with_words p words tree) ≡ with_words p words (frames_without n tree)
+without-words : (n p : ℕ) (words : List ℕ) (tree : Tree) → frames_without n (with_frame_words p words tree) ≡ with_frame_words p words (frames_without n tree)
 without-words n p words [] = refl
 without-words n p words (x ∷ xs) = elim (cases_Bool (eqb x.serial p)) [
   | inl same ↦ elim (cases_Bool (eqb x.serial n)) [
@@ -99,8 +99,8 @@ without-words n p words (x ∷ xs) = elim (cases_Bool (eqb x.serial p)) [
   ]
 ]
 
-staying-words : (n p : ℕ) (words : List ℕ) (tree : Tree) (abort : Bool) → staying (with_words p words tree) n p abort ≡ with_words p words (staying tree n p abort)
-staying-words n p words tree true = paths-with_words p words (λ path. not (goes_under p path)) tree
+staying-words : (n p : ℕ) (words : List ℕ) (tree : Tree) (abort : Bool) → staying (with_frame_words p words tree) n p abort ≡ with_frame_words p words (staying tree n p abort)
+staying-words n p words tree true = paths-with_frame_words p words (λ path. not (goes_under p path)) tree
 staying-words n p words tree false = without-words n p words tree
 
 -- a list of children that fit, in two parts
@@ -113,33 +113,33 @@ abbrev pub InletFits : Fitting → Tree → ℕ → List ℕ → List ℕ → Bo
 InletFits fits tree p child words abort = (before behind : Lists) → kids tree p ≡ before ++ child ∷ behind → fits words (children_left abort (before ++ behind)) Neither
 
 staying-fits : (fits : Fitting) (rooted : Rooting) (tenant : Tenant) (n p : ℕ) (f g : F) (words : List ℕ) (abort : Bool) → IsShaped tenant → EveryFrameFits fits tenant.frames → frame_at tenant.frames n ≡ Some f → frame_at tenant.frames p ≡ Some g →
-    (u : IsUnder tenant.frames f) → u.parent ≡ p → children_of tenant.frames n ≡ [] → mark_of g.state ≡ Neither → IsKeptAbove fits rooted tenant.frames g words → InletFits fits tenant.frames p f.value words abort →
-    EveryFrameFits fits (staying (with_words p words tenant.frames) n p abort)
+    (u : IsUnder tenant.frames f) → u.parent ≡ p → children_of tenant.frames n ≡ [] → mark_of_state g.state ≡ Neither → IsKeptAbove fits rooted tenant.frames g words → InletFits fits tenant.frames p f.value words abort →
+    EveryFrameFits fits (staying (with_frame_words p words tenant.frames) n p abort)
 staying-fits fits rooted tenant n p f g words true shape every at_n at_p u named leaf free kept own =
     let tree = tenant.frames in
-    let t1 = tree-with_words p words tree shape.tree in
+    let t1 = tree-with_frame_words p words tree shape.tree in
     let R : Mark → Type 0 = λ m. fits words [] m in
     let a = among-kids tree p n f shape.tree at_n (ap (is_that p) u.named ∙ eq-eqb u.parent p named) in
-    holds-fits fits (aborted p (with_words p words tree)) (tree-aborted p (with_words p words tree) t1)
-    (holds-aborted (λ s w k m. fits w k m) p (with_words p words tree) t1
+    holds-fits fits (aborted p (with_frame_words p words tree)) (tree-aborted p (with_frame_words p words tree) t1)
+    (holds-aborted (λ s w k m. fits w k m) p (with_frame_words p words tree) t1
     (holds-after-words (BeforeAbort (λ s w k m. fits w k m) p) fits rooted tree p g words shape.tree shape.childless every at_p kept
     ((λ is. subst R (sym free) (own a.older a.younger a.all)), (λ other. absurd (other refl)))
     (λ s w k m other fit. ((λ is. absurd (other is)), (λ ne. fit)))))
 staying-fits fits rooted tenant n p f g words false shape every at_n at_p u named leaf free kept own =
     let tree = tenant.frames in
-    let t1 = tree-with_words p words tree shape.tree in
+    let t1 = tree-with_frame_words p words tree shape.tree in
     let below : p < n = let low = u.below in let e = found-serial tree n f at_n in omega (arith, low, named, e) in
     let apart : p ≢ n = λ e. omega (arith, e, below) in
-    let at1 : frame_at (with_words p words tree) n ≡ Some f = frame_at_other-with_words p words tree n apart ∙ at_n in
-    let leaf1 : children_of (with_words p words tree) n ≡ [] = children_of-with_words p words tree n shape.tree ∙ ap (with_words p words) leaf in
+    let at1 : frame_at (with_frame_words p words tree) n ≡ Some f = frame_at_other-with_frame_words p words tree n apart ∙ at_n in
+    let leaf1 : children_of (with_frame_words p words tree) n ≡ [] = children_of-with_frame_words p words tree n shape.tree ∙ ap (with_frame_words p words) leaf in
     let child : is_child_of p f.path ≡ true = ap (is_that p) u.named ∙ eq-eqb u.parent p named in
-    holds-fits fits (frames_without n (with_words p words tree)) (tree-without n (with_words p words tree) t1 leaf1)
-    (holds-without (λ s w k m. fits w k m) n f (with_words p words tree) t1 at1 leaf1
+    holds-fits fits (frames_without n (with_frame_words p words tree)) (tree-without n (with_frame_words p words tree) t1 leaf1)
+    (holds-without (λ s w k m. fits w k m) n f (with_frame_words p words tree) t1 at1 leaf1
     (holds-after-words (BeforeWithout (λ s w k m. fits w k m) n f) fits rooted tree p g words shape.tree shape.childless every at_p kept
     (λ other. ((λ is older younger split. marked older younger (own older younger split)), (λ none. absurd (false≢true (sym none ∙ child)))))
     (λ s w k m ne fit other. ((λ is older younger split. absurd (ne (only s is))), (λ none. fit)))))
   where
-    marked : (older younger : Lists) → fits words (older ++ younger) Neither → fits words (older ++ younger) (mark_of g.state)
+    marked : (older younger : Lists) → fits words (older ++ younger) Neither → fits words (older ++ younger) (mark_of_state g.state)
     marked older younger fit = let R : Mark → Type 0 = λ m. fits words (older ++ younger) m in subst R (sym free) fit
 
     only : (s : ℕ) → is_child_of s f.path ≡ true → s ≡ p
@@ -151,7 +151,7 @@ staying-root n p tree root false t other is = frame_at_other-without n tree root
 
 -- the tenant without the frames that go, with what the inlet stored
 pub taken-in-fits : (fits : Fitting) (rooted : Rooting) (origins : Lists) (tenant : Tenant) (n p : ℕ) (f g : F) (words : List ℕ) (abort : Bool) → IsShaped tenant → TenantFits fits rooted origins tenant → frame_at tenant.frames n ≡ Some f → frame_at tenant.frames p ≡ Some g →
-    (u : IsUnder tenant.frames f) → u.parent ≡ p → children_of tenant.frames n ≡ [] → mark_of g.state ≡ Neither → IsKeptAbove fits rooted tenant.frames g words → InletFits fits tenant.frames p f.value words abort →
+    (u : IsUnder tenant.frames f) → u.parent ≡ p → children_of tenant.frames n ≡ [] → mark_of_state g.state ≡ Neither → IsKeptAbove fits rooted tenant.frames g words → InletFits fits tenant.frames p f.value words abort →
     TenantFits fits rooted origins (holding p words (record tenant { frames = staying tenant.frames n p abort }))
 taken-in-fits fits rooted origins tenant n p f g words abort shape fitting at_n at_p u named leaf free kept own =
     let tree = tenant.frames in
@@ -160,8 +160,8 @@ taken-in-fits fits rooted origins tenant n p f g words abort shape fitting at_n 
     let Q : Tree → Type 0 = λ ys. JobsFit fits rooted ys origins tenant.jobs in
     record {
       frames = subst P swap (staying-fits fits rooted tenant n p f g words abort shape fitting.frames at_n at_p u named leaf free kept own);
-      jobs = subst Q swap (jobs-kept fits rooted tree (staying (with_words p words tree) n p abort) origins tenant.jobs (λ root origin is was. let R : List ℕ → Type 0 = λ w. rooted origin w in
-          subst R (sym (stays root is)) (roots-with_words fits rooted tree p g words at_p kept root origin is was)) shape.live fitting.jobs);
+      jobs = subst Q swap (jobs-kept fits rooted tree (staying (with_frame_words p words tree) n p abort) origins tenant.jobs (λ root origin is was. let R : List ℕ → Type 0 = λ w. rooted origin w in
+          subst R (sym (stays root is)) (roots-with_frame_words fits rooted tree p g words at_p kept root origin is was)) shape.live fitting.jobs);
     }
   where
     apart : (root : ℕ) → path_in tenant.frames root ≡ root ∷ [] → root ≢ n
@@ -169,13 +169,13 @@ taken-in-fits fits rooted origins tenant n p f g words abort shape fitting at_n 
         let none = root-top tenant.frames root f (ap (frame_at tenant.frames) e ∙ at_n) is in
         let both : ◌≡◌ {A = Option ℕ} None (Some u.parent) = sym none ∙ u.named in absurd cc
 
-    stays : (root : ℕ) → path_in tenant.frames root ≡ root ∷ [] → words_in (staying (with_words p words tenant.frames) n p abort) root ≡ words_in (with_words p words tenant.frames) root
-    stays root is = ap words_of (staying-root n p (with_words p words tenant.frames) root abort (tree-with_words p words tenant.frames shape.tree) (apart root is)
-        (path_in-alike tenant.frames (with_words p words tenant.frames) root (with_words-alike p words tenant.frames) ∙ is))
+    stays : (root : ℕ) → path_in tenant.frames root ≡ root ∷ [] → words_in (staying (with_frame_words p words tenant.frames) n p abort) root ≡ words_in (with_frame_words p words tenant.frames) root
+    stays root is = ap frame_words (staying-root n p (with_frame_words p words tenant.frames) root abort (tree-with_frame_words p words tenant.frames shape.tree) (apart root is)
+        (path_in-alike tenant.frames (with_frame_words p words tenant.frames) root (with_frame_words-alike p words tenant.frames) ∙ is))
 
 -- what the inlet of a procedure leaves
 pub inlet-law : {I A : Type 0} (functions : Functions I A) (fits : Fitting) (rooted : Rooting) (origins : Lists) (tenant : Tenant) (n p : ℕ) (f g : F) → IsLawful functions fits rooted → IsShaped tenant → TenantFits fits rooted origins tenant →
-    frame_at tenant.frames n ≡ Some f → frame_at tenant.frames p ≡ Some g → (u : IsUnder tenant.frames f) → u.parent ≡ p → children_of tenant.frames n ≡ [] → mark_of f.state ≡ HasReturned → mark_of g.state ≡ Neither →
+    frame_at tenant.frames n ≡ Some f → frame_at tenant.frames p ≡ Some g → (u : IsUnder tenant.frames f) → u.parent ≡ p → children_of tenant.frames n ≡ [] → mark_of_state f.state ≡ HasReturned → mark_of_state g.state ≡ Neither →
     is_outside (functions.inlet g.value f.value).stores g.value ≡ false →
     InletFits fits tenant.frames p f.value (stored (functions.inlet g.value f.value).stores g.value) (functions.inlet g.value f.value).abort × IsKeptAbove fits rooted tenant.frames g (stored (functions.inlet g.value f.value).stores g.value)
 inlet-law functions fits rooted origins tenant n p f g lawful shape fitting at_n at_p u named leaf returned free inside =

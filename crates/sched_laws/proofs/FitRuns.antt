@@ -11,11 +11,11 @@ use Rattle.sched_rules.specs.declared.job.Job.TheVariants.{Done}
 use Rattle.sched_rules.specs.declared.refusal.Refusal.TheVariants.{Mismatch, BadAct}
 use Rattle.sched_rules.specs.Functions.{Functions}
 use Rattle.sched_rules.specs.Trees.{Tenant, words_in, left, stored, is_outside, has_child, is_root, kept_words}
-use Rattle.sched_rules.specs.Laws.{Fitting, Rooting, Neither, Computes, HasReturned, mark_of}
-use Rattle.sched_rules.specs.Lone.{applies, no_step, not_free, counted, in_state, holding, ended, taken_by, is_run_by, is_computed_by, is_returned, act_of, is_bad_act, act_tests, advance_tests, advanced, answer_tests, answered, inlet_tests, does_wait, staying, taken_in, finish_tests, finished}
+use Rattle.sched_rules.specs.Laws.{Fitting, Rooting, Neither, Computes, HasReturned, mark_of_state}
+use Rattle.sched_rules.specs.Lone.{applies, no_step, not_free, counted, in_state, holding, ended, taken_by, is_run_by, is_computed_by, is_returned, act_by_sight, is_bad_act, act_tests, advance_tests, advanced, answer_tests, answered, inlet_tests, does_wait, staying, taken_in, finish_tests, finished}
 use Rattle.sched_laws.specs.Shapes.{IsShaped}
 use Rattle.sched_laws.specs.Fitted.{TenantFits}
-use Rattle.sched_laws.proofs.Words.{frame_at-with_words}
+use Rattle.sched_laws.proofs.Words.{frame_at-with_frame_words}
 use Rattle.sched_laws.proofs.Shaped.{run-free, returned-marked, returned-childless, staying-parent, inlet-stored-shaped}
 use Rattle.sched_laws.proofs.Holds.{Lists, F, found-same}
 use Rattle.sched_laws.proofs.Levels.{IsLawful, words-found, parent-neither}
@@ -24,15 +24,15 @@ use Rattle.sched_laws.proofs.FitSteps.{advance-fits, answer-fits}
 use Rattle.sched_laws.proofs.FitEnds.{finish-fits, taken-in-fits, inlet-law}
 
 -- the marks of states that were tested
-ready-free : (state : State) → is_ready state ≡ true → mark_of state ≡ Neither
+ready-free : (state : State) → is_ready state ≡ true → mark_of_state state ≡ Neither
 ready-free (Ready home) is = refl
 ready-free _ is = absurd (false≢true is)
 
-pub computes-marked : (worker : ℕ) (state : State) → is_computed_by worker state ≡ true → mark_of state ≡ Computes
+pub computes-marked : (worker : ℕ) (state : State) → is_computed_by worker state ≡ true → mark_of_state state ≡ Computes
 computes-marked worker (Computing holder) is = refl
 computes-marked worker _ is = absurd (false≢true is)
 
-pub has-returned : (state : State) → is_returned state ≡ true → mark_of state ≡ HasReturned
+pub has-returned : (state : State) → is_returned state ≡ true → mark_of_state state ≡ HasReturned
 has-returned Returned is = refl
 has-returned _ is = absurd (false≢true is)
 
@@ -43,13 +43,13 @@ taken-fits I fits rooted origins tenant worker s f shape fitting at ready =
     let at_own : frame_at tenant.frames f.serial ≡ Some f = ap (frame_at tenant.frames) (found-serial tenant.frames s f at) ∙ at in
     let free = ready-free f.state (not-false (is_ready f.state) ready) in
     fits-counted fits rooted origins (in_state f.serial (Running worker) tenant) (fits-same-mark fits rooted origins tenant f.serial (Running worker) shape fitting
-    (λ g at_g. ap (λ (y : F). mark_of y.state) (found-same tenant.frames f.serial f.serial g f refl at_g at_own) ∙ free))
+    (λ g at_g. ap (λ (y : F). mark_of_state y.state) (found-same tenant.frames f.serial f.serial g f refl at_g at_own) ∙ free))
 
 -- Advance
 pub advanced-fits : {I A : Type 0} (functions : Functions I A) (fits : Fitting) (rooted : Rooting) (origins : Lists) (tenant : Tenant) (worker : ℕ) (name : FrameId) (f : F) → IsLawful functions fits rooted → IsShaped tenant → TenantFits fits rooted origins tenant →
-    frame_at tenant.frames name.serial ≡ Some f → applies (advance_tests tenant worker f (act_of functions tenant f)) ≡ false → LeftFits fits rooted origins (advanced functions tenant worker name f (act_of functions tenant f)).0
+    frame_at tenant.frames name.serial ≡ Some f → applies (advance_tests tenant worker f (act_by_sight functions tenant f)) ≡ false → LeftFits fits rooted origins (advanced functions tenant worker name f (act_by_sight functions tenant f)).0
 advanced-fits functions fits rooted origins tenant worker name f lawful shape fitting at passed =
-    let act = act_of functions tenant f in
+    let act = act_by_sight functions tenant f in
     let p = or_parts (not (is_run_by worker f.state)) (applies (no_step tenant ∷ act_tests tenant f act)) passed in
     let q = or_parts (eqb (left tenant).steps 0) (applies (act_tests tenant f act)) p.1 in
     advance-fits functions fits rooted origins tenant worker name f lawful shape fitting at (run-free worker f.state (not-false (is_run_by worker f.state) p.0)) (first (is_bad_act f.value (has_child tenant.frames f.serial) act) _ q.1)
@@ -87,7 +87,7 @@ inlet-fits {I} functions fits rooted origins tenant worker name f parent lawful 
     let u = named-under tree name.serial parent f shape.tree at named in
     let leaf = returned-childless tenant name.serial f shape at (returned-marked f.state returned) in
     let above_same = found-same tree u.0.parent parent u.0.above g.0 u.1 u.0.there g.1 in
-    let free : mark_of g.0.state ≡ Neither = ap (λ (y : F). mark_of y.state) (sym above_same) ∙ parent-neither tree name.serial f shape.tree shape.childless at u.0 in
+    let free : mark_of_state g.0.state ≡ Neither = ap (λ (y : F). mark_of_state y.state) (sym above_same) ∙ parent-neither tree name.serial f shape.tree shape.childless at u.0 in
     let own : words_in tree parent ≡ g.0.value = words-found tree parent g.0 g.1 in
     let same : act ≡ functions.inlet g.0.value f.value = ap (λ (w : List ℕ). functions.inlet w f.value) own in
     let inside : is_outside (functions.inlet g.0.value f.value).stores g.0.value ≡ false = sym (ap (λ (w : List ℕ). is_outside (functions.inlet w f.value).stores w) own) ∙ r.0 in
@@ -103,8 +103,8 @@ inlet-fits {I} functions fits rooted origins tenant worker name f parent lawful 
     let counted_fit = fits-counted fits rooted origins (holding parent words (record tenant { frames = frames })) whole in
     elim (cases_Bool (does_wait (frame_at frames parent) && (act.abort || act.wake || not (has_child frames parent)))) [
       | inl woken ↦ rw woken (fits-same-mark fits rooted origins after parent (Ready worker) (inlet-stored-shaped tenant worker name.serial f parent act at named passed shape) counted_fit
-          (λ h at_h. ap (λ (y : F). mark_of y.state) (found-same after.frames parent parent h (record g.0 { value = words }) refl at_h
-          (frame_at-with_words parent words frames g.0 (staying-parent tenant name.serial parent f g.0 act.abort at named g.1 shape))) ∙ free))
+          (λ h at_h. ap (λ (y : F). mark_of_state y.state) (found-same after.frames parent parent h (record g.0 { value = words }) refl at_h
+          (frame_at-with_frame_words parent words frames g.0 (staying-parent tenant name.serial parent f g.0 act.abort at named g.1 shape))) ∙ free))
       | inr sleeps ↦ rw sleeps counted_fit
     ]
 

@@ -4,13 +4,13 @@ use Rattle.std.specs.List.{filter}
 use Rattle.std.proofs.lemmas.Bool.{cases_Bool, cases_eq, false≢true, ne_eqb, eqb-true, not-true, not_from_false}
 use Rattle.frame_tree.specs.declared.names.State.{State}
 use Rattle.frame_tree.specs.Frames.{Frame, frame_at, has_frame, parent_of, goes_under, children_of, aborted, frames_without, with_state, values_of, IsNextFrame, IsTree}
-use Rattle.frame_tree.specs.TreeLaws.{is_that, is_child_of, AreRising, Each, if_kept}
+use Rattle.frame_tree.specs.TreeLaws.{is_that, is_child_of, AreSerialsRising, Each, if_kept}
 use Rattle.frame_tree.proofs.TreeLaws.{there-found, found-serial, missing, frame_at-push, frame_at_other-push, above-missing, tree-rising, placed, under-through, found-each, each-found, children-by-paths}
 use Rattle.frame_tree.proofs.TreeChanges.{aborted-itself, rising-filter, frame_at-filter, frame_at-stays, filter-found, tree-aborted, tree-without, frame_at-without, frame_at_other-without, aborted-leaf}
 use Rattle.frame_tree.proofs.TreeValues.{children_of-push, frame_at-with_state, frame_at_other-with_state, children_of-with_state, values_of-with_state}
-use Rattle.sched_rules.specs.Trees.{Tree, with_words}
-use Rattle.sched_rules.specs.Laws.{Fitting, Mark, mark_of, EachFits, EveryFrameFits}
-use Rattle.sched_laws.proofs.Words.{frame_at-with_words, frame_at_other-with_words, children_of-with_words, with_words-missing}
+use Rattle.sched_rules.specs.Trees.{Tree, with_frame_words}
+use Rattle.sched_rules.specs.Laws.{Fitting, Mark, mark_of_state, EachFits, EveryFrameFits}
+use Rattle.sched_laws.proofs.Words.{frame_at-with_frame_words, frame_at_other-with_frame_words, children_of-with_frame_words, with_frame_words-missing}
 
 abbrev pub Lists : Type 0
 Lists = List (List ℕ)
@@ -28,26 +28,26 @@ kids tree s = values_of (children_of tree s)
 
 -- the fact holds of each frame
 abbrev pub Holds : Fact → Tree → Type 0
-Holds Q tree = (s : ℕ) (f : F) → frame_at tree s ≡ Some f → Q s f.value (kids tree s) (mark_of f.state)
+Holds Q tree = (s : ℕ) (f : F) → frame_at tree s ≡ Some f → Q s f.value (kids tree s) (mark_of_state f.state)
 
 -- fitting is such a fact
-each-fits : (fits : Fitting) (tree frames : Tree) → EachFits fits tree frames → Each (λ f. fits f.value (kids tree f.serial) (mark_of f.state)) frames
+each-fits : (fits : Fitting) (tree frames : Tree) → EachFits fits tree frames → Each (λ f. fits f.value (kids tree f.serial) (mark_of_state f.state)) frames
 each-fits fits tree [] all = tt
 each-fits fits tree (x ∷ xs) all = (all.0, each-fits fits tree xs all.1)
 
-fits-each : (fits : Fitting) (tree frames : Tree) → Each (λ f. fits f.value (kids tree f.serial) (mark_of f.state)) frames → EachFits fits tree frames
+fits-each : (fits : Fitting) (tree frames : Tree) → Each (λ f. fits f.value (kids tree f.serial) (mark_of_state f.state)) frames → EachFits fits tree frames
 fits-each fits tree [] all = tt
 fits-each fits tree (x ∷ xs) all = (all.0, fits-each fits tree xs all.1)
 
 pub fits-holds : (fits : Fitting) (tree : Tree) → EveryFrameFits fits tree → Holds (λ s w k m. fits w k m) tree
 fits-holds fits tree all s f at =
-    let P : ℕ → Type 0 = λ n. fits f.value (kids tree n) (mark_of f.state) in
-    subst P (found-serial tree s f at) (each-found (λ f. fits f.value (kids tree f.serial) (mark_of f.state)) tree s f (each-fits fits tree tree all) at)
+    let P : ℕ → Type 0 = λ n. fits f.value (kids tree n) (mark_of_state f.state) in
+    subst P (found-serial tree s f at) (each-found (λ f. fits f.value (kids tree f.serial) (mark_of_state f.state)) tree s f (each-fits fits tree tree all) at)
 
 pub holds-fits : (fits : Fitting) (tree : Tree) → IsTree tree → Holds (λ s w k m. fits w k m) tree → EveryFrameFits fits tree
 holds-fits fits tree t all =
-    fits-each fits tree tree (found-each (λ f. fits f.value (kids tree f.serial) (mark_of f.state)) tree (tree-rising tree t)
-    (λ s f at. let P : ℕ → Type 0 = λ n. fits f.value (kids tree n) (mark_of f.state) in subst P (sym (found-serial tree s f at)) (all s f at)))
+    fits-each fits tree tree (found-each (λ f. fits f.value (kids tree f.serial) (mark_of_state f.state)) tree (tree-rising tree t)
+    (λ s f at. let P : ℕ → Type 0 = λ n. fits f.value (kids tree n) (mark_of_state f.state) in subst P (sym (found-serial tree s f at)) (all s f at)))
 
 -- the same frame
 pub found-same : (tree : Tree) (s n : ℕ) (f g : F) → s ≡ n → frame_at tree s ≡ Some f → frame_at tree n ≡ Some g → f ≡ g
@@ -55,12 +55,12 @@ found-same tree s n f g e at_s at_n = let both : ◌≡◌ {A = Option F} (Some 
 
 -- another state
 abbrev pub BeforeState : Fact → ℕ → State → Fact
-BeforeState Q n state s w k m = (s ≡ n → Q s w k (mark_of state)) × (s ≢ n → Q s w k m)
+BeforeState Q n state s w k m = (s ≡ n → Q s w k (mark_of_state state)) × (s ≢ n → Q s w k m)
 
 pub holds-with_state : (Q : Fact) (n : ℕ) (state : State) (tree : Tree) → IsTree tree → Holds (BeforeState Q n state) tree → Holds Q (with_state n state tree)
 holds-with_state Q n state tree t all s f at = elim (cases_eq s n) [
   | inr other ↦ (let old : frame_at tree s ≡ Some f = sym (frame_at_other-with_state n state tree s (λ e. other (sym e))) ∙ at in
-      let P : Lists → Type 0 = λ k. Q s f.value k (mark_of f.state) in
+      let P : Lists → Type 0 = λ k. Q s f.value k (mark_of_state f.state) in
       subst P (sym same) ((all s f old).1 other))
   | inl is ↦ here is (has_frame tree n) refl
 ]
@@ -75,13 +75,13 @@ holds-with_state Q n state tree t all s f at = elim (cases_eq s n) [
       | inr other ↦ rw (other, other) (lacking xs (rw other at lacks))
     ]
 
-    here : s ≡ n → (there : Bool) → has_frame tree n ≡ there → Q s f.value (kids (with_state n state tree) s) (mark_of f.state)
+    here : s ≡ n → (there : Bool) → has_frame tree n ≡ there → Q s f.value (kids (with_state n state tree) s) (mark_of_state f.state)
     here is true there =
         let g = there-found tree n there in
         let e : record g.0 { state = state } ≡ f = found-same (with_state n state tree) n s (record g.0 { state = state }) f (sym is) (frame_at-with_state n state tree g.0 g.1) at in
         let own = (all s g.0 (ap (frame_at tree) is ∙ g.1)).0 is in
-        let P : F → Type 0 = λ h. Q s h.value (kids (with_state n state tree) s) (mark_of h.state) in
-        let R : Lists → Type 0 = λ k. Q s g.0.value k (mark_of state) in
+        let P : F → Type 0 = λ h. Q s h.value (kids (with_state n state tree) s) (mark_of_state h.state) in
+        let R : Lists → Type 0 = λ k. Q s g.0.value k (mark_of_state state) in
         subst P e (subst R (sym same) own)
     here is false lacks =
         let none : frame_at (with_state n state tree) n ≡ None = missing (with_state n state tree) n (lacking tree lacks) in
@@ -92,7 +92,7 @@ pub record IsAmong (xs : Tree) (n : ℕ) (f : F) : Type 0 where
   pub older : Tree
   pub younger : Tree
   pub all : xs ≡ older ++ f ∷ younger
-  pub stored : (words : List ℕ) → with_words n words xs ≡ older ++ record f { value = words } ∷ younger
+  pub stored : (words : List ℕ) → with_frame_words n words xs ≡ older ++ record f { value = words } ∷ younger
   pub removed : frames_without n xs ≡ older ++ younger
 
 pub without-missing : (n : ℕ) (xs : Tree) → has_frame xs n ≡ false → frames_without n xs ≡ xs
@@ -102,7 +102,7 @@ without-missing n (x ∷ xs) lacks = elim (cases_Bool (eqb x.serial n)) [
   | inr other ↦ rw other (ap (λ (ys : Tree). x ∷ ys) (without-missing n xs (rw other at lacks)))
 ]
 
-pub among : (xs : Tree) (n : ℕ) (f : F) → AreRising xs → frame_at xs n ≡ Some f → IsAmong xs n f
+pub among : (xs : Tree) (n : ℕ) (f : F) → AreSerialsRising xs → frame_at xs n ≡ Some f → IsAmong xs n f
 among [] n f rising at = absurd cc
 among (x ∷ xs) n f rising at = elim (cases_Bool (eqb x.serial n)) [
   | inl same ↦ (let both : ◌≡◌ {A = Option F} (Some x) (Some f) = rw same at at in
@@ -113,7 +113,7 @@ among (x ∷ xs) n f rising at = elim (cases_Bool (eqb x.serial n)) [
         older = [];
         younger = xs;
         all = ap (λ (y : F). y ∷ xs) e;
-        stored = λ words. rw same (ap (λ (ys : Tree). record x { value = words } ∷ ys) (with_words-missing n words xs lacks) ∙ ap (λ (y : F). record y { value = words } ∷ xs) e);
+        stored = λ words. rw same (ap (λ (ys : Tree). record x { value = words } ∷ ys) (with_frame_words-missing n words xs lacks) ∙ ap (λ (y : F). record y { value = words } ∷ xs) e);
         removed = rw same (without-missing n xs lacks);
       })
   | inr other ↦ (let rest = among xs n f rising.1 (rw other at at) in
@@ -138,8 +138,8 @@ pub record IsAmongKids (tree : Tree) (s n : ℕ) (f : F) : Type 0 where
   pub older : Lists
   pub younger : Lists
   pub all : kids tree s ≡ older ++ f.value ∷ younger
-  pub stored : (words : List ℕ) → kids (with_words n words tree) s ≡ older ++ words ∷ younger
-  pub frames : (words : List ℕ) → children_of (with_words n words tree) s ≡ with_words n words (children_of tree s)
+  pub stored : (words : List ℕ) → kids (with_frame_words n words tree) s ≡ older ++ words ∷ younger
+  pub frames : (words : List ℕ) → children_of (with_frame_words n words tree) s ≡ with_frame_words n words (children_of tree s)
   pub removed : values_of (frames_without n (children_of tree s)) ≡ older ++ younger
 
 pub among-kids : (tree : Tree) (s n : ℕ) (f : F) → IsTree tree → frame_at tree n ≡ Some f → IsChildOf s f → IsAmongKids tree s n f
@@ -152,8 +152,8 @@ among-kids tree s n f t at child =
       older = values_of a.older;
       younger = values_of a.younger;
       all = ap values_of (is ∙ a.all) ∙ values-append a.older (f ∷ a.younger);
-      stored = λ words. ap values_of (children_of-with_words n words tree s t ∙ ap (with_words n words) is ∙ a.stored words) ∙ values-append a.older (record f { value = words } ∷ a.younger);
-      frames = λ words. children_of-with_words n words tree s t;
+      stored = λ words. ap values_of (children_of-with_frame_words n words tree s t ∙ ap (with_frame_words n words) is ∙ a.stored words) ∙ values-append a.older (record f { value = words } ∷ a.younger);
+      frames = λ words. children_of-with_frame_words n words tree s t;
       removed = ap (λ (ys : Tree). values_of (frames_without n ys)) is ∙ ap values_of a.removed ∙ values-append a.older a.younger;
     }
 
@@ -174,23 +174,23 @@ BeforeWords Q n f words s w k m =
     × (s ≢ n → is_child_of s f.path ≡ true → (older younger : Lists) → k ≡ older ++ f.value ∷ younger → Q s w (older ++ words ∷ younger) m)
     × (s ≢ n → is_child_of s f.path ≡ false → Q s w k m)
 
-pub holds-with_words : (Q : Fact) (n : ℕ) (f : F) (words : List ℕ) (tree : Tree) → IsTree tree → frame_at tree n ≡ Some f → is_child_of n f.path ≡ false → Holds (BeforeWords Q n f words) tree → Holds Q (with_words n words tree)
-holds-with_words Q n f words tree t at_n apart all s h at = elim (cases_eq s n) [
-  | inl is ↦ (let e : record f { value = words } ≡ h = found-same (with_words n words tree) n s (record f { value = words }) h (sym is) (frame_at-with_words n words tree f at_n) at in
+pub holds-with_frame_words : (Q : Fact) (n : ℕ) (f : F) (words : List ℕ) (tree : Tree) → IsTree tree → frame_at tree n ≡ Some f → is_child_of n f.path ≡ false → Holds (BeforeWords Q n f words) tree → Holds Q (with_frame_words n words tree)
+holds-with_frame_words Q n f words tree t at_n apart all s h at = elim (cases_eq s n) [
+  | inl is ↦ (let e : record f { value = words } ≡ h = found-same (with_frame_words n words tree) n s (record f { value = words }) h (sym is) (frame_at-with_frame_words n words tree f at_n) at in
       let own = (all s f (ap (frame_at tree) is ∙ at_n)).0 is in
-      let P : F → Type 0 = λ y. Q s y.value (kids (with_words n words tree) s) (mark_of y.state) in
-      let R : Lists → Type 0 = λ k. Q s words k (mark_of f.state) in
+      let P : F → Type 0 = λ y. Q s y.value (kids (with_frame_words n words tree) s) (mark_of_state y.state) in
+      let R : Lists → Type 0 = λ k. Q s words k (mark_of_state f.state) in
       subst P e (subst R (sym (same (ap (λ (i : ℕ). is_child_of i f.path) is ∙ apart))) own))
-  | inr other ↦ (let old : frame_at tree s ≡ Some h = sym (frame_at_other-with_words n words tree s (λ e. other (sym e))) ∙ at in
-      let P : Lists → Type 0 = λ k. Q s h.value k (mark_of h.state) in
+  | inr other ↦ (let old : frame_at tree s ≡ Some h = sym (frame_at_other-with_frame_words n words tree s (λ e. other (sym e))) ∙ at in
+      let P : Lists → Type 0 = λ k. Q s h.value k (mark_of_state h.state) in
       elim (cases_Bool (is_child_of s f.path)) [
         | inl child ↦ (let a = among-kids tree s n f t at_n child in subst P (sym (a.stored words)) ((all s h old).1 other child a.older a.younger a.all))
         | inr none ↦ subst P (sym (same none)) ((all s h old).2 other none)
       ])
 ]
   where
-    same : is_child_of s f.path ≡ false → kids (with_words n words tree) s ≡ kids tree s
-    same none = ap values_of (children_of-with_words n words tree s t ∙ with_words-missing n words (children_of tree s) (not-among tree s n f t at_n none))
+    same : is_child_of s f.path ≡ false → kids (with_frame_words n words tree) s ≡ kids tree s
+    same none = ap values_of (children_of-with_frame_words n words tree s t ∙ with_frame_words-missing n words (children_of tree s) (not-among tree s n f t at_n none))
 
 -- no frame is its own child
 pub not-own-child : (tree : Tree) (n : ℕ) (f : F) → IsTree tree → frame_at tree n ≡ Some f → is_child_of n f.path ≡ false
@@ -203,16 +203,16 @@ not-own-child tree n f t at = elim (placed tree n f t at) [
 abbrev pub BeforePush : Fact → F → Fact
 BeforePush Q y s w k m = (is_child_of s y.path ≡ true → Q s w (k ++ y.value ∷ []) m) × (is_child_of s y.path ≡ false → Q s w k m)
 
-pub holds-push : (Q : Fact) (tree : Tree) (y : F) → IsTree tree → IsNextFrame tree y → is_child_of y.serial y.path ≡ false → children_of tree y.serial ≡ [] → Q y.serial y.value [] (mark_of y.state) →
+pub holds-push : (Q : Fact) (tree : Tree) (y : F) → IsTree tree → IsNextFrame tree y → is_child_of y.serial y.path ≡ false → children_of tree y.serial ≡ [] → Q y.serial y.value [] (mark_of_state y.state) →
     Holds (BeforePush Q y) tree → Holds Q (tree ++ y ∷ [])
 holds-push Q tree y t next apart leaf new all s f at = elim (cases_eq y.serial s) [
   | inl is ↦ (let e : y ≡ f = found-same (tree ++ y ∷ []) y.serial s y f is (frame_at-push tree y next.above) at in
-      let P : F → Type 0 = λ h. Q s h.value (kids (tree ++ y ∷ []) s) (mark_of h.state) in
-      let R : Lists → Type 0 = λ k. Q s y.value k (mark_of y.state) in
-      let S : ℕ → Type 0 = λ n. Q n y.value [] (mark_of y.state) in
+      let P : F → Type 0 = λ h. Q s h.value (kids (tree ++ y ∷ []) s) (mark_of_state h.state) in
+      let R : Lists → Type 0 = λ k. Q s y.value k (mark_of_state y.state) in
+      let S : ℕ → Type 0 = λ n. Q n y.value [] (mark_of_state y.state) in
       subst P e (subst R (sym (none is)) (subst S is new)))
   | inr other ↦ (let old : frame_at tree s ≡ Some f = sym (frame_at_other-push tree y s other) ∙ at in
-      let P : Lists → Type 0 = λ k. Q s f.value k (mark_of f.state) in
+      let P : Lists → Type 0 = λ k. Q s f.value k (mark_of_state f.state) in
       elim (cases_Bool (is_child_of s y.path)) [
         | inl child ↦ subst P (sym (more child)) ((all s f old).0 child)
         | inr no_child ↦ subst P (sym (same no_child)) ((all s f old).1 no_child)
@@ -260,7 +260,7 @@ holds-without Q n f tree t at_n leaf all s h at =
     let apart : s ≢ n = λ e. (let both : ◌≡◌ {A = Option F} None (Some h) = sym (frame_at-without n tree) ∙ ap (frame_at (frames_without n tree)) (sym e) ∙ at in absurd cc) in
     let old : frame_at tree s ≡ Some h = sym (frame_at_other-without n tree s (λ e. apart (sym e))) ∙ at in
     let kept : kids (frames_without n tree) s ≡ values_of (frames_without n (children_of tree s)) = ap values_of (children-filter (λ x. not (eqb x.serial n)) tree s t left) in
-    let P : Lists → Type 0 = λ k. Q s h.value k (mark_of h.state) in
+    let P : Lists → Type 0 = λ k. Q s h.value k (mark_of_state h.state) in
     elim (cases_Bool (is_child_of s f.path)) [
       | inl child ↦ (let a = among-kids tree s n f t at_n child in subst P (sym (kept ∙ a.removed)) ((all s h old apart).0 child a.older a.younger a.all))
       | inr none ↦ subst P (sym (kept ∙ ap values_of (without-missing n (children_of tree s) (not-among tree s n f t at_n none)))) ((all s h old apart).1 none)
@@ -294,7 +294,7 @@ pub holds-aborted : (Q : Fact) (p : ℕ) (tree : Tree) → IsTree tree → Holds
 holds-aborted Q p tree t all s h at =
     let found = filter-found (λ x. not (goes_under p x.path)) tree s h (tree-rising tree t) at in
     let stays = not-true (goes_under p h.path) found.1 in
-    let P : Lists → Type 0 = λ k. Q s h.value k (mark_of h.state) in
+    let P : Lists → Type 0 = λ k. Q s h.value k (mark_of_state h.state) in
     elim (cases_eq s p) [
       | inl is ↦ subst P (sym (ap (kids (aborted p tree)) is ∙ ap values_of (aborted-leaf p tree t))) ((all s h found.0).0 is)
       | inr other ↦ subst P (sym (ap values_of (children-filter (λ x. not (goes_under p x.path)) tree s t (tree-aborted p tree t) ∙ children-stay p s h tree t found.0 stays other))) ((all s h found.0).1 other)
@@ -320,5 +320,5 @@ holds-without_job Q p tree t all top = by (has_frame tree p) refl
         let apart : s ≢ p = λ e. (let both : ◌≡◌ {A = Option F} None (Some h) = sym (frame_at-without p (aborted p tree)) ∙ ap (frame_at (frames_without p (aborted p tree))) (sym e) ∙ at in absurd cc) in
         let cut_lacks : has_frame (aborted p tree) p ≡ false = no-frame (aborted p tree) p (frame_at-filter (λ x. not (goes_under p x.path)) tree p (tree-rising tree t) ∙ ap (if_kept (λ x. not (goes_under p x.path))) (missing tree p lacks)) in
         let same = without-missing p (aborted p tree) cut_lacks in
-        let P : Tree → Type 0 = λ ys. Q s h.value (kids ys s) (mark_of h.state) in
+        let P : Tree → Type 0 = λ ys. Q s h.value (kids ys s) (mark_of_state h.state) in
         subst P (sym same) (kept s h (ap (λ (ys : Tree). frame_at ys s) (sym same) ∙ at) apart)

@@ -5,7 +5,7 @@ use Rattle.frame_tree.specs.declared.names.State.{State}
 use Rattle.frame_tree.specs.declared.names.State.TheVariants.{Ready}
 use Rattle.frame_tree.specs.declared.names.FrameId.{FrameId}
 use Rattle.frame_tree.specs.Frames.{Frame, frame_at, has_frame, is_ready, ready_name, first_of_two, newest_ready_of, IsReadyAt}
-use Rattle.frame_tree.specs.TreeLaws.{AllAboveSerial, AreRising}
+use Rattle.frame_tree.specs.TreeLaws.{AllAboveSerial, AreSerialsRising}
 use Rattle.frame_tree.proofs.TreeLaws.{missing}
 use Rattle.sched_rules.specs.Trees.{Tree}
 use Rattle.sched_laws.specs.Newest.{IsNewestReady}
@@ -64,7 +64,7 @@ by-first tenant x xs rest (Ready home) is =
     })
 by-first tenant x xs rest _ is = not-first tenant x xs (ap is_ready is) (ap (ready_name tenant x.serial) is) rest
 
-pub newest-answers : (tenant : ℕ) (frames : Tree) → AreRising frames → Answers tenant frames (newest_ready_of tenant frames)
+pub newest-answers : (tenant : ℕ) (frames : Tree) → AreSerialsRising frames → Answers tenant frames (newest_ready_of tenant frames)
 newest-answers tenant [] rising = λ s f at. absurd cc
 newest-answers tenant (x ∷ xs) rising = by (newest_ready_of tenant xs) refl (newest-answers tenant xs rising.1)
   where
@@ -94,8 +94,8 @@ newest-answers tenant (x ∷ xs) rising = by (newest_ready_of tenant xs) refl (n
               ];
             }
 
-pub newest-found : (tenant : ℕ) (frames : Tree) (name : FrameId) (home : ℕ) → AreRising frames → newest_ready_of tenant frames ≡ Some (name, home) → IsNewestReady tenant frames name home
+pub newest-found : (tenant : ℕ) (frames : Tree) (name : FrameId) (home : ℕ) → AreSerialsRising frames → newest_ready_of tenant frames ≡ Some (name, home) → IsNewestReady tenant frames name home
 newest-found tenant frames name home rising is = let P : Option (FrameId × ℕ) → Type 0 = λ o. Answers tenant frames o in subst P is (newest-answers tenant frames rising)
 
-pub newest-none : (tenant : ℕ) (frames : Tree) → AreRising frames → newest_ready_of tenant frames ≡ None → NoneReady frames
+pub newest-none : (tenant : ℕ) (frames : Tree) → AreSerialsRising frames → newest_ready_of tenant frames ≡ None → NoneReady frames
 newest-none tenant frames rising is = let P : Option (FrameId × ℕ) → Type 0 = λ o. Answers tenant frames o in subst P is (newest-answers tenant frames rising)

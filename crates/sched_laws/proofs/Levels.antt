@@ -10,13 +10,13 @@ use Rattle.frame_tree.proofs.TreeChanges.{frame_at-stays}
 use Rattle.sched_rules.specs.declared.job.Job.{Job}
 use Rattle.sched_rules.specs.declared.job.Job.TheVariants.{Live, Done, Spent, Cancelled}
 use Rattle.sched_rules.specs.Functions.{Functions}
-use Rattle.sched_rules.specs.Trees.{Tree, Tenant, words_of, words_in, sight, has_child, is_root, with_words, with_ended, is_live_at}
-use Rattle.sched_rules.specs.Laws.{Fitting, Rooting, Mark, Neither, mark_of, ParentFits, NextKeeps, InletKeeps, AcceptKeeps, EveryFrameFits}
+use Rattle.sched_rules.specs.Trees.{Tree, Tenant, frame_words, words_in, sight, has_child, is_root, with_frame_words, with_ended, is_live_at}
+use Rattle.sched_rules.specs.Laws.{Fitting, Rooting, Mark, Neither, mark_of_state, ParentFits, NextKeeps, InletKeeps, AcceptKeeps, EveryFrameFits}
 use Rattle.sched_laws.specs.Shapes.{IsShaped, AreMarkedChildless, IsRootThere, AreLiveRootsThere, live_count}
 use Rattle.sched_laws.specs.Fitted.{JobFits, JobsFit, TenantFits}
 use Rattle.sched_laws.proofs.Parts.{childless-at, no-child}
 use Rattle.sched_laws.proofs.Consequences.{root-counted}
-use Rattle.sched_laws.proofs.Holds.{Lists, F, Fact, kids, Holds, fits-holds, found-same, among-kids, not-own-child, holds-with_words}
+use Rattle.sched_laws.proofs.Holds.{Lists, F, Fact, kids, Holds, fits-holds, found-same, among-kids, not-own-child, holds-with_frame_words}
 
 -- the laws of a procedure
 pub record IsLawful {I A : Type 0} (functions : Functions I A) (fits : Fitting) (rooted : Rooting) : Type 0 where
@@ -26,7 +26,7 @@ pub record IsLawful {I A : Type 0} (functions : Functions I A) (fits : Fitting) 
 
 -- the words in a tree
 pub words-found : (tree : Tree) (s : ℕ) (f : F) → frame_at tree s ≡ Some f → words_in tree s ≡ f.value
-words-found tree s f at = ap words_of at
+words-found tree s f at = ap frame_words at
 
 -- the sight of a frame: its own words first, then the sight of its parent
 pub sight-top : (tree : Tree) (s : ℕ) (f : F) → frame_at tree s ≡ Some f → IsTop f → sight tree f.path ≡ f.value ∷ []
@@ -47,7 +47,7 @@ sight-head tree s f t at = elim (placed tree s f t at) [
 ]
 
 -- a frame with a child neither computes nor has returned
-pub parent-neither : (tree : Tree) (s : ℕ) (f : F) → IsTree tree → AreMarkedChildless tree tree → frame_at tree s ≡ Some f → (u : IsUnder tree f) → mark_of u.above.state ≡ Neither
+pub parent-neither : (tree : Tree) (s : ℕ) (f : F) → IsTree tree → AreMarkedChildless tree tree → frame_at tree s ≡ Some f → (u : IsUnder tree f) → mark_of_state u.above.state ≡ Neither
 parent-neither tree s f t all at u = elim (childless-at tree u.parent u.above all u.there) [
   | inl neither ↦ neither
   | inr none ↦ (let child : is_child_of u.parent f.path ≡ true = ap (is_that u.parent) u.named ∙ eq-eqb u.parent u.parent refl in
@@ -100,26 +100,26 @@ kept-above C fits rooted tree s f words t all every at has law = elim (placed tr
 
 -- after the words of a frame are changed, where the fact holds of it, and of all others that fit
 pub holds-after-words : (Q : Fact) (fits : Fitting) (rooted : Rooting) (tree : Tree) (n : ℕ) (f : F) (words : List ℕ) → IsTree tree → AreMarkedChildless tree tree → EveryFrameFits fits tree → frame_at tree n ≡ Some f →
-    IsKeptAbove fits rooted tree f words → Q n words (kids tree n) (mark_of f.state) → ((s : ℕ) (w : List ℕ) (k : Lists) (m : Mark) → s ≢ n → fits w k m → Q s w k m) → Holds Q (with_words n words tree)
+    IsKeptAbove fits rooted tree f words → Q n words (kids tree n) (mark_of_state f.state) → ((s : ℕ) (w : List ℕ) (k : Lists) (m : Mark) → s ≢ n → fits w k m → Q s w k m) → Holds Q (with_frame_words n words tree)
 holds-after-words Q fits rooted tree n f words t all every at kept own up =
-    holds-with_words Q n f words tree t at (not-own-child tree n f t at) (λ s h at_s. (
+    holds-with_frame_words Q n f words tree t at (not-own-child tree n f t at) (λ s h at_s. (
       (λ is. (let e : f ≡ h = found-same tree n s f h (sym is) at at_s in
-          let P : ℕ → Type 0 = λ i. Q i words (kids tree i) (mark_of h.state) in
-          let R : F → Type 0 = λ y. Q n words (kids tree n) (mark_of y.state) in subst P (sym is) (subst R e own))),
+          let P : ℕ → Type 0 = λ i. Q i words (kids tree i) (mark_of_state h.state) in
+          let R : F → Type 0 = λ y. Q n words (kids tree n) (mark_of_state y.state) in subst P (sym is) (subst R e own))),
       (λ other child older younger split. above s h at_s other child older younger split),
-      (λ other none. up s h.value (kids tree s) (mark_of h.state) other (fits-holds fits tree every s h at_s)),
+      (λ other none. up s h.value (kids tree s) (mark_of_state h.state) other (fits-holds fits tree every s h at_s)),
     ))
   where
-    above : (s : ℕ) (h : F) → frame_at tree s ≡ Some h → s ≢ n → is_child_of s f.path ≡ true → (older younger : Lists) → kids tree s ≡ older ++ f.value ∷ younger → Q s h.value (older ++ words ∷ younger) (mark_of h.state)
+    above : (s : ℕ) (h : F) → frame_at tree s ≡ Some h → s ≢ n → is_child_of s f.path ≡ true → (older younger : Lists) → kids tree s ≡ older ++ f.value ∷ younger → Q s h.value (older ++ words ∷ younger) (mark_of_state h.state)
     above s h at_s other child older younger split = elim (placed tree n f t at) [
       | inl top ↦ absurd (false≢true (sym (ap (is_that s) top.0) ∙ child))
       | inr u ↦ (let parent : u.parent ≡ s = eqb-true u.parent s (sym (ap (is_that s) u.named) ∙ child) in
           let e : u.above ≡ h = found-same tree u.parent s u.above h parent u.there at_s in
           let fitting = kept.parent u older younger (ap (kids tree) parent ∙ split) in
-          let mark : Neither ≡ mark_of h.state = sym (parent-neither tree n f t all at u) ∙ ap (λ (y : F). mark_of y.state) e in
+          let mark : Neither ≡ mark_of_state h.state = sym (parent-neither tree n f t all at u) ∙ ap (λ (y : F). mark_of_state y.state) e in
           let P : F → Type 0 = λ y. fits y.value (older ++ words ∷ younger) Neither in
           let R : Mark → Type 0 = λ m. fits h.value (older ++ words ∷ younger) m in
-          up s h.value (older ++ words ∷ younger) (mark_of h.state) other (subst R mark (subst P e fitting)))
+          up s h.value (older ++ words ∷ younger) (mark_of_state h.state) other (subst R mark (subst P e fitting)))
     ]
 
 -- the jobs, where their roots still belong to their origins

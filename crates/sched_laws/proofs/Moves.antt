@@ -12,12 +12,12 @@ use Rattle.frame_tree.proofs.TreeChanges.{AllBelow-filter, tree-aborted, tree-wi
 use Rattle.frame_tree.proofs.TreeValues.{tree-new_frame, new-frame-next, parent_of-path_under, AllBelow-alike, path_in-alike, with_state-alike, tree-with_state, values_of-with_state}
 use Rattle.sched_rules.specs.declared.job.Job.{Job}
 use Rattle.sched_rules.specs.declared.job.Job.TheVariants.{Live}
-use Rattle.sched_rules.specs.Trees.{Tree, Tenant, has_child, charged_for, is_root, with_words}
-use Rattle.sched_rules.specs.Laws.{Neither, mark_of}
+use Rattle.sched_rules.specs.Trees.{Tree, Tenant, has_child, charged_for, is_root, with_frame_words}
+use Rattle.sched_rules.specs.Laws.{Neither, mark_of_state}
 use Rattle.sched_rules.specs.Lone.{counted, in_state, holding, opened, ended}
 use Rattle.sched_laws.specs.Shapes.{IsShaped, HaveWords, live_count}
-use Rattle.sched_laws.proofs.Words.{with_words-alike, tree-with_words, charged-one, charged-with_words, charged-append, charged-filter, charged-values}
-use Rattle.sched_laws.proofs.Parts.{childless-with_state, childless-with_words, childless-push, childless-filter, path-there, roots-alike, roots-append, roots-filter, roots-more, live_count-append, one-live, no-live, IsEnd, length-with_ended, roots-with_ended, live-kept, live-append, live-with_ended, roots-stay, words-values, words-append, words-filter, words-with_words}
+use Rattle.sched_laws.proofs.Words.{with_frame_words-alike, tree-with_frame_words, charged-one, charged-with_frame_words, charged-append, charged-filter, charged-values}
+use Rattle.sched_laws.proofs.Parts.{childless-with_state, childless-with_frame_words, childless-push, childless-filter, path-there, roots-alike, roots-append, roots-filter, roots-more, live_count-append, one-live, no-live, IsEnd, length-with_ended, roots-with_ended, live-kept, live-append, live-with_ended, roots-stay, words-values, words-append, words-filter, words-with_frame_words}
 
 -- one more step is counted, where one was left
 pub shaped-counted : (tenant : Tenant) → tenant.steps < 16 * tenant.reserve.nodes → IsShaped tenant → IsShaped (counted tenant)
@@ -25,7 +25,7 @@ shaped-counted tenant left s =
     record { tree = s.tree; given = s.given; childless = s.childless; roots = s.roots; live = s.live; few_jobs = s.few_jobs; words = s.words; charged = s.charged; opened = s.opened; ticks = omega (arith, left) }
 
 -- another state in a frame: one that neither computes nor has returned, or of a frame without a child
-pub shaped-in_state : (n : ℕ) (state : State) (tenant : Tenant) → (mark_of state ≡ Neither) ⊎ (has_child tenant.frames n ≡ false) → IsShaped tenant → IsShaped (in_state n state tenant)
+pub shaped-in_state : (n : ℕ) (state : State) (tenant : Tenant) → (mark_of_state state ≡ Neither) ⊎ (has_child tenant.frames n ≡ false) → IsShaped tenant → IsShaped (in_state n state tenant)
 shaped-in_state n state tenant ok s =
     let alike = with_state-alike n state tenant.frames in
     let values = values_of-with_state n state tenant.frames in
@@ -46,16 +46,16 @@ shaped-in_state n state tenant ok s =
 pub shaped-holding : (n : ℕ) (words : List ℕ) (tenant : Tenant) (f : Frame (List ℕ)) → frame_at tenant.frames n ≡ Some f → (1 ≤ length words) × (length words ≤ 128) →
     charged_for tenant.frames + charge (length words) ≤ tenant.reserve.segments + charge (length f.value) → IsShaped tenant → IsShaped (holding n words tenant)
 shaped-holding n words tenant f at fit room s =
-    let alike = with_words-alike n words tenant.frames in
+    let alike = with_frame_words-alike n words tenant.frames in
     record {
-      tree = tree-with_words n words tenant.frames s.tree;
-      given = AllBelow-alike tenant.frames (with_words n words tenant.frames) (tenant.serials + 1) alike s.given;
-      childless = childless-with_words n words tenant.frames s.tree s.childless;
-      roots = roots-alike tenant.jobs tenant.frames (with_words n words tenant.frames) alike s.roots;
-      live = live-kept tenant.frames (with_words n words tenant.frames) tenant.jobs (λ root is. path_in-alike tenant.frames (with_words n words tenant.frames) root alike ∙ is) s.live;
+      tree = tree-with_frame_words n words tenant.frames s.tree;
+      given = AllBelow-alike tenant.frames (with_frame_words n words tenant.frames) (tenant.serials + 1) alike s.given;
+      childless = childless-with_frame_words n words tenant.frames s.tree s.childless;
+      roots = roots-alike tenant.jobs tenant.frames (with_frame_words n words tenant.frames) alike s.roots;
+      live = live-kept tenant.frames (with_frame_words n words tenant.frames) tenant.jobs (λ root is. path_in-alike tenant.frames (with_frame_words n words tenant.frames) root alike ∙ is) s.live;
       few_jobs = s.few_jobs;
-      words = words-with_words n words tenant.frames fit s.words;
-      charged = (let e = charged-with_words n words tenant.frames f (tree-rising tenant.frames s.tree) at in within (charged_for (with_words n words tenant.frames)) (charge (length f.value)) (charged_for tenant.frames) (charge (length words)) tenant.reserve.segments e room);
+      words = words-with_frame_words n words tenant.frames fit s.words;
+      charged = (let e = charged-with_frame_words n words tenant.frames f (tree-rising tenant.frames s.tree) at in within (charged_for (with_frame_words n words tenant.frames)) (charge (length f.value)) (charged_for tenant.frames) (charge (length words)) tenant.reserve.segments e room);
       opened = s.opened;
       ticks = s.ticks;
     }
@@ -169,7 +169,7 @@ no-root [] last s ends = absurd ends
 no-root (x ∷ path) last s ends = ne_eqb (length (x ∷ path ++ s ∷ [])) 1 (λ e. let long = length-append path (s ∷ []) in omega (arith, e, long))
 
 -- a child opened under a frame that neither computes nor has returned
-pub shaped-child : (p home : ℕ) (words : List ℕ) (size : ℕ) (tenant : Tenant) (f : Frame (List ℕ)) → frame_at tenant.frames p ≡ Some f → mark_of f.state ≡ Neither → HasRoomFor words size tenant →
+pub shaped-child : (p home : ℕ) (words : List ℕ) (size : ℕ) (tenant : Tenant) (f : Frame (List ℕ)) → frame_at tenant.frames p ≡ Some f → mark_of_state f.state ≡ Neither → HasRoomFor words size tenant →
     IsShaped tenant → IsShaped (opened (Some p) words size home tenant)
 shaped-child p home words size tenant f at free room s =
     let new = new_frame tenant.frames (tenant.serials + 1) (Some p) home (padded words size) in
@@ -191,11 +191,11 @@ shaped-child p home words size tenant f at free room s =
       ticks = s.ticks;
     }
   where
-    parent-free : (q : ℕ) (g : Frame (List ℕ)) → Some p ≡ Some q → frame_at tenant.frames q ≡ Some g → mark_of g.state ≡ Neither
+    parent-free : (q : ℕ) (g : Frame (List ℕ)) → Some p ≡ Some q → frame_at tenant.frames q ≡ Some g → mark_of_state g.state ≡ Neither
     parent-free q g e at_q =
         let same : p ≡ q = cc in
         let both : ◌≡◌ {A = Option (Frame (List ℕ))} (Some f) (Some g) = sym at ∙ ap (frame_at tenant.frames) same ∙ at_q in
-        let is : f ≡ g = cc in ap (λ (y : Frame (List ℕ)). mark_of y.state) (sym is) ∙ free
+        let is : f ≡ g = cc in ap (λ (y : Frame (List ℕ)). mark_of_state y.state) (sym is) ∙ free
 
 -- a root opened, with the job that lives under it
 pub shaped-root : (words : List ℕ) (size home : ℕ) (tenant : Tenant) → length tenant.jobs < 256 → HasRoomFor words size tenant →

@@ -5,8 +5,8 @@ use Rattle.std.proofs.lemmas.List.Elements.{filter-append}
 use Rattle.tenant_quota.specs.Quota.{Quota}
 use Rattle.sched_rules.specs.declared.job.Job.{Job}
 use Rattle.sched_rules.specs.declared.refusal.Refusal.{Refusal}
-use Rattle.sched_rules.specs.declared.act.Then.{Then}
-use Rattle.sched_rules.specs.declared.act.Then.TheVariants.{Grow}
+use Rattle.sched_rules.specs.declared.act.Continuation.{Continuation}
+use Rattle.sched_rules.specs.declared.act.Continuation.TheVariants.{Grow}
 use Rattle.sched_rules.specs.declared.step.StepOf.{StepOf}
 use Rattle.sched_rules.specs.declared.step.StepOf.TheVariants.{Submit}
 use Rattle.sched_rules.specs.declared.step.DidOf.{DidOf}
@@ -16,8 +16,8 @@ use Rattle.sched_rules.specs.Trees.{Tree, Tenant}
 use Rattle.sched_rules.specs.Laws.{Fitting, Rooting, ParentFits, NewChildFits}
 use Rattle.sched_rules.specs.Lone.{Outcome, lone, submit_tests, submitted}
 use Rattle.sched_rules.specs.Runs.{tenant_of, only, state_after, answer_of, alone_from, answers_from}
-use Rattle.sched_rules.specs.Cores.{Shared, shared_by_nobody, tenant_in, meets_busy}
-use Rattle.sched_rules.specs.Headline.{IsAnswerTo, AreAnswersTo, after_answers, taken}
+use Rattle.sched_rules.specs.Cores.{CoreState, shared_by_nobody, tenant_in, meets_busy}
+use Rattle.sched_rules.specs.Headline.{IsAnswerTo, AreAnswersTo, after_answers, taken_steps}
 use Rattle.sched_rules.proofs.Isolation.{found}
 use Rattle.sched_laws.specs.Fitted.{JobsFit, RootFits, RootsFit, origins_of}
 use Rattle.sched_laws.proofs.Shaped.{unless-passed}
@@ -49,7 +49,7 @@ unfolding AlwaysFits AlwaysRooted
 parent-always origin [] older own younger = tt
 parent-always origin (parent ∷ above) older own younger = tt
 
-child-always : (after : Then) → NewChildFits AlwaysFits after
+child-always : (after : Continuation) → NewChildFits AlwaysFits after
 unfolding AlwaysFits
 child-always (Grow more) = tt
 child-always _ = tt
@@ -79,13 +79,13 @@ as-many fits rooted tree (origin ∷ origins) [] all = absurd all
 as-many fits rooted tree (origin ∷ origins) (job ∷ jobs) all = ap (λ (n : ℕ). suc n) (as-many fits rooted tree origins jobs all.1)
 
 pub jobs-counted : {I A : Type 0} (functions : Functions I A) (totals : Quota) (steps : List (StepOf A)) (answers : List (Result (DidOf I) Refusal)) (number : ℕ) (tenant : Tenant) → AreAnswersTo functions (shared_by_nobody totals) steps answers →
-    tenant_in (after_answers functions (shared_by_nobody totals) steps answers).tenants number ≡ Some tenant → length tenant.jobs ≡ length (origins_of (only number (taken steps answers)))
+    tenant_in (after_answers functions (shared_by_nobody totals) steps answers).tenants number ≡ Some tenant → length tenant.jobs ≡ length (origins_of (only number (taken_steps steps answers)))
 jobs-counted functions totals steps answers number tenant right at =
-    let core = run-fits functions AlwaysFits AlwaysRooted (λ n. []) (shared_by_nobody totals) steps answers (always-lawful functions) tt tt (nobody-fits AlwaysFits AlwaysRooted totals) right (roots-always (taken steps answers)) in
+    let core = run-fits functions AlwaysFits AlwaysRooted (λ n. []) (shared_by_nobody totals) steps answers (always-lawful functions) tt tt (nobody-fits AlwaysFits AlwaysRooted totals) right (roots-always (taken_steps steps answers)) in
     as-many AlwaysFits AlwaysRooted tenant.frames _ tenant.jobs (core.tenants number tenant at).jobs
 
 -- the number that a taken Submit is answered
-pub submit-numbered : {I A : Type 0} (functions : Functions I A) (before : Shared) (number : ℕ) (words : List ℕ) (size : ℕ) (did : DidOf I) (tenant : Tenant) → IsAnswerTo functions before (Submit number words size) (Ok did) → tenant_in before.tenants number ≡ Some tenant →
+pub submit-numbered : {I A : Type 0} (functions : Functions I A) (before : CoreState) (number : ℕ) (words : List ℕ) (size : ℕ) (did : DidOf I) (tenant : Tenant) → IsAnswerTo functions before (Submit number words size) (Ok did) → tenant_in before.tenants number ≡ Some tenant →
     did ≡ Submitted (length tenant.jobs + 1) (record { tenant = number; serial = tenant.serials + 1 })
 submit-numbered {I} {A} functions before number words size did tenant right at =
     let step : StepOf A = Submit number words size in

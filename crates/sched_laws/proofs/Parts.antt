@@ -11,14 +11,14 @@ use Rattle.frame_tree.proofs.TreeChanges.{filter-found, frame_at-stays}
 use Rattle.frame_tree.proofs.TreeValues.{tree-push, children_of-push, tree-with_state, frame_at-with_state, frame_at_other-with_state, children_of-with_state}
 use Rattle.sched_rules.specs.declared.job.Job.{Job}
 use Rattle.sched_rules.specs.declared.job.Job.TheVariants.{Live}
-use Rattle.sched_rules.specs.Trees.{Tree, has_child, is_root, is_live_at, with_words, with_ended}
-use Rattle.sched_rules.specs.Laws.{Neither, mark_of}
+use Rattle.sched_rules.specs.Trees.{Tree, has_child, is_root, is_live_at, with_frame_words, with_ended}
+use Rattle.sched_rules.specs.Laws.{Neither, mark_of_state}
 use Rattle.sched_laws.specs.Shapes.{AreMarkedChildless, live_count, AreRootsLive, IsRootThere, AreLiveRootsThere, HaveWords}
-use Rattle.sched_laws.proofs.Words.{children_of-with_words, length-with_words}
+use Rattle.sched_laws.proofs.Words.{children_of-with_frame_words, length-with_frame_words}
 
 -- a frame that computes or has returned has no child in this tree
 abbrev pub IsMarkedChildless : Tree → Frame (List ℕ) → Type 0
-IsMarkedChildless tree frame = (mark_of frame.state ≡ Neither) ⊎ (has_child tree frame.serial ≡ false)
+IsMarkedChildless tree frame = (mark_of_state frame.state ≡ Neither) ⊎ (has_child tree frame.serial ≡ false)
 
 pub childless-each : (tree frames : Tree) → AreMarkedChildless tree frames → Each (IsMarkedChildless tree) frames
 childless-each tree [] all = tt
@@ -55,7 +55,7 @@ pub has_child-with_state : (n : ℕ) (state : State) (tree : Tree) (s : ℕ) →
 has_child-with_state n state tree s t =
     has_child-length tree (with_state n state tree) s (ap length (children_of-with_state n state tree s t) ∙ length-with_state n state (children_of tree s))
 
-pub childless-with_state : (n : ℕ) (state : State) (tree : Tree) → IsTree tree → (mark_of state ≡ Neither) ⊎ (has_child tree n ≡ false) → AreMarkedChildless tree tree → AreMarkedChildless (with_state n state tree) (with_state n state tree)
+pub childless-with_state : (n : ℕ) (state : State) (tree : Tree) → IsTree tree → (mark_of_state state ≡ Neither) ⊎ (has_child tree n ≡ false) → AreMarkedChildless tree tree → AreMarkedChildless (with_state n state tree) (with_state n state tree)
 childless-with_state n state tree t ok all =
     let new = with_state n state tree in
     each-childless new new (found-each (IsMarkedChildless new) new (tree-rising new (tree-with_state n state tree t)) at)
@@ -64,8 +64,8 @@ childless-with_state n state tree t ok all =
     keep f (inl neither) = inl neither
     keep f (inr none) = inr (has_child-with_state n state tree f.serial t ∙ none)
 
-    own : (f : Frame (List ℕ)) → f.serial ≡ n → f.state ≡ state → (mark_of state ≡ Neither) ⊎ (has_child tree n ≡ false) → IsMarkedChildless (with_state n state tree) f
-    own f e is (inl neither) = inl (ap mark_of is ∙ neither)
+    own : (f : Frame (List ℕ)) → f.serial ≡ n → f.state ≡ state → (mark_of_state state ≡ Neither) ⊎ (has_child tree n ≡ false) → IsMarkedChildless (with_state n state tree) f
+    own f e is (inl neither) = inl (ap mark_of_state is ∙ neither)
     own f e is (inr none) = inr (ap (has_child (with_state n state tree)) e ∙ has_child-with_state n state tree n t ∙ none)
 
     found : (s : ℕ) (f g : Frame (List ℕ)) → n ≡ s → frame_at tree n ≡ Some g → frame_at (with_state n state tree) s ≡ Some f → f.state ≡ state
@@ -93,27 +93,27 @@ pub childless-from : (new : Tree) → IsTree new → ((s : ℕ) (f : Frame (List
 childless-from new t at = each-childless new new (found-each (IsMarkedChildless new) new (tree-rising new t) at)
 
 -- other words in a frame
-pub has_child-with_words : (n : ℕ) (words : List ℕ) (tree : Tree) (s : ℕ) → IsTree tree → has_child (with_words n words tree) s ≡ has_child tree s
-has_child-with_words n words tree s t =
-    has_child-length tree (with_words n words tree) s (ap length (children_of-with_words n words tree s t) ∙ length-with_words n words (children_of tree s))
+pub has_child-with_frame_words : (n : ℕ) (words : List ℕ) (tree : Tree) (s : ℕ) → IsTree tree → has_child (with_frame_words n words tree) s ≡ has_child tree s
+has_child-with_frame_words n words tree s t =
+    has_child-length tree (with_frame_words n words tree) s (ap length (children_of-with_frame_words n words tree s t) ∙ length-with_frame_words n words (children_of tree s))
 
-words-kept : (n : ℕ) (words : List ℕ) (tree frames : Tree) → IsTree tree → AreMarkedChildless tree frames → AreMarkedChildless (with_words n words tree) (with_words n words frames)
+words-kept : (n : ℕ) (words : List ℕ) (tree frames : Tree) → IsTree tree → AreMarkedChildless tree frames → AreMarkedChildless (with_frame_words n words tree) (with_frame_words n words frames)
 words-kept n words tree [] t all = tt
 words-kept n words tree (x ∷ xs) t all = elim (cases_Bool (eqb x.serial n)) [
   | inl same ↦ rw same (keep x all.0, words-kept n words tree xs t all.1)
   | inr other ↦ rw other (keep x all.0, words-kept n words tree xs t all.1)
 ]
   where
-    keep : (f : Frame (List ℕ)) → IsMarkedChildless tree f → IsMarkedChildless (with_words n words tree) f
+    keep : (f : Frame (List ℕ)) → IsMarkedChildless tree f → IsMarkedChildless (with_frame_words n words tree) f
     keep f (inl neither) = inl neither
-    keep f (inr none) = inr (has_child-with_words n words tree f.serial t ∙ none)
+    keep f (inr none) = inr (has_child-with_frame_words n words tree f.serial t ∙ none)
 
-pub childless-with_words : (n : ℕ) (words : List ℕ) (tree : Tree) → IsTree tree → AreMarkedChildless tree tree → AreMarkedChildless (with_words n words tree) (with_words n words tree)
-childless-with_words n words tree t all = words-kept n words tree tree t all
+pub childless-with_frame_words : (n : ℕ) (words : List ℕ) (tree : Tree) → IsTree tree → AreMarkedChildless tree tree → AreMarkedChildless (with_frame_words n words tree) (with_frame_words n words tree)
+childless-with_frame_words n words tree t all = words-kept n words tree tree t all
 
 -- one frame more, under a frame that neither computes nor has returned, or under none
-pub childless-push : (tree : Tree) (y : Frame (List ℕ)) → IsTree tree → IsNextFrame tree y → mark_of y.state ≡ Neither →
-    ((p : ℕ) (f : Frame (List ℕ)) → parent_of y.path ≡ Some p → frame_at tree p ≡ Some f → mark_of f.state ≡ Neither) →
+pub childless-push : (tree : Tree) (y : Frame (List ℕ)) → IsTree tree → IsNextFrame tree y → mark_of_state y.state ≡ Neither →
+    ((p : ℕ) (f : Frame (List ℕ)) → parent_of y.path ≡ Some p → frame_at tree p ≡ Some f → mark_of_state f.state ≡ Neither) →
     AreMarkedChildless tree tree → AreMarkedChildless (tree ++ y ∷ []) (tree ++ y ∷ [])
 childless-push tree y t next new free all = childless-from (tree ++ y ∷ []) (tree-push tree y t next) at
   where
@@ -134,7 +134,7 @@ childless-push tree y t next new free all = childless-from (tree ++ y ∷ []) (t
     at : (s : ℕ) (f : Frame (List ℕ)) → frame_at (tree ++ y ∷ []) s ≡ Some f → IsMarkedChildless (tree ++ y ∷ []) f
     at s f is = elim (cases_eq y.serial s) [
       | inl same ↦ (let both : ◌≡◌ {A = Option (Frame (List ℕ))} (Some y) (Some f) = sym (frame_at-push tree y next.above) ∙ ap (frame_at (tree ++ y ∷ [])) same ∙ is in
-          let e : y ≡ f = cc in inl (ap (λ (z : Frame (List ℕ)). mark_of z.state) (sym e) ∙ new))
+          let e : y ≡ f = cc in inl (ap (λ (z : Frame (List ℕ)). mark_of_state z.state) (sym e) ∙ new))
       | inr other ↦ old s f (sym (frame_at_other-push tree y s other) ∙ is)
     ]
 
@@ -304,11 +304,11 @@ words-filter keep [] all = tt
 words-filter keep (x ∷ xs) all =
     elim (cases_Bool (keep x)) [ inl is ↦ rw is (all.0, words-filter keep xs all.1) | inr not_so ↦ rw not_so (words-filter keep xs all.1) ]
 
-pub words-with_words : (n : ℕ) (words : List ℕ) (xs : Tree) → (1 ≤ length words) × (length words ≤ 128) → HaveWords xs → HaveWords (with_words n words xs)
-words-with_words n words [] fit all = tt
-words-with_words n words (x ∷ xs) fit all = elim (cases_Bool (eqb x.serial n)) [
-  | inl same ↦ rw same (fit, words-with_words n words xs fit all.1)
-  | inr other ↦ rw other (all.0, words-with_words n words xs fit all.1)
+pub words-with_frame_words : (n : ℕ) (words : List ℕ) (xs : Tree) → (1 ≤ length words) × (length words ≤ 128) → HaveWords xs → HaveWords (with_frame_words n words xs)
+words-with_frame_words n words [] fit all = tt
+words-with_frame_words n words (x ∷ xs) fit all = elim (cases_Bool (eqb x.serial n)) [
+  | inl same ↦ rw same (fit, words-with_frame_words n words xs fit all.1)
+  | inr other ↦ rw other (all.0, words-with_frame_words n words xs fit all.1)
 ]
 
 pub words-at : (xs : Tree) (s : ℕ) (f : Frame (List ℕ)) → HaveWords xs → frame_at xs s ≡ Some f → (1 ≤ length f.value) × (length f.value ≤ 128)

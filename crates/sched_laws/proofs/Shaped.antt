@@ -12,8 +12,8 @@ use Rattle.frame_tree.proofs.TreeLaws.{there-found, found-serial, tree-rising, u
 use Rattle.frame_tree.proofs.TreeChanges.{aborted-itself, frame_at_other-without}
 use Rattle.sched_rules.specs.declared.act.Act.{Act}
 use Rattle.sched_rules.specs.declared.act.InletAct.{InletAct}
-use Rattle.sched_rules.specs.declared.act.Then.{Then}
-use Rattle.sched_rules.specs.declared.act.Then.TheVariants.{Grow, Spawn, Go, Wait, Compute, Return}
+use Rattle.sched_rules.specs.declared.act.Continuation.{Continuation}
+use Rattle.sched_rules.specs.declared.act.Continuation.TheVariants.{Grow, Spawn, Go, Wait, Compute, Return}
 use Rattle.sched_rules.specs.declared.job.Job.{Job}
 use Rattle.sched_rules.specs.declared.job.Job.TheVariants.{Live, Done, Spent as SpentJob, Cancelled as CancelledJob}
 use Rattle.sched_rules.specs.declared.refusal.Refusal.{Refusal}
@@ -22,12 +22,12 @@ use Rattle.sched_rules.specs.declared.step.StepOf.{StepOf}
 use Rattle.sched_rules.specs.declared.step.StepOf.TheVariants.{Admit, AdmitMore, Submit, Take, Steal, Advance, Answer, Inlet, Finish, Spend, Cancel, Leave}
 use Rattle.sched_rules.specs.declared.step.DidOf.TheVariants.{Cancelled, Left}
 use Rattle.sched_rules.specs.Functions.{Functions}
-use Rattle.sched_rules.specs.Trees.{Tree, Tenant, admitted_with, words_of, words_in, charged_for, left, is_root, stored, is_outside, has_child, job_at, kept_words}
-use Rattle.sched_rules.specs.Laws.{Neither, mark_of}
-use Rattle.sched_rules.specs.Lone.{Outcome, unless, applies, lone_step, no_step, not_free, is_lower, raised, counted, in_state, holding, ended, is_frame_size, submit_tests, submitted, take_tests, steal_tests, taken_by, is_run_by, is_computed_by, is_returned, act_of, is_bad_then, is_bad_act, is_spawn, segments_for, act_tests, advance_tests, then_done, advanced, answer_tests, answered, inlet_tests, does_wait, staying, taken_in, inlet_under, finish_tests, finished, is_spendable, spent, cancelled, at_frame}
+use Rattle.sched_rules.specs.Trees.{Tree, Tenant, admitted_with, frame_words, words_in, charged_for, left, is_root, stored, is_outside, has_child, job_at, kept_words}
+use Rattle.sched_rules.specs.Laws.{Neither, mark_of_state}
+use Rattle.sched_rules.specs.Lone.{Outcome, unless, applies, lone_step, no_step, not_free, is_lower, raised, counted, in_state, holding, ended, is_frame_size, submit_tests, submitted, take_tests, steal_tests, taken_by, is_run_by, is_computed_by, is_returned, act_by_sight, is_bad_then, is_bad_act, is_spawn, segments_for, act_tests, advance_tests, then_done, advanced, answer_tests, answered, inlet_tests, does_wait, staying, taken_in, inlet_under, finish_tests, finished, is_spendable, spent, cancelled, at_frame}
 use Rattle.sched_laws.specs.Shapes.{IsShaped}
-use Rattle.sched_laws.proofs.Words.{length-stored, frame_at-with_words, charged-with_words}
-use Rattle.sched_laws.proofs.Parts.{childless-at, no-child, has_child-with_words, words-at}
+use Rattle.sched_laws.proofs.Words.{length-stored, frame_at-with_frame_words, charged-with_frame_words}
+use Rattle.sched_laws.proofs.Parts.{childless-at, no-child, has_child-with_frame_words, words-at}
 use Rattle.sched_laws.proofs.Moves.{shaped-counted, shaped-in_state, shaped-holding, shaped-aborted, shaped-without, shaped-ended, shaped-child, shaped-root}
 
 -- what a step leaves, if it leaves a tenant, has its shape
@@ -61,8 +61,8 @@ pub record HoldsOfEach {I A : Type 0} (functions : Functions I A) (tenant : Tena
   pub at_raise : (number : ℕ) (quota : Quota) → step ≡ AdmitMore number quota → is_lower tenant.reserve quota ≡ false → P (raised {I = I} tenant quota).0
   pub at_submit : (number : ℕ) (words : List ℕ) (size : ℕ) → step ≡ Submit number words size → applies (submit_tests tenant words size) ≡ false → P (submitted {I = I} tenant number words size).0
   pub at_take : (worker s : ℕ) (f : Frame (List ℕ)) → frame_at tenant.frames s ≡ Some f → not (is_ready f.state) ≡ false → eqb (left tenant).steps 0 ≡ false → P (taken_by {I = I} tenant worker f).0
-  pub at_advance : (worker : ℕ) (name : FrameId) (f : Frame (List ℕ)) → frame_at tenant.frames name.serial ≡ Some f → applies (advance_tests tenant worker f (act_of functions tenant f)) ≡ false →
-      P (advanced functions tenant worker name f (act_of functions tenant f)).0
+  pub at_advance : (worker : ℕ) (name : FrameId) (f : Frame (List ℕ)) → frame_at tenant.frames name.serial ≡ Some f → applies (advance_tests tenant worker f (act_by_sight functions tenant f)) ≡ false →
+      P (advanced functions tenant worker name f (act_by_sight functions tenant f)).0
   pub at_answer : (worker s : ℕ) (f : Frame (List ℕ)) (answer : A) → frame_at tenant.frames s ≡ Some f → applies (answer_tests functions tenant worker f answer) ≡ false → P (answered functions tenant worker f answer).0
   pub at_inlet : (worker : ℕ) (name : FrameId) (f : Frame (List ℕ)) (parent : ℕ) → frame_at tenant.frames name.serial ≡ Some f → parent_of f.path ≡ Some parent →
       applies (inlet_tests tenant worker f parent (functions.inlet (words_in tenant.frames parent) f.value)) ≡ false → P (taken_in {I = I} tenant worker name parent (functions.inlet (words_in tenant.frames parent) f.value)).0
@@ -96,8 +96,8 @@ by-effects {I} functions tenant (Steal worker from name) outcome P is each =
     let p = unless-passed (steal_tests tenant worker from f.0) (taken_by {I = I} tenant worker f.0) outcome f.2 in
     came P (taken_by tenant worker f.0) outcome p.1 (each.at_take worker name.serial f.0 f.1 (first-passed (not (is_ready f.0.state)) _ p.0) (third-passed _ _ (eqb (left tenant).steps 0) _ p.0))
 by-effects {I} functions tenant (Advance worker name) outcome P is each =
-    let f = frame-found tenant.frames name.serial (λ frame. unless (advance_tests tenant worker frame (act_of functions tenant frame)) (advanced functions tenant worker name frame (act_of functions tenant frame))) outcome is in
-    let act = act_of functions tenant f.0 in
+    let f = frame-found tenant.frames name.serial (λ frame. unless (advance_tests tenant worker frame (act_by_sight functions tenant frame)) (advanced functions tenant worker name frame (act_by_sight functions tenant frame))) outcome is in
+    let act = act_by_sight functions tenant f.0 in
     let p = unless-passed (advance_tests tenant worker f.0 act) (advanced functions tenant worker name f.0 act) outcome f.2 in
     came P (advanced functions tenant worker name f.0 act) outcome p.1 (each.at_advance worker name f.0 f.1 p.0)
 by-effects {I} functions tenant (Answer worker name answer) outcome P is each =
@@ -175,16 +175,16 @@ taken-shaped I tenant worker f some s =
     shaped-counted (in_state f.serial (Running worker) tenant) (step-left tenant some) (shaped-in_state f.serial (Running worker) tenant (inl refl) s)
 
 -- a frame that a worker runs or computes, and one that has returned
-pub run-free : (worker : ℕ) (state : State) → is_run_by worker state ≡ true → mark_of state ≡ Neither
+pub run-free : (worker : ℕ) (state : State) → is_run_by worker state ≡ true → mark_of_state state ≡ Neither
 run-free worker (Computing holder) is = absurd (false≢true is)
 run-free worker Returned is = absurd (false≢true is)
 run-free worker _ is = refl
 
-pub returned-marked : (state : State) → is_returned state ≡ true → mark_of state ≢ Neither
+pub returned-marked : (state : State) → is_returned state ≡ true → mark_of_state state ≢ Neither
 returned-marked Returned is = λ e. cc
 returned-marked _ is = absurd (false≢true is)
 
-pub returned-childless : (tenant : Tenant) (s : ℕ) (f : Frame (List ℕ)) → IsShaped tenant → frame_at tenant.frames s ≡ Some f → mark_of f.state ≢ Neither → children_of tenant.frames s ≡ []
+pub returned-childless : (tenant : Tenant) (s : ℕ) (f : Frame (List ℕ)) → IsShaped tenant → frame_at tenant.frames s ≡ Some f → mark_of_state f.state ≢ Neither → children_of tenant.frames s ≡ []
 returned-childless tenant s f shape at marked =
     elim (childless-at tenant.frames s f shape.childless at) [
       | inl neither ↦ absurd (marked neither)
@@ -207,7 +207,7 @@ grow-room c a b r le = omega arith
 grow-fits : (words more : ℕ) → ((eqb more 0) || ltb 128 (words + more)) ≡ false → words + more ≤ 128
 grow-fits words more is = ltb-false 128 (words + more) (or_parts (eqb more 0) (ltb 128 (words + more)) is).1
 
-then-shaped : {I A : Type 0} (functions : Functions I A) (t : Tenant) (worker : ℕ) (name : FrameId) (path words : List ℕ) (after : Then) (g : Frame (List ℕ)) → frame_at t.frames name.serial ≡ Some g → g.value ≡ words → mark_of g.state ≡ Neither →
+then-shaped : {I A : Type 0} (functions : Functions I A) (t : Tenant) (worker : ℕ) (name : FrameId) (path words : List ℕ) (after : Continuation) (g : Frame (List ℕ)) → frame_at t.frames name.serial ≡ Some g → g.value ≡ words → mark_of_state g.state ≡ Neither →
     is_bad_then (length words) (has_child t.frames name.serial) after ≡ false → (is_spawn after ≡ true → t.serials < t.reserve.nodes) → charged_for t.frames + segments_for g after ≤ t.reserve.segments →
     IsShaped t → LeftShaped (then_done functions t worker name path words after).0
 then-shaped functions t worker name path words (Grow more) g at is free good node room s =
@@ -255,13 +255,13 @@ advance-shaped functions tenant worker name f act at passed s =
     let at_own : frame_at tenant.frames f.serial ≡ Some f = ap (frame_at tenant.frames) own ∙ at in
     let st = shaped-counted t (step-left tenant q.0) (shaped-stored f.serial words tenant f at_own long s) in
     let g : Frame (List ℕ) = record f { value = words } in
-    let at_g : frame_at t.frames name.serial ≡ Some g = ap (frame_at t.frames) (sym own) ∙ frame_at-with_words f.serial words tenant.frames f at_own in
-    let child : has_child t.frames name.serial ≡ has_child tenant.frames f.serial = ap (has_child t.frames) (sym own) ∙ has_child-with_words f.serial words tenant.frames f.serial s.tree in
+    let at_g : frame_at t.frames name.serial ≡ Some g = ap (frame_at t.frames) (sym own) ∙ frame_at-with_frame_words f.serial words tenant.frames f at_own in
+    let child : has_child t.frames name.serial ≡ has_child tenant.frames f.serial = ap (has_child t.frames) (sym own) ∙ has_child-with_frame_words f.serial words tenant.frames f.serial s.tree in
     then-shaped functions (counted t) worker name f.path words act.after g at_g refl (run-free worker f.state (not-false (is_run_by worker f.state) p.0))
     (ap (λ (n : ℕ). is_bad_then n (has_child t.frames name.serial) act.after) long ∙ ap (λ (b : Bool). is_bad_then (length f.value) b act.after) child ∙ good)
     (λ spawn. node-left tenant (node (is_spawn act.after) (eqb (left tenant).nodes 0) spawn u.0))
     (room act.after (segments-left tenant (segments_for f act.after) s.charged v.0)
-    (same (charged_for t.frames) (charge (length f.value)) (charged_for tenant.frames) (charge (length words)) (ap charge long) (charged-with_words f.serial words tenant.frames f (tree-rising tenant.frames s.tree) at_own)) g long)
+    (same (charged_for t.frames) (charge (length f.value)) (charged_for tenant.frames) (charge (length words)) (ap charge long) (charged-with_frame_words f.serial words tenant.frames f (tree-rising tenant.frames s.tree) at_own)) g long)
     st
   where
     node : (spawn none : Bool) → spawn ≡ true → (spawn && none) ≡ false → none ≡ false
@@ -271,7 +271,7 @@ advance-shaped functions tenant worker name f act at passed s =
     same : (a b c d : ℕ) → d ≡ b → a + b ≡ c + d → a ≡ c
     same a b c d e is = omega arith
 
-    room : (after : Then) {c : ℕ} → charged_for tenant.frames + segments_for f after ≤ tenant.reserve.segments → c ≡ charged_for tenant.frames → (g : Frame (List ℕ)) → length g.value ≡ length f.value → c + segments_for g after ≤ tenant.reserve.segments
+    room : (after : Continuation) {c : ℕ} → charged_for tenant.frames + segments_for f after ≤ tenant.reserve.segments → c ≡ charged_for tenant.frames → (g : Frame (List ℕ)) → length g.value ≡ length f.value → c + segments_for g after ≤ tenant.reserve.segments
     room (Grow more) le e g long = (let m = ap (λ (n : ℕ). growth_charge n more) long in sum le e m)
       where
         sum : {a b c d r : ℕ} → a + b ≤ r → c ≡ a → d ≡ b → c + d ≤ r
@@ -318,7 +318,7 @@ inlet-stored-shaped tenant worker n f parent act at named passed s =
     let frames = staying tenant.frames n parent act.abort in
     let at_g : frame_at frames parent ≡ Some g.0 = staying-parent tenant n parent f g.0 act.abort at named g.1 s in
     let words = stored act.stores (words_in frames parent) in
-    let long : length words ≡ length g.0.value = length-stored act.stores (words_in frames parent) ∙ ap (λ o. length (words_of o)) at_g in
+    let long : length words ≡ length g.0.value = length-stored act.stores (words_in frames parent) ∙ ap (λ o. length (frame_words o)) at_g in
     shaped-counted (holding parent words (record tenant { frames = frames })) (step-left tenant q.0) (shaped-stored parent words (record tenant { frames = frames }) g.0 at_g long (staying-shaped tenant n parent f act.abort at named leaf s))
 
 inlet-shaped : (I : Type 0) (tenant : Tenant) (worker : ℕ) (name : FrameId) (f : Frame (List ℕ)) (parent : ℕ) (act : InletAct) → frame_at tenant.frames name.serial ≡ Some f → parent_of f.path ≡ Some parent →
@@ -361,7 +361,7 @@ step-shaped {I} functions tenant step outcome is s = by-effects functions tenant
   at_raise = λ number quota _ enough. raised-shaped I tenant quota enough s;
   at_submit = λ number words size _ passed. submit-shaped I tenant number words size passed s;
   at_take = λ worker serial f at ready some. taken-shaped I tenant worker f some s;
-  at_advance = λ worker name f at passed. advance-shaped functions tenant worker name f (act_of functions tenant f) at passed s;
+  at_advance = λ worker name f at passed. advance-shaped functions tenant worker name f (act_by_sight functions tenant f) at passed s;
   at_answer = λ worker serial f answer at passed. answer-shaped functions tenant worker serial f answer at passed s;
   at_inlet = λ worker name f parent at named passed. inlet-shaped I tenant worker name f parent (functions.inlet (words_in tenant.frames parent) f.value) at named passed s;
   at_finish = λ worker serial f at passed. finish-shaped I tenant worker f passed s;

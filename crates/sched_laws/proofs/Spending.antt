@@ -11,7 +11,7 @@ use Rattle.sched_rules.specs.declared.refusal.Refusal.TheVariants.{NotRunning, N
 use Rattle.sched_rules.specs.declared.step.StepOf.TheVariants.{Advance, Inlet}
 use Rattle.sched_rules.specs.Functions.{Functions}
 use Rattle.sched_rules.specs.Trees.{Tenant, words_in, left, is_outside, has_child, is_busy_in}
-use Rattle.sched_rules.specs.Lone.{unless, applies, refusal_in, lone_refusal, at_frame, is_run, is_run_by, is_returned, act_of, is_bad_act, is_spawn, segments_for, act_tests, advance_tests, advanced, inlet_tests, taken_in, inlet_under, is_bad_inlet, IsSpendable}
+use Rattle.sched_rules.specs.Lone.{unless, applies, refusal_in, lone_refusal, at_frame, is_run, is_run_by, is_returned, act_by_sight, is_bad_act, is_spawn, segments_for, act_tests, advance_tests, advanced, inlet_tests, taken_in, inlet_under, is_bad_inlet, IsSpendable}
 use Rattle.sched_laws.specs.Spends.{IsActRefusal, IsStuck, IsBadInlet, MayBeSpent}
 
 -- the tests of an Advance, as tests
@@ -52,9 +52,9 @@ run-by worker _ is = absurd (false≢true is)
 
 -- what an Advance of a frame that is there would be refused by
 advance-refusal : {I A : Type 0} (functions : Functions I A) (tenant : Tenant) (worker : ℕ) (name : FrameId) (frame : Frame (List ℕ)) → frame_at tenant.frames name.serial ≡ Some frame →
-    lone_refusal {A = A} functions (Some tenant) (Advance worker name) ≡ refusal_in (unless (advance_tests tenant worker frame (act_of functions tenant frame)) (advanced functions tenant worker name frame (act_of functions tenant frame)))
+    lone_refusal {A = A} functions (Some tenant) (Advance worker name) ≡ refusal_in (unless (advance_tests tenant worker frame (act_by_sight functions tenant frame)) (advanced functions tenant worker name frame (act_by_sight functions tenant frame)))
 advance-refusal functions tenant worker name frame at =
-    ap (λ o. refusal_in (at_frame o (λ f. unless (advance_tests tenant worker f (act_of functions tenant f)) (advanced functions tenant worker name f (act_of functions tenant f))))) at
+    ap (λ o. refusal_in (at_frame o (λ f. unless (advance_tests tenant worker f (act_by_sight functions tenant f)) (advanced functions tenant worker name f (act_by_sight functions tenant f))))) at
 
 inlet-refusal : {I A : Type 0} (functions : Functions I A) (tenant : Tenant) (worker : ℕ) (name : FrameId) (frame : Frame (List ℕ)) → frame_at tenant.frames name.serial ≡ Some frame →
     lone_refusal {A = A} functions (Some tenant) (Inlet worker name) ≡ refusal_in (inlet_under functions tenant worker name frame (parent_of frame.path))
@@ -88,12 +88,12 @@ may-forth {I} {A} functions tenant name frame at is =
     ]
   where
     acts : List (Bool × Refusal)
-    acts = act_tests tenant frame (act_of functions tenant frame)
+    acts = act_tests tenant frame (act_by_sight functions tenant frame)
 
     run : eqb (left tenant).steps 0 ≡ false → (is_run frame.state ≡ true) × (applies acts ≡ true) → IsStuck functions tenant name
     run some both =
         let w = runner frame.state both.0 in
-        let act = act_of functions tenant frame in
+        let act = act_by_sight functions tenant frame in
         let effect = advanced functions tenant w.0 name frame act in
         let bad = is_bad_act frame.value (has_child tenant.frames frame.serial) act in
         let nodes = is_spawn act.after && eqb (left tenant).nodes 0 in
@@ -116,7 +116,7 @@ may-forth {I} {A} functions tenant name frame at is =
 may-back : {I A : Type 0} (functions : Functions I A) (tenant : Tenant) (name : FrameId) (frame : Frame (List ℕ)) → frame_at tenant.frames name.serial ≡ Some frame → MayBeSpent functions tenant name → IsSpendable functions tenant frame
 may-back functions tenant name frame at (inl none) = rw (eq-eqb (left tenant).steps 0 none) refl
 may-back functions tenant name frame at (inr (inl s)) =
-    let act = act_of functions tenant frame in
+    let act = act_by_sight functions tenant frame in
     let effect = advanced functions tenant s.0 name frame act in
     let bad = is_bad_act frame.value (has_child tenant.frames frame.serial) act in
     let nodes = is_spawn act.after && eqb (left tenant).nodes 0 in
@@ -139,7 +139,7 @@ may-back {I} functions tenant name frame at (inr (inr b)) = by (parent_of frame.
         let outside = is_outside act.stores (words_in tenant.frames parent) in
         let g = good-inlet (is_returned frame.state) (eqb (left tenant).steps 0) outside (is_busy_in 1 tenant.frames) effect (sym (ap (λ o. refusal_in (inlet_under functions tenant 1 name frame o)) named) ∙ refused) in
         let bad : is_bad_inlet functions tenant frame (parent_of frame.path) ≡ true = ap (is_bad_inlet functions tenant frame) named ∙ g.1 in
-        or_right (eqb (left tenant).steps 0 || (is_run frame.state && applies (act_tests tenant frame (act_of functions tenant frame)))) (is_returned frame.state && is_bad_inlet functions tenant frame (parent_of frame.path))
+        or_right (eqb (left tenant).steps 0 || (is_run frame.state && applies (act_tests tenant frame (act_by_sight functions tenant frame)))) (is_returned frame.state && is_bad_inlet functions tenant frame (parent_of frame.path))
         (and_from (is_returned frame.state) (is_bad_inlet functions tenant frame (parent_of frame.path)) g.0 bad)
 
 pub may-be-spent : {I A : Type 0} (functions : Functions I A) (tenant : Tenant) (name : FrameId) (frame : Frame (List ℕ)) → frame_at tenant.frames name.serial ≡ Some frame → IsSpendable functions tenant frame ↔ MayBeSpent functions tenant name

@@ -8,8 +8,8 @@ use Rattle.tenant_quota.specs.declared.account.Account.{Account}
 use Rattle.frame_tree.specs.declared.names.FrameId.{FrameId}
 use Rattle.frame_tree.specs.Frames.{frame_at}
 use Rattle.sched_rules.specs.declared.act.InletAct.{InletAct}
-use Rattle.sched_rules.specs.declared.act.Then.{Then}
-use Rattle.sched_rules.specs.declared.act.Then.TheVariants.{Wait, Return}
+use Rattle.sched_rules.specs.declared.act.Continuation.{Continuation}
+use Rattle.sched_rules.specs.declared.act.Continuation.TheVariants.{Wait, Return}
 use Rattle.sched_rules.specs.declared.refusal.Refusal.{Refusal}
 use Rattle.sched_rules.specs.declared.refusal.Refusal.TheVariants.{NoTenant, Lower}
 use Rattle.sched_rules.specs.declared.step.StepOf.{StepOf}
@@ -18,10 +18,10 @@ use Rattle.sched_rules.specs.declared.step.DidOf.{DidOf}
 use Rattle.sched_rules.specs.declared.step.DidOf.TheVariants.{Admitted}
 use Rattle.sched_rules.specs.Functions.{Functions}
 use Rattle.sched_rules.specs.Trees.{Tenant, admitted_with, account_in, charged_for, words_in, left, has_child}
-use Rattle.sched_rules.specs.Lone.{Outcome, lone, lone_step, is_lower, raised, counted, holding, act_of, then_done, does_wait, staying, taken_in}
+use Rattle.sched_rules.specs.Lone.{Outcome, lone, lone_step, is_lower, raised, counted, holding, act_by_sight, then_done, does_wait, staying, taken_in}
 use Rattle.sched_rules.specs.Runs.{tenant_of}
 use Rattle.sched_rules.specs.Views.{free_in}
-use Rattle.sched_rules.specs.Cores.{Shared, tenant_in, with_tenant, without_tenant, with_outcome, accounts_in, reservations_in, is_full, reserved_by, is_beyond, admit_tests, judged, shared_after, charged_in}
+use Rattle.sched_rules.specs.Cores.{CoreState, tenant_in, with_tenant, without_tenant, with_outcome, accounts_in, reservations_in, is_full, reserved_by, is_beyond, admit_tests, step_result, shared_after, charged_in}
 use Rattle.sched_rules.specs.Headline.{is_admission, after_answer, after_answers}
 use Rattle.sched_rules.proofs.Isolation.{there}
 use Rattle.sched_laws.specs.Shapes.{IsShaped, AreShaped, IsReservedWithin, IsCovered}
@@ -38,7 +38,7 @@ total m [] = 0
 total m (e ∷ es) = m e.1 + total m es
 
 -- what all reserve is within the totals, where a tenant came to this
-abbrev WithinAfter : Shared → ℕ → Option Tenant → Type 0
+abbrev WithinAfter : CoreState → ℕ → Option Tenant → Type 0
 WithinAfter before number o =
     (total (λ t. t.reserve.segments) (with_outcome number o before.tenants) ≤ before.totals.segments)
     × (total (λ t. t.reserve.nodes) (with_outcome number o before.tenants) ≤ before.totals.nodes)
@@ -77,7 +77,7 @@ abbrev pub KeepsReserve : Quota → Option Tenant → Type 0
 KeepsReserve quota None = Unit {0}
 KeepsReserve quota (Some tenant) = tenant.reserve ≡ quota
 
-then-reserve : {I A : Type 0} (functions : Functions I A) (t : Tenant) (worker : ℕ) (name : FrameId) (path words : List ℕ) (after : Then) → KeepsReserve t.reserve (then_done functions t worker name path words after).0
+then-reserve : {I A : Type 0} (functions : Functions I A) (t : Tenant) (worker : ℕ) (name : FrameId) (path words : List ℕ) (after : Continuation) → KeepsReserve t.reserve (then_done functions t worker name path words after).0
 then-reserve functions t worker name path words Wait = elim (cases_Bool (has_child t.frames name.serial)) [ inl some ↦ rw some refl | inr none ↦ rw none refl ]
 then-reserve functions t worker name path words Return = elim (cases_Bool (has_child t.frames name.serial)) [ inl some ↦ rw some refl | inr none ↦ rw none refl ]
 then-reserve functions t worker name path words _ = refl
@@ -93,7 +93,7 @@ step-reserve {I} functions tenant step outcome no_admission is = by-effects func
   at_raise = λ number quota more enough. absurd (false≢true (sym no_admission ∙ ap is_admission more));
   at_submit = λ number words size _ passed. refl;
   at_take = λ worker serial f found ready some. refl;
-  at_advance = λ worker name f found passed. then-reserve functions (counted (holding f.serial _ tenant)) worker name f.path _ (act_of functions tenant f).after;
+  at_advance = λ worker name f found passed. then-reserve functions (counted (holding f.serial _ tenant)) worker name f.path _ (act_by_sight functions tenant f).after;
   at_answer = λ worker serial f answer found passed. refl;
   at_inlet = λ worker name f parent found named passed. inlet-reserve I tenant worker name parent (functions.inlet (words_in tenant.frames parent) f.value);
   at_finish = λ worker serial f found passed. refl;
@@ -111,7 +111,7 @@ outcome-total m n old (Some t) es at keeps = let changed = total-changed (λ u. 
 room : (m : Quota → ℕ) (number : ℕ) (quota : Quota) (es : Entries) (most : ℕ) → total (λ t. m t.reserve) es + m quota ≤ most → total (λ t. m t.reserve) (with_tenant number (admitted_with quota) es) ≤ most
 room m number quota es most le = let more = total-more (λ t. m t.reserve) number (admitted_with quota) es in omega (arith, more, le)
 
-admit-within : {I A : Type 0} (functions : Functions I A) (before : Shared) (number : ℕ) (quota : Quota) (outcome : Outcome I) → judged {A = A} functions before (Admit number quota) ≡ Ok outcome → IsReservedWithin before → WithinAfter before number outcome.0
+admit-within : {I A : Type 0} (functions : Functions I A) (before : CoreState) (number : ℕ) (quota : Quota) (outcome : Outcome I) → step_result {A = A} functions before (Admit number quota) ≡ Ok outcome → IsReservedWithin before → WithinAfter before number outcome.0
 admit-within {I} functions before number quota outcome is within =
     let effect : Outcome I = (Some (admitted_with quota), Admitted) in
     let book = reservations_in before in
@@ -139,7 +139,7 @@ further m number old quota es at = total-changed (λ t. m t.reserve) number old 
 allowed : (most own all asked : ℕ) → ltb (most + own) (all + asked) ≡ false → all + asked ≤ most + own
 allowed most own all asked is = ltb-false (most + own) (all + asked) is
 
-pub further-within : (before : Shared) (number : ℕ) (quota : Quota) (old : Tenant) → tenant_in before.tenants number ≡ Some old → is_beyond (reservations_in before) old.reserve quota ≡ false →
+pub further-within : (before : CoreState) (number : ℕ) (quota : Quota) (old : Tenant) → tenant_in before.tenants number ≡ Some old → is_beyond (reservations_in before) old.reserve quota ≡ false →
     (total (λ t. t.reserve.segments) (with_tenant number (record old { reserve = quota }) before.tenants) ≤ before.totals.segments) × (total (λ t. t.reserve.nodes) (with_tenant number (record old { reserve = quota }) before.tenants) ≤ before.totals.nodes)
 further-within before number quota old at enough =
     let book = reservations_in before in
@@ -157,7 +157,7 @@ further-within before number quota old at enough =
 no-further : (most own all asked now : ℕ) → now + own ≡ all + asked → now ≤ most → ltb (most + own) (all + asked) ≡ false
 no-further most own all asked now is le = le-ltb (most + own) (all + asked) (omega (arith, is, le))
 
-pub beyond-exactly : (before : Shared) (number : ℕ) (old : Tenant) (quota : Quota) → tenant_in before.tenants number ≡ Some old →
+pub beyond-exactly : (before : CoreState) (number : ℕ) (old : Tenant) (quota : Quota) → tenant_in before.tenants number ≡ Some old →
     (is_beyond (reservations_in before) old.reserve quota ≡ false) ↔ IsReservedWithin (record before { tenants = with_tenant number (record old { reserve = quota }) before.tenants })
 beyond-exactly before number old quota at = (forth, back)
   where
@@ -187,7 +187,7 @@ beyond-exactly before number old quota at = (forth, back)
           no-further book.nodes old.reserve.nodes (reserved_nodes book.accounts) quota.nodes (total (λ t. t.reserve.nodes) after) (omega (arith, b, all_nodes)) (omega (arith, n, f)),
         ) refl
 
-more-within : {I A : Type 0} (functions : Functions I A) (before : Shared) (number : ℕ) (quota : Quota) (outcome : Outcome I) → judged {A = A} functions before (AdmitMore number quota) ≡ Ok outcome → IsReservedWithin before → WithinAfter before number outcome.0
+more-within : {I A : Type 0} (functions : Functions I A) (before : CoreState) (number : ℕ) (quota : Quota) (outcome : Outcome I) → step_result {A = A} functions before (AdmitMore number quota) ≡ Ok outcome → IsReservedWithin before → WithinAfter before number outcome.0
 more-within {I} {A} functions before number quota outcome is within = by (tenant_in before.tenants number) refl
   where
     found : (is_beyond (reservations_in before) (reserved_by (tenant_in before.tenants number)) quota ≡ false) × (lone {A = A} functions (tenant_in before.tenants number) (AdmitMore number quota) ≡ Ok outcome)
@@ -204,7 +204,7 @@ more-within {I} {A} functions before number quota outcome is within = by (tenant
         let enough = ap (λ o. is_beyond (reservations_in before) (reserved_by o) quota) (sym at) ∙ found.0 in
         subst P p.1 (further-within before number quota old at enough)
 
-step-within : {I A : Type 0} (functions : Functions I A) (before : Shared) (step : StepOf A) (outcome : Outcome I) → is_admission step ≡ false → judged functions before step ≡ Ok outcome → IsReservedWithin before → WithinAfter before (tenant_of step) outcome.0
+step-within : {I A : Type 0} (functions : Functions I A) (before : CoreState) (step : StepOf A) (outcome : Outcome I) → is_admission step ≡ false → step_result functions before step ≡ Ok outcome → IsReservedWithin before → WithinAfter before (tenant_of step) outcome.0
 step-within functions before step outcome no_admission is within = by (tenant_in before.tenants (tenant_of step)) refl
   where
     alone : lone functions (tenant_in before.tenants (tenant_of step)) step ≡ Ok outcome
@@ -220,26 +220,26 @@ step-within functions before step outcome no_admission is within = by (tenant_in
         let e = segments-total before.tenants in let f = nodes-total before.tenants in
         (omega (arith, a, c, e), omega (arith, b, d, f))
 
-after-within : {I A : Type 0} (functions : Functions I A) (before : Shared) (step : StepOf A) (came_to : Result (Outcome I) Refusal) → judged functions before step ≡ came_to → IsReservedWithin before → IsReservedWithin (shared_after before step came_to)
+after-within : {I A : Type 0} (functions : Functions I A) (before : CoreState) (step : StepOf A) (came_to : Result (Outcome I) Refusal) → step_result functions before step ≡ came_to → IsReservedWithin before → IsReservedWithin (shared_after before step came_to)
 after-within functions before step (Err refusal) is within = within
 after-within {I} {A} functions before step (Ok outcome) is within =
     let both = elim (cases_Bool (is_admission step)) as (λ _. WithinAfter before (tenant_of step) outcome.0) [
       | inr no_admission ↦ step-within functions before step outcome no_admission is within
       | inl admits ↦ (let P : StepOf A → Type 0 = λ st. WithinAfter before (tenant_of st) outcome.0 in
           elim (admission step admits) as (λ _. P step) [
-            | inl a ↦ subst P (sym a.2) (admit-within functions before a.0 a.1 outcome (ap (judged functions before) (sym a.2) ∙ is) within)
-            | inr m ↦ subst P (sym m.2) (more-within functions before m.0 m.1 outcome (ap (judged functions before) (sym m.2) ∙ is) within)
+            | inl a ↦ subst P (sym a.2) (admit-within functions before a.0 a.1 outcome (ap (step_result functions before) (sym a.2) ∙ is) within)
+            | inr m ↦ subst P (sym m.2) (more-within functions before m.0 m.1 outcome (ap (step_result functions before) (sym m.2) ∙ is) within)
           ])
     ] in
     let e = segments-total (with_outcome (tenant_of step) outcome.0 before.tenants) in
     let f = nodes-total (with_outcome (tenant_of step) outcome.0 before.tenants) in
     record { segments = omega (arith, both.0, e); nodes = omega (arith, both.1, f) }
 
-pub reserved-answer : {I A : Type 0} (functions : Functions I A) (before : Shared) (step : StepOf A) (answer : Result (DidOf I) Refusal) → IsReservedWithin before → IsReservedWithin (after_answer functions before step answer)
+pub reserved-answer : {I A : Type 0} (functions : Functions I A) (before : CoreState) (step : StepOf A) (answer : Result (DidOf I) Refusal) → IsReservedWithin before → IsReservedWithin (after_answer functions before step answer)
 reserved-answer functions before step (Err refusal) within = within
-reserved-answer functions before step (Ok did) within = after-within functions before step (judged functions before step) refl within
+reserved-answer functions before step (Ok did) within = after-within functions before step (step_result functions before step) refl within
 
-pub reserved-answers : {I A : Type 0} (functions : Functions I A) (before : Shared) (steps : List (StepOf A)) (answers : List (Result (DidOf I) Refusal)) → IsReservedWithin before → IsReservedWithin (after_answers functions before steps answers)
+pub reserved-answers : {I A : Type 0} (functions : Functions I A) (before : CoreState) (steps : List (StepOf A)) (answers : List (Result (DidOf I) Refusal)) → IsReservedWithin before → IsReservedWithin (after_answers functions before steps answers)
 reserved-answers functions before [] answers within = within
 reserved-answers functions before (step ∷ steps) [] within = within
 reserved-answers functions before (step ∷ steps) (answer ∷ answers) within = reserved-answers functions (after_answer functions before step answer) steps answers (reserved-answer functions before step answer within)
@@ -249,10 +249,10 @@ charged-reserved : (es : Entries) → AreShaped es → charged_in es ≤ total (
 charged-reserved [] all = omega arith
 charged-reserved (e ∷ es) all = let rest = charged-reserved es all.1 in let own = all.0.charged in omega (arith, rest, own)
 
-pub covered : (shared : Shared) → AreShaped shared.tenants → IsReservedWithin shared → IsCovered shared
+pub covered : (shared : CoreState) → AreShaped shared.tenants → IsReservedWithin shared → IsCovered shared
 covered shared all within = let a = charged-reserved shared.tenants all in let b = within.segments in let c = segments-total shared.tenants in omega (arith, a, b, c)
 
-pub free-whole : (shared : Shared) → AreShaped shared.tenants → IsReservedWithin shared → free_in shared + charged_in shared.tenants ≡ shared.totals.segments
+pub free-whole : (shared : CoreState) → AreShaped shared.tenants → IsReservedWithin shared → free_in shared + charged_in shared.tenants ≡ shared.totals.segments
 free-whole shared all within = let c : charged_in shared.tenants ≤ shared.totals.segments = covered shared all within in omega (arith, c)
 
 pub left-segments : (tenant : Tenant) → IsShaped tenant → (left tenant).segments + charged_for tenant.frames ≡ tenant.reserve.segments

@@ -11,7 +11,7 @@ use Rattle.sched_rules.specs.Functions.{Functions}
 use Rattle.sched_rules.specs.Trees.{Tree, Tenant, kept_words, words_in}
 use Rattle.sched_rules.specs.Laws.{Fitting, Rooting, Neither, HasReturned, EveryFrameFits}
 use Rattle.sched_rules.specs.Runs.{tenant_of}
-use Rattle.sched_rules.specs.Cores.{Shared, tenant_in}
+use Rattle.sched_rules.specs.Cores.{CoreState, tenant_in}
 use Rattle.sched_rules.specs.Headline.{after_answer}
 
 -- a job holds what it was asked: the root of a live one belongs to the words that it was submitted with, and a done one kept the
@@ -35,7 +35,7 @@ pub record TenantFits (fits : Fitting) (rooted : Rooting) (origins : List (List 
   pub jobs : JobsFit fits rooted tenant.frames origins tenant.jobs
 
 -- a core fits: each tenant does, with the origins of its number; a number above the greatest so far has none
-pub record CoreFits (fits : Fitting) (rooted : Rooting) (origins : ℕ → List (List ℕ)) (shared : Shared) : Type 0 where
+pub record CoreFits (fits : Fitting) (rooted : Rooting) (origins : ℕ → List (List ℕ)) (shared : CoreState) : Type 0 where
   pub tenants : (number : ℕ) (tenant : Tenant) → tenant_in shared.tenants number ≡ Some tenant → TenantFits fits rooted (origins number) tenant
   pub unused : (number : ℕ) → shared.newest < number → origins number ≡ []
 
@@ -64,7 +64,7 @@ abbrev pub origins_after : {I A : Type 0} → (ℕ → List (List ℕ)) → Step
 origins_after origins step answer number = if is_ok answer && (tenant_of step == number) then origins number ++ submits step else origins number
 
 -- the core fits before and after each step of a list, up to the first taken one whose new root doesn't
-abbrev pub StaysFitting : {I A : Type 0} → Functions I A → Fitting → Rooting → (ℕ → List (List ℕ)) → Shared → List (StepOf A) → List (Result (DidOf I) Refusal) → Type 0
+abbrev pub StaysFitting : {I A : Type 0} → Functions I A → Fitting → Rooting → (ℕ → List (List ℕ)) → CoreState → List (StepOf A) → List (Result (DidOf I) Refusal) → Type 0
 StaysFitting functions fits rooted origins before [] answers = CoreFits fits rooted origins before
 StaysFitting functions fits rooted origins before (step ∷ steps) [] = CoreFits fits rooted origins before
 StaysFitting functions fits rooted origins before (step ∷ steps) (answer ∷ answers) =

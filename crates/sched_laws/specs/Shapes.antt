@@ -5,13 +5,13 @@ use Rattle.tenant_quota.specs.Accounts.{reserved_segments, reserved_nodes}
 use Rattle.sched_rules.specs.declared.job.Job.{Job}
 use Rattle.sched_rules.specs.declared.job.Job.TheVariants.{Live, Done, Spent, Cancelled}
 use Rattle.sched_rules.specs.Trees.{Tree, Tenant, charged_for, has_child, is_root, is_live_at}
-use Rattle.sched_rules.specs.Laws.{Neither, mark_of}
-use Rattle.sched_rules.specs.Cores.{Shared, accounts_in, charged_in}
+use Rattle.sched_rules.specs.Laws.{Neither, mark_of_state}
+use Rattle.sched_rules.specs.Cores.{CoreState, accounts_in, charged_in}
 
 -- each of these frames that is computed or has returned has no child in this tree
 abbrev pub AreMarkedChildless : Tree → List (Frame (List ℕ)) → Type 0
 AreMarkedChildless tree [] = Unit {0}
-AreMarkedChildless tree (frame ∷ frames) = ((mark_of frame.state ≡ Neither) ⊎ (has_child tree frame.serial ≡ false)) × AreMarkedChildless tree frames
+AreMarkedChildless tree (frame ∷ frames) = ((mark_of_state frame.state ≡ Neither) ⊎ (has_child tree frame.serial ≡ false)) × AreMarkedChildless tree frames
 
 -- how many jobs live under this root
 abbrev pub live_count : ℕ → List Job → ℕ
@@ -59,10 +59,10 @@ AreShaped [] = Unit {0}
 AreShaped (entry ∷ entries) = IsShaped entry.1 × AreShaped entries
 
 -- what all tenants have reserved is within the totals
-pub record IsReservedWithin (shared : Shared) : Type 0 where
+pub record IsReservedWithin (shared : CoreState) : Type 0 where
   pub segments : reserved_segments (accounts_in shared.tenants) ≤ shared.totals.segments
   pub nodes : reserved_nodes (accounts_in shared.tenants) ≤ shared.totals.nodes
 
 -- the charges of all frames are within the total of segments
-abbrev pub IsCovered : Shared → Type 0
+abbrev pub IsCovered : CoreState → Type 0
 IsCovered shared = charged_in shared.tenants ≤ shared.totals.segments

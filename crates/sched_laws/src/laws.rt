@@ -10,8 +10,8 @@ ghost use Rattle.sched_rules.specs.declared.step.StepOf.{StepOf};
 ghost use Rattle.sched_rules.specs.declared.step.DidOf.{DidOf};
 ghost use Rattle.sched_rules.specs.Trees.{Tenant, account_in, is_root, job_at, job_under};
 ghost use Rattle.sched_rules.specs.Runs.{only};
-ghost use Rattle.sched_rules.specs.Cores.{Shared, shared_by_nobody, tenant_in};
-ghost use Rattle.sched_rules.specs.Headline.{IsAnswerTo, AreAnswersTo, IsKnown, after_answer, after_answers, taken};
+ghost use Rattle.sched_rules.specs.Cores.{CoreState, shared_by_nobody, tenant_in};
+ghost use Rattle.sched_rules.specs.Headline.{IsAnswerTo, AreAnswersTo, AreNumbersGiven, after_answer, after_answers, taken_steps};
 ghost use Rattle.sched_laws.specs.Shapes.{IsShaped, AreShaped};
 ghost use Rattle.sched_laws.specs.Fitted.{TenantFits, CoreFits, RootsFit, StaysFitting, origins_of};
 
@@ -20,9 +20,9 @@ use sched_rules::Procedure;
 /// If each tenant has its shape (`IsShaped`), each has it after any step, whatever the answer, and after any
 /// list of steps.
 pub fn every_tenant_keeps_its_shape<P: Procedure>()
-    ensures step { (procedure : P) (before : Shared) (step : StepOf P.Answer) (answer : Result (DidOf P.Input) Refusal) →
+    ensures step { (procedure : P) (before : CoreState) (step : StepOf P.Answer) (answer : Result (DidOf P.Input) Refusal) →
         AreShaped before.tenants → AreShaped (after_answer (P.functions procedure) before step answer).tenants }
-    ensures run { (procedure : P) (before : Shared) (steps : List (StepOf P.Answer)) (answers : List (Result (DidOf P.Input) Refusal)) →
+    ensures run { (procedure : P) (before : CoreState) (steps : List (StepOf P.Answer)) (answers : List (Result (DidOf P.Input) Refusal)) →
         AreShaped before.tenants → AreShaped (after_answers (P.functions procedure) before steps answers).tenants }
 {}
 
@@ -39,24 +39,24 @@ pub fn what_the_shape_gives()
     ensures few { (tenant : Tenant) → IsShaped tenant → length tenant.frames ≤ tenant.reserve.segments }
 {}
 
-/// If no tenant has a number above the greatest so far (`IsKnown`), none has one after any step with a right
+/// If no tenant has a number above the greatest so far (`AreNumbersGiven`), none has one after any step with a right
 /// answer.
 pub fn every_number_stays_taken<P: Procedure>()
-    ensures { (procedure : P) (before : Shared) (step : StepOf P.Answer) (answer : Result (DidOf P.Input) Refusal) →
-        IsKnown before → IsAnswerTo (P.functions procedure) before step answer → IsKnown (after_answer (P.functions procedure) before step answer) }
+    ensures { (procedure : P) (before : CoreState) (step : StepOf P.Answer) (answer : Result (DidOf P.Input) Refusal) →
+        AreNumbersGiven before → IsAnswerTo (P.functions procedure) before step answer → AreNumbersGiven (after_answer (P.functions procedure) before step answer) }
 {}
 
 /// A core fits (`CoreFits`) where every frame fits and each job holds what it was asked. A core that fits still
 /// does after each step of a list, with the words of taken Submits added to the origins, as long as the new
 /// root of each taken Submit fits and belongs to the words submitted. A core with no tenant fits.
 pub fn every_frame_fits<P: Procedure>()
-    ensures each_step { (procedure : P) (origins : ℕ → List (List ℕ)) (before : Shared) (steps : List (StepOf P.Answer)) (answers : List (Result (DidOf P.Input) Refusal)) →
-        IsKnown before → AreShaped before.tenants → CoreFits (P.fits procedure) (P.rooted procedure) origins before → AreAnswersTo (P.functions procedure) before steps answers →
+    ensures each_step { (procedure : P) (origins : ℕ → List (List ℕ)) (before : CoreState) (steps : List (StepOf P.Answer)) (answers : List (Result (DidOf P.Input) Refusal)) →
+        AreNumbersGiven before → AreShaped before.tenants → CoreFits (P.fits procedure) (P.rooted procedure) origins before → AreAnswersTo (P.functions procedure) before steps answers →
         StaysFitting (P.functions procedure) (P.fits procedure) (P.rooted procedure) origins before steps answers }
-    ensures at_end { (procedure : P) (origins : ℕ → List (List ℕ)) (before : Shared) (steps : List (StepOf P.Answer)) (answers : List (Result (DidOf P.Input) Refusal)) →
-        IsKnown before → AreShaped before.tenants → CoreFits (P.fits procedure) (P.rooted procedure) origins before → AreAnswersTo (P.functions procedure) before steps answers →
-        RootsFit (P.fits procedure) (P.rooted procedure) (taken steps answers) →
-        CoreFits (P.fits procedure) (P.rooted procedure) (λ number. origins number ++ origins_of (only number (taken steps answers))) (after_answers (P.functions procedure) before steps answers) }
+    ensures at_end { (procedure : P) (origins : ℕ → List (List ℕ)) (before : CoreState) (steps : List (StepOf P.Answer)) (answers : List (Result (DidOf P.Input) Refusal)) →
+        AreNumbersGiven before → AreShaped before.tenants → CoreFits (P.fits procedure) (P.rooted procedure) origins before → AreAnswersTo (P.functions procedure) before steps answers →
+        RootsFit (P.fits procedure) (P.rooted procedure) (taken_steps steps answers) →
+        CoreFits (P.fits procedure) (P.rooted procedure) (λ number. origins number ++ origins_of (only number (taken_steps steps answers))) (after_answers (P.functions procedure) before steps answers) }
     ensures nobody { (procedure : P) (totals : Quota) → CoreFits (P.fits procedure) (P.rooted procedure) (λ number. []) (shared_by_nobody totals) }
 {}
 
@@ -67,7 +67,7 @@ pub fn every_frame_fits<P: Procedure>()
 pub fn each_job_holds_what_it_was_asked<P: Procedure>()
     ensures { (procedure : P) (totals : Quota) (steps : List (StepOf P.Answer)) (answers : List (Result (DidOf P.Input) Refusal)) (number : ℕ) (tenant : Tenant) →
         AreAnswersTo (P.functions procedure) (shared_by_nobody totals) steps answers →
-        RootsFit (P.fits procedure) (P.rooted procedure) (taken steps answers) →
+        RootsFit (P.fits procedure) (P.rooted procedure) (taken_steps steps answers) →
         tenant_in (after_answers (P.functions procedure) (shared_by_nobody totals) steps answers).tenants number ≡ Some tenant →
-        TenantFits (P.fits procedure) (P.rooted procedure) (origins_of (only number (taken steps answers))) tenant }
+        TenantFits (P.fits procedure) (P.rooted procedure) (origins_of (only number (taken_steps steps answers))) tenant }
 {}

@@ -11,8 +11,8 @@ ghost use Rattle.sched_rules.specs.declared.step.DidOf.TheVariants.{Submitted};
 ghost use Rattle.sched_rules.specs.Trees.{Tenant};
 ghost use Rattle.sched_rules.specs.Lone.{Outcome, lone_step};
 ghost use Rattle.sched_rules.specs.Runs.{only, alone_from, answers_from};
-ghost use Rattle.sched_rules.specs.Cores.{Shared, shared_by_nobody, tenant_in};
-ghost use Rattle.sched_rules.specs.Headline.{IsAnswerTo, AreAnswersTo, after_answers, taken};
+ghost use Rattle.sched_rules.specs.Cores.{CoreState, shared_by_nobody, tenant_in};
+ghost use Rattle.sched_rules.specs.Headline.{IsAnswerTo, AreAnswersTo, after_answers, taken_steps};
 ghost use Rattle.sched_laws.specs.Shapes.{IsShaped};
 ghost use Rattle.sched_laws.specs.Ended.{KeepsEnded};
 ghost use Rattle.sched_laws.specs.Fitted.{origins_of};
@@ -37,8 +37,8 @@ pub fn jobs_are_numbered_by_their_submits<P: Procedure>()
     ensures count { (procedure : P) (totals : Quota) (steps : List (StepOf P.Answer)) (answers : List (Result (DidOf P.Input) Refusal)) (number : ℕ) (tenant : Tenant) →
         AreAnswersTo (P.functions procedure) (shared_by_nobody totals) steps answers →
         tenant_in (after_answers (P.functions procedure) (shared_by_nobody totals) steps answers).tenants number ≡ Some tenant →
-        length tenant.jobs ≡ length (origins_of (only number (taken steps answers))) }
-    ensures number { (procedure : P) (before : Shared) (number : ℕ) (words : List ℕ) (size : ℕ) (did : DidOf P.Input) (tenant : Tenant) →
+        length tenant.jobs ≡ length (origins_of (only number (taken_steps steps answers))) }
+    ensures number { (procedure : P) (before : CoreState) (number : ℕ) (words : List ℕ) (size : ℕ) (did : DidOf P.Input) (tenant : Tenant) →
         IsAnswerTo (P.functions procedure) before (Submit number words size) (Ok did) → tenant_in before.tenants number ≡ Some tenant →
         did ≡ Submitted (length tenant.jobs + 1) (record { tenant = number; serial = tenant.serials + 1 }) }
 {}

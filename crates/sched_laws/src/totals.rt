@@ -5,7 +5,7 @@ ghost use Rattle.sched_rules.specs.declared.refusal.Refusal.{Refusal};
 ghost use Rattle.sched_rules.specs.declared.step.StepOf.{StepOf};
 ghost use Rattle.sched_rules.specs.declared.step.DidOf.{DidOf};
 ghost use Rattle.sched_rules.specs.Trees.{Tenant, left, charged_for};
-ghost use Rattle.sched_rules.specs.Cores.{Shared, tenant_in, with_tenant, charged_in, reservations_in, is_beyond, shared_by_nobody};
+ghost use Rattle.sched_rules.specs.Cores.{CoreState, tenant_in, with_tenant, charged_in, reservations_in, is_beyond, shared_by_nobody};
 ghost use Rattle.sched_rules.specs.Headline.{after_answer, after_answers};
 ghost use Rattle.sched_rules.specs.Views.{free_in};
 ghost use Rattle.sched_laws.specs.Shapes.{IsShaped, AreShaped, IsReservedWithin, IsCovered};
@@ -15,9 +15,9 @@ use sched_rules::Procedure;
 /// If all reservations together are within the totals (`IsReservedWithin`), they are after any step, whatever
 /// the answer, and after any list of steps. With no tenant they are.
 pub fn reservations_stay_within_the_totals<P: Procedure>()
-    ensures step { (procedure : P) (before : Shared) (step : StepOf P.Answer) (answer : Result (DidOf P.Input) Refusal) →
+    ensures step { (procedure : P) (before : CoreState) (step : StepOf P.Answer) (answer : Result (DidOf P.Input) Refusal) →
         IsReservedWithin before → IsReservedWithin (after_answer (P.functions procedure) before step answer) }
-    ensures run { (procedure : P) (before : Shared) (steps : List (StepOf P.Answer)) (answers : List (Result (DidOf P.Input) Refusal)) →
+    ensures run { (procedure : P) (before : CoreState) (steps : List (StepOf P.Answer)) (answers : List (Result (DidOf P.Input) Refusal)) →
         IsReservedWithin before → IsReservedWithin (after_answers (P.functions procedure) before steps answers) }
     ensures nobody { (totals : Quota) → IsReservedWithin (shared_by_nobody totals) }
 {}
@@ -25,7 +25,7 @@ pub fn reservations_stay_within_the_totals<P: Procedure>()
 /// A raised reservation is beyond the totals (`is_beyond`) exactly where all reservations together, this one in
 /// the place of the tenant's own, would pass one of them.
 pub fn more_is_beyond_exactly_where_a_total_is_passed()
-    ensures { (before : Shared) (number : ℕ) (tenant : Tenant) (quota : Quota) → tenant_in before.tenants number ≡ Some tenant →
+    ensures { (before : CoreState) (number : ℕ) (tenant : Tenant) (quota : Quota) → tenant_in before.tenants number ≡ Some tenant →
         (is_beyond (reservations_in before) tenant.reserve quota ≡ false ↔ IsReservedWithin (record before { tenants = with_tenant number (record tenant { reserve = quota }) before.tenants })) }
 {}
 
@@ -35,6 +35,6 @@ pub fn nothing_is_cut_off()
     ensures segments { (tenant : Tenant) → IsShaped tenant → (left tenant).segments + charged_for tenant.frames ≡ tenant.reserve.segments }
     ensures nodes { (tenant : Tenant) → IsShaped tenant → (left tenant).nodes + tenant.serials ≡ tenant.reserve.nodes }
     ensures steps { (tenant : Tenant) → IsShaped tenant → (left tenant).steps + tenant.steps ≡ 16 * tenant.reserve.nodes }
-    ensures covered { (shared : Shared) → AreShaped shared.tenants → IsReservedWithin shared → IsCovered shared }
-    ensures free { (shared : Shared) → AreShaped shared.tenants → IsReservedWithin shared → free_in shared + charged_in shared.tenants ≡ shared.totals.segments }
+    ensures covered { (shared : CoreState) → AreShaped shared.tenants → IsReservedWithin shared → IsCovered shared }
+    ensures free { (shared : CoreState) → AreShaped shared.tenants → IsReservedWithin shared → free_in shared + charged_in shared.tenants ≡ shared.totals.segments }
 {}

@@ -18,17 +18,17 @@ use Rattle.sched_rules.specs.Lone.{Outcome, lone, lone_refusal, refusal_in, unle
 use Rattle.sched_rules.specs.Runs.{tenant_of, only, state_after, answer_of, alone_from, answers_from}
 use Rattle.tenant_quota.specs.Quota.{Quota, IsNotAbove}
 use Rattle.tenant_quota.specs.Reservations.{Reservations, IsFull, IsBeyond}
-use Rattle.sched_rules.specs.Cores.{Shared, tenant_in, meets_busy, unless_busy, judged, step_among, newest_after, shared_with, is_full, is_beyond, unless_beyond, reserved_by, reservations_in}
-use Rattle.sched_rules.specs.Headline.{IsAnswerTo, IsAnswerToAdmit, IsAnswerToStep, after_answer, after_answers, AreAnswersTo, taken, told, IsUndisturbed, IsHeadline, IsKnown, is_admission}
+use Rattle.sched_rules.specs.Cores.{CoreState, tenant_in, meets_busy, unless_busy, step_result, step_among, newest_after, shared_with, is_full, is_beyond, unless_beyond, reserved_by, reservations_in}
+use Rattle.sched_rules.specs.Headline.{IsAnswerTo, IsAnswerToAdmit, IsAnswerToStep, after_answer, after_answers, AreAnswersTo, taken_steps, own_answers, IsUndisturbed, IsHeadline, AreNumbersGiven, is_admission}
 use Rattle.sched_rules.proofs.Tenants.{tenant_in-with_outcome, tenant_in_other-with_outcome, taken-with_outcome, taken-above, tenant_in-new, known-number}
 
 -- a taken step: what it came to, among all and alone
-pub record IsTaken {I A : Type 0} (functions : Functions I A) (before : Shared) (step : StepOf A) (did : DidOf I) : Type 0 where
+pub record IsTaken {I A : Type 0} (functions : Functions I A) (before : CoreState) (step : StepOf A) (did : DidOf I) : Type 0 where
   pub outcome : Outcome I
-  pub among : judged functions before step ≡ Ok outcome
+  pub among : step_result functions before step ≡ Ok outcome
   pub own : lone functions (tenant_in before.tenants (tenant_of step)) step ≡ Ok outcome
   pub same : outcome.1 ≡ did
-  pub known : IsKnown (shared_with before step outcome.0)
+  pub known : AreNumbersGiven (shared_with before step outcome.0)
 
 -- the value of an Ok
 did-Ok : {I : Type 0} (did other : DidOf I) → ◌≡◌ {A = Result (DidOf I) Refusal} (Ok did) (Ok other) → other ≡ did
@@ -62,24 +62,24 @@ newest-stays newest (AdmitMore number quota) no_admission = absurd cc
 newest-stays newest _ no_admission = refl
 
 -- and is judged by its own tenant's state and the busy workers
-pub judged-step : {I A : Type 0} (functions : Functions I A) (before : Shared) (step : StepOf A) → is_admission step ≡ false → judged functions before step ≡ step_among functions before step
-judged-step functions before (Admit number quota) no_admission = absurd cc
-judged-step functions before (AdmitMore number quota) no_admission = absurd cc
-judged-step functions before _ no_admission = refl
+pub step_result-step : {I A : Type 0} (functions : Functions I A) (before : CoreState) (step : StepOf A) → is_admission step ≡ false → step_result functions before step ≡ step_among functions before step
+step_result-step functions before (Admit number quota) no_admission = absurd cc
+step_result-step functions before (AdmitMore number quota) no_admission = absurd cc
+step_result-step functions before _ no_admission = refl
 
 -- after it no tenant is there under a number that wasn't taken
-known-after : {I A : Type 0} (functions : Functions I A) (before : Shared) (step : StepOf A) (outcome : Outcome I) → is_admission step ≡ false → IsKnown before →
-    lone functions (tenant_in before.tenants (tenant_of step)) step ≡ Ok outcome → IsKnown (shared_with before step outcome.0)
+known-after : {I A : Type 0} (functions : Functions I A) (before : CoreState) (step : StepOf A) (outcome : Outcome I) → is_admission step ≡ false → AreNumbersGiven before →
+    lone functions (tenant_in before.tenants (tenant_of step)) step ≡ Ok outcome → AreNumbersGiven (shared_with before step outcome.0)
 known-after functions before step outcome no_admission known taken =
     rw (newest-stays before.newest step no_admission) (taken-with_outcome before.newest (tenant_of step) outcome.0 before.tenants
     (known-number before.newest (tenant_of step) before.tenants known (there functions _ step outcome no_admission taken)) known)
 
 -- a step that is no admission, and was taken
-step-found : {I A : Type 0} (functions : Functions I A) (before : Shared) (step : StepOf A) (did : DidOf I) → is_admission step ≡ false → IsKnown before →
+step-found : {I A : Type 0} (functions : Functions I A) (before : CoreState) (step : StepOf A) (did : DidOf I) → is_admission step ≡ false → AreNumbersGiven before →
     IsAnswerToStep functions before step (Ok did) → IsTaken functions before step did
 step-found functions before step did no_admission known right =
     let f = found (meets_busy step before.tenants) (lone functions (tenant_in before.tenants (tenant_of step)) step) did right.own_state right.busy_worker right.else_taken in
-    record { outcome = f.0; among = judged-step functions before step no_admission ∙ f.1; own = f.2; same = f.3; known = known-after functions before step f.0 no_admission known f.2 }
+    record { outcome = f.0; among = step_result-step functions before step no_admission ∙ f.1; own = f.2; same = f.3; known = known-after functions before step f.0 no_admission known f.2 }
 
 -- the tests of an admission that was taken
 tests-passed : {I : Type 0} (old full : Bool) (effect : Outcome I) (did : DidOf I) →
@@ -100,10 +100,10 @@ pub above : (number newest : ℕ) → ((number == 0) || nat_le number newest || 
 above number newest is_new = grind (arith, nat_tests)
 
 -- what it did
-admitted-did : {I : Type 0} (did : DidOf I) (judged : Result (Outcome I) Refusal) (outcome : Outcome I) → judged ≡ Ok outcome →
-    (◌≡◌ {A = Result (DidOf I) Refusal} (Ok did) (answer_of judged)) ⊎ (◌≡◌ {A = Result (DidOf I) Refusal} (Ok did) (Err OutOfMemory)) → outcome.1 ≡ did
-admitted-did did judged outcome is (inl e) = did-Ok did outcome.1 (rw is at e)
-admitted-did did judged outcome is (inr e) = absurd cc
+admitted-did : {I : Type 0} (did : DidOf I) (step_result : Result (Outcome I) Refusal) (outcome : Outcome I) → step_result ≡ Ok outcome →
+    (◌≡◌ {A = Result (DidOf I) Refusal} (Ok did) (answer_of step_result)) ⊎ (◌≡◌ {A = Result (DidOf I) Refusal} (Ok did) (Err OutOfMemory)) → outcome.1 ≡ did
+admitted-did did step_result outcome is (inl e) = did-Ok did outcome.1 (rw is at e)
+admitted-did did step_result outcome is (inr e) = absurd cc
 
 -- an admission of more that was taken, over what it comes to alone and whether the totals allow it
 more-found : {I : Type 0} (beyond : Bool) (alone : Result (Outcome I) Refusal) (did : DidOf I) →
@@ -119,7 +119,7 @@ pub more-there : {I A : Type 0} (functions : Functions I A) (own : Option Tenant
 more-there functions None number quota outcome taken = absurd cc
 more-there functions (Some tenant) number quota outcome taken = λ e. cc
 
-admitted-more : {I A : Type 0} (functions : Functions I A) (before : Shared) (number : ℕ) (quota : Quota) (did : DidOf I) → IsKnown before →
+admitted-more : {I A : Type 0} (functions : Functions I A) (before : CoreState) (number : ℕ) (quota : Quota) (did : DidOf I) → AreNumbersGiven before →
     IsAnswerToAdmit functions before (AdmitMore number quota) (Ok did) → IsTaken functions before (AdmitMore number quota) did
 admitted-more {A = A} functions before number quota did known right =
     let own = tenant_in before.tenants number in
@@ -133,7 +133,7 @@ admitted-more {A = A} functions before number quota did known right =
     }
 
 -- an admission that was taken
-admitted : {I A : Type 0} (functions : Functions I A) (before : Shared) (number : ℕ) (quota : Quota) (did : DidOf I) → IsKnown before →
+admitted : {I A : Type 0} (functions : Functions I A) (before : CoreState) (number : ℕ) (quota : Quota) (did : DidOf I) → AreNumbersGiven before →
     IsAnswerToAdmit functions before (Admit number quota) (Ok did) → IsTaken functions before (Admit number quota) did
 admitted {I = I} functions before number quota did known right =
     let old = (number == 0) || nat_le number before.newest || nat_lt (2 ^ 62) number in
@@ -147,19 +147,19 @@ admitted {I = I} functions before number quota did known right =
       outcome = effect;
       among = taken;
       own = rw nothing refl;
-      same = admitted-did did (judged functions before (Admit number quota)) effect taken (right.else_taken (rw taken refl));
+      same = admitted-did did (step_result functions before (Admit number quota)) effect taken (right.else_taken (rw taken refl));
       known = taken-with_outcome number number (Some (admitted_with quota)) before.tenants (omega arith) (taken-above before.newest number before.tenants (omega arith) known);
     }
 
 -- a taken step, whichever it is
-pub step-taken : {I A : Type 0} (functions : Functions I A) (before : Shared) (step : StepOf A) (did : DidOf I) → IsKnown before →
+pub step-taken : {I A : Type 0} (functions : Functions I A) (before : CoreState) (step : StepOf A) (did : DidOf I) → AreNumbersGiven before →
     IsAnswerTo functions before step (Ok did) → IsTaken functions before step did
 step-taken functions before (Admit number quota) did known right = admitted functions before number quota did known (right.0 refl)
 step-taken functions before (AdmitMore number quota) did known right = admitted-more functions before number quota did known (right.0 refl)
 step-taken functions before step did known right = step-found functions before step did refl known (right.1 refl)
 
 -- the core after a taken step
-pub shared-after-taken : {I A : Type 0} (functions : Functions I A) (before : Shared) (step : StepOf A) (did : DidOf I) (t : IsTaken functions before step did) →
+pub shared-after-taken : {I A : Type 0} (functions : Functions I A) (before : CoreState) (step : StepOf A) (did : DidOf I) (t : IsTaken functions before step did) →
     after_answer functions before step (Ok did) ≡ shared_with before step t.outcome.0
 shared-after-taken functions before step did t = rw t.among refl
 
@@ -172,23 +172,23 @@ run-on functions number step steps own after mine others = grind (arith, nat_tes
 replies-on : {I A : Type 0} (functions : Functions I A) (number : ℕ) (step : StepOf A) (steps : List (StepOf A)) (answers : List (Result (DidOf I) Refusal)) (did : DidOf I) (own after : Option Tenant) →
     (tenant_of step ≡ number → after ≡ state_after own (lone functions own step)) → (tenant_of step ≢ number → after ≡ own) →
     (tenant_of step ≡ number → answer_of (lone functions own step) ≡ Ok did) →
-    told number steps answers ≡ answers_from functions after (only number (taken steps answers)) →
-    told number (step ∷ steps) (Ok did ∷ answers) ≡ answers_from functions own (only number (taken (step ∷ steps) (Ok did ∷ answers)))
+    own_answers number steps answers ≡ answers_from functions after (only number (taken_steps steps answers)) →
+    own_answers number (step ∷ steps) (Ok did ∷ answers) ≡ answers_from functions own (only number (taken_steps (step ∷ steps) (Ok did ∷ answers)))
 replies-on functions number step steps answers did own after mine others same rest = grind (arith, nat_tests)
 
 -- the tenant whose step it was
-mine-after : {I A : Type 0} (functions : Functions I A) (before : Shared) (step : StepOf A) (did : DidOf I) (t : IsTaken functions before step did) (number : ℕ) → tenant_of step ≡ number →
+mine-after : {I A : Type 0} (functions : Functions I A) (before : CoreState) (step : StepOf A) (did : DidOf I) (t : IsTaken functions before step did) (number : ℕ) → tenant_of step ≡ number →
     tenant_in (shared_with before step t.outcome.0).tenants number ≡ state_after (tenant_in before.tenants number) (lone functions (tenant_in before.tenants number) step)
 mine-after functions before step did t number mine =
     rw (← mine, t.own) (tenant_in-with_outcome (tenant_of step) t.outcome.0 before.tenants)
 
-mine-told : {I A : Type 0} (functions : Functions I A) (before : Shared) (step : StepOf A) (did : DidOf I) (t : IsTaken functions before step did) (number : ℕ) → tenant_of step ≡ number →
+mine-answers : {I A : Type 0} (functions : Functions I A) (before : CoreState) (step : StepOf A) (did : DidOf I) (t : IsTaken functions before step did) (number : ℕ) → tenant_of step ≡ number →
     answer_of (lone functions (tenant_in before.tenants number) step) ≡ Ok did
-mine-told functions before step did t number mine = rw (← mine, t.own, t.same) refl
+mine-answers functions before step did t number mine = rw (← mine, t.own, t.same) refl
 
 -- no tenant is disturbed by a list of steps
-undisturbed : {I A : Type 0} (functions : Functions I A) (before : Shared) (steps : List (StepOf A)) (answers : List (Result (DidOf I) Refusal)) (number : ℕ) →
-    IsKnown before → AreAnswersTo functions before steps answers → IsUndisturbed functions before steps answers (after_answers functions before steps answers) number
+undisturbed : {I A : Type 0} (functions : Functions I A) (before : CoreState) (steps : List (StepOf A)) (answers : List (Result (DidOf I) Refusal)) (number : ℕ) →
+    AreNumbersGiven before → AreAnswersTo functions before steps answers → IsUndisturbed functions before steps answers (after_answers functions before steps answers) number
 undisturbed functions before [] [] number known right = record { state = refl; replies = refl }
 undisturbed functions before [] (answer ∷ answers) number known right = absurd right
 undisturbed functions before (step ∷ steps) [] number known right = absurd right
@@ -203,13 +203,13 @@ undisturbed functions before (step ∷ steps) (Ok did ∷ answers) number known 
     let mine : tenant_of step ≡ number → after ≡ state_after own (lone functions own step) = λ e. rw is (mine-after functions before step did t number e) in
     let others : tenant_of step ≢ number → after ≡ own = λ ne. rw is (tenant_in_other-with_outcome number (tenant_of step) t.outcome.0 before.tenants ne) in
     record {
-      state = rest.state ∙ run-on functions number step (taken steps answers) own after mine others;
-      replies = replies-on functions number step steps answers did own after mine others (λ e. mine-told functions before step did t number e) rest.replies;
+      state = rest.state ∙ run-on functions number step (taken_steps steps answers) own after mine others;
+      replies = replies-on functions number step steps answers did own after mine others (λ e. mine-answers functions before step did t number e) rest.replies;
     }
 
 -- the headline
-pub headline : {I A : Type 0} (functions : Functions I A) (before : Shared) (steps : List (StepOf A)) (answers : List (Result (DidOf I) Refusal)) →
-    IsKnown before → AreAnswersTo functions before steps answers → IsHeadline functions before steps answers (after_answers functions before steps answers)
+pub headline : {I A : Type 0} (functions : Functions I A) (before : CoreState) (steps : List (StepOf A)) (answers : List (Result (DidOf I) Refusal)) →
+    AreNumbersGiven before → AreAnswersTo functions before steps answers → IsHeadline functions before steps answers (after_answers functions before steps answers)
 headline functions before steps answers known right =
     record { undisturbed = λ number. undisturbed functions before steps answers number known right; refused = right; left = refl }
 
@@ -228,12 +228,12 @@ answer-else false (Ok outcome) none is = refl
 answer-else true (Ok outcome) none is = absurd cc
 answer-else busy (Err other) none is = absurd cc
 
-answer-step : {I A : Type 0} (functions : Functions I A) (before : Shared) (step : StepOf A) → is_admission step ≡ false →
-    IsAnswerToStep functions before step (answer_of (judged functions before step))
+answer-step : {I A : Type 0} (functions : Functions I A) (before : CoreState) (step : StepOf A) → is_admission step ≡ false →
+    IsAnswerToStep functions before step (answer_of (step_result functions before step))
 answer-step functions before step no_admission =
     let busy = meets_busy step before.tenants in
     let alone = lone functions (tenant_in before.tenants (tenant_of step)) step in
-    let is : judged functions before step ≡ unless_busy busy alone = judged-step functions before step no_admission in
+    let is : step_result functions before step ≡ unless_busy busy alone = step_result-step functions before step no_admission in
     record {
       own_state = λ refusal e. rw is (answer-own busy alone refusal e);
       busy_worker = λ none b. rw is (answer-busy busy alone none b);
@@ -241,12 +241,12 @@ answer-step functions before step no_admission =
     }
 
 -- the answer to an admission, over its tests
-admission-refused : {I : Type 0} (judged : Result (Outcome I) Refusal) (refusal : Refusal) → refusal_in judged ≡ Some refusal → answer_of judged ≡ Err refusal
+admission-refused : {I : Type 0} (step_result : Result (Outcome I) Refusal) (refusal : Refusal) → refusal_in step_result ≡ Some refusal → answer_of step_result ≡ Err refusal
 admission-refused (Ok outcome) refusal e = absurd cc
 admission-refused (Err other) refusal e = cc
 
 -- what is judged is a right answer
-pub right-answer : {I A : Type 0} (functions : Functions I A) (before : Shared) (step : StepOf A) → IsAnswerTo functions before step (answer_of (judged functions before step))
+pub right-answer : {I A : Type 0} (functions : Functions I A) (before : CoreState) (step : StepOf A) → IsAnswerTo functions before step (answer_of (step_result functions before step))
 right-answer functions before (Admit number quota) =
     (λ is. record { refused = λ refusal e. admission-refused _ refusal e; else_taken = λ none. inl refl }, λ is_not. absurd cc)
 right-answer functions before (AdmitMore number quota) =

@@ -4,7 +4,7 @@ use Rattle.tenant_quota.specs.Quota.{Quota}
 use Rattle.frame_tree.specs.Frames.{aborted, frames_without}
 use Rattle.sched_rules.specs.declared.job.Job.{Job}
 use Rattle.sched_rules.specs.Trees.{Tenant, with_ended}
-use Rattle.sched_rules.specs.Cores.{Shared}
+use Rattle.sched_rules.specs.Cores.{CoreState}
 
 -- the tenants, the one of this number changed by change
 abbrev pub with_change : ℕ → (Tenant → Tenant) → List (ℕ × Tenant) → List (ℕ × Tenant)
@@ -12,7 +12,7 @@ with_change number change [] = []
 with_change number change (entry ∷ entries) = if entry.0 == number then (entry.0, change entry.1) ∷ entries else entry ∷ with_change number change entries
 
 -- the core, its tenant of this number changed by change
-abbrev pub on_tenant : ℕ → (Tenant → Tenant) → Shared → Shared
+abbrev pub on_tenant : ℕ → (Tenant → Tenant) → CoreState → CoreState
 on_tenant number change shared = record shared { tenants = with_change number change shared.tenants }
 
 -- the tenant with this reservation

@@ -15,7 +15,7 @@ use Rattle.sched_rules.specs.Lone.{Outcome, unless, lone, refusal_in}
 use Rattle.sched_rules.specs.Runs.{tenant_of}
 
 -- a core: its totals, the greatest number of a tenant so far, and the tenants that are there, each with its number
-pub record Shared : Type 0 where
+pub record CoreState : Type 0 where
   pub totals : Quota
   pub newest : ℕ
   pub tenants : List (ℕ × Tenant)
@@ -23,10 +23,10 @@ pub record Shared : Type 0 where
 -- a core as contracts see it: its procedure, and what its tenants share
 pub record CoreOf (P : Type 0) : Type 0 where
   pub procedure : P
-  pub shared : Shared
+  pub shared : CoreState
 
 -- a core of these totals with no tenant
-abbrev pub shared_by_nobody : Quota → Shared
+abbrev pub shared_by_nobody : Quota → CoreState
 shared_by_nobody totals = record { totals = totals; newest = 0; tenants = [] }
 
 -- the tenant with this number, if it is there
@@ -73,7 +73,7 @@ accounts_in [] = []
 accounts_in (entry ∷ entries) = (entry.0, account_in entry.1) ∷ accounts_in entries
 
 -- the book of reservations: the totals, and the accounts of all tenants
-abbrev pub reservations_in : Shared → Reservations
+abbrev pub reservations_in : CoreState → Reservations
 reservations_in shared = record { segments = shared.totals.segments; nodes = shared.totals.nodes; accounts = accounts_in shared.tenants }
 
 -- whether there is no room for a new tenant's reservation: 64 tenants are there, or a total would be passed
@@ -84,7 +84,7 @@ is_full book quota =
     || nat_lt book.nodes (reserved_nodes book.accounts + quota.nodes)
 
 -- the tests of Admit: the number is 0, not above every number so far, or over 2^62; no room for the reservation
-abbrev pub admit_tests : Shared → ℕ → Quota → List (Bool × Refusal)
+abbrev pub admit_tests : CoreState → ℕ → Quota → List (Bool × Refusal)
 admit_tests shared number quota =
     ((number == 0) || nat_le number shared.newest || nat_lt (2 ^ 62) number, OldTenant)
     ∷ (is_full (reservations_in shared) quota, Full)
@@ -112,17 +112,17 @@ unless_busy busy (Err refusal) = Err refusal
 unless_busy busy (Ok outcome) = if busy then Err Busy else Ok outcome
 
 -- one step among several tenants that is neither Admit nor AdmitMore
-abbrev pub step_among : {I A : Type 0} → Functions I A → Shared → StepOf A → Result (Outcome I) Refusal
+abbrev pub step_among : {I A : Type 0} → Functions I A → CoreState → StepOf A → Result (Outcome I) Refusal
 step_among functions shared step =
     unless_busy (meets_busy step shared.tenants) (lone functions (tenant_in shared.tenants (tenant_of step)) step)
 
 -- the result of a step among several tenants, unless memory runs out: its tenant's state and what it did, or a refusal
-abbrev pub judged : {I A : Type 0} → Functions I A → Shared → StepOf A → Result (Outcome I) Refusal
-judged functions shared (Admit number quota) = unless (admit_tests shared number quota) (Some (admitted_with quota), Admitted)
-judged functions shared (AdmitMore number quota) =
+abbrev pub step_result : {I A : Type 0} → Functions I A → CoreState → StepOf A → Result (Outcome I) Refusal
+step_result functions shared (Admit number quota) = unless (admit_tests shared number quota) (Some (admitted_with quota), Admitted)
+step_result functions shared (AdmitMore number quota) =
     unless_beyond (is_beyond (reservations_in shared) (reserved_by (tenant_in shared.tenants number)) quota)
     (lone functions (tenant_in shared.tenants number) (AdmitMore number quota))
-judged functions shared step = step_among functions shared step
+step_result functions shared step = step_among functions shared step
 
 -- the greatest number of a tenant so far, after a taken step
 abbrev pub newest_after : {A : Type 0} → ℕ → StepOf A → ℕ
@@ -130,19 +130,19 @@ newest_after newest (Admit number quota) = number
 newest_after newest _ = newest
 
 -- the core after a taken step, whose tenant has this state now, or is gone
-abbrev pub shared_with : {A : Type 0} → Shared → StepOf A → Option Tenant → Shared
+abbrev pub shared_with : {A : Type 0} → CoreState → StepOf A → Option Tenant → CoreState
 shared_with shared step tenant =
     record { totals = shared.totals; newest = newest_after shared.newest step; tenants = with_outcome (tenant_of step) tenant shared.tenants }
 
 -- the core after a step; a refused one changes nothing
-abbrev pub shared_after : {I A : Type 0} → Shared → StepOf A → Result (Outcome I) Refusal → Shared
+abbrev pub shared_after : {I A : Type 0} → CoreState → StepOf A → Result (Outcome I) Refusal → CoreState
 shared_after shared step (Ok outcome) = shared_with shared step outcome.0
 shared_after shared step (Err refusal) = shared
 
 -- the core after a list of steps, where memory doesn't run out
-abbrev pub shared_run : {I A : Type 0} → Functions I A → Shared → List (StepOf A) → Shared
+abbrev pub shared_run : {I A : Type 0} → Functions I A → CoreState → List (StepOf A) → CoreState
 shared_run functions shared [] = shared
-shared_run functions shared (step ∷ steps) = shared_run functions (shared_after shared step (judged functions shared step)) steps
+shared_run functions shared (step ∷ steps) = shared_run functions (shared_after shared step (step_result functions shared step)) steps
 
 -- the charges of all frames of all tenants
 abbrev pub charged_in : List (ℕ × Tenant) → ℕ
@@ -150,5 +150,5 @@ charged_in [] = 0
 charged_in (entry ∷ entries) = charged_for entry.1.frames + charged_in entries
 
 -- why a step among several tenants is refused, if memory doesn't run out; none where it is taken
-abbrev pub shared_refusal : {I A : Type 0} → Functions I A → Shared → StepOf A → Option Refusal
-shared_refusal functions shared step = refusal_in (judged functions shared step)
+abbrev pub shared_refusal : {I A : Type 0} → Functions I A → CoreState → StepOf A → Option Refusal
+shared_refusal functions shared step = refusal_in (step_result functions shared step)

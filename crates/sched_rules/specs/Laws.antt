@@ -5,8 +5,8 @@ use Rattle.frame_tree.specs.declared.names.State.{State}
 use Rattle.frame_tree.specs.declared.names.State.TheVariants.{Computing, Returned}
 use Rattle.frame_tree.specs.Frames.{Frame, children_of, values_of}
 use Rattle.sched_rules.specs.declared.act.Act.{Act}
-use Rattle.sched_rules.specs.declared.act.Then.{Then}
-use Rattle.sched_rules.specs.declared.act.Then.TheVariants.{Grow, Spawn, Go, Wait, Compute, Return}
+use Rattle.sched_rules.specs.declared.act.Continuation.{Continuation}
+use Rattle.sched_rules.specs.declared.act.Continuation.TheVariants.{Grow, Spawn, Go, Wait, Compute, Return}
 use Rattle.sched_rules.specs.Functions.{Functions}
 use Rattle.sched_rules.specs.Trees.{Tree, stored, is_outside}
 use Rattle.sched_rules.specs.Lone.{is_bad_act}
@@ -18,10 +18,10 @@ pub data Mark : Type 0 where
   HasReturned : Mark
 
 -- the mark of a frame in this state
-abbrev pub mark_of : State → Mark
-mark_of (Computing worker) = Computes
-mark_of Returned = HasReturned
-mark_of _ = Neither
+abbrev pub mark_of_state : State → Mark
+mark_of_state (Computing worker) = Computes
+mark_of_state Returned = HasReturned
+mark_of_state _ = Neither
 
 -- a procedure's own invariant of its frames: it relates a frame's words, its children's words and its mark. "Fits" means it holds
 abbrev pub Fitting : Type 1
@@ -48,7 +48,7 @@ abbrev pub has_one : List (List ℕ) → Bool
 has_one children = nat_lt 0 (length children)
 
 -- the words of a frame after an act, from its words after the stores: with zeros at the end where it grows
-abbrev pub grown : Then → List ℕ → List ℕ
+abbrev pub grown : Continuation → List ℕ → List ℕ
 grown (Grow more) words = words ++ replicate more 0
 grown (Spawn given size) words = words
 grown Go words = words
@@ -57,7 +57,7 @@ grown Compute words = words
 grown Return words = words
 
 -- the words of a frame's children after an act: those of a new child are the last
-abbrev pub children_after : Then → List (List ℕ) → List (List ℕ)
+abbrev pub children_after : Continuation → List (List ℕ) → List (List ℕ)
 children_after (Grow more) children = children
 children_after (Spawn given size) children = children ++ padded given size ∷ []
 children_after Go children = children
@@ -66,7 +66,7 @@ children_after Compute children = children
 children_after Return children = children
 
 -- the mark of a frame after an act: one that returns while it has a child waits, so it has neither mark
-abbrev pub mark_after : Then → List (List ℕ) → Mark
+abbrev pub mark_after : Continuation → List (List ℕ) → Mark
 mark_after (Grow more) children = Neither
 mark_after (Spawn given size) children = Neither
 mark_after Go children = Neither
@@ -75,7 +75,7 @@ mark_after Compute children = Computes
 mark_after Return children = if has_one children then Neither else HasReturned
 
 -- the child that an act opens, if it opens one, fits
-abbrev pub NewChildFits : Fitting → Then → Type 0
+abbrev pub NewChildFits : Fitting → Continuation → Type 0
 NewChildFits fits (Grow more) = Unit {0}
 NewChildFits fits (Spawn given size) = fits (padded given size) [] Neither
 NewChildFits fits Go = Unit {0}
@@ -134,7 +134,7 @@ AcceptKeeps {A = A} functions fits rooted =
 -- each of these frames of a tree fits, with the words of its children and its mark
 abbrev pub EachFits : Fitting → Tree → List (Frame (List ℕ)) → Type 0
 EachFits fits tree [] = Unit {0}
-EachFits fits tree (frame ∷ frames) = fits frame.value (values_of (children_of tree frame.serial)) (mark_of frame.state) × EachFits fits tree frames
+EachFits fits tree (frame ∷ frames) = fits frame.value (values_of (children_of tree frame.serial)) (mark_of_state frame.state) × EachFits fits tree frames
 
 -- every frame of a tree fits
 abbrev pub EveryFrameFits : Fitting → Tree → Type 0

@@ -9,8 +9,8 @@ use Rattle.frame_tree.specs.declared.names.FrameId.{FrameId}
 use Rattle.frame_tree.specs.Frames.{Frame, frame_at, root_of, parent_of, aborted, frames_under, frames_without, with_state, is_ready, new_frame}
 use Rattle.sched_rules.specs.declared.act.Act.{Act}
 use Rattle.sched_rules.specs.declared.act.InletAct.{InletAct}
-use Rattle.sched_rules.specs.declared.act.Then.{Then}
-use Rattle.sched_rules.specs.declared.act.Then.TheVariants.{Grow, Spawn, Go, Wait, Compute, Return}
+use Rattle.sched_rules.specs.declared.act.Continuation.{Continuation}
+use Rattle.sched_rules.specs.declared.act.Continuation.TheVariants.{Grow, Spawn, Go, Wait, Compute, Return}
 use Rattle.sched_rules.specs.declared.job.Job.{Job}
 use Rattle.sched_rules.specs.declared.job.Job.TheVariants.{Live, Done, Spent as SpentJob, Cancelled as CancelledJob}
 use Rattle.sched_rules.specs.declared.refusal.Refusal.{Refusal}
@@ -20,7 +20,7 @@ use Rattle.sched_rules.specs.declared.step.StepOf.TheVariants.{Admit, AdmitMore,
 use Rattle.sched_rules.specs.declared.step.DidOf.{DidOf}
 use Rattle.sched_rules.specs.declared.step.DidOf.TheVariants.{Admitted, AdmittedMore, Submitted, Took, Went, Grew, Spawned, Waited, Computing as IsComputing, Returned as HasReturned, Answered, TakenIn, Finished, Spent, Cancelled, Left}
 use Rattle.sched_rules.specs.Functions.{Functions}
-use Rattle.sched_rules.specs.Trees.{Tree, Tenant, admitted_with, words_in, sight, left, with_words, stored, is_outside, has_child, is_busy_in, is_root, without_job, job_at, job_under, with_ended, kept_words}
+use Rattle.sched_rules.specs.Trees.{Tree, Tenant, admitted_with, words_in, sight, left, with_frame_words, stored, is_outside, has_child, is_busy_in, is_root, without_job, job_at, job_under, with_ended, kept_words}
 
 -- the refusal of the first test that applies, or else the effect
 abbrev pub unless : {X : Type 0} → List (Bool × Refusal) → X → Result X Refusal
@@ -54,7 +54,7 @@ in_state serial state tenant = record tenant { frames = with_state serial state 
 
 -- the tenant, the frame with this serial having these words
 abbrev pub holding : ℕ → List ℕ → Tenant → Tenant
-holding serial words tenant = record tenant { frames = with_words serial words tenant.frames }
+holding serial words tenant = record tenant { frames = with_frame_words serial words tenant.frames }
 
 -- the tenant with a new frame under its next serial: Ready at its home, the words given first, then zeros
 abbrev pub opened : Option ℕ → List ℕ → ℕ → ℕ → Tenant → Tenant
@@ -145,12 +145,12 @@ is_returned Returned = true
 is_returned _ = false
 
 -- the next act of a frame, by what it sees
-abbrev pub act_of : {I A : Type 0} → Functions I A → Tenant → Frame (List ℕ) → Act
-act_of functions tenant frame = functions.next (sight tenant.frames frame.path)
+abbrev pub act_by_sight : {I A : Type 0} → Functions I A → Tenant → Frame (List ℕ) → Act
+act_by_sight functions tenant frame = functions.next (sight tenant.frames frame.path)
 
 -- whether what comes after the stores can't be done, where the frame has so many words, and a child or none: a growth of no word
 -- or beyond 128, a child that is no frame, a computation with a child
-abbrev pub is_bad_then : ℕ → Bool → Then → Bool
+abbrev pub is_bad_then : ℕ → Bool → Continuation → Bool
 is_bad_then words has_one (Grow more) = (more == 0) || nat_lt 128 (words + more)
 is_bad_then words has_one (Spawn given size) = not (is_frame_size given size)
 is_bad_then words has_one Go = false
@@ -163,7 +163,7 @@ abbrev pub is_bad_act : List ℕ → Bool → Act → Bool
 is_bad_act words has_one act = is_outside act.stores words || is_bad_then (length words) has_one act.after
 
 -- whether an act opens a child
-abbrev pub is_spawn : Then → Bool
+abbrev pub is_spawn : Continuation → Bool
 is_spawn (Grow more) = false
 is_spawn (Spawn given size) = true
 is_spawn Go = false
@@ -172,7 +172,7 @@ is_spawn Compute = false
 is_spawn Return = false
 
 -- how many more segments an act takes: for a growth, or for a new child
-abbrev pub segments_for : Frame (List ℕ) → Then → ℕ
+abbrev pub segments_for : Frame (List ℕ) → Continuation → ℕ
 segments_for frame (Grow more) = growth_charge (length frame.value) more
 segments_for frame (Spawn given size) = charge size
 segments_for frame Go = 0
@@ -196,7 +196,7 @@ advance_tests tenant worker frame act =
     ∷ act_tests tenant frame act
 
 -- the rest of an act after its stores, which left these words in the frame
-abbrev pub then_done : {I A : Type 0} → Functions I A → Tenant → ℕ → FrameId → List ℕ → List ℕ → Then → Outcome I
+abbrev pub then_done : {I A : Type 0} → Functions I A → Tenant → ℕ → FrameId → List ℕ → List ℕ → Continuation → Outcome I
 then_done functions tenant worker name path words (Grow more) = (Some (holding name.serial (words ++ replicate more 0) tenant), Grew)
 then_done functions tenant worker name path words (Spawn given size) =
     (Some (opened (Some name.serial) given size worker tenant), Spawned (record name { serial = tenant.serials + 1 }))
@@ -302,7 +302,7 @@ is_bad_inlet functions tenant frame (Some parent) =
 abbrev pub is_spendable : {I A : Type 0} → Functions I A → Tenant → Frame (List ℕ) → Bool
 is_spendable functions tenant frame =
     ((left tenant).steps == 0)
-    || (is_run frame.state && applies (act_tests tenant frame (act_of functions tenant frame)))
+    || (is_run frame.state && applies (act_tests tenant frame (act_by_sight functions tenant frame)))
     || (is_returned frame.state && is_bad_inlet functions tenant frame (parent_of frame.path))
 
 -- a frame's job may be given up (is_spendable), as a fact
@@ -337,7 +337,7 @@ lone_step functions tenant (Steal worker from name) =
     at_frame (frame_at tenant.frames name.serial) (λ frame. unless (steal_tests tenant worker from frame) (taken_by tenant worker frame))
 lone_step functions tenant (Advance worker name) =
     at_frame (frame_at tenant.frames name.serial) (λ frame.
-    unless (advance_tests tenant worker frame (act_of functions tenant frame)) (advanced functions tenant worker name frame (act_of functions tenant frame)))
+    unless (advance_tests tenant worker frame (act_by_sight functions tenant frame)) (advanced functions tenant worker name frame (act_by_sight functions tenant frame)))
 lone_step functions tenant (Answer worker name answer) =
     at_frame (frame_at tenant.frames name.serial) (λ frame.
     unless (answer_tests functions tenant worker frame answer) (answered functions tenant worker frame answer))

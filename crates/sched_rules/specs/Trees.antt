@@ -29,13 +29,13 @@ abbrev pub admitted_with : Quota → Tenant
 admitted_with quota = record { reserve = quota; serials = 0; steps = 0; jobs = []; frames = [] }
 
 -- the words of a frame, and none where there is no frame
-abbrev pub words_of : Option (Frame (List ℕ)) → List ℕ
-words_of None = []
-words_of (Some frame) = frame.value
+abbrev pub frame_words : Option (Frame (List ℕ)) → List ℕ
+frame_words None = []
+frame_words (Some frame) = frame.value
 
 -- the words of the frame with this serial; none where it isn't there
 abbrev pub words_in : Tree → ℕ → List ℕ
-words_in frames serial = words_of (frame_at frames serial)
+words_in frames serial = frame_words (frame_at frames serial)
 
 -- what a frame on this path sees: the lists of words along the path, nearest first
 abbrev pub sight : Tree → List ℕ → List (List ℕ)
@@ -54,9 +54,9 @@ abbrev pub left : Tenant → Left
 left tenant = left_in (account_in tenant)
 
 -- the frames, the one with this serial having these words
-abbrev pub with_words : ℕ → List ℕ → Tree → Tree
-with_words serial words [] = []
-with_words serial words (frame ∷ frames) = (if frame.serial == serial then record frame { value = words } else frame) ∷ with_words serial words frames
+abbrev pub with_frame_words : ℕ → List ℕ → Tree → Tree
+with_frame_words serial words [] = []
+with_frame_words serial words (frame ∷ frames) = (if frame.serial == serial then record frame { value = words } else frame) ∷ with_frame_words serial words frames
 
 -- the words after these stores, each of a word at a place, done in order
 abbrev pub stored : List (ℕ × ℕ) → List ℕ → List ℕ

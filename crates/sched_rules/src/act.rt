@@ -127,7 +127,7 @@ impl GivenWords {
 
 /// What a frame does after its stores. "Runs on" means that its worker may advance it again.
 #[derive(Drop)]
-pub enum Then {
+pub enum Continuation {
     /// The frame gets so many words more, each 0, at least 1 and up to 128 words in all. It runs on.
     Grow(usize),
     /// Opens a child of so many words, 1 to 128: these first, then zeros. It is ready, and its home is the frame's
@@ -150,7 +150,7 @@ pub struct Act {
     /// The stores in the frame, done first.
     pub stores: Stores,
     /// What the frame does after them.
-    pub after: Then,
+    pub after: Continuation,
 }
 
 /// What a parent does when it takes in a child that has returned (an inlet, as in Cilk).

@@ -3,11 +3,11 @@ ghost use Rattle.std.specs.Prelude.{◌≡◌, ◌↔◌, ℕ, List, Some, None,
 ghost use Rattle.sched_rules.specs.declared.refusal.Refusal.{Refusal};
 ghost use Rattle.sched_rules.specs.declared.step.StepOf.{StepOf};
 ghost use Rattle.sched_rules.specs.declared.step.DidOf.{DidOf};
-ghost use Rattle.sched_rules.specs.Cores.{Shared, judged, is_full, is_beyond};
+ghost use Rattle.sched_rules.specs.Cores.{CoreState, step_result, is_full, is_beyond};
 ghost use Rattle.sched_rules.specs.Runs.{answer_of};
 ghost use Rattle.tenant_quota.specs.Quota.{Quota, IsNotAbove};
 ghost use Rattle.tenant_quota.specs.Reservations.{Reservations, IsFull, IsBeyond};
-ghost use Rattle.sched_rules.specs.Headline.{AreAnswersTo, IsHeadline, IsAnswerTo, IsKnown, after_answers};
+ghost use Rattle.sched_rules.specs.Headline.{AreAnswersTo, IsHeadline, IsAnswerTo, AreNumbersGiven, after_answers};
 ghost use Rattle.frame_tree.specs.declared.names.FrameId.{FrameId};
 ghost use Rattle.frame_tree.specs.Frames.{Frame, frame_at};
 ghost use Rattle.sched_rules.specs.declared.step.StepOf.TheVariants.{Spend};
@@ -19,15 +19,15 @@ use crate::procedure::Procedure;
 /// Where each answer to a list of steps is right (`AreAnswersTo`), the headline holds of the list: each tenant
 /// is what its own taken steps make of it, as if no other tenant were there.
 pub fn no_tenant_is_disturbed<P: Procedure>()
-    ensures { (procedure : P) (before : Shared) (steps : List (StepOf P.Answer)) (answers : List (Result (DidOf P.Input) Refusal)) →
-        IsKnown before → AreAnswersTo (P.functions procedure) before steps answers →
+    ensures { (procedure : P) (before : CoreState) (steps : List (StepOf P.Answer)) (answers : List (Result (DidOf P.Input) Refusal)) →
+        AreNumbersGiven before → AreAnswersTo (P.functions procedure) before steps answers →
         IsHeadline (P.functions procedure) before steps answers (after_answers (P.functions procedure) before steps answers) }
 {}
 
-/// At any core each step has a right answer: that of `judged`.
+/// At any core each step has a right answer: that of `step_result`.
 pub fn each_step_has_a_right_answer<P: Procedure>()
-    ensures { (procedure : P) (before : Shared) (step : StepOf P.Answer) →
-        IsAnswerTo (P.functions procedure) before step (answer_of (judged (P.functions procedure) before step)) }
+    ensures { (procedure : P) (before : CoreState) (step : StepOf P.Answer) →
+        IsAnswerTo (P.functions procedure) before step (answer_of (step_result (P.functions procedure) before step)) }
 {}
 
 /// `is_full`, by which an admission is refused, is the same test as `IsFull` of `tenant_quota`.

@@ -50,7 +50,7 @@ mod refusal;
 mod step;
 mod worker;
 
-pub use act::{Act, GivenWords, InletAct, Stores, Then};
+pub use act::{Act, Continuation, GivenWords, InletAct, Stores};
 pub use config::Config;
 pub use job::{Job, JobWords};
 pub use procedure::Procedure;

@@ -5,11 +5,11 @@ use Rattle.std.proofs.lemmas.Bool.{cases_Bool, true≢false, false≢true, eq-eq
 use Rattle.cactus_stack.specs.Nodes.{Nodes, IsOpen, node_words, without, total_charge, HasAllChildren}
 use Rattle.cactus_stack.proofs.LawFacts.{charge-without}
 use Rattle.tenant_quota.specs.Accounts.{account_of, credited_by, charged_segments}
-use Rattle.tenant_quota.specs.Reservations.{Reservations, IsSoundBook, ChangesOnly, KeepsOthers as KeepsOtherAccounts, HasChargedAtLeast}
+use Rattle.tenant_quota.specs.Reservations.{Reservations, IsSoundBook, ChangesOnly, KeepsOtherAccounts, HasChargedAtLeast}
 use Rattle.tenant_quota.specs.declared.account.Account.{Account}
 use Rattle.frame_tree.specs.declared.names.FrameId.{FrameId}
 use Rattle.frame_tree.specs.Frames.{Frame, frame_at, has_frame, goes_under, aborted, frames_under, values_of, IsTree, TenantTree}
-use Rattle.frame_table.specs.Tables.{frames_of, KeepsOthers}
+use Rattle.frame_table.specs.Tables.{frames_of, KeepsOtherFrames}
 use Rattle.frame_tree.specs.TreeLaws.{map_value, map_values, is_child_of}
 use Rattle.frame_tree.proofs.TreeLaws.{found-there}
 use Rattle.frame_tree.proofs.TreeChanges.{tree-aborted, child-further-under}
@@ -18,9 +18,9 @@ use Rattle.sched_rules.specs.Trees.{Tenant}
 use Rattle.sched_rules.specs.Changes.{on_tenant}
 use Rattle.sched_rules.specs.Views.{named}
 use Rattle.sched_store.specs.Ledgers.{jobs_of}
-use Rattle.sched_store.specs.Parts.{Parts, worded, shared_of}
-use Rattle.sched_store.specs.Reads.{frames_in}
-use Rattle.sched_store.specs.Stored.{IsStored, frame_in}
+use Rattle.sched_store.specs.Parts.{Parts, with_words_of_nodes, shared_of}
+use Rattle.sched_store.specs.Reads.{frames_in_core}
+use Rattle.sched_store.specs.Stored.{IsStored, frame_in_trees}
 use Rattle.sched_store.proofs.Lookups.{named-found, frames-found}
 use Rattle.sched_store.proofs.Cut.{IsCut, closed, closing}
 use Rattle.sched_store.proofs.Closing.{TakesChildren, closing-open, closing-once, closing-children}
@@ -29,7 +29,7 @@ use Rattle.sched_store.proofs.Removing.{IsRemoval, can-give-back, own-words, rem
 -- a frame that is there
 pub record IsThere (parts : Parts) (name : FrameId) : Type 0 where
   pub frame : Frame ℕ
-  pub at : frame_in parts.trees name.tenant name.serial ≡ Some frame
+  pub at : frame_in_trees parts.trees name.tenant name.serial ≡ Some frame
   pub account : Account
   pub there : account_of name.tenant parts.book.accounts ≡ Some account
 
@@ -37,16 +37,16 @@ mapped-some : (nodes : Nodes) (o : Option (Frame ℕ)) → IsSome (option_map (m
 mapped-some nodes None is = absurd (false≢true is)
 mapped-some nodes (Some f) is = (f, refl)
 
-has-account : (parts : Parts) → IsStored parts → (number serial : ℕ) (frame : Frame ℕ) → frame_in parts.trees number serial ≡ Some frame → (o : Option Account) → account_of number parts.book.accounts ≡ o → (a : Account) × (account_of number parts.book.accounts ≡ Some a)
+has-account : (parts : Parts) → IsStored parts → (number serial : ℕ) (frame : Frame ℕ) → frame_in_trees parts.trees number serial ≡ Some frame → (o : Option Account) → account_of number parts.book.accounts ≡ o → (a : Account) × (account_of number parts.book.accounts ≡ Some a)
 has-account parts stored number serial frame at None none =
     let empty : frames_of parts.trees number ≡ [] = stored.nothing number none in
-    let gone : frame_in parts.trees number serial ≡ None = ap (λ (xs : List (Frame ℕ)). frame_at xs serial) empty in
+    let gone : frame_in_trees parts.trees number serial ≡ None = ap (λ (xs : List (Frame ℕ)). frame_at xs serial) empty in
     absurd (cc)
 has-account parts stored number serial frame at (Some a) some = (a, some)
 
 pub is-there : (parts : Parts) → IsStored parts → (name : FrameId) → IsSome (named (shared_of parts) name) → IsThere parts name
 is-there parts stored name some =
-    let found = mapped-some parts.nodes (frame_in parts.trees name.tenant name.serial) (subst IsSome (named-found parts stored name) some) in
+    let found = mapped-some parts.nodes (frame_in_trees parts.trees name.tenant name.serial) (subst IsSome (named-found parts stored name) some) in
     let has = has-account parts stored name.tenant name.serial found.0 found.1 (account_of name.tenant parts.book.accounts) refl in
     record { frame = found.0; at = found.1; account = has.0; there = has.1 }
 
@@ -92,7 +92,7 @@ pub record AreGone (parts : Parts) (nodes : Nodes) (trees : List (TenantTree ℕ
   pub was_free : before + total_charge parts.nodes ≡ length parts.nodes
   pub is_free : later + total_charge nodes ≡ length nodes
   pub cut : IsCut parts.trees trees name.tenant stay
-  pub keeps : KeepsOthers parts.trees trees name.tenant
+  pub keeps : KeepsOtherFrames parts.trees trees name.tenant
   pub credited : ChangesOnly parts.book book name.tenant (credited_by (later - before))
   pub sum : charged_segments book.accounts + (later - before) ≡ charged_segments parts.book.accounts
   pub others : KeepsOtherAccounts parts.book book name.tenant
@@ -126,7 +126,7 @@ gone-stored parts nodes trees book name stay before later stored is =
 
 -- the core after it, where the tenant's frames with their words are changed so
 pub gone-shared : (parts : Parts) (nodes : Nodes) (trees : List (TenantTree ℕ)) (book : Reservations) (name : FrameId) (stay : Frame ℕ → Bool) (before later : ℕ) (change : List (Frame (List ℕ)) → List (Frame (List ℕ))) → IsStored parts →
-    AreGone parts nodes trees book name stay before later → worded parts.nodes (filter stay (frames_of parts.trees name.tenant)) ≡ change (worded parts.nodes (frames_of parts.trees name.tenant)) →
+    AreGone parts nodes trees book name stay before later → with_words_of_nodes parts.nodes (filter stay (frames_of parts.trees name.tenant)) ≡ change (with_words_of_nodes parts.nodes (frames_of parts.trees name.tenant)) →
     shared_of (with_parts parts nodes trees book) ≡ on_tenant name.tenant (λ tenant. record tenant { frames = change tenant.frames }) (shared_of parts)
 gone-shared parts nodes trees book name stay before later change stored is words =
     let removal = gone-removal parts nodes trees book name stay before later stored is in
@@ -160,7 +160,7 @@ takes-under p frames tree serial parent frame above at up at_above out =
     ap not (child-further-under frames p parent serial above frame tree at_above under at child)
 
 -- the cut that an abort makes
-pub abort-cut : (parts : Parts) (trees : List (TenantTree ℕ)) (name : FrameId) → IsStored parts → frames_of trees name.tenant ≡ aborted name.serial (frames_of parts.trees name.tenant) → KeepsOthers parts.trees trees name.tenant →
+pub abort-cut : (parts : Parts) (trees : List (TenantTree ℕ)) (name : FrameId) → IsStored parts → frames_of trees name.tenant ≡ aborted name.serial (frames_of parts.trees name.tenant) → KeepsOtherFrames parts.trees trees name.tenant →
     IsCut parts.trees trees name.tenant (stays name.serial)
 abort-cut parts trees name stored frames keeps = record {
   tree = stored.forest;
@@ -191,21 +191,21 @@ pub abort-gone : (parts : Parts) (nodes : Nodes) (name : FrameId) (numbers : Lis
 abort-gone parts nodes name numbers values closed_all =
     ap (without parts.nodes) (closing-under name.serial (frames_of parts.trees name.tenant) ∙ sym values) ∙ sym closed_all
 
-pub abort-words : (parts : Parts) (name : FrameId) → worded parts.nodes (filter (stays name.serial) (frames_of parts.trees name.tenant)) ≡ aborted name.serial (worded parts.nodes (frames_of parts.trees name.tenant))
+pub abort-words : (parts : Parts) (name : FrameId) → with_words_of_nodes parts.nodes (filter (stays name.serial) (frames_of parts.trees name.tenant)) ≡ aborted name.serial (with_words_of_nodes parts.nodes (frames_of parts.trees name.tenant))
 abort-words parts name = sym (aborted-map_values (node_words parts.nodes) name.serial (frames_of parts.trees name.tenant))
 
 -- as many go as are under the frame
 pub abort-count : (parts : Parts) → IsStored parts → (name : FrameId) (numbers : List ℕ) → numbers ≡ values_of (frames_under name.serial (frames_of parts.trees name.tenant)) →
-    length numbers ≡ length (frames_under name.serial (frames_in (shared_of parts) name.tenant))
+    length numbers ≡ length (frames_under name.serial (frames_in_core (shared_of parts) name.tenant))
 abort-count parts stored name numbers values =
     let frames = frames-found parts stored name.tenant in
     let worded_under = ap (frames_under name.serial) frames ∙ frames_under-map_values (node_words parts.nodes) name.serial (frames_of parts.trees name.tenant) in
-    ap length values ∙ length-values (frames_under name.serial (frames_of parts.trees name.tenant)) ∙ sym (ap length worded_under ∙ length-worded (frames_under name.serial (frames_of parts.trees name.tenant)))
+    ap length values ∙ length-values (frames_under name.serial (frames_of parts.trees name.tenant)) ∙ sym (ap length worded_under ∙ length-with_words_of_nodes (frames_under name.serial (frames_of parts.trees name.tenant)))
   where
     length-values : (xs : List (Frame ℕ)) → length (values_of xs) ≡ length xs
     length-values [] = refl
     length-values (x ∷ xs) = omega (arith, length-values xs)
 
-    length-worded : (xs : List (Frame ℕ)) → length (map_values (node_words parts.nodes) xs) ≡ length xs
-    length-worded [] = refl
-    length-worded (x ∷ xs) = omega (arith, length-worded xs)
+    length-with_words_of_nodes : (xs : List (Frame ℕ)) → length (map_values (node_words parts.nodes) xs) ≡ length xs
+    length-with_words_of_nodes [] = refl
+    length-with_words_of_nodes (x ∷ xs) = omega (arith, length-with_words_of_nodes xs)

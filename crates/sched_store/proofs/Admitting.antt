@@ -5,16 +5,16 @@ use Rattle.std.proofs.lemmas.Bool.{cases_Bool, cases_eq, ne_eqb, eq-eqb, leb-fal
 use Rattle.cactus_stack.specs.Nodes.{Nodes}
 use Rattle.tenant_quota.specs.Quota.{Quota}
 use Rattle.tenant_quota.specs.Accounts.{account_of, fresh, with_new, reserved_segments, reserved_nodes}
-use Rattle.tenant_quota.specs.Reservations.{Reservations, IsSoundBook, HasRoom, Admits, KeepsOthers as KeepsOtherAccounts}
+use Rattle.tenant_quota.specs.Reservations.{Reservations, IsSoundBook, HasRoom, Admits, KeepsOtherAccounts}
 use Rattle.tenant_quota.specs.declared.account.Account.{Account}
 use Rattle.frame_tree.specs.Frames.{Frame, frame_at, AllBelow, TenantTree}
 use Rattle.frame_table.specs.Tables.{frames_of, places_of, tenant_count, KeepsOtherTenants}
 use Rattle.sched_rules.specs.Trees.{Tenant, admitted_with, charged_for}
-use Rattle.sched_rules.specs.Cores.{Shared, is_full, reservations_in}
+use Rattle.sched_rules.specs.Cores.{CoreState, is_full, reservations_in}
 use Rattle.sched_store.specs.Changes.{with_admitted}
-use Rattle.sched_store.specs.Ledgers.{Ledger, jobs_of, numbers_of, AreBelow}
-use Rattle.sched_store.specs.Parts.{Parts, worded, tenant_from, tenants_from, shared_of}
-use Rattle.sched_store.specs.Stored.{IsStored, IsAccountFor, AreFramesNodes, IsFrameNode, numbers_in, AreAtMost, frame_in, node_of}
+use Rattle.sched_store.specs.Ledgers.{JobLedger, jobs_of, numbers_of, AreBelow}
+use Rattle.sched_store.specs.Parts.{Parts, with_words_of_nodes, tenant_from, tenants_from, shared_of}
+use Rattle.sched_store.specs.Stored.{IsStored, IsAccountFor, AreFramesNodes, IsFrameNode, numbers_in, AreAtMost, frame_in_trees, node_of}
 use Rattle.sched_store.proofs.Lookups.{reservations-found}
 
 abbrev Entries : Type 0
@@ -36,7 +36,7 @@ length-numbers : (entries : Entries) → length (numbers_in entries) ≡ length 
 length-numbers [] = refl
 length-numbers (entry ∷ entries) = ap suc (length-numbers entries)
 
-length-ledgers : (ledgers : List Ledger) → length (numbers_of ledgers) ≡ length ledgers
+length-ledgers : (ledgers : List JobLedger) → length (numbers_of ledgers) ≡ length ledgers
 length-ledgers [] = refl
 length-ledgers (ledger ∷ ledgers) = ap suc (length-ledgers ledgers)
 
@@ -68,10 +68,10 @@ pub record CanBeAdmitted (parts : Parts) (number : ℕ) (quota : Quota) : Type 0
   pub below : AreBelow number (numbers_of parts.ledgers)
   pub room : HasRoom parts.book quota
 
-pub can-be-admitted : (parts : Parts) (number : ℕ) (quota : Quota) {core : Shared} → IsStored parts → shared_of parts ≡ core → core.newest < number → is_full (reservations_in core) quota ≡ false → CanBeAdmitted parts number quota
+pub can-be-admitted : (parts : Parts) (number : ℕ) (quota : Quota) {core : CoreState} → IsStored parts → shared_of parts ≡ core → core.newest < number → is_full (reservations_in core) quota ≡ false → CanBeAdmitted parts number quota
 can-be-admitted parts number quota stored is above not_full =
-    let newer = subst (λ (s : Shared). s.newest < number) (sym is) above in
-    let room = room-found parts stored quota (subst (λ (s : Shared). is_full (reservations_in s) quota ≡ false) (sym is) not_full) in
+    let newer = subst (λ (s : CoreState). s.newest < number) (sym is) above in
+    let room = room-found parts stored quota (subst (λ (s : CoreState). is_full (reservations_in s) quota ≡ false) (sym is) not_full) in
     let none = newer-missing parts.newest number parts.book.accounts stored.taken newer in
     let few = room.tenants in
     let trees = stored.tenants in
@@ -87,7 +87,7 @@ can-be-admitted parts number quota stored is above not_full =
     }
 
 -- what an admission was told by the table and the book
-pub record IsAdmitted (parts : Parts) (trees : List (TenantTree ℕ)) (ledger : Ledger) (book : Reservations) (number : ℕ) (quota : Quota) : Type 0 where
+pub record IsAdmitted (parts : Parts) (trees : List (TenantTree ℕ)) (ledger : JobLedger) (book : Reservations) (number : ℕ) (quota : Quota) : Type 0 where
   pub newer : parts.newest < number
   pub within : number ≤ 2 ^ 62
   pub places : places_of trees number ≡ quota.segments
@@ -100,7 +100,7 @@ pub record IsAdmitted (parts : Parts) (trees : List (TenantTree ℕ)) (ledger : 
   pub sound : IsSoundBook book
 
 -- the parts after it
-abbrev pub with_one_more : Parts → List (TenantTree ℕ) → Ledger → Reservations → ℕ → Parts
+abbrev pub with_one_more : Parts → List (TenantTree ℕ) → JobLedger → Reservations → ℕ → Parts
 with_one_more parts trees ledger book number = record parts { trees = trees; ledgers = parts.ledgers ++ ledger ∷ []; book = book; newest = number }
 
 -- a new account that is above all stands last
@@ -111,12 +111,12 @@ new-last newest number account (entry ∷ entries) most newer =
     let below : entry.0 < number = omega (arith, low, newer) in
     rw (lt-ltb entry.0 number below) (ap (λ (rest : Entries). entry ∷ rest) (new-last newest number account entries most.1 newer))
 
-accounts-after : (parts : Parts) (trees : List (TenantTree ℕ)) (ledger : Ledger) (book : Reservations) (number : ℕ) (quota : Quota) → IsStored parts → IsAdmitted parts trees ledger book number quota → book.accounts ≡ parts.book.accounts ++ (number, fresh quota) ∷ []
+accounts-after : (parts : Parts) (trees : List (TenantTree ℕ)) (ledger : JobLedger) (book : Reservations) (number : ℕ) (quota : Quota) → IsStored parts → IsAdmitted parts trees ledger book number quota → book.accounts ≡ parts.book.accounts ++ (number, fresh quota) ∷ []
 accounts-after parts trees ledger book number quota stored is =
     ap (λ (b : Reservations). b.accounts) is.admits.whole ∙ new-last parts.newest number (fresh quota) parts.book.accounts stored.taken is.newer
 
 -- no tenant's frames change
-same-frames : (parts : Parts) (trees : List (TenantTree ℕ)) (ledger : Ledger) (book : Reservations) (number : ℕ) (quota : Quota) → IsStored parts → IsAdmitted parts trees ledger book number quota → (other : ℕ) → frames_of trees other ≡ frames_of parts.trees other
+same-frames : (parts : Parts) (trees : List (TenantTree ℕ)) (ledger : JobLedger) (book : Reservations) (number : ℕ) (quota : Quota) → IsStored parts → IsAdmitted parts trees ledger book number quota → (other : ℕ) → frames_of trees other ≡ frames_of parts.trees other
 same-frames parts trees ledger book number quota stored is other =
     elim (cases_eq other number) [
       | inl here ↦ rw here (is.frames ∙ sym (stored.nothing number (newer-missing parts.newest number parts.book.accounts stored.taken is.newer)))
@@ -130,14 +130,14 @@ same-belongs nodes trees after same belong = record {
   no_other = λ node is. (let has = belong.no_other node is in record { number = has.number; serial = has.serial; there = ap node_of (found has.number has.serial) ∙ has.there });
 }
   where
-    found : (owner serial : ℕ) → frame_in after owner serial ≡ frame_in trees owner serial
+    found : (owner serial : ℕ) → frame_in_trees after owner serial ≡ frame_in_trees trees owner serial
     found owner serial = ap (λ (xs : List (Frame ℕ)). frame_at xs serial) (same owner)
 
 numbers-pushed : (entries : Entries) (entry : ℕ × Account) → numbers_in (entries ++ entry ∷ []) ≡ numbers_in entries ++ entry.0 ∷ []
 numbers-pushed [] entry = refl
 numbers-pushed (first ∷ entries) entry = ap (λ (ns : List ℕ). first.0 ∷ ns) (numbers-pushed entries entry)
 
-ledgers-pushed : (ledgers : List Ledger) (ledger : Ledger) → numbers_of (ledgers ++ ledger ∷ []) ≡ numbers_of ledgers ++ ledger.0 ∷ []
+ledgers-pushed : (ledgers : List JobLedger) (ledger : JobLedger) → numbers_of (ledgers ++ ledger ∷ []) ≡ numbers_of ledgers ++ ledger.0 ∷ []
 ledgers-pushed [] ledger = refl
 ledgers-pushed (first ∷ ledgers) ledger = ap (λ (ns : List ℕ). first.0 ∷ ns) (ledgers-pushed ledgers ledger)
 
@@ -146,7 +146,7 @@ most-pushed newest number [] account most newer = (omega arith, tt)
 most-pushed newest number (entry ∷ entries) account most newer = (let low : entry.0 ≤ newest = most.0 in omega (arith, low, newer), most-pushed newest number entries account most.1 newer)
 
 -- what a store keeps true is true after it
-pub admit-stored : (parts : Parts) (trees : List (TenantTree ℕ)) (ledger : Ledger) (book : Reservations) (number : ℕ) (quota : Quota) → IsStored parts → IsAdmitted parts trees ledger book number quota →
+pub admit-stored : (parts : Parts) (trees : List (TenantTree ℕ)) (ledger : JobLedger) (book : Reservations) (number : ℕ) (quota : Quota) → IsStored parts → IsAdmitted parts trees ledger book number quota →
     IsStored (with_one_more parts trees ledger book number)
 admit-stored parts trees ledger book number quota stored is =
     let frames = same-frames parts trees ledger book number quota stored is in
@@ -174,7 +174,7 @@ admit-stored parts trees ledger book number quota stored is =
       tenants = omega (arith, tenants, more, longer);
       charges = stored.charges ∙ sym is.admits.charged;
       segments = stored.segments ∙ sym is.others.segments;
-      ledgers = ledgers-pushed parts.ledgers ledger ∙ ap (λ (n : ℕ). numbers_of parts.ledgers ++ n ∷ []) (ap (λ (l : Ledger). l.0) is.ledger_is) ∙ ap (λ (ns : List ℕ). ns ++ number ∷ []) stored.ledgers ∙ sym (ap numbers_in accounts ∙ numbers-pushed parts.book.accounts (number, fresh quota));
+      ledgers = ledgers-pushed parts.ledgers ledger ∙ ap (λ (n : ℕ). numbers_of parts.ledgers ++ n ∷ []) (ap (λ (l : JobLedger). l.0) is.ledger_is) ∙ ap (λ (ns : List ℕ). ns ++ number ∷ []) stored.ledgers ∙ sym (ap numbers_in accounts ∙ numbers-pushed parts.book.accounts (number, fresh quota));
       workers = stored.workers;
       places = λ worker owner serial frame at held. stored.places worker owner serial frame (sym (ap (λ (xs : List (Frame ℕ)). frame_at xs serial) (frames owner)) ∙ at) held;
       taken = rw accounts (most-pushed parts.newest number parts.book.accounts (fresh quota) stored.taken is.newer);
@@ -183,7 +183,7 @@ admit-stored parts trees ledger book number quota stored is =
   where
     own : IsAccountFor parts.nodes trees number (fresh quota)
     own = record {
-      charged = sym (ap (λ (xs : List (Frame ℕ)). charged_for (worded parts.nodes xs)) is.frames);
+      charged = sym (ap (λ (xs : List (Frame ℕ)). charged_for (with_words_of_nodes parts.nodes xs)) is.frames);
       places = is.places;
       serials = subst (λ (xs : List (Frame ℕ)). AllBelow 1 xs) (sym is.frames) tt;
     }
@@ -193,12 +193,12 @@ admit-stored parts trees ledger book number quota stored is =
         let was = stored.accounts other a (sym (is.others.others other differs) ∙ found) in
         let frames = same-frames parts trees ledger book number quota stored is other in
         record {
-          charged = was.charged ∙ sym (ap (λ (xs : List (Frame ℕ)). charged_for (worded parts.nodes xs)) frames);
+          charged = was.charged ∙ sym (ap (λ (xs : List (Frame ℕ)). charged_for (with_words_of_nodes parts.nodes xs)) frames);
           places = is.kept.places other differs ∙ was.places;
           serials = subst (λ (xs : List (Frame ℕ)). AllBelow (a.opened + 1) xs) (sym frames) was.serials;
         }
 
-jobs-other : (ledgers : List Ledger) (ledger : Ledger) (other : ℕ) → ledger.0 ≢ other → jobs_of (ledgers ++ ledger ∷ []) other ≡ jobs_of ledgers other
+jobs-other : (ledgers : List JobLedger) (ledger : JobLedger) (other : ℕ) → ledger.0 ≢ other → jobs_of (ledgers ++ ledger ∷ []) other ≡ jobs_of ledgers other
 jobs-other [] ledger other differs = rw (ne_eqb ledger.0 other differs) refl
 jobs-other (first ∷ ledgers) ledger other differs =
     elim (cases_Bool (eqb first.0 other)) [
@@ -206,7 +206,7 @@ jobs-other (first ∷ ledgers) ledger other differs =
       | inr further ↦ rw further (jobs-other ledgers ledger other differs)
     ]
 
-jobs-own : (ledgers : List Ledger) (ledger : Ledger) → AreBelow ledger.0 (numbers_of ledgers) → jobs_of (ledgers ++ ledger ∷ []) ledger.0 ≡ ledger.1
+jobs-own : (ledgers : List JobLedger) (ledger : JobLedger) → AreBelow ledger.0 (numbers_of ledgers) → jobs_of (ledgers ++ ledger ∷ []) ledger.0 ≡ ledger.1
 jobs-own [] ledger below = rw (eq-eqb ledger.0 ledger.0 refl) refl
 jobs-own (first ∷ ledgers) ledger below =
     let low : first.0 < ledger.0 = below.0 in
@@ -223,13 +223,13 @@ tenants-pushed parts after newest number account (entry ∷ entries) most newer 
     rw (others entry.0 entry.1 differs, tenants-pushed parts after newest number account entries most.1 newer others) refl
 
 -- and the core is the one before with that tenant after all others
-pub admit-shared : (parts : Parts) (trees : List (TenantTree ℕ)) (ledger : Ledger) (book : Reservations) (number : ℕ) (quota : Quota) → IsStored parts → IsAdmitted parts trees ledger book number quota →
+pub admit-shared : (parts : Parts) (trees : List (TenantTree ℕ)) (ledger : JobLedger) (book : Reservations) (number : ℕ) (quota : Quota) → IsStored parts → IsAdmitted parts trees ledger book number quota →
     shared_of (with_one_more parts trees ledger book number) ≡ with_admitted number quota (shared_of parts)
 admit-shared parts trees ledger book number quota stored is =
     let after = with_one_more parts trees ledger book number in
     let frames = same-frames parts trees ledger book number quota stored is in
-    let first : ledger.0 ≡ number = ap (λ (l : Ledger). l.0) is.ledger_is in
-    let none : ledger.1 ≡ [] = ap (λ (l : Ledger). l.1) is.ledger_is in
+    let first : ledger.0 ≡ number = ap (λ (l : JobLedger). l.0) is.ledger_is in
+    let none : ledger.1 ≡ [] = ap (λ (l : JobLedger). l.1) is.ledger_is in
     let others : (other : ℕ) (a : Account) → other ≢ number → tenant_from after other a ≡ tenant_from parts other a =
     λ other a differs. rw (jobs-other parts.ledgers ledger other (λ e. differs (sym e ∙ first)), frames other) refl in
     let below : AreBelow ledger.0 (numbers_of parts.ledgers) = subst (λ (n : ℕ). AreBelow n (numbers_of parts.ledgers)) (sym first) (subst (λ (ns : List ℕ). AreBelow number ns) (sym stored.ledgers) (below-newer parts.newest number parts.book.accounts stored.taken is.newer)) in
@@ -241,5 +241,5 @@ admit-shared parts trees ledger book number quota stored is =
     let nodes = is.others.nodes in
     rw (segments, nodes) (ap (λ (entries : List (ℕ × Tenant)). with-entries entries) whole)
   where
-    with-entries : List (ℕ × Tenant) → Shared
+    with-entries : List (ℕ × Tenant) → CoreState
     with-entries entries = record { totals = record { segments = parts.book.segments; nodes = parts.book.nodes }; newest = number; tenants = entries }

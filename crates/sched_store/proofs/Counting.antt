@@ -13,37 +13,37 @@ use Rattle.frame_table.specs.Tables.{frames_of}
 use Rattle.frame_tree.specs.TreeLaws.{map_value, Each}
 use Rattle.frame_tree.proofs.Finds.{none_of_length}
 use Rattle.frame_tree.proofs.TreeLaws.{tree-rising, found-each, found-serial}
-use Rattle.sched_rules.specs.Trees.{Tree, charged_for, words_of}
+use Rattle.sched_rules.specs.Trees.{Tree, charged_for, frame_words}
 use Rattle.sched_rules.specs.Views.{ready_count, live_of}
 use Rattle.sched_rules.specs.Cores.{tenant_in}
-use Rattle.sched_store.specs.Parts.{Parts, worded, tenant_from, tenants_from, shared_of}
+use Rattle.sched_store.specs.Parts.{Parts, with_words_of_nodes, tenant_from, tenants_from, shared_of}
 use Rattle.sched_store.specs.Reads.{words_under, IsReadyIn}
-use Rattle.sched_store.specs.Stored.{IsStored, IsAccountFor, frame_in}
+use Rattle.sched_store.specs.Stored.{IsStored, IsAccountFor, frame_in_trees}
 use Rattle.sched_store.proofs.Lookups.{named-found, tenant-found, tenant-there}
 
 -- a frame that the table says is ready is ready in the core
-ready-worded : (nodes : Nodes) (o : Option (Frame ℕ)) (home : ℕ) → IsReadyAt o home → IsReadyAt (option_map (map_value (node_words nodes)) o) home
-ready-worded nodes None home is = is
-ready-worded nodes (Some frame) home is = is
+ready-with_words_of_nodes : (nodes : Nodes) (o : Option (Frame ℕ)) (home : ℕ) → IsReadyAt o home → IsReadyAt (option_map (map_value (node_words nodes)) o) home
+ready-with_words_of_nodes nodes None home is = is
+ready-with_words_of_nodes nodes (Some frame) home is = is
 
-pub ready-found : (parts : Parts) → IsStored parts → (result : Option (FrameId × ℕ)) → IfSome result (λ ready. IsReadyAt (frame_in parts.trees ready.0.tenant ready.0.serial) ready.1) → IfSome result (λ ready. IsReadyIn (shared_of parts) ready.0 ready.1)
+pub ready-found : (parts : Parts) → IsStored parts → (result : Option (FrameId × ℕ)) → IfSome result (λ ready. IsReadyAt (frame_in_trees parts.trees ready.0.tenant ready.0.serial) ready.1) → IfSome result (λ ready. IsReadyIn (shared_of parts) ready.0 ready.1)
 ready-found parts stored None is = tt
 ready-found parts stored (Some ready) is =
-    subst (λ (o : Option (Frame (List ℕ))). IsReadyAt o ready.1) (sym (named-found parts stored ready.0)) (ready-worded parts.nodes (frame_in parts.trees ready.0.tenant ready.0.serial) ready.1 is)
+    subst (λ (o : Option (Frame (List ℕ))). IsReadyAt o ready.1) (sym (named-found parts stored ready.0)) (ready-with_words_of_nodes parts.nodes (frame_in_trees parts.trees ready.0.tenant ready.0.serial) ready.1 is)
 
-count-worded : (nodes : Nodes) (frames : List (Frame ℕ)) → length (ready_frames (worded nodes frames)) ≡ length (ready_frames frames)
-count-worded nodes [] = refl
-count-worded nodes (x ∷ xs) =
+count-with_words_of_nodes : (nodes : Nodes) (frames : List (Frame ℕ)) → length (ready_frames (with_words_of_nodes nodes frames)) ≡ length (ready_frames frames)
+count-with_words_of_nodes nodes [] = refl
+count-with_words_of_nodes nodes (x ∷ xs) =
     elim (cases_Bool (is_ready x.state)) [
-      | inl is ↦ rw is (ap suc (count-worded nodes xs))
-      | inr not_so ↦ rw not_so (count-worded nodes xs)
+      | inl is ↦ rw is (ap suc (count-with_words_of_nodes nodes xs))
+      | inr not_so ↦ rw not_so (count-with_words_of_nodes nodes xs)
     ]
 
 -- where no tenant has a ready frame none is counted
 pub none-counted : (parts : Parts) (entries : List (ℕ × Account)) → ((tenant : ℕ) → ready_frames (frames_of parts.trees tenant) ≡ []) → ready_count (tenants_from parts entries) ≡ 0
 none-counted parts [] none = refl
 none-counted parts (entry ∷ entries) none =
-    let first = count-worded parts.nodes (frames_of parts.trees entry.0) in
+    let first = count-with_words_of_nodes parts.nodes (frames_of parts.trees entry.0) in
     let empty = ap length (none entry.0) in
     let rest = none-counted parts entries none in
     omega (arith, first, empty, rest)
@@ -51,7 +51,7 @@ none-counted parts (entry ∷ entries) none =
 counted-none : (parts : Parts) (entries : List (ℕ × Account)) → ready_count (tenants_from parts entries) ≡ 0 → (tenant : ℕ) (account : Account) → account_of tenant entries ≡ Some account → length (ready_frames (frames_of parts.trees tenant)) ≡ 0
 counted-none parts [] none tenant account there = absurd cc
 counted-none parts (entry ∷ entries) none tenant account there =
-    let first = count-worded parts.nodes (frames_of parts.trees entry.0) in
+    let first = count-with_words_of_nodes parts.nodes (frames_of parts.trees entry.0) in
     elim (cases_Bool (eqb entry.0 tenant)) [
       | inl same ↦ (let here : entry.0 ≡ tenant = eqb-true entry.0 tenant same in let mine = ap (λ (n : ℕ). length (ready_frames (frames_of parts.trees n))) here in omega (arith, first, none, mine))
       | inr other ↦ counted-none parts entries (omega (arith, none)) tenant account (rw other at there)
@@ -80,22 +80,22 @@ words_counted parts name = length (words_under (shared_of parts) name)
 
 -- the words counted name by name are those of the tree
 named-words : (parts : Parts) (tenant : ℕ) (xs : List (Frame ℕ)) → Each (λ f. words_under (shared_of parts) (record { tenant = tenant; serial = f.serial }) ≡ node_words parts.nodes f.value) xs →
-    sum_by (words_counted parts) (names_of tenant xs) ≡ sum_by (λ frame. length frame.value) (worded parts.nodes xs)
+    sum_by (words_counted parts) (names_of tenant xs) ≡ sum_by (λ frame. length frame.value) (with_words_of_nodes parts.nodes xs)
 named-words parts tenant [] each = refl
 named-words parts tenant (x ∷ xs) each =
     let names = sum_by-cons (words_counted parts) (record { tenant = tenant; serial = x.serial }) (names_of tenant xs) in
-    let words = sum_by-cons (λ (f : Frame (List ℕ)). length f.value) (map_value (node_words parts.nodes) x) (worded parts.nodes xs) in
+    let words = sum_by-cons (λ (f : Frame (List ℕ)). length f.value) (map_value (node_words parts.nodes) x) (with_words_of_nodes parts.nodes xs) in
     let first = ap length each.0 in
     let rest = named-words parts tenant xs each.1 in
     omega (arith, names, words, first, rest)
 
-words-at : (parts : Parts) → IsStored parts → (tenant serial : ℕ) (frame : Frame ℕ) → frame_in parts.trees tenant serial ≡ Some frame → words_under (shared_of parts) (record { tenant = tenant; serial = frame.serial }) ≡ node_words parts.nodes frame.value
+words-at : (parts : Parts) → IsStored parts → (tenant serial : ℕ) (frame : Frame ℕ) → frame_in_trees parts.trees tenant serial ≡ Some frame → words_under (shared_of parts) (record { tenant = tenant; serial = frame.serial }) ≡ node_words parts.nodes frame.value
 words-at parts stored tenant serial frame at =
     let here = found-serial (frames_of parts.trees tenant) serial frame at in
-    let found : frame_in parts.trees tenant frame.serial ≡ Some frame = ap (λ (s : ℕ). frame_in parts.trees tenant s) here ∙ at in
-    ap words_of (named-found parts stored (record { tenant = tenant; serial = frame.serial }) ∙ ap (λ (o : Option (Frame ℕ)). option_map (map_value (node_words parts.nodes)) o) found)
+    let found : frame_in_trees parts.trees tenant frame.serial ≡ Some frame = ap (λ (s : ℕ). frame_in_trees parts.trees tenant s) here ∙ at in
+    ap frame_words (named-found parts stored (record { tenant = tenant; serial = frame.serial }) ∙ ap (λ (o : Option (Frame ℕ)). option_map (map_value (node_words parts.nodes)) o) found)
 
-pub words-named : (parts : Parts) → IsStored parts → (tenant : ℕ) → sum_by (words_counted parts) (names_of tenant (frames_of parts.trees tenant)) ≡ sum_by (λ frame. length frame.value) (worded parts.nodes (frames_of parts.trees tenant))
+pub words-named : (parts : Parts) → IsStored parts → (tenant : ℕ) → sum_by (words_counted parts) (names_of tenant (frames_of parts.trees tenant)) ≡ sum_by (λ frame. length frame.value) (with_words_of_nodes parts.nodes (frames_of parts.trees tenant))
 words-named parts stored tenant =
     named-words parts tenant (frames_of parts.trees tenant)
     (found-each (λ f. words_under (shared_of parts) (record { tenant = tenant; serial = f.serial }) ≡ node_words parts.nodes f.value) (frames_of parts.trees tenant) (tree-rising (frames_of parts.trees tenant) (stored.forest tenant))
@@ -113,12 +113,12 @@ words-few parts stored tenant = by (account_of tenant parts.book.accounts) refl
         let segments = within.segments_within in
         let charged = IsAccountFor.charged (stored.accounts tenant account there) in
         let words = words-named parts stored tenant in
-        let bound = words-charged (worded parts.nodes (frames_of parts.trees tenant)) in
+        let bound = words-charged (with_words_of_nodes parts.nodes (frames_of parts.trees tenant)) in
         omega (arith, most, segments, charged, words, bound)
 
-length-worded : (nodes : Nodes) (xs : List (Frame ℕ)) → length (worded nodes xs) ≡ length xs
-length-worded nodes [] = refl
-length-worded nodes (x ∷ xs) = ap suc (length-worded nodes xs)
+length-with_words_of_nodes : (nodes : Nodes) (xs : List (Frame ℕ)) → length (with_words_of_nodes nodes xs) ≡ length xs
+length-with_words_of_nodes nodes [] = refl
+length-with_words_of_nodes nodes (x ∷ xs) = ap suc (length-with_words_of_nodes nodes xs)
 
 -- what a tenant that is there has alive
 pub live-found : (parts : Parts) → IsStored parts → (tenant count words : ℕ) → is_some (tenant_in (shared_of parts).tenants tenant) ≡ true → count ≡ length (frames_of parts.trees tenant) → words ≡ sum_by (words_counted parts) (names_of tenant (frames_of parts.trees tenant)) → Some (count, words) ≡ live_of (shared_of parts) tenant
@@ -128,6 +128,6 @@ live-found parts stored tenant count words some counted summed = by (account_of 
     by None missing = absurd (false≢true (sym (ap is_some missing) ∙ sym (tenant-there parts tenant) ∙ some))
     by (Some account) there =
         let found = tenant-found parts tenant ∙ ap (λ (o : Option Account). option_map (tenant_from parts tenant) o) there in
-        let long = counted ∙ sym (length-worded parts.nodes (frames_of parts.trees tenant)) in
+        let long = counted ∙ sym (length-with_words_of_nodes parts.nodes (frames_of parts.trees tenant)) in
         let total = summed ∙ words-named parts stored tenant in
         rw (found, long, total) refl

@@ -2,17 +2,17 @@
 use Rattle.std.proofs.Common.{◌≡◌, ◌≢◌, ℕ, zero, suc, ◌<◌, ◌⊎◌, inl, inr, Bool, true, false, not, eqb, List, [], ◌∷◌, length, get_or, Option, Some, None, IsSome, Contains, refl, ap, sym, ◌∙◌, subst, arith}
 use Rattle.std.specs.List.{filter}
 use Rattle.std.proofs.lemmas.Bool.{cases_Bool, false≢true, true≢false, eq-eqb, eqb-true}
-use Rattle.cactus_stack.specs.Nodes.{Nodes, Node, IsOpen, node_at, node_words, words_of, parent_of as parent_at, without}
+use Rattle.cactus_stack.specs.Nodes.{Nodes, Node, IsOpen, node_at, node_words, words_of_node, parent_of_node as parent_at, without}
 use Rattle.cactus_stack.proofs.LawFacts.{gone, kept, still-none}
 use Rattle.frame_tree.specs.declared.names.FrameId.{FrameId}
 use Rattle.frame_tree.specs.Frames.{Frame, frame_at, has_frame, parent_of, values_of, IsTree, TenantTree}
 use Rattle.frame_table.specs.Tables.{frames_of}
-use Rattle.frame_tree.specs.TreeLaws.{AreRising, Each}
+use Rattle.frame_tree.specs.TreeLaws.{AreSerialsRising, Each}
 use Rattle.frame_tree.proofs.TreeLaws.{there-found, tree-rising, found-each, under-there}
 use Rattle.frame_tree.proofs.TreeChanges.{frame_at-stays, filter-found}
-use Rattle.sched_store.specs.Parts.{worded}
-use Rattle.sched_store.specs.Stored.{frame_in, node_of, node_above, IsFrameNode, HasFrame, AreFramesNodes, AreSized, ArePlaces}
-use Rattle.sched_store.proofs.Words.{worded-same}
+use Rattle.sched_store.specs.Parts.{with_words_of_nodes}
+use Rattle.sched_store.specs.Stored.{frame_in_trees, node_of, node_above, IsFrameNode, HasFrame, AreFramesNodes, AreSized, ArePlaces}
+use Rattle.sched_store.proofs.Words.{with_words_of_nodes-same}
 
 -- the nodes of the frames that go
 abbrev pub closed : (Frame ℕ → Bool) → List (Frame ℕ) → List ℕ
@@ -70,7 +70,7 @@ listed-at keep P (x ∷ xs) node i each within is =
     ]
 
 -- a node among them is that of a frame that goes
-pub listed-goes : (keep : Frame ℕ → Bool) (frames : List (Frame ℕ)) (node : ℕ) → AreRising frames → Contains (closed keep frames) node → Goes keep frames node
+pub listed-goes : (keep : Frame ℕ → Bool) (frames : List (Frame ℕ)) (node : ℕ) → AreSerialsRising frames → Contains (closed keep frames) node → Goes keep frames node
 listed-goes keep frames node rising among =
     let P : Frame ℕ → Type 0 = λ f. (s : ℕ) × (frame_at frames s ≡ Some f) in
     let each : Each P frames = found-each P frames rising (λ s f at. (s, at)) in
@@ -95,41 +95,41 @@ closing trees number keep = closed keep (frames_of trees number)
 
 -- a frame after the cut: it was there, and its node stays open
 pub record Stays (nodes : Nodes) (trees : List (TenantTree ℕ)) (number : ℕ) (keep : Frame ℕ → Bool) (owner serial : ℕ) (frame : Frame ℕ) : Type 0 where
-  pub there : frame_in trees owner serial ≡ Some frame
+  pub there : frame_in_trees trees owner serial ≡ Some frame
   pub unlisted : Contains (closing trees number keep) frame.value → ⊥
   pub node : node_at (without nodes (closing trees number keep)) frame.value ≡ node_at nodes frame.value
 
 unlisted-here : (nodes : Nodes) (trees : List (TenantTree ℕ)) (number : ℕ) (keep : Frame ℕ → Bool) (owner serial : ℕ) (frame : Frame ℕ) →
-    AreFramesNodes nodes trees → AreRising (frames_of trees number) → frame_in trees owner serial ≡ Some frame → ((owner ≡ number) → keep frame ≡ true) → Contains (closing trees number keep) frame.value → ⊥
+    AreFramesNodes nodes trees → AreSerialsRising (frames_of trees number) → frame_in_trees trees owner serial ≡ Some frame → ((owner ≡ number) → keep frame ≡ true) → Contains (closing trees number keep) frame.value → ⊥
 unlisted-here nodes trees number keep owner serial frame belong rising at stays among =
     let goes = listed-goes keep (frames_of trees number) frame.value rising among in
-    let mine : node_of (frame_in trees owner serial) ≡ Some frame.value = ap node_of at in
-    let its : node_of (frame_in trees number goes.serial) ≡ Some frame.value = ap node_of goes.there ∙ ap (λ (v : ℕ). Some v) goes.node_is in
+    let mine : node_of (frame_in_trees trees owner serial) ≡ Some frame.value = ap node_of at in
+    let its : node_of (frame_in_trees trees number goes.serial) ≡ Some frame.value = ap node_of goes.there ∙ ap (λ (v : ℕ). Some v) goes.node_is in
     let one = belong.once owner serial number goes.serial frame.value mine its in
-    let same : ◌≡◌ {A = Option (Frame ℕ)} (Some frame) (Some goes.frame) = sym at ∙ ap (λ (n : ℕ). frame_in trees n serial) one.0 ∙ ap (λ (s : ℕ). frame_in trees number s) one.1 ∙ goes.there in
+    let same : ◌≡◌ {A = Option (Frame ℕ)} (Some frame) (Some goes.frame) = sym at ∙ ap (λ (n : ℕ). frame_in_trees trees n serial) one.0 ∙ ap (λ (s : ℕ). frame_in_trees trees number s) one.1 ∙ goes.there in
     let e : frame ≡ goes.frame = cc in
     true≢false (sym (stays one.0) ∙ ap keep e ∙ goes.out)
 
 pub stays-after : (nodes : Nodes) (trees after : List (TenantTree ℕ)) (number : ℕ) (keep : Frame ℕ → Bool) → AreFramesNodes nodes trees → IsCut trees after number keep →
-    (owner serial : ℕ) (frame : Frame ℕ) → frame_in after owner serial ≡ Some frame → Stays nodes trees number keep owner serial frame
+    (owner serial : ℕ) (frame : Frame ℕ) → frame_in_trees after owner serial ≡ Some frame → Stays nodes trees number keep owner serial frame
 stays-after nodes trees after number keep belong is owner serial frame at =
     elim (cases_Bool (eqb owner number)) [
       | inl same ↦ (
           let here : owner ≡ number = eqb-true owner number same in
-          let found : frame_at (filter keep (frames_of trees number)) serial ≡ Some frame = sym (ap (λ (xs : List (Frame ℕ)). frame_at xs serial) is.cut) ∙ ap (λ (n : ℕ). frame_in after n serial) (sym here) ∙ at in
+          let found : frame_at (filter keep (frames_of trees number)) serial ≡ Some frame = sym (ap (λ (xs : List (Frame ℕ)). frame_at xs serial) is.cut) ∙ ap (λ (n : ℕ). frame_in_trees after n serial) (sym here) ∙ at in
           let was = filter-found keep (frames_of trees number) serial frame rising found in
-          let there : frame_in trees owner serial ≡ Some frame = ap (λ (n : ℕ). frame_in trees n serial) here ∙ was.0 in
+          let there : frame_in_trees trees owner serial ≡ Some frame = ap (λ (n : ℕ). frame_in_trees trees n serial) here ∙ was.0 in
           made there (λ e. was.1))
       | inr other ↦ (
           let differs : owner ≢ number = λ e. true≢false (sym (eq-eqb owner number e) ∙ other) in
-          let there : frame_in trees owner serial ≡ Some frame = sym (ap (λ (xs : List (Frame ℕ)). frame_at xs serial) (is.others owner differs)) ∙ at in
+          let there : frame_in_trees trees owner serial ≡ Some frame = sym (ap (λ (xs : List (Frame ℕ)). frame_at xs serial) (is.others owner differs)) ∙ at in
           made there (λ e. absurd (differs e)))
     ]
   where
-    rising : AreRising (frames_of trees number)
+    rising : AreSerialsRising (frames_of trees number)
     rising = tree-rising (frames_of trees number) (is.tree number)
 
-    made : frame_in trees owner serial ≡ Some frame → ((owner ≡ number) → keep frame ≡ true) → Stays nodes trees number keep owner serial frame
+    made : frame_in_trees trees owner serial ≡ Some frame → ((owner ≡ number) → keep frame ≡ true) → Stays nodes trees number keep owner serial frame
     made there stays =
         let not = unlisted-here nodes trees number keep owner serial frame belong rising there stays in
         record { there = there; unlisted = not; node = kept nodes (closing trees number keep) frame.value not }
@@ -138,7 +138,7 @@ stays-after nodes trees after number keep belong is owner serial frame at =
 open-kept : (nodes : Nodes) (numbers : List ℕ) (node : ℕ) → IsOpen (without nodes numbers) node → node_at (without nodes numbers) node ≡ node_at nodes node
 open-kept nodes numbers node is = kept nodes numbers node (λ among. false≢true (subst IsSome (gone nodes numbers node among) is))
 
-some-first : (xs : List (Frame ℕ)) (keep : Frame ℕ → Bool) (p : ℕ) → AreRising xs → has_frame (filter keep xs) p ≡ true → node_of (frame_at xs p) ≡ node_of (frame_at (filter keep xs) p)
+some-first : (xs : List (Frame ℕ)) (keep : Frame ℕ → Bool) (p : ℕ) → AreSerialsRising xs → has_frame (filter keep xs) p ≡ true → node_of (frame_at xs p) ≡ node_of (frame_at (filter keep xs) p)
 some-first xs keep p rising there =
     let found = there-found (filter keep xs) p there in
     let was = filter-found keep xs p found.0 rising found.1 in
@@ -146,16 +146,16 @@ some-first xs keep p rising there =
 
 -- the node of the parent is the same as before
 above-kept : (trees after : List (TenantTree ℕ)) (number : ℕ) (keep : Frame ℕ → Bool) → IsCut trees after number keep →
-    (owner serial : ℕ) (frame : Frame ℕ) → frame_in after owner serial ≡ Some frame → (parent : Option ℕ) → parent_of frame.path ≡ parent → node_above (frames_of trees owner) parent ≡ node_above (frames_of after owner) parent
+    (owner serial : ℕ) (frame : Frame ℕ) → frame_in_trees after owner serial ≡ Some frame → (parent : Option ℕ) → parent_of frame.path ≡ parent → node_above (frames_of trees owner) parent ≡ node_above (frames_of after owner) parent
 above-kept trees after number keep is owner serial frame at None top = refl
 above-kept trees after number keep is owner serial frame at (Some p) up =
     elim (cases_Bool (eqb owner number)) [
       | inl same ↦ (
           let here : owner ≡ number = eqb-true owner number same in
-          let found : frame_at (frames_of after number) serial ≡ Some frame = ap (λ (n : ℕ). frame_in after n serial) (sym here) ∙ at in
+          let found : frame_at (frames_of after number) serial ≡ Some frame = ap (λ (n : ℕ). frame_in_trees after n serial) (sym here) ∙ at in
           let there : has_frame (filter keep (frames_of trees number)) p ≡ true = sym (ap (λ (xs : List (Frame ℕ)). has_frame xs p) is.cut) ∙ under-there (frames_of after number) serial p frame is.tree_after found up in
           let one = some-first (frames_of trees number) keep p (tree-rising (frames_of trees number) (is.tree number)) there in
-          ap (λ (n : ℕ). node_of (frame_in trees n p)) here ∙ one ∙ sym (ap (λ (xs : List (Frame ℕ)). node_of (frame_at xs p)) is.cut) ∙ ap (λ (n : ℕ). node_of (frame_in after n p)) (sym here))
+          ap (λ (n : ℕ). node_of (frame_in_trees trees n p)) here ∙ one ∙ sym (ap (λ (xs : List (Frame ℕ)). node_of (frame_at xs p)) is.cut) ∙ ap (λ (n : ℕ). node_of (frame_in_trees after n p)) (sym here))
       | inr other ↦ (
           let differs : owner ≢ number = λ e. true≢false (sym (eq-eqb owner number e) ∙ other) in
           sym (ap (λ (xs : List (Frame ℕ)). node_of (frame_at xs p)) (is.others owner differs)))
@@ -163,15 +163,15 @@ above-kept trees after number keep is owner serial frame at (Some p) up =
 
 -- a frame that was there is there, or its node is closed
 stays-or-closed : (trees after : List (TenantTree ℕ)) (number : ℕ) (keep : Frame ℕ → Bool) → IsCut trees after number keep →
-    (owner serial : ℕ) (frame : Frame ℕ) → frame_in trees owner serial ≡ Some frame → (frame_in after owner serial ≡ Some frame) ⊎ Contains (closing trees number keep) frame.value
+    (owner serial : ℕ) (frame : Frame ℕ) → frame_in_trees trees owner serial ≡ Some frame → (frame_in_trees after owner serial ≡ Some frame) ⊎ Contains (closing trees number keep) frame.value
 stays-or-closed trees after number keep is owner serial frame at =
     elim (cases_Bool (eqb owner number)) [
       | inl same ↦ (
           let here : owner ≡ number = eqb-true owner number same in
-          let found : frame_at (frames_of trees number) serial ≡ Some frame = ap (λ (n : ℕ). frame_in trees n serial) (sym here) ∙ at in
+          let found : frame_at (frames_of trees number) serial ≡ Some frame = ap (λ (n : ℕ). frame_in_trees trees n serial) (sym here) ∙ at in
           elim (cases_Bool (keep frame)) [
             | inl stays ↦ inl (
-                ap (λ (n : ℕ). frame_in after n serial) here ∙ ap (λ (xs : List (Frame ℕ)). frame_at xs serial) is.cut
+                ap (λ (n : ℕ). frame_in_trees after n serial) here ∙ ap (λ (xs : List (Frame ℕ)). frame_at xs serial) is.cut
                 ∙ frame_at-stays keep (frames_of trees number) serial frame (tree-rising (frames_of trees number) (is.tree number)) found stays)
             | inr out ↦ inr (gone-listed keep (frames_of trees number) serial frame found out)
           ])
@@ -192,7 +192,7 @@ cut-belongs nodes trees after number keep belong is = record { nodes_of_frames =
     numbers : List ℕ
     numbers = closing trees number keep
 
-    belongs : (owner serial : ℕ) (frame : Frame ℕ) → frame_in after owner serial ≡ Some frame → IsFrameNode (without nodes numbers) (frames_of after owner) frame
+    belongs : (owner serial : ℕ) (frame : Frame ℕ) → frame_in_trees after owner serial ≡ Some frame → IsFrameNode (without nodes numbers) (frames_of after owner) frame
     belongs owner serial frame at =
         let stays = stays-after nodes trees after number keep belong is owner serial frame at in
         let was = belong.nodes_of_frames owner serial frame stays.there in
@@ -201,20 +201,20 @@ cut-belongs nodes trees after number keep belong is = record { nodes_of_frames =
           parent = ap parent_at stays.node ∙ was.parent ∙ above-kept trees after number keep is owner serial frame at (parent_of frame.path) refl;
         }
 
-    was-there : (owner serial node : ℕ) → node_of (frame_in after owner serial) ≡ Some node → node_of (frame_in trees owner serial) ≡ Some node
+    was-there : (owner serial node : ℕ) → node_of (frame_in_trees after owner serial) ≡ Some node → node_of (frame_in_trees trees owner serial) ≡ Some node
     was-there owner serial node at =
-        let found = found-node (frame_in after owner serial) node at in
+        let found = found-node (frame_in_trees after owner serial) node at in
         let stays = stays-after nodes trees after number keep belong is owner serial found.0 found.1 in
         ap node_of stays.there ∙ ap (λ (v : ℕ). Some v) found.2
 
-    once : (owner serial other_owner other_serial node : ℕ) → node_of (frame_in after owner serial) ≡ Some node → node_of (frame_in after other_owner other_serial) ≡ Some node → (owner ≡ other_owner) × (serial ≡ other_serial)
+    once : (owner serial other_owner other_serial node : ℕ) → node_of (frame_in_trees after owner serial) ≡ Some node → node_of (frame_in_trees after other_owner other_serial) ≡ Some node → (owner ≡ other_owner) × (serial ≡ other_serial)
     once owner serial other_owner other_serial node these those =
         belong.once owner serial other_owner other_serial node (was-there owner serial node these) (was-there other_owner other_serial node those)
 
     no_other : (node : ℕ) → IsOpen (without nodes numbers) node → HasFrame after node
     no_other node open_still =
         let has = belong.no_other node (still-open nodes numbers node (node_at nodes node) refl open_still) in
-        let found = found-node (frame_in trees has.number has.serial) node has.there in
+        let found = found-node (frame_in_trees trees has.number has.serial) node has.there in
         elim (stays-or-closed trees after number keep is has.number has.serial found.0 found.1) [
           | inl there ↦ record { number = has.number; serial = has.serial; there = ap node_of there ∙ ap (λ (v : ℕ). Some v) found.2 }
           | inr among ↦ absurd (false≢true (subst IsSome (gone nodes numbers node (subst (λ (v : ℕ). Contains numbers v) found.2 among)) open_still))
@@ -223,8 +223,8 @@ cut-belongs nodes trees after number keep belong is = record { nodes_of_frames =
 -- open nodes keep their words, so each still has 1 to 128
 pub cut-sized : (nodes : Nodes) (numbers : List ℕ) → AreSized nodes → AreSized (without nodes numbers)
 cut-sized nodes numbers sized = record {
-  some = λ node is. (let same = open-kept nodes numbers node is in let was : IsOpen nodes node = subst IsSome same is in let words : node_words (without nodes numbers) node ≡ node_words nodes node = ap words_of same in omega (arith, sized.some node was, ap length words));
-  most = λ node is. (let same = open-kept nodes numbers node is in let was : IsOpen nodes node = subst IsSome same is in let words : node_words (without nodes numbers) node ≡ node_words nodes node = ap words_of same in omega (arith, sized.most node was, ap length words));
+  some = λ node is. (let same = open-kept nodes numbers node is in let was : IsOpen nodes node = subst IsSome same is in let words : node_words (without nodes numbers) node ≡ node_words nodes node = ap words_of_node same in omega (arith, sized.some node was, ap length words));
+  most = λ node is. (let same = open-kept nodes numbers node is in let was : IsOpen nodes node = subst IsSome same is in let words : node_words (without nodes numbers) node ≡ node_words nodes node = ap words_of_node same in omega (arith, sized.most node was, ap length words));
 }
 
 -- a worker that holds a frame held it before
@@ -236,11 +236,11 @@ cut-places nodes trees after places number keep belong is held worker owner seri
 
 -- after a cut each tenant's frames have the words that they had
 pub cut-words : (nodes : Nodes) (trees after : List (TenantTree ℕ)) (number : ℕ) (keep : Frame ℕ → Bool) → AreFramesNodes nodes trees → IsCut trees after number keep → (owner : ℕ) → IsTree (frames_of after owner) →
-    worded (without nodes (closing trees number keep)) (frames_of after owner) ≡ worded nodes (frames_of after owner)
+    with_words_of_nodes (without nodes (closing trees number keep)) (frames_of after owner) ≡ with_words_of_nodes nodes (frames_of after owner)
 cut-words nodes trees after number keep belong is owner tree =
-    worded-same nodes (without nodes (closing trees number keep)) (frames_of after owner)
+    with_words_of_nodes-same nodes (without nodes (closing trees number keep)) (frames_of after owner)
     (found-each (λ frame. node_words (without nodes (closing trees number keep)) frame.value ≡ node_words nodes frame.value) (frames_of after owner) (tree-rising (frames_of after owner) tree)
-    (λ serial frame at. ap words_of (Stays.node (stays-after nodes trees after number keep belong is owner serial frame at))))
+    (λ serial frame at. ap words_of_node (Stays.node (stays-after nodes trees after number keep belong is owner serial frame at))))
 
 -- all frames of a tenant are a tree after a cut
 pub cut-trees : (trees after : List (TenantTree ℕ)) (number : ℕ) (keep : Frame ℕ → Bool) → IsCut trees after number keep → (owner : ℕ) → IsTree (frames_of after owner)

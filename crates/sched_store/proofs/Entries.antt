@@ -2,11 +2,11 @@
 use Rattle.std.proofs.Common.{◌≡◌, ℕ, ◌<◌, eqb, List, [], ◌∷◌, Some, None, refl, subst, arith, inl, inr}
 use Rattle.std.proofs.lemmas.Bool.{cases_Bool, eq-eqb, eqb-true}
 use Rattle.number_index.proofs.Edits.{said-lacks, has-above}
-use Rattle.tenant_quota.specs.Accounts.{owner_of, account_of, AllEntries, IsRising}
+use Rattle.tenant_quota.specs.Accounts.{owner_of_account, account_of, AllEntries, IsRising}
 use Rattle.tenant_quota.specs.declared.account.Account.{Account}
 
 pub lower-missing : (number : ℕ) (entries : List (ℕ × Account)) → AllEntries (λ later. number < later.0) entries → account_of number entries ≡ None
-lower-missing number entries all = said-lacks owner_of (λ e. Some e.1) None number entries (has-above owner_of number number entries (omega arith) all)
+lower-missing number entries all = said-lacks owner_of_account (λ e. Some e.1) None number entries (has-above owner_of_account number number entries (omega arith) all)
 
 pub account-tail : (number : ℕ) (account : Account) (entry : ℕ × Account) (entries : List (ℕ × Account)) → IsRising (entry ∷ entries) → account_of number entries ≡ Some account → account_of number (entry ∷ entries) ≡ Some account
 account-tail number account entry entries rising there =

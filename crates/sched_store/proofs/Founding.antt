@@ -9,8 +9,8 @@ use Rattle.tenant_quota.specs.declared.account.Account.{Account}
 use Rattle.frame_tree.specs.declared.names.FrameId.{FrameId}
 use Rattle.frame_tree.specs.Frames.{Frame, frame_at, IsTree, TenantTree}
 use Rattle.frame_table.specs.Tables.{frames_of, places_of, tenant_count}
-use Rattle.sched_store.specs.Ledgers.{Ledger, numbers_of}
-use Rattle.sched_store.specs.Stored.{IsStored, frame_in, node_of, numbers_in, AreAtMost}
+use Rattle.sched_store.specs.Ledgers.{JobLedger, numbers_of}
+use Rattle.sched_store.specs.Stored.{IsStored, frame_in_trees, node_of, numbers_in, AreAtMost}
 
 none-open : (count node : ℕ) → node_at (replicate count None) node ≡ None
 none-open zero node = refl
@@ -22,7 +22,7 @@ none-charged zero = refl
 none-charged (suc count) = omega (arith, sum_by-cons charge_of None (replicate count None), none-charged count)
 
 -- the parts of a new store
-pub record AreNew (nodes : Nodes) (trees : List (TenantTree ℕ)) (ledgers : List Ledger) (book : Reservations) (segments nodes_in_all : ℕ) : Type 0 where
+pub record AreNew (nodes : Nodes) (trees : List (TenantTree ℕ)) (ledgers : List JobLedger) (book : Reservations) (segments nodes_in_all : ℕ) : Type 0 where
   pub stack : nodes ≡ replicate segments None
   pub empty : book ≡ empty_of segments nodes_in_all
   pub sound : IsSoundBook book
@@ -31,7 +31,7 @@ pub record AreNew (nodes : Nodes) (trees : List (TenantTree ℕ)) (ledgers : Lis
   pub places : (tenant : ℕ) → places_of trees tenant ≡ 0
   pub jobs : ledgers ≡ []
 
-pub new-stored : (nodes : Nodes) (trees : List (TenantTree ℕ)) (ledgers : List Ledger) (book : Reservations) (places : List (Option FrameId)) (segments nodes_in_all : ℕ) → AreNew nodes trees ledgers book segments nodes_in_all → length places ≡ 33 →
+pub new-stored : (nodes : Nodes) (trees : List (TenantTree ℕ)) (ledgers : List JobLedger) (book : Reservations) (places : List (Option FrameId)) (segments nodes_in_all : ℕ) → AreNew nodes trees ledgers book segments nodes_in_all → length places ≡ 33 →
     IsStored (record { nodes = nodes; book = book; trees = trees; ledgers = ledgers; places = places; newest = 0 })
 new-stored nodes trees ledgers book places segments nodes_in_all is workers =
     let no_accounts : book.accounts ≡ [] = ap (λ (b : Reservations). b.accounts) is.empty in
@@ -59,7 +59,7 @@ new-stored nodes trees ledgers book places segments nodes_in_all is workers =
       newest = omega arith;
     }
   where
-    missing : (owner serial : ℕ) → frame_in trees owner serial ≡ None
+    missing : (owner serial : ℕ) → frame_in_trees trees owner serial ≡ None
     missing owner serial = ap (λ (xs : List (Frame ℕ)). frame_at xs serial) (is.frames owner)
 
     closed : (node : ℕ) → IsSome (node_at nodes node) → ⊥

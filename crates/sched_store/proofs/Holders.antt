@@ -5,48 +5,48 @@ use Rattle.cactus_stack.specs.Nodes.{Nodes, node_words}
 use Rattle.tenant_quota.specs.Accounts.{account_of}
 use Rattle.tenant_quota.specs.declared.account.Account.{Account}
 use Rattle.frame_tree.specs.declared.names.FrameId.{FrameId}
-use Rattle.frame_tree.specs.Frames.{Frame, frame_at, entry_of}
-use Rattle.frame_tree.specs.TreeLaws.{map_value, AreRising}
+use Rattle.frame_tree.specs.Frames.{Frame, frame_at, entry_of_frame}
+use Rattle.frame_tree.specs.TreeLaws.{map_value, AreSerialsRising}
 use Rattle.frame_table.specs.Tables.{frames_of}
 use Rattle.frame_tree.proofs.TreeLaws.{found-there, tree-rising, above-missing}
 use Rattle.sched_rules.specs.Trees.{is_held_by, is_busy_in}
 use Rattle.sched_rules.specs.Views.{named}
-use Rattle.sched_store.specs.Parts.{Parts, worded, tenants_from, shared_of}
+use Rattle.sched_store.specs.Parts.{Parts, with_words_of_nodes, tenants_from, shared_of}
 use Rattle.sched_store.specs.Reads.{is_busy_among, holds, may_hold}
-use Rattle.sched_store.specs.Stored.{IsStored, frame_in}
+use Rattle.sched_store.specs.Stored.{IsStored, frame_in_trees}
 use Rattle.frame_tree.specs.declared.names.Entry.{Entry}
 use Rattle.sched_store.proofs.Lookups.{named-found}
 use Rattle.sched_store.proofs.Frames.{found, nothing-found}
 
 -- a frame that a worker holds makes it busy
 
-frames-busy : (nodes : Nodes) (frames : List (Frame ℕ)) (worker serial : ℕ) (frame : Frame ℕ) → frame_at frames serial ≡ Some frame → is_held_by worker frame.state ≡ true → is_busy_in worker (worded nodes frames) ≡ true
+frames-busy : (nodes : Nodes) (frames : List (Frame ℕ)) (worker serial : ℕ) (frame : Frame ℕ) → frame_at frames serial ≡ Some frame → is_held_by worker frame.state ≡ true → is_busy_in worker (with_words_of_nodes nodes frames) ≡ true
 frames-busy nodes [] worker serial frame there held = absurd (cc there)
 frames-busy nodes (first ∷ frames) worker serial frame there held =
     elim (cases_Bool (eqb first.serial serial)) [
       | inl same ↦ (let is : first ≡ frame = (let found : Some first ≡ Some frame = rw same at there in cc found) in
-          or_left (is_held_by worker first.state) (is_busy_in worker (worded nodes frames)) (rw is held))
-      | inr other ↦ or_right (is_held_by worker first.state) (is_busy_in worker (worded nodes frames)) (frames-busy nodes frames worker serial frame (rw other at there) held)
+          or_left (is_held_by worker first.state) (is_busy_in worker (with_words_of_nodes nodes frames)) (rw is held))
+      | inr other ↦ or_right (is_held_by worker first.state) (is_busy_in worker (with_words_of_nodes nodes frames)) (frames-busy nodes frames worker serial frame (rw other at there) held)
     ]
 
-entries-busy : (parts : Parts) (entries : List (ℕ × Account)) (worker number : ℕ) (account : Account) → account_of number entries ≡ Some account → is_busy_in worker (worded parts.nodes (frames_of parts.trees number)) ≡ true → is_busy_among worker (tenants_from parts entries) ≡ true
+entries-busy : (parts : Parts) (entries : List (ℕ × Account)) (worker number : ℕ) (account : Account) → account_of number entries ≡ Some account → is_busy_in worker (with_words_of_nodes parts.nodes (frames_of parts.trees number)) ≡ true → is_busy_among worker (tenants_from parts entries) ≡ true
 entries-busy parts [] worker number account there busy = absurd (cc there)
 entries-busy parts (entry ∷ entries) worker number account there busy =
     elim (cases_Bool (eqb entry.0 number)) [
       | inl same ↦ (let is = eqb-true entry.0 number same in
-          or_left (is_busy_in worker (worded parts.nodes (frames_of parts.trees entry.0))) (is_busy_among worker (tenants_from parts entries)) (rw is busy))
-      | inr other ↦ or_right (is_busy_in worker (worded parts.nodes (frames_of parts.trees entry.0))) (is_busy_among worker (tenants_from parts entries)) (entries-busy parts entries worker number account (rw other at there) busy)
+          or_left (is_busy_in worker (with_words_of_nodes parts.nodes (frames_of parts.trees entry.0))) (is_busy_among worker (tenants_from parts entries)) (rw is busy))
+      | inr other ↦ or_right (is_busy_in worker (with_words_of_nodes parts.nodes (frames_of parts.trees entry.0))) (is_busy_among worker (tenants_from parts entries)) (entries-busy parts entries worker number account (rw other at there) busy)
     ]
 
 -- a tenant with a frame has an account
-pub frame-account : (parts : Parts) → IsStored parts → (number serial : ℕ) (frame : Frame ℕ) → frame_in parts.trees number serial ≡ Some frame → (a : Account) × (account_of number parts.book.accounts ≡ Some a)
+pub frame-account : (parts : Parts) → IsStored parts → (number serial : ℕ) (frame : Frame ℕ) → frame_in_trees parts.trees number serial ≡ Some frame → (a : Account) × (account_of number parts.book.accounts ≡ Some a)
 frame-account parts stored number serial frame there = by (account_of number parts.book.accounts) refl
   where
     by : (account : Option Account) → account_of number parts.book.accounts ≡ account → (a : Account) × (account_of number parts.book.accounts ≡ Some a)
     by None is = absurd (let found = rw (stored.nothing number is) at there in cc found)
     by (Some a) is = (a, is)
 
-pub held-busy : (parts : Parts) → IsStored parts → (worker number serial : ℕ) (frame : Frame ℕ) → frame_in parts.trees number serial ≡ Some frame → is_held_by worker frame.state ≡ true → is_busy_among worker (shared_of parts).tenants ≡ true
+pub held-busy : (parts : Parts) → IsStored parts → (worker number serial : ℕ) (frame : Frame ℕ) → frame_in_trees parts.trees number serial ≡ Some frame → is_held_by worker frame.state ≡ true → is_busy_among worker (shared_of parts).tenants ≡ true
 held-busy parts stored worker number serial frame there held =
     let own = frame-account parts stored number serial frame there in
     entries-busy parts parts.book.accounts worker number own.0 own.1 (frames-busy parts.nodes (frames_of parts.trees number) worker serial frame there held)
@@ -59,10 +59,10 @@ pub record Holds (frames : List (Frame ℕ)) (worker : ℕ) : Type 0 where
   pub there : frame_at frames serial ≡ Some frame
   pub held : is_held_by worker frame.state ≡ true
 
-busy-frames : (nodes : Nodes) (frames : List (Frame ℕ)) (worker : ℕ) → AreRising frames → is_busy_in worker (worded nodes frames) ≡ true → Holds frames worker
+busy-frames : (nodes : Nodes) (frames : List (Frame ℕ)) (worker : ℕ) → AreSerialsRising frames → is_busy_in worker (with_words_of_nodes nodes frames) ≡ true → Holds frames worker
 busy-frames nodes [] worker rising busy = absurd (false≢true busy)
 busy-frames nodes (first ∷ frames) worker rising busy =
-    elim (or_cases (is_held_by worker first.state) (is_busy_in worker (worded nodes frames)) busy) [
+    elim (or_cases (is_held_by worker first.state) (is_busy_in worker (with_words_of_nodes nodes frames)) busy) [
       | inl held ↦ record { serial = first.serial; frame = first; there = rw (eq-eqb first.serial first.serial refl) refl; held = held }
       | inr rest ↦ (let found = busy-frames nodes frames worker rising.1 rest in
           record {
@@ -82,13 +82,13 @@ pub record HoldsSome (parts : Parts) (worker : ℕ) : Type 0 where
   pub number : ℕ
   pub serial : ℕ
   pub frame : Frame ℕ
-  pub there : frame_in parts.trees number serial ≡ Some frame
+  pub there : frame_in_trees parts.trees number serial ≡ Some frame
   pub held : is_held_by worker frame.state ≡ true
 
 busy-entries : (parts : Parts) → IsStored parts → (entries : List (ℕ × Account)) (worker : ℕ) → is_busy_among worker (tenants_from parts entries) ≡ true → HoldsSome parts worker
 busy-entries parts stored [] worker busy = absurd (false≢true busy)
 busy-entries parts stored (entry ∷ entries) worker busy =
-    elim (or_cases (is_busy_in worker (worded parts.nodes (frames_of parts.trees entry.0))) (is_busy_among worker (tenants_from parts entries)) busy) [
+    elim (or_cases (is_busy_in worker (with_words_of_nodes parts.nodes (frames_of parts.trees entry.0))) (is_busy_among worker (tenants_from parts entries)) busy) [
       | inl own ↦ (let found = busy-frames parts.nodes (frames_of parts.trees entry.0) worker (tree-rising (frames_of parts.trees entry.0) (stored.forest entry.0)) own in
           record { number = entry.0; serial = found.serial; frame = found.frame; there = found.there; held = found.held })
       | inr rest ↦ busy-entries parts stored entries worker rest
@@ -98,19 +98,19 @@ pub busy-holds : (parts : Parts) → IsStored parts → (worker : ℕ) → is_bu
 busy-holds parts stored worker busy = busy-entries parts stored parts.book.accounts worker busy
 
 -- a frame with words is held where the table's frame is
-holds-found : (parts : Parts) → IsStored parts → (worker : ℕ) (name : FrameId) (frame : Frame ℕ) → frame_in parts.trees name.tenant name.serial ≡ Some frame → holds worker (named (shared_of parts) name) ≡ is_held_by worker frame.state
+holds-found : (parts : Parts) → IsStored parts → (worker : ℕ) (name : FrameId) (frame : Frame ℕ) → frame_in_trees parts.trees name.tenant name.serial ≡ Some frame → holds worker (named (shared_of parts) name) ≡ is_held_by worker frame.state
 holds-found parts stored worker name frame there =
     ap (holds worker) (named-found parts stored name ∙ ap (λ (o : Option (Frame ℕ)). option_map (map_value (node_words parts.nodes)) o) there)
 
 pub record HeldThere (parts : Parts) (worker : ℕ) (name : FrameId) : Type 0 where
   pub frame : Frame ℕ
-  pub there : frame_in parts.trees name.tenant name.serial ≡ Some frame
+  pub there : frame_in_trees parts.trees name.tenant name.serial ≡ Some frame
   pub held : is_held_by worker frame.state ≡ true
 
 pub holds-there : (parts : Parts) → IsStored parts → (worker : ℕ) (name : FrameId) → holds worker (named (shared_of parts) name) ≡ true → HeldThere parts worker name
-holds-there parts stored worker name held = by (frame_in parts.trees name.tenant name.serial) refl
+holds-there parts stored worker name held = by (frame_in_trees parts.trees name.tenant name.serial) refl
   where
-    by : (frame : Option (Frame ℕ)) → frame_in parts.trees name.tenant name.serial ≡ frame → HeldThere parts worker name
+    by : (frame : Option (Frame ℕ)) → frame_in_trees parts.trees name.tenant name.serial ≡ frame → HeldThere parts worker name
     by None is = absurd (let none = ap (holds worker) (named-found parts stored name ∙ ap (λ (o : Option (Frame ℕ)). option_map (map_value (node_words parts.nodes)) o) is) in false≢true (sym none ∙ held))
     by (Some frame) is = record { frame = frame; there = is; held = sym (holds-found parts stored worker name frame is) ∙ held }
 
@@ -136,7 +136,7 @@ busy-nothing parts stored worker place =
     cc (place, at)))
 
 -- where a worker may hold a frame, it holds no other
-pub holds-no-other : (parts : Parts) → IsStored parts → (worker : ℕ) (name : FrameId) → may_hold (shared_of parts) worker name ≡ true → (number serial : ℕ) (frame : Frame ℕ) → frame_in parts.trees number serial ≡ Some frame → is_held_by worker frame.state ≡ true →
+pub holds-no-other : (parts : Parts) → IsStored parts → (worker : ℕ) (name : FrameId) → may_hold (shared_of parts) worker name ≡ true → (number serial : ℕ) (frame : Frame ℕ) → frame_in_trees parts.trees number serial ≡ Some frame → is_held_by worker frame.state ≡ true →
     (number ≡ name.tenant) × (serial ≡ name.serial)
 holds-no-other parts stored worker name may number serial frame there held =
     let busy = held-busy parts stored worker number serial frame there held in
@@ -148,10 +148,10 @@ holds-no-other parts stored worker name may number serial frame there held =
 
 -- what the table tells of a frame, and whether a worker holds it
 
-pub entry-holds : (parts : Parts) → IsStored parts → (worker : ℕ) (name : FrameId) (entry : Entry ℕ) → Some entry ≡ entry_of name.tenant (frame_in parts.trees name.tenant name.serial) → is_held_by worker entry.state ≡ holds worker (named (shared_of parts) name)
+pub entry-holds : (parts : Parts) → IsStored parts → (worker : ℕ) (name : FrameId) (entry : Entry ℕ) → Some entry ≡ entry_of_frame name.tenant (frame_in_trees parts.trees name.tenant name.serial) → is_held_by worker entry.state ≡ holds worker (named (shared_of parts) name)
 entry-holds parts stored worker name entry is =
     let f = found parts stored name entry is in
     ap (λ (e : Entry ℕ). is_held_by worker e.state) f.is ∙ sym (ap (holds worker) f.named)
 
-pub nothing-holds : (parts : Parts) → IsStored parts → (worker : ℕ) (name : FrameId) → None ≡ entry_of name.tenant (frame_in parts.trees name.tenant name.serial) → false ≡ holds worker (named (shared_of parts) name)
+pub nothing-holds : (parts : Parts) → IsStored parts → (worker : ℕ) (name : FrameId) → None ≡ entry_of_frame name.tenant (frame_in_trees parts.trees name.tenant name.serial) → false ≡ holds worker (named (shared_of parts) name)
 nothing-holds parts stored worker name is = sym (ap (holds worker) (nothing-found parts stored name is))

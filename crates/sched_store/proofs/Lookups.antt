@@ -6,7 +6,7 @@ use Rattle.cactus_stack.specs.Nodes.{node_words, total_charge}
 use Rattle.tenant_quota.specs.Accounts.{account_of, AllEntries, IsRising, left_in, charged_segments}
 use Rattle.tenant_quota.specs.declared.account.Account.{Account}
 use Rattle.tenant_quota.specs.declared.account.Left.{Left}
-use Rattle.tenant_quota.specs.Reservations.{left_of as left_of_book}
+use Rattle.tenant_quota.specs.Reservations.{left_in_book}
 use Rattle.frame_tree.specs.declared.names.FrameId.{FrameId}
 use Rattle.frame_tree.specs.Frames.{frame_at}
 use Rattle.frame_tree.specs.TreeLaws.{map_value}
@@ -15,12 +15,12 @@ use Rattle.frame_tree.proofs.TreeValues.{frame_at-map_values}
 use Rattle.sched_rules.specs.declared.job.Job.{Job}
 use Rattle.sched_rules.specs.Trees.{Tenant, Tree, charged_for, account_in, job_at}
 use Rattle.sched_rules.specs.Cores.{tenant_in, accounts_in, charged_in, reservations_in}
-use Rattle.sched_rules.specs.Headline.{AreNumbersTaken, IsKnown}
-use Rattle.sched_rules.specs.Views.{left_of, job_of, named, free_in}
-use Rattle.sched_store.specs.Ledgers.{Ledger, jobs_of, numbers_of}
-use Rattle.sched_store.specs.Parts.{Parts, worded, tenant_from, tenants_from, shared_of}
-use Rattle.sched_store.specs.Reads.{tree_of, jobs_kept, frames_in, jobs_in, AreAfter, AreRising}
-use Rattle.sched_store.specs.Stored.{IsStored, frame_in, numbers_in, AreAtMost}
+use Rattle.sched_rules.specs.Headline.{AreNumbersTaken, AreNumbersGiven}
+use Rattle.sched_rules.specs.Views.{left_in_core, job_of, named, free_in}
+use Rattle.sched_store.specs.Ledgers.{JobLedger, jobs_of, numbers_of}
+use Rattle.sched_store.specs.Parts.{Parts, with_words_of_nodes, tenant_from, tenants_from, shared_of}
+use Rattle.sched_store.specs.Reads.{tree_of, jobs_kept, frames_in_core, jobs_in, AreAfter, AreTenantsRising}
+use Rattle.sched_store.specs.Stored.{IsStored, frame_in_trees, numbers_in, AreAtMost}
 use Rattle.sched_store.proofs.Entries.{each-entry}
 
 abbrev Entries : Type 0
@@ -46,14 +46,14 @@ tenant-there parts number = ap is_some (tenant-found parts number) ∙ some-map 
     some-map (Some account) = refl
 
 -- its frames are those of the table, each with the words of its node
-pub frames-found : (parts : Parts) → IsStored parts → (number : ℕ) → frames_in (shared_of parts) number ≡ worded parts.nodes (frames_of parts.trees number)
+pub frames-found : (parts : Parts) → IsStored parts → (number : ℕ) → frames_in_core (shared_of parts) number ≡ with_words_of_nodes parts.nodes (frames_of parts.trees number)
 frames-found parts stored number = ap tree_of (tenant-found parts number) ∙ by (account_of number parts.book.accounts) refl
   where
-    by : (account : Option Account) → account_of number parts.book.accounts ≡ account → tree_of (option_map (tenant_from parts number) account) ≡ worded parts.nodes (frames_of parts.trees number)
+    by : (account : Option Account) → account_of number parts.book.accounts ≡ account → tree_of (option_map (tenant_from parts number) account) ≡ with_words_of_nodes parts.nodes (frames_of parts.trees number)
     by None is = rw (stored.nothing number is) refl
     by (Some account) is = refl
 
-named-frames : (parts : Parts) (name : FrameId) → named (shared_of parts) name ≡ frame_at (frames_in (shared_of parts) name.tenant) name.serial
+named-frames : (parts : Parts) (name : FrameId) → named (shared_of parts) name ≡ frame_at (frames_in_core (shared_of parts) name.tenant) name.serial
 named-frames parts name = by (tenant_in (shared_of parts).tenants name.tenant)
   where
     by : (tenant : Option Tenant) → option_and_then (λ (t : Tenant). frame_at t.frames name.serial) tenant ≡ frame_at (tree_of tenant) name.serial
@@ -61,7 +61,7 @@ named-frames parts name = by (tenant_in (shared_of parts).tenants name.tenant)
     by (Some tenant) = refl
 
 -- a frame is that of the table, with the words of its node
-pub named-found : (parts : Parts) → IsStored parts → (name : FrameId) → named (shared_of parts) name ≡ option_map (map_value (node_words parts.nodes)) (frame_in parts.trees name.tenant name.serial)
+pub named-found : (parts : Parts) → IsStored parts → (name : FrameId) → named (shared_of parts) name ≡ option_map (map_value (node_words parts.nodes)) (frame_in_trees parts.trees name.tenant name.serial)
 named-found parts stored name =
     named-frames parts name
     ∙ ap (λ (frames : Tree). frame_at frames name.serial) (frames-found parts stored name.tenant)
@@ -69,7 +69,7 @@ named-found parts stored name =
 
 -- its jobs are those of its ledger
 
-no-jobs : (number : ℕ) (ledgers : List Ledger) (entries : Entries) → numbers_of ledgers ≡ numbers_in entries → account_of number entries ≡ None → jobs_of ledgers number ≡ []
+no-jobs : (number : ℕ) (ledgers : List JobLedger) (entries : Entries) → numbers_of ledgers ≡ numbers_in entries → account_of number entries ≡ None → jobs_of ledgers number ≡ []
 no-jobs number [] entries same none = refl
 no-jobs number (ledger ∷ ledgers) [] same none = absurd (cc same)
 no-jobs number (ledger ∷ ledgers) (entry ∷ entries) same none =
@@ -92,7 +92,7 @@ jobs-found parts stored number = ap jobs_kept (tenant-found parts number) ∙ by
 pub account-found : (parts : Parts) → IsStored parts → (number : ℕ) (account : Account) → account_of number parts.book.accounts ≡ Some account → account_in (tenant_from parts number account) ≡ account
 account-found parts stored number account is = rw (← (stored.accounts number account is).charged) refl
 
-pub left-found : (parts : Parts) → IsStored parts → (number : ℕ) → left_of (shared_of parts) number ≡ left_of_book number parts.book
+pub left-found : (parts : Parts) → IsStored parts → (number : ℕ) → left_in_core (shared_of parts) number ≡ left_in_book number parts.book
 left-found parts stored number =
     ap (λ (tenant : Option Tenant). option_map (λ (t : Tenant). left_in (account_in t)) tenant) (tenant-found parts number) ∙ by (account_of number parts.book.accounts) refl
   where
@@ -118,7 +118,7 @@ reservations-found parts stored = rw (accounts_in-tenants_from parts parts.book.
 charged_in-tenants_from : (parts : Parts) (entries : Entries) → AllEntries (λ entry. ChargesFrames parts entry.0 entry.1) entries → charged_in (tenants_from parts entries) ≡ charged_segments entries
 charged_in-tenants_from parts [] all = refl
 charged_in-tenants_from parts (entry ∷ entries) all =
-    let own : charged_for (worded parts.nodes (frames_of parts.trees entry.0)) ≡ entry.1.charged = ap (λ (a : Account). a.charged) all.0 in
+    let own : charged_for (with_words_of_nodes parts.nodes (frames_of parts.trees entry.0)) ≡ entry.1.charged = ap (λ (a : Account). a.charged) all.0 in
     rw (own, charged_in-tenants_from parts entries all.1) (sym (sum_by-cons (λ (e : ℕ × Account). e.1.charged) entry entries))
 
 pub charged-found : (parts : Parts) → IsStored parts → charged_in (shared_of parts).tenants ≡ charged_segments parts.book.accounts
@@ -135,18 +135,18 @@ taken-tenants_from : (parts : Parts) (newest : ℕ) (entries : Entries) → AreA
 taken-tenants_from parts newest [] all = tt
 taken-tenants_from parts newest (entry ∷ entries) all = (all.0, taken-tenants_from parts newest entries all.1)
 
-pub known-found : (parts : Parts) → IsStored parts → IsKnown (shared_of parts)
+pub known-found : (parts : Parts) → IsStored parts → AreNumbersGiven (shared_of parts)
 known-found parts stored = taken-tenants_from parts parts.newest parts.book.accounts stored.taken
 
 after-tenants_from : (parts : Parts) (number : ℕ) (entries : Entries) → AllEntries (λ later. number < later.0) entries → AreAfter number (tenants_from parts entries)
 after-tenants_from parts number [] all = tt
 after-tenants_from parts number (entry ∷ entries) all = (omega (arith, all.0), after-tenants_from parts number entries all.1)
 
-rising-tenants_from : (parts : Parts) (entries : Entries) → IsRising entries → AreRising (tenants_from parts entries)
+rising-tenants_from : (parts : Parts) (entries : Entries) → IsRising entries → AreTenantsRising (tenants_from parts entries)
 rising-tenants_from parts [] rising = tt
 rising-tenants_from parts (entry ∷ entries) rising = (after-tenants_from parts entry.0 entries rising.0, rising-tenants_from parts entries rising.1)
 
-pub rising-found : (parts : Parts) → IsStored parts → AreRising (shared_of parts).tenants
+pub rising-found : (parts : Parts) → IsStored parts → AreTenantsRising (shared_of parts).tenants
 rising-found parts stored = rising-tenants_from parts parts.book.accounts stored.book.rising
 
 -- what a tenant has left is free

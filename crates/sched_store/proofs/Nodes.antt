@@ -4,7 +4,7 @@ use Rattle.std.proofs.Math.ListN.{set}
 use Rattle.std.proofs.lemmas.List.{length-set}
 use Rattle.std.proofs.lemmas.List.Sums.{sum_by-cons}
 use Rattle.std.proofs.lemmas.Bool.{cases_eq}
-use Rattle.cactus_stack.specs.Nodes.{Nodes, Node, node_at, node_words, node_parent, words_of, parent_of, with_words, IsOpen, charge, charge_of, total_charge}
+use Rattle.cactus_stack.specs.Nodes.{Nodes, Node, node_at, node_words, node_parent, words_of_node, parent_of_node, with_node_words, IsOpen, charge, charge_of, total_charge}
 use Rattle.sched_store.specs.Stored.{AreSized}
 
 pub charge-set : (nodes : Nodes) (n : ℕ) (entry : Option Node) → n < length nodes → total_charge (set nodes n entry) + charge_of (node_at nodes n) ≡ total_charge nodes + charge_of entry
@@ -17,7 +17,7 @@ open-within [] n is = absurd (cc is)
 open-within (e ∷ nodes) zero is = omega arith
 open-within (e ∷ nodes) (suc n) is = omega (arith, open-within nodes n is)
 
-charge-open : (entry : Option Node) → IsSome entry → charge_of entry ≡ charge (length (words_of entry))
+charge-open : (entry : Option Node) → IsSome entry → charge_of entry ≡ charge (length (words_of_node entry))
 charge-open None is = absurd (cc is)
 charge-open (Some node) is = refl
 
@@ -26,40 +26,40 @@ charge-of-open nodes n is = charge-open (node_at nodes n) is
 
 -- other words in a node
 
-pub words-other : (nodes : Nodes) (n m : ℕ) (words : List ℕ) → m ≢ n → node_at (with_words nodes n words) m ≡ node_at nodes m
+pub words-other : (nodes : Nodes) (n m : ℕ) (words : List ℕ) → m ≢ n → node_at (with_node_words nodes n words) m ≡ node_at nodes m
 words-other nodes n m words differs = get_or-set_other nodes n m (Some (record { parent = node_parent nodes n; words = words })) None differs
 
-pub words-same : (nodes : Nodes) (n : ℕ) (words : List ℕ) → IsOpen nodes n → node_at (with_words nodes n words) n ≡ Some (record { parent = node_parent nodes n; words = words })
+pub words-same : (nodes : Nodes) (n : ℕ) (words : List ℕ) → IsOpen nodes n → node_at (with_node_words nodes n words) n ≡ Some (record { parent = node_parent nodes n; words = words })
 words-same nodes n words is = get_or-set_same nodes n (Some (record { parent = node_parent nodes n; words = words })) None (open-within nodes n is)
 
-pub words-open : (nodes : Nodes) (n m : ℕ) (words : List ℕ) → IsOpen nodes n → IsOpen nodes m → IsOpen (with_words nodes n words) m
+pub words-open : (nodes : Nodes) (n m : ℕ) (words : List ℕ) → IsOpen nodes n → IsOpen nodes m → IsOpen (with_node_words nodes n words) m
 words-open nodes n m words here is =
     elim (cases_eq m n) [
       | inl same ↦ rw (same, words-same nodes n words here) refl
       | inr differs ↦ rw (words-other nodes n m words differs) is
     ]
 
-pub words-was-open : (nodes : Nodes) (n m : ℕ) (words : List ℕ) → IsOpen nodes n → IsOpen (with_words nodes n words) m → IsOpen nodes m
+pub words-was-open : (nodes : Nodes) (n m : ℕ) (words : List ℕ) → IsOpen nodes n → IsOpen (with_node_words nodes n words) m → IsOpen nodes m
 words-was-open nodes n m words here is =
     elim (cases_eq m n) [
       | inl same ↦ rw same here
       | inr differs ↦ rw (words-other nodes n m words differs) at is
     ]
 
-pub words-parent : (nodes : Nodes) (n m : ℕ) (words : List ℕ) → IsOpen nodes n → node_parent (with_words nodes n words) m ≡ node_parent nodes m
+pub words-parent : (nodes : Nodes) (n m : ℕ) (words : List ℕ) → IsOpen nodes n → node_parent (with_node_words nodes n words) m ≡ node_parent nodes m
 words-parent nodes n m words here =
     elim (cases_eq m n) [
-      | inl same ↦ rw same (ap parent_of (words-same nodes n words here))
-      | inr differs ↦ ap parent_of (words-other nodes n m words differs)
+      | inl same ↦ rw same (ap parent_of_node (words-same nodes n words here))
+      | inr differs ↦ ap parent_of_node (words-other nodes n m words differs)
     ]
 
-pub words-here : (nodes : Nodes) (n : ℕ) (words : List ℕ) → IsOpen nodes n → node_words (with_words nodes n words) n ≡ words
-words-here nodes n words here = ap words_of (words-same nodes n words here)
+pub words-here : (nodes : Nodes) (n : ℕ) (words : List ℕ) → IsOpen nodes n → node_words (with_node_words nodes n words) n ≡ words
+words-here nodes n words here = ap words_of_node (words-same nodes n words here)
 
-pub words-there : (nodes : Nodes) (n m : ℕ) (words : List ℕ) → m ≢ n → node_words (with_words nodes n words) m ≡ node_words nodes m
-words-there nodes n m words differs = ap words_of (words-other nodes n m words differs)
+pub words-there : (nodes : Nodes) (n m : ℕ) (words : List ℕ) → m ≢ n → node_words (with_node_words nodes n words) m ≡ node_words nodes m
+words-there nodes n m words differs = ap words_of_node (words-other nodes n m words differs)
 
-pub words-sized : (nodes : Nodes) (n : ℕ) (words : List ℕ) → AreSized nodes → IsOpen nodes n → 1 ≤ length words → length words ≤ 128 → AreSized (with_words nodes n words)
+pub words-sized : (nodes : Nodes) (n : ℕ) (words : List ℕ) → AreSized nodes → IsOpen nodes n → 1 ≤ length words → length words ≤ 128 → AreSized (with_node_words nodes n words)
 words-sized nodes n words sized here some most =
     record {
       some = λ m is. elim (cases_eq m n) [
@@ -72,10 +72,10 @@ words-sized nodes n words sized here some most =
       ];
     }
 
-pub words-charge : (nodes : Nodes) (n : ℕ) (words : List ℕ) → IsOpen nodes n → total_charge (with_words nodes n words) + charge (length (node_words nodes n)) ≡ total_charge nodes + charge (length words)
+pub words-charge : (nodes : Nodes) (n : ℕ) (words : List ℕ) → IsOpen nodes n → total_charge (with_node_words nodes n words) + charge (length (node_words nodes n)) ≡ total_charge nodes + charge (length words)
 words-charge nodes n words here = omega (arith, charge-of-open nodes n here, charge-set nodes n (Some (record { parent = node_parent nodes n; words = words })) (open-within nodes n here))
 
-pub words-count : (nodes : Nodes) (n : ℕ) (words : List ℕ) → length (with_words nodes n words) ≡ length nodes
+pub words-count : (nodes : Nodes) (n : ℕ) (words : List ℕ) → length (with_node_words nodes n words) ≡ length nodes
 words-count nodes n words = length-set nodes n (Some (record { parent = node_parent nodes n; words = words }))
 
 set-twice : (nodes : Nodes) (n : ℕ) (first second : Option Node) → set (set nodes n first) n second ≡ set nodes n second
@@ -84,13 +84,13 @@ set-twice (e ∷ nodes) zero first second = refl
 set-twice (e ∷ nodes) (suc n) first second = ap (λ (rest : Nodes). e ∷ rest) (set-twice nodes n first second)
 
 -- words that are changed twice
-pub words-twice : (nodes : Nodes) (n : ℕ) (first second : List ℕ) → IsOpen nodes n → with_words (with_words nodes n first) n second ≡ with_words nodes n second
+pub words-twice : (nodes : Nodes) (n : ℕ) (first second : List ℕ) → IsOpen nodes n → with_node_words (with_node_words nodes n first) n second ≡ with_node_words nodes n second
 words-twice nodes n first second here =
-    ap (λ (parent : Option ℕ). set (with_words nodes n first) n (Some (record { parent = parent; words = second }))) (words-parent nodes n n first here)
+    ap (λ (parent : Option ℕ). set (with_node_words nodes n first) n (Some (record { parent = parent; words = second }))) (words-parent nodes n n first here)
     ∙ set-twice nodes n (Some (record { parent = node_parent nodes n; words = first })) (Some (record { parent = node_parent nodes n; words = second }))
 
 -- words that stay
-pub words-stay : (nodes : Nodes) (n : ℕ) → IsOpen nodes n → with_words nodes n (node_words nodes n) ≡ nodes
+pub words-stay : (nodes : Nodes) (n : ℕ) → IsOpen nodes n → with_node_words nodes n (node_words nodes n) ≡ nodes
 words-stay [] n is = refl
 words-stay (None ∷ nodes) zero is = absurd (cc is)
 words-stay (Some node ∷ nodes) zero is = refl

@@ -12,9 +12,9 @@ use Rattle.frame_tree.specs.Frames.{Frame, frame_at, AllBelow, TenantTree}
 use Rattle.frame_table.specs.Tables.{frames_of, places_of, tenant_count, KeepsOtherTenants}
 use Rattle.sched_rules.specs.Trees.{charged_for}
 use Rattle.sched_rules.specs.Lone.{is_lower}
-use Rattle.sched_rules.specs.Cores.{Shared, tenant_in, reservations_in, reserved_by, is_beyond}
+use Rattle.sched_rules.specs.Cores.{CoreState, tenant_in, reservations_in, reserved_by, is_beyond}
 use Rattle.sched_rules.specs.Changes.{on_tenant, with_reserve}
-use Rattle.sched_store.specs.Parts.{Parts, worded, tenant_from, shared_of}
+use Rattle.sched_store.specs.Parts.{Parts, with_words_of_nodes, tenant_from, shared_of}
 use Rattle.sched_store.specs.Reads.{IsAboveOwn}
 use Rattle.sched_store.specs.Stored.{IsStored}
 use Rattle.sched_store.proofs.Lookups.{tenant-found, reservations-found}
@@ -49,15 +49,15 @@ pub record CanBeRaised (parts : Parts) (number : ℕ) (quota : Quota) : Type 0 w
   pub places : places_of parts.trees number ≡ account.reserve.segments
   pub some : 1 ≤ account.reserve.segments
 
-pub can-be-raised : (parts : Parts) (number : ℕ) (quota : Quota) {core : Shared} → IsStored parts → shared_of parts ≡ core → IsAboveOwn (tenant_in core.tenants number) quota →
+pub can-be-raised : (parts : Parts) (number : ℕ) (quota : Quota) {core : CoreState} → IsStored parts → shared_of parts ≡ core → IsAboveOwn (tenant_in core.tenants number) quota →
     is_beyond (reservations_in core) (reserved_by (tenant_in core.tenants number)) quota ≡ false → CanBeRaised parts number quota
 can-be-raised parts number quota stored is own_above own_room = by (account_of number parts.book.accounts) refl
   where
     above : IsAboveOwn (tenant_in (shared_of parts).tenants number) quota
-    above = subst (λ (s : Shared). IsAboveOwn (tenant_in s.tenants number) quota) (sym is) own_above
+    above = subst (λ (s : CoreState). IsAboveOwn (tenant_in s.tenants number) quota) (sym is) own_above
 
     room : is_beyond (reservations_in (shared_of parts)) (reserved_by (tenant_in (shared_of parts).tenants number)) quota ≡ false
-    room = subst (λ (s : Shared). is_beyond (reservations_in s) (reserved_by (tenant_in s.tenants number)) quota ≡ false) (sym is) own_room
+    room = subst (λ (s : CoreState). is_beyond (reservations_in s) (reserved_by (tenant_in s.tenants number)) quota ≡ false) (sym is) own_room
 
     by : (own : Option Account) → account_of number parts.book.accounts ≡ own → CanBeRaised parts number quota
     by None none = absurd (let nobody = tenant-found parts number ∙ ap (λ (o : Option Account). option_map (tenant_from parts number) o) none in rw nobody at above)
@@ -111,7 +111,7 @@ raise-step parts trees book number quota stored is =
       segments = refl;
       charges = stored.charges ∙ sym is.raises.charged;
       own = record {
-        charged = own.charged ∙ sym (ap (λ (xs : List (Frame ℕ)). charged_for (worded parts.nodes xs)) is.frames);
+        charged = own.charged ∙ sym (ap (λ (xs : List (Frame ℕ)). charged_for (with_words_of_nodes parts.nodes xs)) is.frames);
         places = is.places;
         serials = subst (λ (xs : List (Frame ℕ)). AllBelow (account.opened + 1) xs) (sym is.frames) own.serials;
       };

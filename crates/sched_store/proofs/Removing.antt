@@ -4,14 +4,14 @@ use Rattle.std.specs.List.{filter}
 use Rattle.std.proofs.lemmas.List.{length-set}
 use Rattle.cactus_stack.specs.Nodes.{Nodes, with_node, without, total_charge}
 use Rattle.tenant_quota.specs.Accounts.{account_of, credited_by, charged_segments}
-use Rattle.tenant_quota.specs.Reservations.{Reservations, IsSoundBook, ChangesOnly, KeepsOthers as KeepsOtherAccounts, HasChargedAtLeast}
+use Rattle.tenant_quota.specs.Reservations.{Reservations, IsSoundBook, ChangesOnly, KeepsOtherAccounts, HasChargedAtLeast}
 use Rattle.tenant_quota.specs.declared.account.Account.{Account}
 use Rattle.frame_tree.specs.Frames.{Frame, AllBelow, TenantTree}
-use Rattle.frame_table.specs.Tables.{frames_of, KeepsOthers}
+use Rattle.frame_table.specs.Tables.{frames_of, KeepsOtherFrames}
 use Rattle.frame_tree.proofs.TreeChanges.{AllBelow-filter}
 use Rattle.sched_rules.specs.Trees.{Tenant, charged_for}
 use Rattle.sched_rules.specs.Changes.{on_tenant}
-use Rattle.sched_store.specs.Parts.{Parts, worded, tenant_from, shared_of}
+use Rattle.sched_store.specs.Parts.{Parts, with_words_of_nodes, tenant_from, shared_of}
 use Rattle.sched_store.specs.Stored.{IsStored, IsAccountFor}
 use Rattle.sched_store.proofs.Cut.{IsCut, closing, cut-belongs, cut-sized, cut-places, cut-words, cut-trees}
 use Rattle.sched_store.proofs.Closing.{cut-frees}
@@ -26,7 +26,7 @@ pub record IsRemoval (parts : Parts) (trees : List (TenantTree ℕ)) (book : Res
   pub account : Account
   pub there : account_of number parts.book.accounts ≡ Some account
   pub cut : IsCut parts.trees trees number keep
-  pub table : KeepsOthers parts.trees trees number
+  pub table : KeepsOtherFrames parts.trees trees number
   pub frees : total_charge (without parts.nodes (closing parts.trees number keep)) + freed ≡ total_charge parts.nodes
   pub credited : ChangesOnly parts.book book number (credited_by freed)
   pub sum : charged_segments book.accounts + freed ≡ charged_segments parts.book.accounts
@@ -39,22 +39,22 @@ removed parts trees book number keep = record parts { nodes = without parts.node
 
 -- the words of a tenant that isn't the one
 other-words : (parts : Parts) (trees : List (TenantTree ℕ)) (book : Reservations) (number freed : ℕ) (keep : Frame ℕ → Bool) → IsStored parts → IsRemoval parts trees book number freed keep → (other : ℕ) → other ≢ number →
-    worded (without parts.nodes (closing parts.trees number keep)) (frames_of trees other) ≡ worded parts.nodes (frames_of parts.trees other)
+    with_words_of_nodes (without parts.nodes (closing parts.trees number keep)) (frames_of trees other) ≡ with_words_of_nodes parts.nodes (frames_of parts.trees other)
 other-words parts trees book number freed keep stored is other differs =
     cut-words parts.nodes parts.trees trees number keep stored.frames_nodes is.cut other (cut-trees parts.trees trees number keep is.cut other)
-    ∙ ap (worded parts.nodes) (is.cut.others other differs)
+    ∙ ap (with_words_of_nodes parts.nodes) (is.cut.others other differs)
 
 -- the words of the one: those of its frames that stay
 pub own-words : (parts : Parts) (trees : List (TenantTree ℕ)) (book : Reservations) (number freed : ℕ) (keep : Frame ℕ → Bool) → IsStored parts → IsRemoval parts trees book number freed keep →
-    worded (without parts.nodes (closing parts.trees number keep)) (frames_of trees number) ≡ worded parts.nodes (filter keep (frames_of parts.trees number))
+    with_words_of_nodes (without parts.nodes (closing parts.trees number keep)) (frames_of trees number) ≡ with_words_of_nodes parts.nodes (filter keep (frames_of parts.trees number))
 own-words parts trees book number freed keep stored is =
     cut-words parts.nodes parts.trees trees number keep stored.frames_nodes is.cut number (cut-trees parts.trees trees number keep is.cut number)
-    ∙ ap (worded parts.nodes) is.cut.cut
+    ∙ ap (with_words_of_nodes parts.nodes) is.cut.cut
 
 -- what the frames that go were charged is what was freed
 pub charge-left : (parts : Parts) (number freed : ℕ) (keep : Frame ℕ → Bool) → IsStored parts → (account : Account) → account_of number parts.book.accounts ≡ Some account →
     total_charge (without parts.nodes (closing parts.trees number keep)) + freed ≡ total_charge parts.nodes →
-    account.charged ≡ freed + charged_for (worded parts.nodes (filter keep (frames_of parts.trees number)))
+    account.charged ≡ freed + charged_for (with_words_of_nodes parts.nodes (filter keep (frames_of parts.trees number)))
 charge-left parts number freed keep stored account there frees =
     let charged = IsAccountFor.charged (stored.accounts number account there) in
     let split = cut-frees parts.nodes parts.trees number keep stored.frames_nodes (stored.forest number) in
@@ -94,7 +94,7 @@ removal-step parts trees book number freed keep stored is = record {
   segments = length-without parts.nodes (closing parts.trees number keep);
   charges = omega (arith, is.frees, is.sum, stored.charges);
   own = removed-own parts trees book number freed keep stored is;
-  words = λ other differs. ap (worded (without parts.nodes (closing parts.trees number keep))) (sym (is.cut.others other differs)) ∙ other-words parts trees book number freed keep stored is other differs;
+  words = λ other differs. ap (with_words_of_nodes (without parts.nodes (closing parts.trees number keep))) (sym (is.cut.others other differs)) ∙ other-words parts trees book number freed keep stored is other differs;
   ledgers = refl;
   jobs = λ other differs. refl;
   workers = stored.workers;

@@ -7,34 +7,34 @@ use Rattle.std.proofs.lemmas.List.{length-append}
 use Rattle.cactus_stack.specs.Nodes.{node_words}
 use Rattle.frame_tree.specs.declared.names.FrameId.{FrameId}
 use Rattle.frame_tree.specs.declared.names.Entry.{Entry}
-use Rattle.frame_tree.specs.Frames.{Frame, entry_of, parent_of, path_in, name_of, children_of, IsTree}
+use Rattle.frame_tree.specs.Frames.{Frame, entry_of_frame, parent_of, path_in, name_of, children_of, IsTree}
 use Rattle.frame_table.specs.Tables.{frames_of}
 use Rattle.frame_tree.specs.TreeLaws.{map_value, map_values}
 use Rattle.frame_tree.proofs.TreeLaws.{found-path, placed, IsPlaced}
 use Rattle.frame_tree.proofs.TreeValues.{children_of-map_values}
-use Rattle.sched_rules.specs.Trees.{is_root, has_child, words_of}
+use Rattle.sched_rules.specs.Trees.{is_root, has_child, frame_words}
 use Rattle.sched_rules.specs.Views.{words_of_frame, named}
 use Rattle.sched_store.specs.Parts.{Parts, shared_of}
-use Rattle.sched_store.specs.Reads.{path_of, frames_in, words_under}
-use Rattle.sched_store.specs.Stored.{IsStored, frame_in}
+use Rattle.sched_store.specs.Reads.{path_of, frames_in_core, words_under}
+use Rattle.sched_store.specs.Stored.{IsStored, frame_in_trees}
 use Rattle.sched_store.proofs.Lookups.{named-found, frames-found}
 use Rattle.sched_store.proofs.Frames.{found, nothing-found}
 use Rattle.sched_store.proofs.Aborting.{is-there}
 
-pub words-shown : (parts : Parts) → IsStored parts → (name : FrameId) (entry : Entry ℕ) (words : List ℕ) → Some entry ≡ entry_of name.tenant (frame_in parts.trees name.tenant name.serial) → words ≡ node_words parts.nodes entry.value → Some words ≡ words_of_frame (shared_of parts) name
+pub words-shown : (parts : Parts) → IsStored parts → (name : FrameId) (entry : Entry ℕ) (words : List ℕ) → Some entry ≡ entry_of_frame name.tenant (frame_in_trees parts.trees name.tenant name.serial) → words ≡ node_words parts.nodes entry.value → Some words ≡ words_of_frame (shared_of parts) name
 words-shown parts stored name entry words is own =
     let f = found parts stored name entry is in
     let value : entry.value ≡ f.frame.value = ap (λ (e : Entry ℕ). e.value) f.is in
     ap (λ (ws : List ℕ). Some ws) (own ∙ ap (node_words parts.nodes) value)
     ∙ sym (ap (λ (o : Option (Frame (List ℕ))). option_map (λ (frame : Frame (List ℕ)). frame.value) o) f.named)
 
-pub own-words-shown : (parts : Parts) → IsStored parts → (name : FrameId) (entry : Entry ℕ) (words : List ℕ) → Some entry ≡ entry_of name.tenant (frame_in parts.trees name.tenant name.serial) → words ≡ node_words parts.nodes entry.value → words ≡ words_under (shared_of parts) name
+pub own-words-shown : (parts : Parts) → IsStored parts → (name : FrameId) (entry : Entry ℕ) (words : List ℕ) → Some entry ≡ entry_of_frame name.tenant (frame_in_trees parts.trees name.tenant name.serial) → words ≡ node_words parts.nodes entry.value → words ≡ words_under (shared_of parts) name
 own-words-shown parts stored name entry words is own =
     let f = found parts stored name entry is in
     let value : entry.value ≡ f.frame.value = ap (λ (e : Entry ℕ). e.value) f.is in
-    own ∙ ap (node_words parts.nodes) value ∙ sym (ap words_of f.named)
+    own ∙ ap (node_words parts.nodes) value ∙ sym (ap frame_words f.named)
 
-pub no-words-shown : (parts : Parts) → IsStored parts → (name : FrameId) → None ≡ entry_of name.tenant (frame_in parts.trees name.tenant name.serial) → None ≡ words_of_frame (shared_of parts) name
+pub no-words-shown : (parts : Parts) → IsStored parts → (name : FrameId) → None ≡ entry_of_frame name.tenant (frame_in_trees parts.trees name.tenant name.serial) → None ≡ words_of_frame (shared_of parts) name
 no-words-shown parts stored name is = sym (ap (λ (o : Option (Frame (List ℕ))). option_map (λ (frame : Frame (List ℕ)). frame.value) o) (nothing-found parts stored name is))
 
 -- the path of a frame that is there
@@ -61,7 +61,7 @@ root-by-length frames frame tree (inr under) =
     let differs : length frame.path ≢ 1 = λ e. omega (arith, e, above, long) in
     rw (under.named, ne_eqb (length frame.path) 1 differs) refl
 
-pub root-shown : (parts : Parts) → IsStored parts → (name : FrameId) (entry : Entry ℕ) → Some entry ≡ entry_of name.tenant (frame_in parts.trees name.tenant name.serial) → is_none entry.parent ≡ is_root (path_of (named (shared_of parts) name))
+pub root-shown : (parts : Parts) → IsStored parts → (name : FrameId) (entry : Entry ℕ) → Some entry ≡ entry_of_frame name.tenant (frame_in_trees parts.trees name.tenant name.serial) → is_none entry.parent ≡ is_root (path_of (named (shared_of parts) name))
 root-shown parts stored name entry is =
     let f = found parts stored name entry is in
     let F = frames_of parts.trees name.tenant in
@@ -71,7 +71,7 @@ root-shown parts stored name entry is =
     ∙ sym (ap (λ (o : Option (Frame (List ℕ))). is_root (path_of o)) f.named)
 
 -- so it has one where it is no root
-pub child-or-root : (parts : Parts) → IsStored parts → (name : FrameId) (entry : Entry ℕ) → Some entry ≡ entry_of name.tenant (frame_in parts.trees name.tenant name.serial) → is_some entry.parent ≡ not (is_root (path_of (named (shared_of parts) name)))
+pub child-or-root : (parts : Parts) → IsStored parts → (name : FrameId) (entry : Entry ℕ) → Some entry ≡ entry_of_frame name.tenant (frame_in_trees parts.trees name.tenant name.serial) → is_some entry.parent ≡ not (is_root (path_of (named (shared_of parts) name)))
 child-or-root parts stored name entry is = some-not-none entry.parent ∙ ap not (root-shown parts stored name entry is)
   where
     some-not-none : (parent : Option FrameId) → is_some parent ≡ not (is_none parent)
@@ -80,7 +80,7 @@ child-or-root parts stored name entry is = some-not-none entry.parent ∙ ap not
 
 -- a frame has a child exactly where it has one in the table
 pub child-shown : (parts : Parts) → IsStored parts → (name : FrameId) (has : Bool) → (IsTrue has → 0 < length (children_of (frames_of parts.trees name.tenant) name.serial)) × (0 < length (children_of (frames_of parts.trees name.tenant) name.serial) → IsTrue has) →
-    has ≡ has_child (frames_in (shared_of parts) name.tenant) name.serial
+    has ≡ has_child (frames_in_core (shared_of parts) name.tenant) name.serial
 child-shown parts stored name has is =
     let F = frames_of parts.trees name.tenant in
     let frames = frames-found parts stored name.tenant in

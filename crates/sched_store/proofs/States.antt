@@ -13,16 +13,16 @@ use Rattle.frame_tree.specs.declared.names.State.{State}
 use Rattle.frame_tree.specs.declared.names.State.TheVariants.{Ready, Running, Computing, Waiting, Returned}
 use Rattle.frame_tree.specs.Frames.{Frame, frame_at, parent_of, with_state, TenantTree}
 use Rattle.frame_tree.specs.TreeLaws.{map_value}
-use Rattle.frame_table.specs.Tables.{frames_of, KeepsOthers}
+use Rattle.frame_table.specs.Tables.{frames_of, KeepsOtherFrames}
 use Rattle.frame_tree.proofs.TreeValues.{tree-with_state, with_state-alike, AllBelow-alike, with_state-map_values, frame_at-with_state, frame_at_other-with_state}
 use Rattle.sched_rules.specs.Trees.{Tree, charged_for, is_held_by}
 use Rattle.sched_rules.specs.Lone.{in_state}
-use Rattle.sched_rules.specs.Cores.{Shared}
+use Rattle.sched_rules.specs.Cores.{CoreState}
 use Rattle.sched_rules.specs.Views.{named}
 use Rattle.sched_rules.specs.Changes.{on_tenant}
-use Rattle.sched_store.specs.Parts.{Parts, worded, shared_of}
+use Rattle.sched_store.specs.Parts.{Parts, with_words_of_nodes, shared_of}
 use Rattle.sched_store.specs.Reads.{is_held, may_hold}
-use Rattle.sched_store.specs.Stored.{IsStored, AreFramesNodes, ArePlaces, frame_in, node_of, node_above}
+use Rattle.sched_store.specs.Stored.{IsStored, AreFramesNodes, ArePlaces, frame_in_trees, node_of, node_above}
 use Rattle.sched_store.proofs.Frames.{there-frame}
 use Rattle.sched_store.proofs.Holders.{frame-account, holds-no-other}
 use Rattle.sched_store.proofs.Steps.{TenantStep, other-tenants, changed-same, step-stored, step-shared}
@@ -36,8 +36,8 @@ pub record IsLike (frame : Frame ℕ) (old : Option (Frame ℕ)) : Type 0 where
   pub path : frame.path ≡ was.path
 
 pub record AreLike (old new : List (TenantTree ℕ)) : Type 0 where
-  pub nodes : (number serial : ℕ) → node_of (frame_in new number serial) ≡ node_of (frame_in old number serial)
-  pub frames : (number serial : ℕ) (frame : Frame ℕ) → frame_in new number serial ≡ Some frame → IsLike frame (frame_in old number serial)
+  pub nodes : (number serial : ℕ) → node_of (frame_in_trees new number serial) ≡ node_of (frame_in_trees old number serial)
+  pub frames : (number serial : ℕ) (frame : Frame ℕ) → frame_in_trees new number serial ≡ Some frame → IsLike frame (frame_in_trees old number serial)
 
 node_above-like : (old new : List (TenantTree ℕ)) (number : ℕ) (parent : Option ℕ) → AreLike old new → node_above (frames_of new number) parent ≡ node_above (frames_of old number) parent
 node_above-like old new number None like = refl
@@ -67,11 +67,11 @@ like-nodes nodes old new is like =
 -- the frames after one has another state
 pub record SetsState (old new : List (TenantTree ℕ)) (name : FrameId) (state : State) : Type 0 where
   pub frames : frames_of new name.tenant ≡ with_state name.serial state (frames_of old name.tenant)
-  pub kept : KeepsOthers old new name.tenant
+  pub kept : KeepsOtherFrames old new name.tenant
 
 -- either it is this frame, or it is as it was
 pub state-cases : (old new : List (TenantTree ℕ)) (name : FrameId) (state : State) → SetsState old new name state → (number serial : ℕ) →
-    ((number ≡ name.tenant) × (serial ≡ name.serial)) ⊎ (frame_in new number serial ≡ frame_in old number serial)
+    ((number ≡ name.tenant) × (serial ≡ name.serial)) ⊎ (frame_in_trees new number serial ≡ frame_in_trees old number serial)
 state-cases old new name state sets number serial =
     elim (cases_eq number name.tenant) [
       | inl same ↦ elim (cases_eq serial name.serial) [
@@ -81,10 +81,10 @@ state-cases old new name state sets number serial =
       | inr other ↦ inr (ap (λ (frames : List (Frame ℕ)). frame_at frames serial) (sets.kept.frames number other))
     ]
 
-state-here : (old new : List (TenantTree ℕ)) (name : FrameId) (state : State) (frame : Frame ℕ) → SetsState old new name state → frame_in old name.tenant name.serial ≡ Some frame → frame_in new name.tenant name.serial ≡ Some (record frame { state = state })
+state-here : (old new : List (TenantTree ℕ)) (name : FrameId) (state : State) (frame : Frame ℕ) → SetsState old new name state → frame_in_trees old name.tenant name.serial ≡ Some frame → frame_in_trees new name.tenant name.serial ≡ Some (record frame { state = state })
 state-here old new name state frame sets there = rw sets.frames (frame_at-with_state name.serial state (frames_of old name.tenant) frame there)
 
-state-like : (old new : List (TenantTree ℕ)) (name : FrameId) (state : State) (frame : Frame ℕ) → SetsState old new name state → frame_in old name.tenant name.serial ≡ Some frame → AreLike old new
+state-like : (old new : List (TenantTree ℕ)) (name : FrameId) (state : State) (frame : Frame ℕ) → SetsState old new name state → frame_in_trees old name.tenant name.serial ≡ Some frame → AreLike old new
 state-like old new name state frame sets there =
     let here = state-here old new name state frame sets there in
     record {
@@ -93,7 +93,7 @@ state-like old new name state frame sets there =
         | inr same ↦ ap node_of same
       ];
       frames = λ number serial f is. elim (state-cases old new name state sets number serial) [
-        | inl (m, s) ↦ (let now : frame_in new name.tenant name.serial ≡ Some f = rw (← m, ← s) is in
+        | inl (m, s) ↦ (let now : frame_in_trees new name.tenant name.serial ≡ Some f = rw (← m, ← s) is in
             let e : record frame { state = state } ≡ f = cc (here, now) in
             record { was = frame; there = rw (m, s) there; value = sym (ap (λ (x : Frame ℕ). x.value) e); path = sym (ap (λ (x : Frame ℕ). x.path) e) })
         | inr same ↦ record { was = f; there = sym same ∙ is; value = refl; path = refl }
@@ -108,15 +108,15 @@ pub charged-tail : (frame other : Frame (List ℕ)) (frames others : Tree) → f
 charged-tail frame other frames others first rest =
     charged-cons frame frames ∙ ap (λ (n : ℕ). charge (length frame.value) + n) rest ∙ ap (λ (words : List ℕ). charge (length words) + charged_for others) first ∙ sym (charged-cons other others)
 
-charged-with_state : (nodes : Nodes) (serial : ℕ) (state : State) (frames : List (Frame ℕ)) → charged_for (worded nodes (with_state serial state frames)) ≡ charged_for (worded nodes frames)
+charged-with_state : (nodes : Nodes) (serial : ℕ) (state : State) (frames : List (Frame ℕ)) → charged_for (with_words_of_nodes nodes (with_state serial state frames)) ≡ charged_for (with_words_of_nodes nodes frames)
 charged-with_state nodes serial state [] = refl
 charged-with_state nodes serial state (frame ∷ frames) =
     elim (cases_Bool (eqb frame.serial serial)) [
-      | inl same ↦ rw same (charged-tail (map_value (node_words nodes) (record frame { state = state })) (map_value (node_words nodes) frame) (worded nodes (with_state serial state frames)) (worded nodes frames) refl (charged-with_state nodes serial state frames))
-      | inr other ↦ rw other (charged-tail (map_value (node_words nodes) frame) (map_value (node_words nodes) frame) (worded nodes (with_state serial state frames)) (worded nodes frames) refl (charged-with_state nodes serial state frames))
+      | inl same ↦ rw same (charged-tail (map_value (node_words nodes) (record frame { state = state })) (map_value (node_words nodes) frame) (with_words_of_nodes nodes (with_state serial state frames)) (with_words_of_nodes nodes frames) refl (charged-with_state nodes serial state frames))
+      | inr other ↦ rw other (charged-tail (map_value (node_words nodes) frame) (map_value (node_words nodes) frame) (with_words_of_nodes nodes (with_state serial state frames)) (with_words_of_nodes nodes frames) refl (charged-with_state nodes serial state frames))
     ]
 
-state-step : (old : Parts) (trees : List (TenantTree ℕ)) (places : List (Option FrameId)) (name : FrameId) (state : State) (frame : Frame ℕ) (account : Account) → IsStored old → SetsState old.trees trees name state → frame_in old.trees name.tenant name.serial ≡ Some frame →
+state-step : (old : Parts) (trees : List (TenantTree ℕ)) (places : List (Option FrameId)) (name : FrameId) (state : State) (frame : Frame ℕ) (account : Account) → IsStored old → SetsState old.trees trees name state → frame_in_trees old.trees name.tenant name.serial ≡ Some frame →
     account_of name.tenant old.book.accounts ≡ Some account → length places ≡ 33 → ArePlaces trees places → TenantStep old (record old { trees = trees; places = places }) name.tenant (λ a. a) account
 state-step old trees places name state frame account stored sets there own workers are =
     record {
@@ -150,13 +150,13 @@ pub record StateSet (old : Parts) (trees : List (TenantTree ℕ)) (places : List
   pub stored : IsStored (record old { trees = trees; places = places })
   pub shared : shared_of (record old { trees = trees; places = places }) ≡ on_tenant name.tenant (in_state name.serial state) (shared_of old)
 
-state-set : (old : Parts) (trees : List (TenantTree ℕ)) (places : List (Option FrameId)) (name : FrameId) (state : State) (frame : Frame ℕ) → IsStored old → SetsState old.trees trees name state → frame_in old.trees name.tenant name.serial ≡ Some frame →
+state-set : (old : Parts) (trees : List (TenantTree ℕ)) (places : List (Option FrameId)) (name : FrameId) (state : State) (frame : Frame ℕ) → IsStored old → SetsState old.trees trees name state → frame_in_trees old.trees name.tenant name.serial ≡ Some frame →
     length places ≡ 33 → ArePlaces trees places → StateSet old trees places name state
 state-set old trees places name state frame stored sets there workers are =
     let own = frame-account old stored name.tenant name.serial frame there in
     let step = state-step old trees places name state frame own.0 stored sets there own.1 workers are in
     let new : Parts = record old { trees = trees; places = places } in
-    let frames : worded old.nodes (frames_of trees name.tenant) ≡ with_state name.serial state (worded old.nodes (frames_of old.trees name.tenant)) =
+    let frames : with_words_of_nodes old.nodes (frames_of trees name.tenant) ≡ with_state name.serial state (with_words_of_nodes old.nodes (frames_of old.trees name.tenant)) =
     rw sets.frames (sym (with_state-map_values (node_words old.nodes) name.serial state (frames_of old.trees name.tenant))) in
     record {
       stored = step-stored old new name.tenant (λ a. a) own.0 stored step;
@@ -172,12 +172,12 @@ held-is-held worker (Computing holder) is = refl
 held-is-held worker Waiting is = is
 held-is-held worker Returned is = is
 
-pub unheld-set : (old : Parts) (trees : List (TenantTree ℕ)) (name : FrameId) (state : State) (frame : Frame ℕ) → IsStored old → SetsState old.trees trees name state → frame_in old.trees name.tenant name.serial ≡ Some frame → is_held state ≡ false → StateSet old trees old.places name state
+pub unheld-set : (old : Parts) (trees : List (TenantTree ℕ)) (name : FrameId) (state : State) (frame : Frame ℕ) → IsStored old → SetsState old.trees trees name state → frame_in_trees old.trees name.tenant name.serial ≡ Some frame → is_held state ≡ false → StateSet old trees old.places name state
 unheld-set old trees name state frame stored sets there nobody =
     state-set old trees old.places name state frame stored sets there stored.workers (λ worker number serial f is held.
     elim (state-cases old.trees trees name state sets number serial) [
       | inl (m, s) ↦ absurd (
-          let now : frame_in trees name.tenant name.serial ≡ Some f = rw (← m, ← s) is in
+          let now : frame_in_trees trees name.tenant name.serial ≡ Some f = rw (← m, ← s) is in
           let e : record frame { state = state } ≡ f = cc (state-here old.trees trees name state frame sets there, now) in
           let h : is_held_by worker state ≡ true = ap (λ (x : Frame ℕ). is_held_by worker x.state) e ∙ held in
           false≢true (sym nobody ∙ held-is-held worker state h))
@@ -186,14 +186,14 @@ unheld-set old trees name state frame stored sets there nobody =
 
 -- the worker that held the frame has an empty place, where the state names nobody
 
-pub let-go-set : (old : Parts) (trees : List (TenantTree ℕ)) (worker : ℕ) (name : FrameId) (state : State) (frame : Frame ℕ) → IsStored old → SetsState old.trees trees name state → frame_in old.trees name.tenant name.serial ≡ Some frame →
+pub let-go-set : (old : Parts) (trees : List (TenantTree ℕ)) (worker : ℕ) (name : FrameId) (state : State) (frame : Frame ℕ) → IsStored old → SetsState old.trees trees name state → frame_in_trees old.trees name.tenant name.serial ≡ Some frame →
     is_held_by worker frame.state ≡ true → is_held state ≡ false → StateSet old trees (set old.places worker None) name state
 let-go-set old trees worker name state frame stored sets there holds nobody =
     state-set old trees (set old.places worker None) name state frame stored sets there (length-set old.places worker None ∙ stored.workers) (λ other number serial f is held.
     elim (state-cases old.trees trees name state sets number serial) [
       | inl (m, s) ↦ absurd (not-here other f (rw (← m, ← s) is) held)
       | inr same ↦
-          (let was : frame_in old.trees number serial ≡ Some f = sym same ∙ is in
+          (let was : frame_in_trees old.trees number serial ≡ Some f = sym same ∙ is in
           let at = stored.places other number serial f was held in
           elim (cases_eq other worker) [
             | inl w ↦ absurd (
@@ -207,7 +207,7 @@ let-go-set old trees worker name state frame stored sets there holds nobody =
           ])
     ])
   where
-    not-here : (other : ℕ) (f : Frame ℕ) → frame_in trees name.tenant name.serial ≡ Some f → is_held_by other f.state ≡ true → ⊥
+    not-here : (other : ℕ) (f : Frame ℕ) → frame_in_trees trees name.tenant name.serial ≡ Some f → is_held_by other f.state ≡ true → ⊥
     not-here other f now held =
         let e : record frame { state = state } ≡ f = cc (state-here old.trees trees name state frame sets there, now) in
         let h : is_held_by other state ≡ true = ap (λ (x : Frame ℕ). is_held_by other x.state) e ∙ held in
@@ -222,19 +222,19 @@ named-once worker other (Computing holder) names held = sym (eqb-true holder oth
 named-once worker other Waiting names held = absurd (false≢true names)
 named-once worker other Returned names held = absurd (false≢true names)
 
-pub held-set : (old : Parts) (trees : List (TenantTree ℕ)) (worker : ℕ) (name : FrameId) (state : State) (frame : Frame ℕ) → IsStored old → SetsState old.trees trees name state → frame_in old.trees name.tenant name.serial ≡ Some frame →
+pub held-set : (old : Parts) (trees : List (TenantTree ℕ)) (worker : ℕ) (name : FrameId) (state : State) (frame : Frame ℕ) → IsStored old → SetsState old.trees trees name state → frame_in_trees old.trees name.tenant name.serial ≡ Some frame →
     1 ≤ worker → worker ≤ 32 → may_hold (shared_of old) worker name ≡ true → is_held_by worker state ≡ true → StateSet old trees (set old.places worker (Some name)) name state
 held-set old trees worker name state frame stored sets there some most may names =
     state-set old trees (set old.places worker (Some name)) name state frame stored sets there (length-set old.places worker (Some name) ∙ stored.workers) (λ other number serial f is held.
     elim (state-cases old.trees trees name state sets number serial) [
       | inl (m, s) ↦
-          (let now : frame_in trees name.tenant name.serial ≡ Some f = rw (← m, ← s) is in
+          (let now : frame_in_trees trees name.tenant name.serial ≡ Some f = rw (← m, ← s) is in
           let e : record frame { state = state } ≡ f = cc (state-here old.trees trees name state frame sets there, now) in
           let w : other ≡ worker = named-once worker other state names (ap (λ (x : Frame ℕ). is_held_by other x.state) e ∙ held) in
           let place : get_or (set old.places worker (Some name)) worker None ≡ Some name = get_or-set_same old.places worker (Some name) None (omega (arith, stored.workers)) in
           rw (w, m, s) (some, most, place))
       | inr same ↦
-          (let was : frame_in old.trees number serial ≡ Some f = sym same ∙ is in
+          (let was : frame_in_trees old.trees number serial ≡ Some f = sym same ∙ is in
           let at = stored.places other number serial f was held in
           elim (cases_eq other worker) [
             | inl w ↦
@@ -246,8 +246,8 @@ held-set old trees worker name state frame stored sets there some most may names
     ])
 
 -- a worker takes a frame of the core that the parts show
-pub takes-set : (old : Parts) (trees : List (TenantTree ℕ)) (worker : ℕ) (name : FrameId) (state : State) {core : Shared} → IsStored old → shared_of old ≡ core → SetsState old.trees trees name state → IsSome (named core name) →
+pub takes-set : (old : Parts) (trees : List (TenantTree ℕ)) (worker : ℕ) (name : FrameId) (state : State) {core : CoreState} → IsStored old → shared_of old ≡ core → SetsState old.trees trees name state → IsSome (named core name) →
     1 ≤ worker → worker ≤ 32 → may_hold core worker name ≡ true → is_held_by worker state ≡ true → StateSet old trees (set old.places worker (Some name)) name state
 takes-set old trees worker name state stored is sets there some most may names =
-    let own = there-frame old stored name (subst (λ (s : Shared). IsSome (named s name)) (sym is) there) in
-    held-set old trees worker name state own.0 stored sets own.1 some most (subst (λ (s : Shared). may_hold s worker name ≡ true) (sym is) may) names
+    let own = there-frame old stored name (subst (λ (s : CoreState). IsSome (named s name)) (sym is) there) in
+    held-set old trees worker name state own.0 stored sets own.1 some most (subst (λ (s : CoreState). may_hold s worker name ≡ true) (sym is) may) names

@@ -3,16 +3,16 @@ use Rattle.std.proofs.Common.{◌≡◌, ◌≢◌, ℕ, ◌<◌, ◌≤◌, eqb
 use Rattle.std.proofs.lemmas.Bool.{cases_Bool, cases_eq, eqb-true, eqb-false}
 use Rattle.cactus_stack.specs.Nodes.{total_charge}
 use Rattle.number_index.proofs.Edits.{said-with_own, said-with_other, length-with, all-with}
-use Rattle.tenant_quota.specs.Accounts.{owner_of, account_of, with_changed, charged_segments, AllEntries, IsRising}
+use Rattle.tenant_quota.specs.Accounts.{owner_of_account, account_of, with_changed, charged_segments, AllEntries, IsRising}
 use Rattle.tenant_quota.specs.Reservations.{Reservations, changed, IsSoundBook}
 use Rattle.tenant_quota.specs.declared.account.Account.{Account}
 use Rattle.frame_tree.specs.Frames.{IsTree, TenantTree}
-use Rattle.frame_table.specs.Tables.{frames_of, tenant_count, KeepsOthers, KeepsOtherTenants}
+use Rattle.frame_table.specs.Tables.{frames_of, tenant_count, KeepsOtherFrames, KeepsOtherTenants}
 use Rattle.sched_rules.specs.Trees.{Tenant}
-use Rattle.sched_rules.specs.Cores.{Shared}
+use Rattle.sched_rules.specs.Cores.{CoreState}
 use Rattle.sched_rules.specs.Changes.{with_change, on_tenant}
 use Rattle.sched_store.specs.Ledgers.{jobs_of, numbers_of}
-use Rattle.sched_store.specs.Parts.{Parts, worded, tenant_from, tenants_from, shared_of}
+use Rattle.sched_store.specs.Parts.{Parts, with_words_of_nodes, tenant_from, tenants_from, shared_of}
 use Rattle.sched_store.specs.Stored.{IsStored, IsAccountFor, AreFramesNodes, AreSized, ArePlaces, numbers_in, AreAtMost}
 
 abbrev Entries : Type 0
@@ -22,11 +22,11 @@ Entries = List (ℕ × Account)
 
 account-changed : (n : ℕ) (f : Account → Account) (entries : Entries) → account_of n (with_changed n f entries) ≡ option_map f (account_of n entries)
 account-changed n f entries =
-    said-with_own owner_of (λ e. Some e.1) None (option_map f) n (λ (e : ℕ × Account). (e.0, f e.1)) entries (λ e own. own) (λ e. refl) (λ lacks. refl)
+    said-with_own owner_of_account (λ e. Some e.1) None (option_map f) n (λ (e : ℕ × Account). (e.0, f e.1)) entries (λ e own. own) (λ e. refl) (λ lacks. refl)
 
 account-changed_other : (m n : ℕ) (f : Account → Account) (entries : Entries) → m ≢ n → account_of m (with_changed n f entries) ≡ account_of m entries
 account-changed_other m n f entries differs =
-    said-with_other owner_of (λ e. Some e.1) None m n (λ (e : ℕ × Account). (e.0, f e.1)) entries (λ e. differs (sym e)) (λ e own. own)
+    said-with_other owner_of_account (λ e. Some e.1) None m n (λ (e : ℕ × Account). (e.0, f e.1)) entries (λ e. differs (sym e)) (λ e own. own)
 
 numbers-changed : (n : ℕ) (f : Account → Account) (entries : Entries) → numbers_in (with_changed n f entries) ≡ numbers_in entries
 numbers-changed n f [] = refl
@@ -37,10 +37,10 @@ numbers-changed n f (entry ∷ entries) =
     ]
 
 length-changed : (n : ℕ) (f : Account → Account) (entries : Entries) → length (with_changed n f entries) ≡ length entries
-length-changed n f entries = length-with owner_of n (λ (e : ℕ × Account). (e.0, f e.1)) entries
+length-changed n f entries = length-with owner_of_account n (λ (e : ℕ × Account). (e.0, f e.1)) entries
 
 most-changed : (most n : ℕ) (f : Account → Account) (entries : Entries) → AreAtMost most entries → AreAtMost most (with_changed n f entries)
-most-changed most n f entries all = all-with (λ (e : ℕ × Account). e.0 ≤ most) owner_of n (λ (e : ℕ × Account). (e.0, f e.1)) entries all (λ e le is. le)
+most-changed most n f entries all = all-with (λ (e : ℕ × Account). e.0 ≤ most) owner_of_account n (λ (e : ℕ × Account). (e.0, f e.1)) entries all (λ e le is. le)
 
 pub changed-same : (n : ℕ) (entries : Entries) → with_changed n (λ a. a) entries ≡ entries
 changed-same n [] = refl
@@ -51,7 +51,7 @@ changed-same n (entry ∷ entries) =
     ]
 
 -- a table that keeps all places
-pub other-tenants : {old new : List (TenantTree ℕ)} {number : ℕ} → KeepsOthers old new number → KeepsOtherTenants old new number
+pub other-tenants : {old new : List (TenantTree ℕ)} {number : ℕ} → KeepsOtherFrames old new number → KeepsOtherTenants old new number
 other-tenants kept = record { frames = kept.frames; places = λ other differs. kept.places other }
 
 -- one tenant's account, frames, places, words or jobs change, and no other tenant's
@@ -67,7 +67,7 @@ pub record TenantStep (old new : Parts) (number : ℕ) (f : Account → Account)
   pub segments : length new.nodes ≡ length old.nodes
   pub charges : total_charge new.nodes ≡ charged_segments new.book.accounts
   pub own : IsAccountFor new.nodes new.trees number (f account)
-  pub words : (other : ℕ) → other ≢ number → worded new.nodes (frames_of old.trees other) ≡ worded old.nodes (frames_of old.trees other)
+  pub words : (other : ℕ) → other ≢ number → with_words_of_nodes new.nodes (frames_of old.trees other) ≡ with_words_of_nodes old.nodes (frames_of old.trees other)
   pub ledgers : numbers_of new.ledgers ≡ numbers_of old.ledgers
   pub jobs : (other : ℕ) → other ≢ number → jobs_of new.ledgers other ≡ jobs_of old.ledgers other
   pub workers : length new.places ≡ 33
@@ -82,7 +82,7 @@ other-after : (old new : Parts) (number : ℕ) (f : Account → Account) (accoun
 other-after old new number f account step other differs =
     ap (λ (book : Reservations). account_of other book.accounts) step.book ∙ account-changed_other other number f old.book.accounts differs
 
-keeps-account : (old new : Parts) (number : ℕ) (other : ℕ) (account : Account) → KeepsOtherTenants old.trees new.trees number → other ≢ number → worded new.nodes (frames_of old.trees other) ≡ worded old.nodes (frames_of old.trees other) →
+keeps-account : (old new : Parts) (number : ℕ) (other : ℕ) (account : Account) → KeepsOtherTenants old.trees new.trees number → other ≢ number → with_words_of_nodes new.nodes (frames_of old.trees other) ≡ with_words_of_nodes old.nodes (frames_of old.trees other) →
     IsAccountFor old.nodes old.trees other account → IsAccountFor new.nodes new.trees other account
 keeps-account old new number other account kept differs words is =
     let frames = kept.frames other differs in
@@ -163,5 +163,5 @@ step-shared old new number f account change stored step own =
     (λ a there. let same : account ≡ a = cc (step.there, there) in rw (← same) own) in
     rw (step.newest, step.book) (ap (λ (entries : List (ℕ × Tenant)). on_entries entries) tenants)
   where
-    on_entries : List (ℕ × Tenant) → Shared
+    on_entries : List (ℕ × Tenant) → CoreState
     on_entries entries = record { totals = record { segments = old.book.segments; nodes = old.book.nodes }; newest = old.newest; tenants = entries }

@@ -3,7 +3,7 @@ use Rattle.std.proofs.Common.{◌≡◌, ℕ, ◌<◌, ◌≤◌, ◌+◌, false
 use Rattle.std.proofs.Math.ListN.{set}
 use Rattle.std.proofs.lemmas.List.{length-set, drop_all}
 use Rattle.std.proofs.lemmas.Bool.{or_parts, leb-false}
-use Rattle.cactus_stack.specs.Nodes.{Nodes, node_words, with_words, IsOpen}
+use Rattle.cactus_stack.specs.Nodes.{Nodes, node_words, with_node_words, IsOpen}
 use Rattle.sched_rules.specs.Trees.{stored, is_outside}
 use Rattle.sched_store.proofs.Nodes.{words-open, words-here, words-twice, words-stay}
 
@@ -21,7 +21,7 @@ outside-set (store ∷ stores) words at word = rw (length-set words at word, out
 pub record StoredMore (stack new start : Nodes) (node : ℕ) (stores : Stores) (i : ℕ) : Type 0 where
   pub is_open : IsOpen new node
   pub inside : is_outside (drop (i + 1) stores) (node_words new node) ≡ false
-  pub so_far : with_words new node (stored (drop (i + 1) stores) (node_words new node)) ≡ with_words start node (stored stores (node_words start node))
+  pub so_far : with_node_words new node (stored (drop (i + 1) stores) (node_words new node)) ≡ with_node_words start node (stored stores (node_words start node))
 
 pub store-inside : (stack : Nodes) (node : ℕ) (stores : Stores) (i : ℕ) (d : ℕ × ℕ) → i < length stores → is_outside (drop i stores) (node_words stack node) ≡ false → (get_or stores i d).0 < length (node_words stack node)
 store-inside stack node stores i d within inside =
@@ -29,8 +29,8 @@ store-inside stack node stores i d within inside =
     leb-false (length (node_words stack node)) (get_or stores i d).0 (or_parts (leb (length (node_words stack node)) (get_or stores i d).0) (is_outside (drop (i + 1) stores) (node_words stack node)) split).0
 
 pub store-more : (stack new start : Nodes) (node : ℕ) (stores : Stores) (i : ℕ) (d : ℕ × ℕ) → i < length stores → IsOpen stack node → is_outside (drop i stores) (node_words stack node) ≡ false →
-    with_words stack node (stored (drop i stores) (node_words stack node)) ≡ with_words start node (stored stores (node_words start node)) →
-    new ≡ with_words stack node (set (node_words stack node) (get_or stores i d).0 (get_or stores i d).1) → StoredMore stack new start node stores i
+    with_node_words stack node (stored (drop i stores) (node_words stack node)) ≡ with_node_words start node (stored stores (node_words start node)) →
+    new ≡ with_node_words stack node (set (node_words stack node) (get_or stores i d).0 (get_or stores i d).1) → StoredMore stack new start node stores i
 store-more stack new start node stores i d within is_open inside so_far is =
     let store = get_or stores i d in
     let words = node_words stack node in
@@ -45,15 +45,15 @@ store-more stack new start node stores i d within is_open inside so_far is =
       is_open = subst P (sym is) (words-open stack node node after is_open is_open);
       inside = ap (is_outside rest) now ∙ outside-set rest words store.0 store.1 ∙ others;
       so_far =
-          ap (λ (ws : List ℕ). with_words new node (stored rest ws)) now
-          ∙ ap (λ (nodes : Nodes). with_words nodes node (stored rest after)) is
+          ap (λ (ws : List ℕ). with_node_words new node (stored rest ws)) now
+          ∙ ap (λ (nodes : Nodes). with_node_words nodes node (stored rest after)) is
           ∙ words-twice stack node after (stored rest after) is_open
           ∙ far;
     }
 
 -- after the last store
-pub store-all : (stack start : Nodes) (node : ℕ) (stores : Stores) (i : ℕ) → length stores ≤ i → IsOpen stack node → with_words stack node (stored (drop i stores) (node_words stack node)) ≡ with_words start node (stored stores (node_words start node)) →
-    stack ≡ with_words start node (stored stores (node_words start node))
+pub store-all : (stack start : Nodes) (node : ℕ) (stores : Stores) (i : ℕ) → length stores ≤ i → IsOpen stack node → with_node_words stack node (stored (drop i stores) (node_words stack node)) ≡ with_node_words start node (stored stores (node_words start node)) →
+    stack ≡ with_node_words start node (stored stores (node_words start node))
 store-all stack start node stores i past is_open so_far =
     let far = rw (drop_all i stores past) at so_far in
     sym (words-stay stack node is_open) ∙ far

@@ -2,7 +2,7 @@
 use Rattle.std.proofs.Common.{◌≡◌, ℕ, ◌≤◌, ◌+◌, ◌-◌, List, [], ◌∷◌, ◌++◌, length, replicate, Option, Some, IsSome, Result, Ok, Err, IsOk, IsErr, option_map, refl, ap, sym, subst, ◌∙◌, arith}
 use Rattle.std.proofs.Math.ListN.{set}
 use Rattle.std.proofs.lemmas.List.{length-set, length-append, length-replicate}
-use Rattle.cactus_stack.specs.Nodes.{Nodes, node_words, with_words as with_node_words, IsOpen, charge, growth_charge, free_segments}
+use Rattle.cactus_stack.specs.Nodes.{Nodes, node_words, with_node_words, IsOpen, charge, growth_charge, free_segments}
 use Rattle.tenant_quota.specs.Accounts.{account_of, charged_by, charged_segments, reserved_segments, IsWithinReserve}
 use Rattle.tenant_quota.specs.Reservations.{Reservations, ChangesOnly, IsSoundBook}
 use Rattle.tenant_quota.specs.declared.account.Account.{Account}
@@ -12,11 +12,11 @@ use Rattle.frame_tree.specs.Frames.{Frame, HasValue}
 use Rattle.frame_tree.specs.TreeLaws.{map_value}
 use Rattle.sched_rules.specs.Changes.{on_tenant}
 use Rattle.sched_rules.specs.Lone.{holding}
-use Rattle.sched_rules.specs.Trees.{words_of, stored}
+use Rattle.sched_rules.specs.Trees.{frame_words, stored}
 use Rattle.sched_rules.specs.Views.{named}
 use Rattle.sched_store.specs.Parts.{Parts, shared_of}
-use Rattle.sched_store.specs.Reads.{words_under, HasLeft}
-use Rattle.sched_store.specs.Stored.{IsStored, frame_in}
+use Rattle.sched_store.specs.Reads.{words_under, TenantHasLeft}
+use Rattle.sched_store.specs.Stored.{IsStored, frame_in_trees}
 use Rattle.sched_store.proofs.Lookups.{named-found}
 use Rattle.sched_store.proofs.Frames.{there-frame}
 use Rattle.sched_store.proofs.Holders.{frame-account}
@@ -28,12 +28,12 @@ use Rattle.sched_store.proofs.Words.{ChargesWords, WordsSet, words-set}
 -- a frame that is there, and its node
 pub record HasNode (parts : Parts) (name : FrameId) (node : ℕ) : Type 0 where
   pub frame : Frame ℕ
-  pub there : frame_in parts.trees name.tenant name.serial ≡ Some frame
+  pub there : frame_in_trees parts.trees name.tenant name.serial ≡ Some frame
   pub value : frame.value ≡ node
   pub is_open : IsOpen parts.nodes node
   pub words : words_under (shared_of parts) name ≡ node_words parts.nodes node
 
-pub has-node : (parts : Parts) → IsStored parts → (name : FrameId) (node : ℕ) → IsSome (named (shared_of parts) name) → HasValue (frame_in parts.trees name.tenant name.serial) node → HasNode parts name node
+pub has-node : (parts : Parts) → IsStored parts → (name : FrameId) (node : ℕ) → IsSome (named (shared_of parts) name) → HasValue (frame_in_trees parts.trees name.tenant name.serial) node → HasNode parts name node
 has-node parts stored name node is value =
     let f = there-frame parts stored name is in
     let same : f.0.value ≡ node = rw f.1 at value in
@@ -42,7 +42,7 @@ has-node parts stored name node is value =
       there = f.1;
       value = same;
       is_open = rw same at ((stored.frames_nodes.nodes_of_frames name.tenant name.serial f.0 f.1).is_open);
-      words = ap words_of (named-found parts stored name ∙ ap (λ (o : Option (Frame ℕ)). option_map (map_value (node_words parts.nodes)) o) f.1) ∙ ap (node_words parts.nodes) same;
+      words = ap frame_words (named-found parts stored name ∙ ap (λ (o : Option (Frame ℕ)). option_map (map_value (node_words parts.nodes)) o) f.1) ∙ ap (node_words parts.nodes) same;
     }
 
 -- stores
@@ -83,13 +83,13 @@ stores-set old nodes name node stores is_stored has is =
 pub nothing-stored : (parts : Parts) (name : FrameId) → IsStored parts → IsSome (named (shared_of parts) name) → shared_of parts ≡ on_tenant name.tenant (holding name.serial (words_under (shared_of parts) name)) (shared_of parts)
 nothing-stored parts name is_stored is =
     let f = there-frame parts is_stored name is in
-    let value : HasValue (frame_in parts.trees name.tenant name.serial) f.0.value = let there = f.1 in rw there refl in
+    let value : HasValue (frame_in_trees parts.trees name.tenant name.serial) f.0.value = let there = f.1 in rw there refl in
     let has = has-node parts is_stored name f.0.value is value in
     (stores-set parts parts.nodes name f.0.value [] is_stored has (sym (words-stay parts.nodes f.0.value has.is_open))).shared
 
 -- a segment that a tenant has left is free
 
-pub has-free : (parts : Parts) → IsStored parts → (number segments nodes : ℕ) → HasLeft (shared_of parts) number segments nodes → segments ≤ free_segments parts.nodes
+pub has-free : (parts : Parts) → IsStored parts → (number segments nodes : ℕ) → TenantHasLeft (shared_of parts) number segments nodes → segments ≤ free_segments parts.nodes
 has-free parts stored number segments nodes has =
     let own = left-account parts stored number (λ left. (segments ≤ left.segments) × (nodes ≤ left.nodes)) has in
     let within = AllEntries-map (λ e. IsWithinReserve e.1) (λ e. e.1.charged ≤ e.1.reserve.segments) (λ e w. w.charged_within) parts.book.accounts stored.book.within in

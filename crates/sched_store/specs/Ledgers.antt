@@ -1,30 +1,30 @@
 -- Representation: the jobs of each tenant: a list of tenants, each with its jobs, in the order of their numbers.
 use Rattle.std.specs.Prelude.{◌≡◌, ℕ, ◌<◌, Bool, true, false, ◌||◌, List, [], ◌∷◌}
-use Rattle.number_index.specs.Places.{said_of, has_thing, with_thing, without_thing}
+use Rattle.number_index.specs.Places.{read_by_number, has_by_number, change_by_number, remove_by_number}
 use Rattle.sched_rules.specs.declared.job.Job.{Job}
 use Rattle.sched_rules.specs.declared.job.Job.TheVariants.{Live, Done, Spent, Cancelled}
 use Rattle.sched_rules.specs.Trees.{is_live_at}
 
 -- a tenant's number, and its jobs from number 1 on
-abbrev pub Ledger : Type 0
-Ledger = ℕ × List Job
+abbrev pub JobLedger : Type 0
+JobLedger = ℕ × List Job
 
 -- the number of a ledger's tenant
-abbrev pub number_in : Ledger → ℕ
-number_in ledger = ledger.0
+abbrev pub owner_of_ledger : JobLedger → ℕ
+owner_of_ledger ledger = ledger.0
 
 -- the jobs of the tenant of this number; none where it isn't there
-abbrev pub jobs_of : List Ledger → ℕ → List Job
-jobs_of ledgers number = said_of number_in (λ ledger. ledger.1) [] number ledgers
+abbrev pub jobs_of : List JobLedger → ℕ → List Job
+jobs_of ledgers number = read_by_number owner_of_ledger (λ ledger. ledger.1) [] number ledgers
 
 -- the tenants' numbers
-abbrev pub numbers_of : List Ledger → List ℕ
+abbrev pub numbers_of : List JobLedger → List ℕ
 numbers_of [] = []
 numbers_of (ledger ∷ ledgers) = ledger.0 ∷ numbers_of ledgers
 
 -- whether the tenant of this number is there
-abbrev pub is_there : ℕ → List Ledger → Bool
-is_there number ledgers = has_thing number_in number ledgers
+abbrev pub is_there : ℕ → List JobLedger → Bool
+is_there number ledgers = has_by_number owner_of_ledger number ledgers
 
 -- each of these numbers is below this one
 abbrev pub AreBelow : ℕ → List ℕ → Type 0
@@ -49,9 +49,9 @@ AreLiveOnce [] = Unit {0}
 AreLiveOnce (job ∷ jobs) = ((root : ℕ) → is_live_at root job ≡ true → is_live_in root jobs ≡ false) × AreLiveOnce jobs
 
 -- the ledgers, the jobs of the tenant of this number changed by change
-abbrev pub with_jobs : ℕ → (List Job → List Job) → List Ledger → List Ledger
-with_jobs number change ledgers = with_thing number_in number (λ ledger. (ledger.0, change ledger.1)) ledgers
+abbrev pub with_jobs : ℕ → (List Job → List Job) → List JobLedger → List JobLedger
+with_jobs number change ledgers = change_by_number owner_of_ledger number (λ ledger. (ledger.0, change ledger.1)) ledgers
 
 -- the ledgers without that of the tenant of this number
-abbrev pub without_ledger : ℕ → List Ledger → List Ledger
-without_ledger number ledgers = without_thing number_in number ledgers
+abbrev pub without_ledger : ℕ → List JobLedger → List JobLedger
+without_ledger number ledgers = remove_by_number owner_of_ledger number ledgers

@@ -9,25 +9,25 @@ use Rattle.frame_tree.specs.Frames.{Frame, TenantTree}
 use Rattle.frame_tree.specs.TreeLaws.{map_values}
 use Rattle.frame_table.specs.Tables.{frames_of}
 use Rattle.sched_rules.specs.Trees.{Tree, Tenant}
-use Rattle.sched_rules.specs.Cores.{Shared}
-use Rattle.sched_store.specs.Ledgers.{Ledger, jobs_of}
+use Rattle.sched_rules.specs.Cores.{CoreState}
+use Rattle.sched_store.specs.Ledgers.{JobLedger, jobs_of}
 
 -- what a store keeps: the stack's nodes, the book, the table of frames with their nodes, the jobs, for each worker the frame that it held last, and the greatest number of a tenant so far
 pub record Parts : Type 0 where
   pub nodes : Nodes
   pub book : Reservations
   pub trees : List (TenantTree ℕ)
-  pub ledgers : List Ledger
+  pub ledgers : List JobLedger
   pub places : List (Option FrameId)
   pub newest : ℕ
 
 -- the frames, each with the words of its node as its value in place of the node's number
-abbrev pub worded : Nodes → List (Frame ℕ) → Tree
-worded nodes frames = map_values (node_words nodes) frames
+abbrev pub with_words_of_nodes : Nodes → List (Frame ℕ) → Tree
+with_words_of_nodes nodes frames = map_values (node_words nodes) frames
 
 -- the tenant of this number, by its account and the parts of the store
 abbrev pub tenant_from : Parts → ℕ → Account → Tenant
-tenant_from parts number account = record { reserve = account.reserve; serials = account.opened; steps = account.ticks; jobs = jobs_of parts.ledgers number; frames = worded parts.nodes (frames_of parts.trees number) }
+tenant_from parts number account = record { reserve = account.reserve; serials = account.opened; steps = account.ticks; jobs = jobs_of parts.ledgers number; frames = with_words_of_nodes parts.nodes (frames_of parts.trees number) }
 
 -- the tenants of these accounts, by the parts of the store
 abbrev pub tenants_from : Parts → List (ℕ × Account) → List (ℕ × Tenant)
@@ -35,5 +35,5 @@ tenants_from parts [] = []
 tenants_from parts (entry ∷ entries) = (entry.0, tenant_from parts entry.0 entry.1) ∷ tenants_from parts entries
 
 -- the core that a store stands for
-abbrev pub shared_of : Parts → Shared
+abbrev pub shared_of : Parts → CoreState
 shared_of parts = record { totals = record { segments = parts.book.segments; nodes = parts.book.nodes }; newest = parts.newest; tenants = tenants_from parts parts.book.accounts }

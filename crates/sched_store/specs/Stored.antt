@@ -10,11 +10,11 @@ use Rattle.frame_tree.specs.Frames.{Frame, frame_at, parent_of, AllBelow, IsTree
 use Rattle.frame_table.specs.Tables.{frames_of, places_of, tenant_count}
 use Rattle.sched_rules.specs.Trees.{charged_for, is_held_by}
 use Rattle.sched_store.specs.Ledgers.{numbers_of}
-use Rattle.sched_store.specs.Parts.{Parts, worded}
+use Rattle.sched_store.specs.Parts.{Parts, with_words_of_nodes}
 
 -- the frame of this serial in the tree of the tenant of this number, if there is one
-abbrev pub frame_in : List (TenantTree ℕ) → ℕ → ℕ → Option (Frame ℕ)
-frame_in trees number serial = frame_at (frames_of trees number) serial
+abbrev pub frame_in_trees : List (TenantTree ℕ) → ℕ → ℕ → Option (Frame ℕ)
+frame_in_trees trees number serial = frame_at (frames_of trees number) serial
 
 -- the node of a frame, if there is one
 abbrev pub node_of : Option (Frame ℕ) → Option ℕ
@@ -35,12 +35,12 @@ pub record IsFrameNode (nodes : Nodes) (frames : List (Frame ℕ)) (frame : Fram
 pub record HasFrame (trees : List (TenantTree ℕ)) (node : ℕ) : Type 0 where
   pub number : ℕ
   pub serial : ℕ
-  pub there : node_of (frame_in trees number serial) ≡ Some node
+  pub there : node_of (frame_in_trees trees number serial) ≡ Some node
 
 -- frames and open nodes are one to one: each frame has an open node, no two share one, and each open node is a frame's
 pub record AreFramesNodes (nodes : Nodes) (trees : List (TenantTree ℕ)) : Type 0 where
-  pub nodes_of_frames : (number serial : ℕ) (frame : Frame ℕ) → frame_in trees number serial ≡ Some frame → IsFrameNode nodes (frames_of trees number) frame
-  pub once : (number serial other_number other_serial node : ℕ) → node_of (frame_in trees number serial) ≡ Some node → node_of (frame_in trees other_number other_serial) ≡ Some node →
+  pub nodes_of_frames : (number serial : ℕ) (frame : Frame ℕ) → frame_in_trees trees number serial ≡ Some frame → IsFrameNode nodes (frames_of trees number) frame
+  pub once : (number serial other_number other_serial node : ℕ) → node_of (frame_in_trees trees number serial) ≡ Some node → node_of (frame_in_trees trees other_number other_serial) ≡ Some node →
       (number ≡ other_number) × (serial ≡ other_serial)
   pub no_other : (node : ℕ) → IsOpen nodes node → HasFrame trees node
 
@@ -51,13 +51,13 @@ pub record AreSized (nodes : Nodes) : Type 0 where
 
 -- a tenant's account and its frames agree: it is charged for its frames, has as many places for them as segments, and their serials were given
 pub record IsAccountFor (nodes : Nodes) (trees : List (TenantTree ℕ)) (number : ℕ) (account : Account) : Type 0 where
-  pub charged : account.charged ≡ charged_for (worded nodes (frames_of trees number))
+  pub charged : account.charged ≡ charged_for (with_words_of_nodes nodes (frames_of trees number))
   pub places : places_of trees number ≡ account.reserve.segments
   pub serials : AllBelow (account.opened + 1) (frames_of trees number)
 
 -- a worker that holds a frame has that frame's name at its place
 abbrev pub ArePlaces : List (TenantTree ℕ) → List (Option FrameId) → Type 0
-ArePlaces trees places = (worker number serial : ℕ) (frame : Frame ℕ) → frame_in trees number serial ≡ Some frame → is_held_by worker frame.state ≡ true →
+ArePlaces trees places = (worker number serial : ℕ) (frame : Frame ℕ) → frame_in_trees trees number serial ≡ Some frame → is_held_by worker frame.state ≡ true →
     (1 ≤ worker) × (worker ≤ 32) × (slice_index_or places worker None ≡ Some (record { tenant = number; serial = serial }))
 
 -- the tenants' numbers, in the order of their accounts

@@ -33,9 +33,9 @@ impl<A: Allocator> Model for Ledger<A> {
 }
 
 impl<A: Allocator> Numbered for Ledger<A> {
-    ghost use Rattle.sched_store.specs.Ledgers.{number_in};
+    ghost use Rattle.sched_store.specs.Ledgers.{owner_of_ledger};
 
-    ghost number_of = { number_in };
+    ghost number_of = { owner_of_ledger };
 
     #[inline(always)]
     fn number(&self) -> u64 {

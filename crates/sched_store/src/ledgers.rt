@@ -25,13 +25,13 @@ impl<A: Allocator> Model for Ledgers<A> {
     ghost use Rattle.std.specs.Vec.{vec_capacity};
     ghost use Rattle.sched_rules.specs.declared.job.Job.{Job as JobOf};
     ghost use Rattle.number_index.specs.Places.{AreRising};
-    ghost use Rattle.sched_store.specs.Ledgers.{number_in};
+    ghost use Rattle.sched_store.specs.Ledgers.{owner_of_ledger};
 
     ghost Value = { List (ℕ × List JobOf) };
 
     ghost view = { λ l. l.all.items };
 
-    ghost invariant = { λ l. (64 ≤ vec_capacity l.all) × AreRising number_in l.all.items };
+    ghost invariant = { λ l. (64 ≤ vec_capacity l.all) × AreRising owner_of_ledger l.all.items };
 }
 
 impl<A: Allocator> Ledgers<A> {

@@ -1,6 +1,6 @@
 //! The storage of the scheduling core: one finite map of tenants.
 //!
-//! A [`Store`] stands for a `Shared` (`Rattle.sched_rules.specs.Cores`): the totals, the greatest
+//! A [`Store`] stands for a `CoreState` (`Rattle.sched_rules.specs.Cores`): the totals, the greatest
 //! number of a tenant so far, and the tenants by rising number, each with what it reserved, the
 //! serials it was given, the steps that it took, its jobs and its frames. The crate above decides
 //! steps over this map alone and sees no node, account or slot. Each call that changes the store says

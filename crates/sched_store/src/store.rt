@@ -36,9 +36,9 @@ pub struct Store<A: Allocator = Global> {
 
 // Clauses see the core that the parts stand for.
 impl<A: Allocator> Model for Store<A> {
-    ghost use Rattle.sched_rules.specs.Cores.{Shared};
+    ghost use Rattle.sched_rules.specs.Cores.{CoreState};
 
-    ghost Value = { Shared };
+    ghost Value = { CoreState };
 
     ghost use Rattle.sched_store.specs.Parts.{shared_of};
     ghost use Rattle.sched_store.specs.Stored.{IsStored};

@@ -15,7 +15,7 @@ use Rattle.sched_rules.specs.declared.refusal.Refusal.{Refusal}
 use Rattle.sched_rules.specs.declared.refusal.Refusal.TheVariants.{NoFrame}
 use Rattle.sched_toys.specs.Toys.{fan}
 use Rattle.sched_rules.specs.Trees.{Tenant, Tree}
-use Rattle.sched_rules.specs.Cores.{Shared, shared_by_nobody, shared_run}
+use Rattle.sched_rules.specs.Cores.{CoreState, shared_by_nobody, shared_run}
 
 -- the frame of this serial of tenant 1
 abbrev pub one : ℕ → FrameId
@@ -98,15 +98,15 @@ narrow_returns =
     narrow_opens ++ Steal 2 1 (one 2) ∷ Advance 2 (one 2) ∷ Answer 2 (one 2) (answer 1 7) ∷ Advance 2 (one 2) ∷ Inlet 2 (one 2) ∷ []
 
 -- a new core of 32 segments and 32 nodes after fan_steps_before_inlet
-abbrev pub before_inlet : Shared
+abbrev pub before_inlet : CoreState
 before_inlet = shared_run fan (shared_by_nobody (quota 32 32)) fan_steps_before_inlet
 
 -- a core of 16 segments and 32 nodes with two tenants, the first of which has used all its segments
-abbrev pub used_up : Shared
+abbrev pub used_up : CoreState
 used_up = shared_run fan (shared_by_nobody (quota 16 32)) (Admit 1 (quota 5 8) ∷ Admit 2 (quota 3 8) ∷ fan_opens ++ fan_opens_five)
 
 -- used_up once tenant 1 has raised its reservation to this
-abbrev pub with_more : ℕ → ℕ → Shared
+abbrev pub with_more : ℕ → ℕ → CoreState
 with_more segments nodes = shared_run fan used_up (AdmitMore 1 (quota segments nodes) ∷ [])
 
 -- steps of two tenants, one of which is refused

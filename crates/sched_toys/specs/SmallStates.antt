@@ -5,8 +5,8 @@ use Rattle.frame_tree.specs.declared.names.State.TheVariants.{Ready, Running, Wa
 use Rattle.frame_tree.specs.Frames.{Frame}
 use Rattle.sched_rules.specs.declared.act.Act.{Act}
 use Rattle.sched_rules.specs.declared.act.InletAct.{InletAct}
-use Rattle.sched_rules.specs.declared.act.Then.{Then}
-use Rattle.sched_rules.specs.declared.act.Then.TheVariants.{Go}
+use Rattle.sched_rules.specs.declared.act.Continuation.{Continuation}
+use Rattle.sched_rules.specs.declared.act.Continuation.TheVariants.{Go}
 use Rattle.sched_rules.specs.declared.job.Job.{Job}
 use Rattle.sched_rules.specs.declared.job.Job.TheVariants.{Live, Spent, Cancelled}
 use Rattle.sched_rules.specs.declared.refusal.Refusal.{Refusal}
@@ -15,7 +15,7 @@ use Rattle.sched_rules.specs.Functions.{Functions}
 use Rattle.sched_rules.specs.Trees.{Tenant, Tree, admitted_with}
 use Rattle.sched_rules.specs.Lone.{Outcome, lone, lone_refusal}
 use Rattle.sched_toys.specs.Toys.{word_at}
-use Rattle.sched_rules.specs.Cores.{Shared, shared_refusal}
+use Rattle.sched_rules.specs.Cores.{CoreState, shared_refusal}
 use Rattle.sched_toys.specs.FanRows.{frame, one_job, quota}
 
 -- a procedure with this act and this inlet at any words, and these stores of any answer, which is itself its input
@@ -24,7 +24,7 @@ always act inlet stores =
     record { next = λ sight. act; inlet = λ own child. inlet; input = λ own. word_at own 0; asked = λ answer. answer; accept = λ own answer. stores; same = λ one other. one == other }
 
 -- an act: these stores, and what is done after them
-abbrev pub act : List (ℕ × ℕ) → Then → Act
+abbrev pub act : List (ℕ × ℕ) → Continuation → Act
 act stores after = record { stores = stores; after = after }
 
 -- an inlet with these stores, and whether it aborts and whether it wakes the parent
@@ -36,7 +36,7 @@ abbrev pub idle : Functions ℕ ℕ
 idle = always (act [] Go) (inlet [] false false) []
 
 -- a procedure of which every frame's next act is this one; its inlets and answers store nothing
-abbrev pub acting : List (ℕ × ℕ) → Then → Functions ℕ ℕ
+abbrev pub acting : List (ℕ × ℕ) → Continuation → Functions ℕ ℕ
 acting stores after = always (act stores after) (inlet [] false false) []
 
 -- a procedure whose inlets and answers store at place 4, which a frame of 4 words hasn't
@@ -80,7 +80,7 @@ abbrev pub refusal : Functions ℕ ℕ → Tenant → StepOf ℕ → Option Refu
 refusal functions tenant step = lone_refusal functions (Some tenant) step
 
 -- a core of 8 segments and 32 nodes with these tenants, the greatest number so far being 7
-abbrev pub core_of : List (ℕ × Tenant) → Shared
+abbrev pub core_of : List (ℕ × Tenant) → CoreState
 core_of tenants = record { totals = quota 8 32; newest = 7; tenants = tenants }
 
 -- why a step among these tenants is refused; none where it is taken
@@ -96,7 +96,7 @@ abbrev pub crowd : ℕ → List (ℕ × Tenant)
 crowd count = replicate count (7, admitted_with (quota 1 1))
 
 -- a core of 128 segments and 128 nodes with these tenants
-abbrev pub roomy : List (ℕ × Tenant) → Shared
+abbrev pub roomy : List (ℕ × Tenant) → CoreState
 roomy tenants = record { totals = quota 128 128; newest = 7; tenants = tenants }
 
 -- a procedure whose every inlet has these stores and aborts or wakes as said; its frames go on without a store

@@ -1,8 +1,8 @@
 -- Representation: the laws of a procedure whose frames always fit.
 use Rattle.std.specs.Prelude.{◌≡◌, ℕ, true, ◌==◌, List, [], ◌∷◌}
 use Rattle.std.proofs.lemmas.Bool.{eqb-true}
-use Rattle.sched_rules.specs.declared.act.Then.{Then}
-use Rattle.sched_rules.specs.declared.act.Then.TheVariants.{Grow, Spawn, Go, Wait, Compute, Return}
+use Rattle.sched_rules.specs.declared.act.Continuation.{Continuation}
+use Rattle.sched_rules.specs.declared.act.Continuation.TheVariants.{Grow, Spawn, Go, Wait, Compute, Return}
 use Rattle.sched_rules.specs.Functions.{Functions}
 use Rattle.sched_rules.specs.Laws.{Fitting, Rooting, ParentFits, NewChildFits, NextKeeps, InletKeeps, AcceptKeeps}
 
@@ -20,7 +20,7 @@ parent-fits origin [] older own younger = tt
 parent-fits origin (parent ∷ above) older own younger = tt
 
 -- where every frame fits, every new child does
-pub new-child-fits : (after : Then) → NewChildFits AlwaysFits after
+pub new-child-fits : (after : Continuation) → NewChildFits AlwaysFits after
 new-child-fits (Grow more) = tt
 new-child-fits (Spawn given size) = tt
 new-child-fits Go = tt

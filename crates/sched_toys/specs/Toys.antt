@@ -2,8 +2,8 @@
 use Rattle.std.specs.Prelude.{ℕ, ◌+◌, ◌-◌, ◌%◌, ◌^◌, true, false, ◌&&◌, ◌==◌, List, [], ◌∷◌, if◌then◌else◌, slice_get, unwrap_or}
 use Rattle.sched_rules.specs.declared.act.Act.{Act}
 use Rattle.sched_rules.specs.declared.act.InletAct.{InletAct}
-use Rattle.sched_rules.specs.declared.act.Then.{Then}
-use Rattle.sched_rules.specs.declared.act.Then.TheVariants.{Spawn, Go, Wait, Compute, Return}
+use Rattle.sched_rules.specs.declared.act.Continuation.{Continuation}
+use Rattle.sched_rules.specs.declared.act.Continuation.TheVariants.{Spawn, Go, Wait, Compute, Return}
 use Rattle.sched_toys.specs.declared.fan.FanAnswer.{FanAnswer}
 use Rattle.sched_rules.specs.Functions.{Functions}
 
@@ -33,10 +33,10 @@ pub record Line : Type 0 where
   pub kind : ℕ
   pub count : ℕ
   pub next_count : ℕ
-  pub after : Then
+  pub after : Continuation
 
 -- opening a child of this kind, with count 0 and 4 words
-abbrev pub spawns : ℕ → Then
+abbrev pub spawns : ℕ → Continuation
 spawns kind = Spawn (kind ∷ 0 ∷ []) 4
 
 -- Fan's table; at any other kind and count it returns without a store

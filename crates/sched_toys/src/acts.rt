@@ -1,10 +1,10 @@
 //! Acts of the toy procedures.
 ghost use Rattle.std.specs.Prelude.{◌≡◌, [], ◌∷◌, false};
 
-use sched_rules::{Act, InletAct, Stores, Then};
+use sched_rules::{Act, Continuation, InletAct, Stores};
 
 /// An act without a store.
-pub(crate) fn plain(after: Then) -> Act
+pub(crate) fn plain(after: Continuation) -> Act
     ensures { result ≡ record { stores = []; after = after } }
 {
     Act {
@@ -14,7 +14,7 @@ pub(crate) fn plain(after: Then) -> Act
 }
 
 /// An act that stores a count in word 1.
-pub(crate) fn counted(count: u64, after: Then) -> Act
+pub(crate) fn counted(count: u64, after: Continuation) -> Act
     ensures { result ≡ record { stores = (1, count) ∷ []; after = after } }
 {
     Act {

@@ -3,7 +3,7 @@ use crate::acts::{counted, plain};
 use crate::toy::{Play, Toy};
 use crate::view::word;
 use cactus_stack::Words;
-use sched_rules::{Act, GivenWords, InletAct, Stores, Then};
+use sched_rules::{Act, Continuation, GivenWords, InletAct, Stores};
 
 /// The procedure Chain. A frame has 20 words, of which word 0 is a count. It never computes.
 pub type Chain = Toy<ChainPlay>;
@@ -24,12 +24,12 @@ impl Play for ChainPlay {
     /// At count 0 the frame returns; else it opens a child, waits, and returns.
     fn act(count: u64, stage: u64) -> Act {
         if count == 0 {
-            return plain(Then::Return);
+            return plain(Continuation::Return);
         }
         match stage {
-            0 => counted(1, Then::Spawn(GivenWords::two(count - 1, 0), 20)),
-            1 => counted(2, Then::Wait),
-            _ => plain(Then::Return),
+            0 => counted(1, Continuation::Spawn(GivenWords::two(count - 1, 0), 20)),
+            1 => counted(2, Continuation::Wait),
+            _ => plain(Continuation::Return),
         }
     }
 

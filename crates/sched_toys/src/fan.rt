@@ -6,7 +6,7 @@ use crate::acts::{counted, idle_inlet, plain};
 use crate::toy::{Play, Toy, ToyAnswer};
 use crate::view::word;
 use cactus_stack::Words;
-use sched_rules::{Act, GivenWords, InletAct, Stores, Then};
+use sched_rules::{Act, Continuation, GivenWords, InletAct, Stores};
 
 /// An answer to a frame of Fan.
 #[derive(Clone, Copy, Debug, PartialEq, Eq)]
@@ -58,13 +58,13 @@ impl Play for FanPlay {
             (0, 0) => child(1),
             (0, 1) => child(2),
             (0, 2) => child(1),
-            (0, 3) => Then::Wait,
+            (0, 3) => Continuation::Wait,
             (0, 4) => child(1),
-            (0, 5) => Then::Wait,
-            (1, 0) => Then::Compute,
+            (0, 5) => Continuation::Wait,
+            (1, 0) => Continuation::Compute,
             (2, 0) => child(1),
-            (2, 1) => Then::Wait,
-            _ => return plain(Then::Return),
+            (2, 1) => Continuation::Wait,
+            _ => return plain(Continuation::Return),
         };
         counted(count + 1, after)
     }
@@ -85,8 +85,8 @@ impl Play for FanPlay {
 }
 
 /// Opening a child of this kind, with count 0.
-fn child(kind: u64) -> Then
+fn child(kind: u64) -> Continuation
     ensures { result ≡ spawns kind }
 {
-    Then::Spawn(GivenWords::two(kind, 0), 4)
+    Continuation::Spawn(GivenWords::two(kind, 0), 4)
 }

@@ -2,7 +2,7 @@
 //! holds, when it may be given up, and what is within the totals.
 ghost use Rattle.std.specs.Prelude.{◌≡◌, ℕ, [], ◌∷◌, Ok, Err, replicate};
 ghost use Rattle.frame_tree.specs.declared.names.State.TheVariants.{Ready, Running, Computing, Waiting, Returned};
-ghost use Rattle.sched_rules.specs.declared.act.Then.TheVariants.{Go, Grow};
+ghost use Rattle.sched_rules.specs.declared.act.Continuation.TheVariants.{Go, Grow};
 ghost use Rattle.sched_rules.specs.declared.job.Job.TheVariants.{Live, Done};
 ghost use Rattle.sched_rules.specs.declared.refusal.Refusal.TheVariants.{NoNodes};
 ghost use Rattle.sched_rules.specs.declared.step.StepOf.TheVariants.{Submit};

@@ -15,7 +15,7 @@
 //! let node = stack.open(None, &[0, 3], 4)?;
 //! let act = Fan::new().next(&stack.sight(node));
 //! act.stores.as_slice() == [(1, 4)];
-//! matches!(act.after, Then::Wait);
+//! matches!(act.after, Continuation::Wait);
 //! ```
 #![tactic(auto)]
 

@@ -9,8 +9,8 @@ ghost use Rattle.sched_rules.specs.Trees.{left};
 ghost use Rattle.sched_rules.specs.Lone.{lone_refusal};
 ghost use Rattle.sched_rules.specs.Runs.{only, alone, answers_from};
 ghost use Rattle.sched_rules.specs.Cores.{shared_by_nobody, shared_run, shared_refusal, tenant_in};
-ghost use Rattle.sched_rules.specs.Headline.{taken, told};
-ghost use Rattle.sched_rules.specs.Views.{left_of, job_of, frame_of, words_of_frame, live_of, newest_ready_in, ready_count, free_in};
+ghost use Rattle.sched_rules.specs.Headline.{taken_steps, own_answers};
+ghost use Rattle.sched_rules.specs.Views.{left_in_core, job_of, frame_in_core, words_of_frame, live_of, newest_ready_in, ready_count, free_in};
 ghost use Rattle.sched_toys.specs.Toys.{fan, chain};
 ghost use Rattle.sched_toys.specs.FanRows.{one, two, quota, some_left, frame, one_job, answer, one_with, fan_opens, fan_opens_five, fan_steps, fan_steps_before_inlet, steps_between, mixed_steps, narrow_opens, narrow_returns, before_inlet, used_up, with_more, some_steps, some_answers};
 ghost use Rattle.sched_toys.specs.ChainRows.{chain_begins, chain_ends, chain_spent};
@@ -68,9 +68,9 @@ pub fn fan_in_a_full_core()
 /// Less or no more than it reserves is refused by Lower, also beyond the totals, and more than they allow
 /// by Full.
 pub fn fan_reserves_more()
-    ensures before { left_of used_up 1 ≡ Some (some_left 0 3 119) }
-    ensures after { left_of (with_more 7 10) 1 ≡ Some (some_left 2 5 151) }
-    ensures another { left_of (with_more 7 10) 2 ≡ Some (some_left 3 8 128) }
+    ensures before { left_in_core used_up 1 ≡ Some (some_left 0 3 119) }
+    ensures after { left_in_core (with_more 7 10) 1 ≡ Some (some_left 2 5 151) }
+    ensures another { left_in_core (with_more 7 10) 2 ≡ Some (some_left 3 8 128) }
     ensures fewer { shared_refusal fan (with_more 7 10) (AdmitMore 1 (quota 6 10)) ≡ Some Lower }
     ensures lower_before_full { shared_refusal fan (with_more 7 10) (AdmitMore 1 (quota 17 9)) ≡ Some Lower }
     ensures beyond { shared_refusal fan (with_more 7 10) (AdmitMore 1 (quota 14 10)) ≡ Some Full }
@@ -115,15 +115,15 @@ pub fn chain_with_too_few_nodes()
 
 /// What is read of a core before and after the last inlet of Fan's row.
 pub fn what_is_read()
-    ensures left { left_of before_inlet 1 ≡ Some (some_left 3 3 115) }
-    ensures left_of_nobody { left_of before_inlet 2 ≡ None }
+    ensures left { left_in_core before_inlet 1 ≡ Some (some_left 3 3 115) }
+    ensures left_of_nobody { left_in_core before_inlet 2 ≡ None }
     ensures job { job_of before_inlet 1 1 ≡ Some (Live 1) }
     ensures job_zero { job_of before_inlet 1 0 ≡ None }
     ensures job_two { job_of before_inlet 1 2 ≡ None }
-    ensures root { frame_of before_inlet (one 1) ≡ Some (None, Waiting) }
-    ensures grandchild { frame_of before_inlet (one 5) ≡ Some (Some (one 3), Ready 3) }
-    ensures no_frame { frame_of before_inlet (one 6) ≡ None }
-    ensures another_s_frame { frame_of before_inlet (two 1) ≡ None }
+    ensures root { frame_in_core before_inlet (one 1) ≡ Some (None, Waiting) }
+    ensures grandchild { frame_in_core before_inlet (one 5) ≡ Some (Some (one 3), Ready 3) }
+    ensures no_frame { frame_in_core before_inlet (one 6) ≡ None }
+    ensures another_s_frame { frame_in_core before_inlet (two 1) ≡ None }
     ensures words { words_of_frame before_inlet (one 2) ≡ Some (1 ∷ 2 ∷ 7 ∷ 0 ∷ []) }
     ensures live { live_of before_inlet 1 ≡ Some (5, 20) }
     ensures live_after { live_of (shared_run fan (shared_by_nobody (quota 32 32)) fan_steps) 1 ≡ Some (1, 4) }
@@ -134,7 +134,7 @@ pub fn what_is_read()
 
 /// Of a list of steps, those that were taken, and what each tenant was told.
 pub fn what_was_taken()
-    ensures taken { taken some_steps some_answers ≡ Admit 1 (quota 1 1) ∷ Admit 2 (quota 1 1) ∷ Leave 2 ∷ [] }
-    ensures one { told 1 some_steps some_answers ≡ Ok Admitted ∷ [] }
-    ensures two { told 2 some_steps some_answers ≡ Ok Admitted ∷ Ok Left ∷ [] }
+    ensures taken { taken_steps some_steps some_answers ≡ Admit 1 (quota 1 1) ∷ Admit 2 (quota 1 1) ∷ Leave 2 ∷ [] }
+    ensures one { own_answers 1 some_steps some_answers ≡ Ok Admitted ∷ [] }
+    ensures two { own_answers 2 some_steps some_answers ≡ Ok Admitted ∷ Ok Left ∷ [] }
 {}

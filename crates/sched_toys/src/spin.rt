@@ -2,7 +2,7 @@
 use crate::acts::{idle_inlet, plain};
 use crate::toy::{Play, Toy};
 use cactus_stack::Words;
-use sched_rules::{Act, InletAct, Then};
+use sched_rules::{Act, Continuation, InletAct};
 
 /// The procedure Spin. A frame has one word. It never opens a child, computes or returns, so that each
 /// of its steps does nothing but count.
@@ -14,7 +14,7 @@ pub struct SpinPlay;
 
 impl Play for SpinPlay {
     ghost use Rattle.std.specs.Prelude.{[], false};
-    ghost use Rattle.sched_rules.specs.declared.act.Then.TheVariants.{Go};
+    ghost use Rattle.sched_rules.specs.declared.act.Continuation.TheVariants.{Go};
 
     type Answer = u64;
 
@@ -24,7 +24,7 @@ impl Play for SpinPlay {
 
     /// The frame goes on, without a store.
     fn act(_count: u64, _stage: u64) -> Act {
-        plain(Then::Go)
+        plain(Continuation::Go)
     }
 
     /// Nothing is stored, nothing is aborted, and nobody is woken.

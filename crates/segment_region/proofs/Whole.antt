@@ -2,12 +2,12 @@
 use Rattle.std.proofs.Common.{◌≡◌, ◌≢◌, Bool, true, false, if◌then◌else◌, ℕ, zero, suc, ◌+◌, ◌-◌, ◌<◌, ◌≤◌, List, [], ◌∷◌, length, replicate, Option, None, Some, get_or, refl, ap, sym, subst, ◌∙◌, arith, get_or-set_same, get_or-set_other}
 use Rattle.std.proofs.Math.ListN.{set}
 use Rattle.std.proofs.lemmas.List.{length-set, length-replicate}
-use Rattle.segment_region.specs.Segments.{Segment, Segments, IsTaken, IsFree, taken_count, with_words, with_link}
+use Rattle.segment_region.specs.Segments.{Segment, Segments, IsTaken, IsFree, taken_count, with_segment_words, with_link}
 use Rattle.segment_region.specs.Places.{IsFilled}
-use Rattle.segment_region.specs.Blocks.{WordBlock, place_entry, place_link, link_in, entries_of, IsLink, next_of, IsFreeList, IsWhole}
+use Rattle.segment_region.specs.Blocks.{WordBlock, place_entry, place_link, link_in, segments_of_blocks, IsLink, next_of, IsFreeList, IsWhole}
 use Rattle.segment_region.specs.declared.block.Link.{Link}
 use Rattle.segment_region.proofs.Counts.{taken_count-take, taken_count-give, taken_count-write, taken_count-replicate, taken_count-le-length}
-use Rattle.segment_region.proofs.Entries.{length-entries_of, get_or-entries_of, none_from_mark, entries_of-set, entries_of-more, entries_of-less, entries_of-none, entry_of-free, entry_of-taken, BlockAt, TakenBlock, taken_block, taken_is, words_is, link_is}
+use Rattle.segment_region.proofs.Entries.{length-segments_of_blocks, get_or-segments_of_blocks, none_from_mark, segments_of_blocks-set, segments_of_blocks-more, segments_of_blocks-less, segments_of_blocks-none, segment_of_block-free, segment_of_block-taken, BlockAt, TakenBlock, taken_block, taken_is, words_is, link_is}
 
 -- the number stands at the head of no chain
 abbrev IsUnlisted : ℕ → List (Option WordBlock) → ℕ → Type 0
@@ -78,36 +78,36 @@ head_block mark places h (suc m) chain = free_block mark places h chain.0 chain.
 pub listed_head : (places : List (Option WordBlock)) (count mark : ℕ) (free : Link) (listed h : ℕ) → IsWhole places count mark free listed → next_of free ≡ Some h → HeadBlock mark places h
 listed_head places count mark free listed h whole is = head_block mark places h listed (subst (λ (o : Option ℕ). IsFreeList mark places o listed) is whole.chain)
 
-pub head_is_free : (mark : ℕ) (places : List (Option WordBlock)) (h : ℕ) → HeadBlock mark places h → IsFree (entries_of mark places) h
-head_is_free mark places h t = (omega (arith, t.below, length-entries_of mark places), get_or-entries_of mark places h t.marked ∙ ap place_entry t.is ∙ entry_of-free t.block.link t.block.words t.state)
+pub head_is_free : (mark : ℕ) (places : List (Option WordBlock)) (h : ℕ) → HeadBlock mark places h → IsFree (segments_of_blocks mark places) h
+head_is_free mark places h t = (omega (arith, t.below, length-segments_of_blocks mark places), get_or-segments_of_blocks mark places h t.marked ∙ ap place_entry t.is ∙ segment_of_block-free t.block.link t.block.words t.state)
 
 -- what lies from the mark on is free
-pub mark_is_free : (mark : ℕ) (places : List (Option WordBlock)) → mark < length places → IsFree (entries_of mark places) mark
-mark_is_free mark places below = (omega (arith, below, length-entries_of mark places), none_from_mark mark places mark (omega arith))
+pub mark_is_free : (mark : ℕ) (places : List (Option WordBlock)) → mark < length places → IsFree (segments_of_blocks mark places) mark
+mark_is_free mark places below = (omega (arith, below, length-segments_of_blocks mark places), none_from_mark mark places mark (omega arith))
 
 -- the entries after a write below the mark, and at the mark
 pub entries-write : (mark : ℕ) (places : List (Option WordBlock)) (n : ℕ) (block : WordBlock) (next : Option ℕ) → n < mark → IsLink block.link true next →
-    entries_of mark (set places n (Some block)) ≡ set (entries_of mark places) n (Some (record { words = block.words; link = next }))
+    segments_of_blocks mark (set places n (Some block)) ≡ set (segments_of_blocks mark places) n (Some (record { words = block.words; link = next }))
 entries-write mark places n block next below link =
-    entries_of-set mark places n (Some block) below ∙ ap (λ (e : Option Segment). set (entries_of mark places) n e) (entry_of-taken block.link block.words next link)
+    segments_of_blocks-set mark places n (Some block) below ∙ ap (λ (e : Option Segment). set (segments_of_blocks mark places) n e) (segment_of_block-taken block.link block.words next link)
 
 pub entries-mark : (mark : ℕ) (places : List (Option WordBlock)) (block : WordBlock) (next : Option ℕ) → IsLink block.link true next →
-    entries_of (mark + 1) (set places mark (Some block)) ≡ set (entries_of mark places) mark (Some (record { words = block.words; link = next }))
+    segments_of_blocks (mark + 1) (set places mark (Some block)) ≡ set (segments_of_blocks mark places) mark (Some (record { words = block.words; link = next }))
 entries-mark mark places block next link =
     let up : mark + 1 ≡ suc mark = omega arith in
-    rw up (entries_of-more mark places (Some block)) ∙ ap (λ (e : Option Segment). set (entries_of mark places) mark e) (entry_of-taken block.link block.words next link)
+    rw up (segments_of_blocks-more mark places (Some block)) ∙ ap (λ (e : Option Segment). set (segments_of_blocks mark places) mark e) (segment_of_block-taken block.link block.words next link)
 
 -- the entries after a block is given back: below the mark by its link, and at the end by the mark
-pub entries-free : (mark : ℕ) (places : List (Option WordBlock)) (n : ℕ) (block : WordBlock) → IsTaken (entries_of mark places) n → block.link.taken ≡ false →
-    entries_of mark (set places n (Some block)) ≡ set (entries_of mark places) n None
+pub entries-free : (mark : ℕ) (places : List (Option WordBlock)) (n : ℕ) (block : WordBlock) → IsTaken (segments_of_blocks mark places) n → block.link.taken ≡ false →
+    segments_of_blocks mark (set places n (Some block)) ≡ set (segments_of_blocks mark places) n None
 entries-free mark places n block taken free =
     let t = taken_block mark places n taken in
-    entries_of-set mark places n (Some block) t.marked ∙ ap (λ (e : Option Segment). set (entries_of mark places) n e) (entry_of-free block.link block.words free)
+    segments_of_blocks-set mark places n (Some block) t.marked ∙ ap (λ (e : Option Segment). set (segments_of_blocks mark places) n e) (segment_of_block-free block.link block.words free)
 
-pub entries-less : (mark : ℕ) (places : List (Option WordBlock)) (n : ℕ) → n + 1 ≡ mark → entries_of n places ≡ set (entries_of mark places) n None
+pub entries-less : (mark : ℕ) (places : List (Option WordBlock)) (n : ℕ) → n + 1 ≡ mark → segments_of_blocks n places ≡ set (segments_of_blocks mark places) n None
 entries-less mark places n last =
     let up : mark ≡ suc n = omega (arith, last) in
-    rw up (entries_of-less n places)
+    rw up (segments_of_blocks-less n places)
 
 -- the head is taken
 pub whole-take : (places : List (Option WordBlock)) (count mark h : ℕ) (free next : Link) (listed : ℕ) (block : WordBlock) → IsWhole places count mark free listed → next_of free ≡ Some h → IsLink block.link true None → next ≡ link_in places h →
@@ -117,8 +117,8 @@ whole-take places count mark h free next (suc listed) block whole is link is_nex
     let chain : IsFreeList mark places (Some h) (suc listed) = subst (λ (o : Option ℕ). IsFreeList mark places o (suc listed)) is whole.chain in
     let t = head_block mark places h (suc listed) chain in
     let is_free = head_is_free mark places h t in
-    let more : taken_count (entries_of mark (set places h (Some block))) ≡ taken_count (entries_of mark places) + 1 =
-    ap taken_count (entries-write mark places h block None t.marked link) ∙ taken_count-take (entries_of mark places) h (record { words = block.words; link = None }) is_free.0 is_free.1 in
+    let more : taken_count (segments_of_blocks mark (set places h (Some block))) ≡ taken_count (segments_of_blocks mark places) + 1 =
+    ap taken_count (entries-write mark places h block None t.marked link) ∙ taken_count-take (segments_of_blocks mark places) h (record { words = block.words; link = None }) is_free.0 is_free.1 in
     let kept : IsFreeList mark (set places h (Some block)) (next_of (link_in places h)) listed =
     chain-keeps mark mark places (set places h (Some block)) h (links-set places mark mark h (Some block) (omega arith)) (next_of (link_in places h)) listed (λ k le c. (let e = one_length mark places (Some h) k (suc listed) c chain in absurd (omega arith))) chain.2 in
     let one : listed ≡ suc listed - 1 = omega arith in
@@ -137,8 +137,8 @@ pub whole-mark : (places : List (Option WordBlock)) (count mark : ℕ) (free : L
     IsWhole (set places mark (Some block)) count (mark + 1) free listed
 whole-mark places count mark free listed block whole below link =
     let is_free = mark_is_free mark places (omega (arith, below, whole.all_places)) in
-    let more : taken_count (entries_of (mark + 1) (set places mark (Some block))) ≡ taken_count (entries_of mark places) + 1 =
-    ap taken_count (entries-mark mark places block None link) ∙ taken_count-take (entries_of mark places) mark (record { words = block.words; link = None }) is_free.0 is_free.1 in
+    let more : taken_count (segments_of_blocks (mark + 1) (set places mark (Some block))) ≡ taken_count (segments_of_blocks mark places) + 1 =
+    ap taken_count (entries-mark mark places block None link) ∙ taken_count-take (segments_of_blocks mark places) mark (record { words = block.words; link = None }) is_free.0 is_free.1 in
     record {
       all_places = omega (arith, whole.all_places, length-set places mark (Some block));
       in_limits = whole.in_limits;
@@ -150,13 +150,13 @@ whole-mark places count mark free listed block whole below link =
     }
 
 -- a block that was taken becomes the head
-pub whole-give : (places : List (Option WordBlock)) (count mark n : ℕ) (free next : Link) (listed : ℕ) (block : WordBlock) → IsWhole places count mark free listed → IsTaken (entries_of mark places) n → block.link ≡ free → IsLink next false (Some n) →
+pub whole-give : (places : List (Option WordBlock)) (count mark n : ℕ) (free next : Link) (listed : ℕ) (block : WordBlock) → IsWhole places count mark free listed → IsTaken (segments_of_blocks mark places) n → block.link ≡ free → IsLink next false (Some n) →
     IsWhole (set places n (Some block)) count mark next (listed + 1)
 whole-give places count mark n free next listed block whole taken link is_next =
     let t = taken_block mark places n taken in
     let is_free : block.link.taken ≡ false = rw link whole.is_free in
-    let less : taken_count (entries_of mark (set places n (Some block))) + 1 ≡ taken_count (entries_of mark places) =
-    ap (λ (r : Segments). taken_count r + 1) (entries-free mark places n block taken is_free) ∙ taken_count-give (entries_of mark places) n taken in
+    let less : taken_count (segments_of_blocks mark (set places n (Some block))) + 1 ≡ taken_count (segments_of_blocks mark places) =
+    ap (λ (r : Segments). taken_count r + 1) (entries-free mark places n block taken is_free) ∙ taken_count-give (segments_of_blocks mark places) n taken in
     let here : link_in (set places n (Some block)) n ≡ free = ap place_link (get_or-set_same places n (Some block) None t.below) ∙ link in
     let rest : IsFreeList mark (set places n (Some block)) (next_of free) listed =
     chain-keeps mark mark places (set places n (Some block)) n (links-set places mark mark n (Some block) (omega arith)) (next_of free) listed (λ k le c. taken_unlisted mark places n t k c) whole.chain in
@@ -174,12 +174,12 @@ whole-give places count mark n free next listed block whole taken link is_next =
     }
 
 -- the last block below the mark is given back
-pub whole-less : (places : List (Option WordBlock)) (count mark n : ℕ) (free : Link) (listed : ℕ) → IsWhole places count mark free listed → IsTaken (entries_of mark places) n → n + 1 ≡ mark →
+pub whole-less : (places : List (Option WordBlock)) (count mark n : ℕ) (free : Link) (listed : ℕ) → IsWhole places count mark free listed → IsTaken (segments_of_blocks mark places) n → n + 1 ≡ mark →
     IsWhole places count n free listed
 whole-less places count mark n free listed whole taken last =
     let t = taken_block mark places n taken in
-    let less : taken_count (entries_of n places) + 1 ≡ taken_count (entries_of mark places) =
-    ap (λ (r : Segments). taken_count r + 1) (entries-less mark places n last) ∙ taken_count-give (entries_of mark places) n taken in
+    let less : taken_count (segments_of_blocks n places) + 1 ≡ taken_count (segments_of_blocks mark places) =
+    ap (λ (r : Segments). taken_count r + 1) (entries-less mark places n last) ∙ taken_count-give (segments_of_blocks mark places) n taken in
     record {
       all_places = whole.all_places;
       in_limits = whole.in_limits;
@@ -191,12 +191,12 @@ whole-less places count mark n free listed whole taken last =
     }
 
 -- a taken block is written, and stays taken
-pub whole-write : (places : List (Option WordBlock)) (count mark n : ℕ) (free : Link) (listed : ℕ) (block : WordBlock) (next : Option ℕ) → IsWhole places count mark free listed → IsTaken (entries_of mark places) n → IsLink block.link true next →
+pub whole-write : (places : List (Option WordBlock)) (count mark n : ℕ) (free : Link) (listed : ℕ) (block : WordBlock) (next : Option ℕ) → IsWhole places count mark free listed → IsTaken (segments_of_blocks mark places) n → IsLink block.link true next →
     IsWhole (set places n (Some block)) count mark free listed
 whole-write places count mark n free listed block next whole taken link =
     let t = taken_block mark places n taken in
-    let same : taken_count (entries_of mark (set places n (Some block))) ≡ taken_count (entries_of mark places) =
-    ap taken_count (entries-write mark places n block next t.marked link) ∙ taken_count-write (entries_of mark places) n (record { words = block.words; link = next }) taken in
+    let same : taken_count (segments_of_blocks mark (set places n (Some block))) ≡ taken_count (segments_of_blocks mark places) =
+    ap taken_count (entries-write mark places n block next t.marked link) ∙ taken_count-write (segments_of_blocks mark places) n (record { words = block.words; link = next }) taken in
     record {
       all_places = omega (arith, whole.all_places, length-set places n (Some block));
       in_limits = whole.in_limits;
@@ -209,22 +209,22 @@ whole-write places count mark n free listed block next whole taken link =
 
 -- the words of a block are written, whether it is taken or free: as many are taken as before, and the links are the same
 words-set : (places : List (Option WordBlock)) (n : ℕ) (block : WordBlock) (words : List ℕ) → get_or places n None ≡ Some block → (mark : ℕ) →
-    taken_count (entries_of mark (set places n (Some (record { words = words; link = block.link })))) ≡ taken_count (entries_of mark places)
+    taken_count (segments_of_blocks mark (set places n (Some (record { words = words; link = block.link })))) ≡ taken_count (segments_of_blocks mark places)
 words-set [] n block words is mark = refl
 words-set (place ∷ places) n block words is zero = free_from (set (place ∷ places) n (Some (record { words = words; link = block.link }))) ∙ sym (free_from places)
   where
-    free_from : (places : List (Option WordBlock)) → taken_count (entries_of 0 places) ≡ 0
+    free_from : (places : List (Option WordBlock)) → taken_count (segments_of_blocks 0 places) ≡ 0
     free_from [] = refl
     free_from (place ∷ places) = free_from places
 words-set (place ∷ places) zero block words is (suc mark) = rw is (same block.link.taken)
   where
-    same : (taken : Bool) → taken_count ((if taken then Some (record { words = words; link = next_of block.link }) else None) ∷ entries_of mark places) ≡ taken_count ((if taken then Some (record { words = block.words; link = next_of block.link }) else None) ∷ entries_of mark places)
+    same : (taken : Bool) → taken_count ((if taken then Some (record { words = words; link = next_of block.link }) else None) ∷ segments_of_blocks mark places) ≡ taken_count ((if taken then Some (record { words = block.words; link = next_of block.link }) else None) ∷ segments_of_blocks mark places)
     same true = refl
     same false = refl
 words-set (place ∷ places) (suc n) block words is (suc mark) = behind (place_entry place) (words-set places n block words is mark)
   where
-    behind : (entry : Option Segment) → taken_count (entries_of mark (set places n (Some (record { words = words; link = block.link })))) ≡ taken_count (entries_of mark places) →
-        taken_count (entry ∷ entries_of mark (set places n (Some (record { words = words; link = block.link })))) ≡ taken_count (entry ∷ entries_of mark places)
+    behind : (entry : Option Segment) → taken_count (segments_of_blocks mark (set places n (Some (record { words = words; link = block.link })))) ≡ taken_count (segments_of_blocks mark places) →
+        taken_count (entry ∷ segments_of_blocks mark (set places n (Some (record { words = words; link = block.link })))) ≡ taken_count (entry ∷ segments_of_blocks mark places)
     behind None rest = rest
     behind (Some segment) rest = ap suc rest
 
@@ -258,32 +258,32 @@ whole-words places count mark n free listed block words whole below is =
     }
 
 -- the entries after the words of the block at a place were written: with those words under a number that is taken, if that is the place
-pub entries-words : (mark : ℕ) (places : List (Option WordBlock)) (at n : ℕ) (block : WordBlock) (words : List ℕ) → at ≡ n → IsTaken (entries_of mark places) n → get_or places at None ≡ Some block
-    → entries_of mark (set places at (Some (record { words = words; link = block.link }))) ≡ with_words (entries_of mark places) n words
+pub entries-words : (mark : ℕ) (places : List (Option WordBlock)) (at n : ℕ) (block : WordBlock) (words : List ℕ) → at ≡ n → IsTaken (segments_of_blocks mark places) n → get_or places at None ≡ Some block
+    → segments_of_blocks mark (set places at (Some (record { words = words; link = block.link }))) ≡ with_segment_words (segments_of_blocks mark places) n words
 entries-words mark places at n block words here taken there =
     let t = taken_block mark places n taken in
     let is = rw here at there in
     rw here (entries-write mark places n (record { words = words; link = block.link }) (next_of block.link) t.marked (taken_is mark places n block taken is, refl)
-    ∙ ap (λ (o : Option ℕ). set (entries_of mark places) n (Some (record { words = words; link = o }))) (sym (link_is mark places n block taken is)))
+    ∙ ap (λ (o : Option ℕ). set (segments_of_blocks mark places) n (Some (record { words = words; link = o }))) (sym (link_is mark places n block taken is)))
 
-pub entries-link : (mark : ℕ) (places : List (Option WordBlock)) (n : ℕ) (block : WordBlock) (link : Link) (next : Option ℕ) → IsTaken (entries_of mark places) n → get_or places n None ≡ Some block → IsLink link true next
-    → entries_of mark (set places n (Some (record { words = block.words; link = link }))) ≡ with_link (entries_of mark places) n next
+pub entries-link : (mark : ℕ) (places : List (Option WordBlock)) (n : ℕ) (block : WordBlock) (link : Link) (next : Option ℕ) → IsTaken (segments_of_blocks mark places) n → get_or places n None ≡ Some block → IsLink link true next
+    → segments_of_blocks mark (set places n (Some (record { words = block.words; link = link }))) ≡ with_link (segments_of_blocks mark places) n next
 entries-link mark places n block link next taken is e =
     let t = taken_block mark places n taken in
     entries-write mark places n (record { words = block.words; link = link }) next t.marked e
-    ∙ ap (λ (ws : List ℕ). set (entries_of mark places) n (Some (record { words = ws; link = next }))) (sym (words_is mark places n block taken is))
+    ∙ ap (λ (ws : List ℕ). set (segments_of_blocks mark places) n (Some (record { words = ws; link = next }))) (sym (words_is mark places n block taken is))
 
 -- none is taken at first
-pub first_entries : (places : List (Option WordBlock)) (count : ℕ) → places ≡ replicate count None → entries_of 0 places ≡ replicate count None
+pub first_entries : (places : List (Option WordBlock)) (count : ℕ) → places ≡ replicate count None → segments_of_blocks 0 places ≡ replicate count None
 first_entries places count are =
     let none : Option WordBlock = None in
     let nothing : Option Segment = None in
-    entries_of-none places ∙ ap (λ (k : ℕ). replicate k nothing) (ap (λ (ps : List (Option WordBlock)). length ps) are ∙ length-replicate count none)
+    segments_of_blocks-none places ∙ ap (λ (k : ℕ). replicate k nothing) (ap (λ (ps : List (Option WordBlock)). length ps) are ∙ length-replicate count none)
 
 pub first_whole : (places : List (Option WordBlock)) (count : ℕ) (free : Link) → places ≡ replicate count None → count ≤ 65536 → IsLink free false None → IsWhole places count 0 free 0
 first_whole places count free are in_limits link =
     let none : Option WordBlock = None in
-    let no_taken : taken_count (entries_of 0 places) ≡ 0 = ap taken_count (first_entries places count are) ∙ taken_count-replicate count in
+    let no_taken : taken_count (segments_of_blocks 0 places) ≡ 0 = ap taken_count (first_entries places count are) ∙ taken_count-replicate count in
     record {
       all_places = rw are (length-replicate count none);
       in_limits = in_limits;
@@ -299,10 +299,10 @@ no_head mark places zero chain = refl
 no_head mark places (suc m) chain = absurd chain
 
 -- all are taken where no free block is chained and the mark is at the end, and while one is free not all are
-pub none_free : (places : List (Option WordBlock)) (count mark : ℕ) (free : Link) (listed : ℕ) → IsWhole places count mark free listed → next_of free ≡ None → count ≤ mark → taken_count (entries_of mark places) ≡ length (entries_of mark places)
+pub none_free : (places : List (Option WordBlock)) (count mark : ℕ) (free : Link) (listed : ℕ) → IsWhole places count mark free listed → next_of free ≡ None → count ≤ mark → taken_count (segments_of_blocks mark places) ≡ length (segments_of_blocks mark places)
 none_free places count mark free listed whole no_next no_more =
     let none = no_head mark places listed (subst (λ (o : Option ℕ). IsFreeList mark places o listed) no_next whole.chain) in
-    omega (arith, none, whole.below, whole.counted, whole.all_places, length-entries_of mark places)
+    omega (arith, none, whole.below, whole.counted, whole.all_places, length-segments_of_blocks mark places)
 
 pub some_free : (region : Segments) (n : ℕ) → IsFree region n → taken_count region ≡ length region → ⊥
 some_free region n free all =

@@ -21,19 +21,19 @@ abbrev pub IsLink : Link → Bool → Option ℕ → Type 0
 IsLink link taken next = (link.taken ≡ taken) × (next_of link ≡ next)
 
 -- the entry that a block's link and words stand for: a segment where the block is taken, else None
-abbrev pub entry_of : Link → List ℕ → Option Segment
-entry_of link words = if link.taken then Some (record { words = words; link = next_of link }) else None
+abbrev pub segment_of_block : Link → List ℕ → Option Segment
+segment_of_block link words = if link.taken then Some (record { words = words; link = next_of link }) else None
 
 -- the entry that a place of the region's memory stands for; None where nothing was written there
 abbrev pub place_entry : Option WordBlock → Option Segment
 place_entry None = None
-place_entry (Some block) = entry_of block.link block.words
+place_entry (Some block) = segment_of_block block.link block.words
 
 -- the entries of the places: from the mark on all are free, whatever lies there
-abbrev pub entries_of : ℕ → List (Option WordBlock) → Segments
-entries_of mark [] = []
-entries_of zero (place ∷ places) = None ∷ entries_of zero places
-entries_of (suc mark) (place ∷ places) = place_entry place ∷ entries_of mark places
+abbrev pub segments_of_blocks : ℕ → List (Option WordBlock) → Segments
+segments_of_blocks mark [] = []
+segments_of_blocks zero (place ∷ places) = None ∷ segments_of_blocks zero places
+segments_of_blocks (suc mark) (place ∷ places) = place_entry place ∷ segments_of_blocks mark places
 
 -- the link word at a place; where nothing was written, one that says taken, so that no list of free blocks leads there
 abbrev pub place_link : Option WordBlock → Link
@@ -57,7 +57,7 @@ pub record IsWhole (places : List (Option WordBlock)) (count mark : ℕ) (free :
   pub in_limits : count ≤ 65536
   pub below : mark ≤ count
   pub filled : (n : ℕ) → n < mark → IsFilled places n
-  pub counted : listed + taken_count (entries_of mark places) ≡ mark
+  pub counted : listed + taken_count (segments_of_blocks mark places) ≡ mark
   pub is_free : free.taken ≡ false
   pub chain : IsFreeList mark places (next_of free) listed
 

@@ -3,7 +3,7 @@ ghost use Rattle.std.specs.Prelude.{◌≡◌, ◌+◌, ◌<◌, ◌≤◌, ◌�
 ghost use Rattle.std.specs.Borrow.{sem};
 ghost use Rattle.segment_region.specs.Segments.{Segments, Segment, IsTaken, IsFree, words_at, link_at, with_entry, with_link, blank, taken_count, segment_count};
 ghost use Rattle.segment_region.specs.Lending.{LendsWords};
-ghost use Rattle.segment_region.specs.Blocks.{entries_of, IsWhole};
+ghost use Rattle.segment_region.specs.Blocks.{segments_of_blocks, IsWhole};
 
 use crate::block::{Link, WordBlock, zeros};
 use crate::cells::{Base, Cells, Title, allocate, deallocate};
@@ -34,9 +34,9 @@ impl<A: Allocator> Model for Region<A> {
 
     ghost Value = { Segments };
 
-    ghost use Rattle.segment_region.specs.Blocks.{entries_of, IsWhole, IsOneAllocation};
+    ghost use Rattle.segment_region.specs.Blocks.{segments_of_blocks, IsWhole, IsOneAllocation};
 
-    ghost view = { λ region. entries_of region.mark region.cells.slots };
+    ghost view = { λ region. segments_of_blocks region.mark region.cells.slots };
 
     ghost invariant = { λ region. IsOneAllocation region.base region.cells region.title region.count region.alloc × IsWhole region.cells.slots region.count region.mark region.free region.listed };
 }

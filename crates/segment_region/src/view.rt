@@ -1,7 +1,7 @@
 //! A region that is read: what may be seen through a `&` to it, whatever allocator it has.
 ghost use Rattle.std.specs.Prelude.{◌≡◌, length};
 ghost use Rattle.segment_region.specs.Segments.{IsTaken, words_at, link_at};
-ghost use Rattle.segment_region.specs.Blocks.{entries_of, IsReadable};
+ghost use Rattle.segment_region.specs.Blocks.{segments_of_blocks, IsReadable};
 
 use crate::block::WordBlock;
 use crate::cells::{Base, Cells};
@@ -21,9 +21,9 @@ impl<'a> Model for RegionView<'a> {
 
     ghost Value = { Segments };
 
-    ghost use Rattle.segment_region.specs.Blocks.{entries_of, IsReadable};
+    ghost use Rattle.segment_region.specs.Blocks.{segments_of_blocks, IsReadable};
 
-    ghost view = { λ region. entries_of region.mark region.cells.now.slots };
+    ghost view = { λ region. segments_of_blocks region.mark region.cells.now.slots };
 
     ghost invariant = { λ region. IsReadable region.base region.cells.now region.mark };
 }
@@ -36,7 +36,7 @@ impl<'a> RegionView<'a> {
         cells: &'a Cells<WordBlock>,
     ) -> RegionView<'a>
         requires { IsReadable base cells.now mark }
-        ensures { result ≡ entries_of mark cells.now.slots }
+        ensures { result ≡ segments_of_blocks mark cells.now.slots }
     {
         RegionView { base, mark, cells }
     }

@@ -20,8 +20,8 @@ use std::sync::atomic::{AtomicU32, Ordering};
 use std::sync::ledger::Blank;
 use std::test::Fail;
 use std::thread::{self, Threads};
-use tcp_server::desk::{Desk, Hall, Hands, PARTS};
-use tcp_server::steal_pool::{Announce, Gate, Open, PoolEnd};
+use tcp_server::desk::{Desk, DeskLedger, Hall, PARTS};
+use tcp_server::steal_pool::{Announce, Gate, OpenGate, PoolEnd};
 use tcp_server::{ServeFault, ServerConfig, serve, serve_announced};
 
 /// A line, and its answer.
@@ -308,7 +308,7 @@ fn visited<L, R>(
     visit: Visit,
 ) -> Result<(), Fail>
 where
-    L: Hands + Send + Sync,
+    L: DeskLedger + Send + Sync,
     R: Net<Listener = TcpListener, Stream = TcpStream> + Threads + Wait + Sync,
     requires name { blank.name ≡ L.name }
     requires parts { (blank.parts ≡ L.parts) × (L.all ≡ L.parts) × (L.all ≡ PARTS) }
@@ -327,7 +327,7 @@ where
         move || are_served(alloc, visit, streams),
         ||
             requires { L.all ≡ L.parts }
-        { serve(rt, alloc, &desk, listener, server, &Open) },
+        { serve(rt, alloc, &desk, listener, server, &OpenGate) },
     );
     let PoolEnd { badge, .. } = served?;
     let (_, whole) = desk.into_hall(badge);
@@ -352,7 +352,7 @@ fn serve_through<L, R, G>(
     gate: &G,
 ) -> Result<(), ServeFault>
 where
-    L: Hands + Send + Sync,
+    L: DeskLedger + Send + Sync,
     R: Net<Listener = TcpListener, Stream = TcpStream> + Threads + Wait + Sync,
     G: Gate + Sync,
     requires { L.all ≡ L.parts }
@@ -424,7 +424,7 @@ fn unserved<L, R>(
     works: bool,
 ) -> Result<(Option<ServeFault>, u32, bool), Fail>
 where
-    L: Hands + Send + Sync,
+    L: DeskLedger + Send + Sync,
     R: Net<Listener = TcpListener, Stream = TcpStream> + Threads + Wait + Sync,
     requires name { blank.name ≡ L.name }
     requires parts { (blank.parts ≡ L.parts) × (L.all ≡ L.parts) × (L.all ≡ PARTS) }
@@ -440,7 +440,7 @@ where
         count: &count,
         works,
     };
-    let served = serve_announced(rt, alloc, &desk, listener, server, &Open, call);
+    let served = serve_announced(rt, alloc, &desk, listener, server, &OpenGate, call);
     let is_closed = TcpStream::connect(rt, address).is_err();
     Ok((served.err(), count.load(Ordering::SeqCst), is_closed))
 }
@@ -477,7 +477,7 @@ fn a_beginning_that_cannot_be_said_ends_the_server(rt: HostRuntime) -> Result<()
 /// Whether two clients read nothing at a server of two sessions that can't have a thread for either.
 fn are_refused_threads<L, R>(rt: &R, alloc: Global, blank: Blank) -> Result<bool, Fail>
 where
-    L: Hands + Send + Sync,
+    L: DeskLedger + Send + Sync,
     R: Net<Listener = TcpListener, Stream = TcpStream> + Threads + Wait + Sync,
     requires name { blank.name ≡ L.name }
     requires parts { (blank.parts ≡ L.parts) × (L.all ≡ L.parts) × (L.all ≡ PARTS) }
@@ -490,7 +490,7 @@ where
     let two = TcpStream::connect(rt, address)?;
     let mut server = ServerConfig::new(2, Worker::new(2).ok_or("two workers")?);
     server.sessions.stack = Some(usize::MAX);
-    serve_through(rt, alloc, &desk, listener, server, &Open)?;
+    serve_through(rt, alloc, &desk, listener, server, &OpenGate)?;
     Ok(is_closed(&one)? && is_closed(&two)?)
 }
 

@@ -3,9 +3,9 @@ use Rattle.std.proofs.Common.{◌≡◌, ℕ, ◌+◌, List, [], ◌∷◌, ◌+
 use Rattle.line_io.specs.Lines.{LineText, Whole, TooLong}
 use Rattle.tenant_quota.specs.Quota.{Quota}
 use Rattle.session.specs.declared.standings.Standing.{Standing}
-use Rattle.session.specs.declared.standings.Standing.TheVariants.{Pending, Done, Spent, Cancelled}
-use Rattle.session.specs.Calls.{Call, Hello, Get, OfficeReply, Welcome, Reserved, Job, Told, Ended, Rest, Alive, Gone, Refused}
-use Rattle.session.specs.Forms.{Form, HelloOf, ReserveOf, AskOf, GetOf, WaitOf, CancelOf, TableOf, QuotaForm, LiveForm, ByeForm, form_of}
+use Rattle.session.specs.declared.standings.Standing.TheVariants.{Pending, Done}
+use Rattle.session.specs.Calls.{Call, Hello, Get, OfficeReply, Welcome, Job, Told, Gone}
+use Rattle.session.specs.Forms.{Form, HelloOf, form_of}
 use Rattle.session.specs.Requests.{Request, Fault, Makes, Tabulates, Ends, request, form_request, quota_of, quota_request}
 use Rattle.session.specs.Turns.{Faulted, Closed, turns, turn_text, reply_text, table_text, calls_in, leaving, next_reply, later_replies, seated_after}
 use Rattle.session.specs.Sessions.{calls_for}
@@ -26,17 +26,8 @@ hello_same (Some quota) asks call h = ap (with_request asks) h
 
 -- a call that is made without a tenant asks for no position, nor does its line where a tenant is there
 early_same : (form : Option Form) (asks : List Asked) (call : Call) → form_request false form ≡ Makes call → (asks ≡ with_ask asks call) × (with_request asks (form_request true form) ≡ asks)
-early_same None asks call h = cc h
 early_same (Some (HelloOf segments nodes)) asks call h = (hello_same (quota_of segments nodes) asks call h, refl)
-early_same (Some (ReserveOf segments nodes)) asks call h = cc h
-early_same (Some (AskOf depth text)) asks call h = cc h
-early_same (Some (GetOf job)) asks call h = cc h
-early_same (Some (WaitOf job)) asks call h = cc h
-early_same (Some (CancelOf job)) asks call h = cc h
-early_same (Some (TableOf job)) asks call h = cc h
-early_same (Some QuotaForm) asks call h = cc h
-early_same (Some LiveForm) asks call h = cc h
-early_same (Some ByeForm) asks call h = cc h
+early_same _ asks call h = cc h
 
 -- what a line asks for that makes a call
 asks_seated : (seated : Bool) (line : LineText) (asks : List Asked) (call : Call) → request seated line ≡ Makes call → with_ask asks call ≡ with_request asks (request true line)
@@ -50,17 +41,8 @@ no_early_hello None job h = cc h
 no_early_hello (Some quota) job h = cc h
 
 no_early_table : (form : Option Form) (job : ℕ) → form_request false form ≡ Tabulates job → ⊥
-no_early_table None job h = cc h
 no_early_table (Some (HelloOf segments nodes)) job h = no_early_hello (quota_of segments nodes) job h
-no_early_table (Some (ReserveOf segments nodes)) job h = cc h
-no_early_table (Some (AskOf depth text)) job h = cc h
-no_early_table (Some (GetOf job')) job h = cc h
-no_early_table (Some (WaitOf job')) job h = cc h
-no_early_table (Some (CancelOf job')) job h = cc h
-no_early_table (Some (TableOf job')) job h = cc h
-no_early_table (Some QuotaForm) job h = cc h
-no_early_table (Some LiveForm) job h = cc h
-no_early_table (Some ByeForm) job h = cc h
+no_early_table _ job h = cc h
 
 table_same : (seated : Bool) (line : LineText) (asks : List Asked) (job : ℕ) → request seated line ≡ Tabulates job → asks ≡ with_request asks (request true line)
 table_same true line asks job h = ap (with_request asks) (sym h)
@@ -80,37 +62,25 @@ Known seated before asks = (asks ≡ asks_of_lines before) × EmptyWithout seate
 
 -- a standing that shows what was found holds, and so does its table
 standing_holds : (before : List (LineText × List ℕ)) (asks : List Asked) (job : ℕ) (standing : Standing) → asks ≡ asks_of_lines before → ShowsFound asks job standing → StandingHolds before job standing × TableHolds before job standing
-standing_holds before asks job Pending known h = (tt, tt)
 standing_holds before asks job (Done analysis) known h =
     let is = ap (λ a. asked_at a job) (sym known) ∙ h.is in
     (record { asked = h.asked; is = is; value = h.value; choice = h.choice }, record { asked = h.asked; is = is; table = h.table })
-standing_holds before asks job Spent known h = (tt, tt)
-standing_holds before asks job Cancelled known h = (tt, tt)
+standing_holds before asks job _ known h = (tt, tt)
 
 -- and a reply that says what is true, told without its table or with it
 reply_holds : (before : List (LineText × List ℕ)) (asks : List Asked) (reply : OfficeReply) → asks ≡ asks_of_lines before → SaysTrue asks reply → ReplyHolds before reply × TableReplyHolds before reply
-reply_holds before asks (Welcome quota) known h = (tt, tt)
-reply_holds before asks (Reserved quota) known h = (tt, tt)
 reply_holds before asks (Job number) known h = let next = h ∙ ap (λ a. length a + 1) known in (next, next)
 reply_holds before asks (Told job standing) known h = standing_holds before asks job standing known h
-reply_holds before asks (Ended job) known h = (tt, tt)
-reply_holds before asks (Rest left) known h = (tt, tt)
-reply_holds before asks (Alive live) known h = (tt, tt)
-reply_holds before asks Gone known h = (tt, tt)
-reply_holds before asks (Refused number) known h = (tt, tt)
+reply_holds before asks _ known h = (tt, tt)
 
 -- how a job stands begins with none of the words that change the asks
 told_same : (before : List (LineText × List ℕ)) (line : LineText) (job : ℕ) (standing : Standing) → asks_of_lines ((line, reply_text (Told job standing)) ∷ before) ≡ asks_of_lines before
 told_same before line job Pending = refl
-told_same before line job (Done analysis) = refl
-told_same before line job Spent = refl
-told_same before line job Cancelled = refl
+told_same before line job _ = refl
 
 table_told_same : (before : List (LineText × List ℕ)) (line : LineText) (job : ℕ) (standing : Standing) → asks_of_lines ((line, table_text (Told job standing)) ∷ before) ≡ asks_of_lines before
 table_told_same before line job Pending = refl
-table_told_same before line job (Done analysis) = refl
-table_told_same before line job Spent = refl
-table_told_same before line job Cancelled = refl
+table_told_same before line job _ = refl
 
 -- one more ask
 job_known : (before : List (LineText × List ℕ)) (asks : List Asked) (line : LineText) (call : Call) (number : ℕ) (seated : Bool) → with_ask asks call ≡ with_request asks (request true line) → (EmptyWithout seated asks → EmptyWithout seated (with_ask asks call)) → Known seated before asks
@@ -121,14 +91,10 @@ job_known before asks line call number seated same empty known = (same ∙ ap (�
 next_known : (before : List (LineText × List ℕ)) (asks : List Asked) (line : LineText) (call : Call) (reply : OfficeReply) (seated : Bool) → with_ask asks call ≡ with_request asks (request true line) → (EmptyWithout seated asks → EmptyWithout seated (with_ask asks call)) → Known seated before asks
     → Known (seated_after seated reply) ((line, reply_text reply) ∷ before) (asks_after asks call reply) × Known (seated_after seated reply) ((line, table_text reply) ∷ before) (asks_after asks call reply)
 next_known before asks line call (Welcome quota) seated same empty known = ((refl, tt), (refl, tt))
-next_known before asks line call (Reserved quota) seated same empty known = (known, known)
 next_known before asks line call (Job number) seated same empty known = let next = job_known before asks line call number seated same empty known in (next, next)
 next_known before asks line call (Told k standing) seated same empty known = ((known.0 ∙ sym (told_same before line k standing), known.1), (known.0 ∙ sym (table_told_same before line k standing), known.1))
-next_known before asks line call (Ended k) seated same empty known = (known, known)
-next_known before asks line call (Rest left) seated same empty known = (known, known)
-next_known before asks line call (Alive live) seated same empty known = (known, known)
 next_known before asks line call Gone seated same empty known = ((refl, refl), (refl, refl))
-next_known before asks line call (Refused number) seated same empty known = (known, known)
+next_known before asks line call _ seated same empty known = (known, known)
 
 -- what holds of the lines after this one, whatever came before them
 abbrev LaterHold : List LineText → Type 0

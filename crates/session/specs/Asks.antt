@@ -84,24 +84,24 @@ IsAsk call = (depth : ℕ) × (board : List Cell) × (side : Side) × (call ≡ 
 -- a reply is one to this call: what is welcomed or reserved is what the call said, a job that is told or has ended is
 -- the one that the call named, and each other call has a kind of reply of its own. Any call but Leave may be refused
 -- (IsRefusedWhere)
-abbrev pub IsReplyTo : Call → OfficeReply → Type 0
-IsReplyTo call (Welcome quota) = call ≡ Hello quota
-IsReplyTo call (Reserved quota) = call ≡ Reserve quota
-IsReplyTo call (Job number) = IsAsk call
-IsReplyTo call (Told job standing) = (call ≡ Get job) ⊎ (call ≡ Wait job)
-IsReplyTo call (Ended job) = call ≡ Cancel job
-IsReplyTo call (Rest left) = call ≡ AskQuota
-IsReplyTo call (Alive live) = call ≡ AskLive
-IsReplyTo call Gone = call ≡ Leave
-IsReplyTo call (Refused number) = Unit {0}
+abbrev pub IsOfficeReplyTo : Call → OfficeReply → Type 0
+IsOfficeReplyTo call (Welcome quota) = call ≡ Hello quota
+IsOfficeReplyTo call (Reserved quota) = call ≡ Reserve quota
+IsOfficeReplyTo call (Job number) = IsAsk call
+IsOfficeReplyTo call (Told job standing) = (call ≡ Get job) ⊎ (call ≡ Wait job)
+IsOfficeReplyTo call (Ended job) = call ≡ Cancel job
+IsOfficeReplyTo call (Rest left) = call ≡ AskQuota
+IsOfficeReplyTo call (Alive live) = call ≡ AskLive
+IsOfficeReplyTo call Gone = call ≡ Leave
+IsOfficeReplyTo call (Refused number) = Unit {0}
 
 -- what a call of an office that keeps its asks may reply, by the asks before and after it
 abbrev pub KeepsAsks : List Asked → Call → OfficeReply → List Asked → Type 0
-KeepsAsks asks call reply asks' = (asks' ≡ asks_after asks call reply) × SaysTrue asks reply × IsRefusedWhere asks call reply × IsReplyTo call reply
+KeepsAsks asks call reply asks' = (asks' ≡ asks_after asks call reply) × SaysTrue asks reply × IsRefusedWhere asks call reply × IsOfficeReplyTo call reply
 
 -- these calls and replies are true, in order: each ASK that is answered by JOB gets the next number, each job shown as
 -- done has the minimax value, the best choice and a table of what was asked under its number, refusals are as
 -- IsRefusedWhere says, and each reply is one to its call
 abbrev pub AllTrue : List Asked → List (Call × OfficeReply) → Type 0
 AllTrue asks [] = Unit {0}
-AllTrue asks (made ∷ more) = SaysTrue asks made.1 × AllTrue (asks_after asks made.0 made.1) more × IsRefusedWhere asks made.0 made.1 × IsReplyTo made.0 made.1
+AllTrue asks (made ∷ more) = SaysTrue asks made.1 × AllTrue (asks_after asks made.0 made.1) more × IsRefusedWhere asks made.0 made.1 × IsOfficeReplyTo made.0 made.1

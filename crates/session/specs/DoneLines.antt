@@ -51,14 +51,14 @@ StandingHolds before job _ = Unit {0}
 
 -- this analysis has the table of what was asked as the job of this number, by the ASK lines so far that were answered
 -- by JOB: one entry for each choice, in their order, each true, and the best choice's exact
-pub record IsTrueTable (before : List (LineText × List ℕ)) (job : ℕ) (analysis : Analysis) : Type 0 where
+pub record IsTrueAnalysis (before : List (LineText × List ℕ)) (job : ℕ) (analysis : Analysis) : Type 0 where
   pub asked : Asked
   pub is : asked_at (asks_of_lines before) job ≡ Some asked
   pub table : IsTable asked.depth asked.board analysis.bounds
 
 -- where a job is shown as done with its table, the table is true
 abbrev pub TableHolds : List (LineText × List ℕ) → ℕ → Standing → Type 0
-TableHolds before job (Done analysis) = IsTrueTable before job analysis
+TableHolds before job (Done analysis) = IsTrueAnalysis before job analysis
 TableHolds before job _ = Unit {0}
 
 -- a reply is true after these lines: a JOB has the number of the next ask, and a job that is shown as done its true

@@ -18,25 +18,36 @@ struct Numbers {
 /// no budget and no key. What is new comes behind.
 pub(crate) fn numbered(
     alloc: Global,
-    plan: SitePlan,
+    plan: &SitePlan,
     now: &Directory,
     was: &[Server],
 ) -> Result<SitePlan, FileFault> {
-    let Some(classes) = class_numbers(&plan.directory, now) else {
-        return Err(FileFault::at(
+    match class_numbers(&plan.directory, now) {
+        Some(classes) => Ok(with_classes(alloc, plan, now, was, classes)?),
+        None => Err(FileFault::at(
             alloc,
             1,
             "there were more than 8 classes since the start: start anew",
-        ));
-    };
-    let servers = server_numbers(alloc, &plan, &classes, now, was)?;
+        )),
+    }
+}
+
+/// The same, the classes having these numbers.
+fn with_classes(
+    alloc: Global,
+    plan: &SitePlan,
+    now: &Directory,
+    was: &[Server],
+    classes: [usize; CLASSES],
+) -> Result<SitePlan, AllocError> {
+    let servers = server_numbers(alloc, plan, &classes, now, was)?;
     let customers = customer_numbers(alloc, &plan.directory, now)?;
     let numbers = Numbers {
         classes,
         servers,
         customers,
     };
-    Ok(rebuilt(alloc, plan, now, was, &numbers)?)
+    rebuilt(alloc, plan, now, was, &numbers)
 }
 
 /// The number of each class; None where there are too many.
@@ -45,13 +56,8 @@ fn class_numbers(new: &Directory, now: &Directory) -> Option<[usize; CLASSES]> {
     let mut next = now.classes.len();
     for (place, name) in new.classes.iter().enumerate() {
         if place < CLASSES {
-            numbers[place] = match place_of(&now.classes, name.as_str()) {
-                Some(number) => number,
-                None => {
-                    next = next.saturating_add(1);
-                    next - 1
-                }
-            };
+            let same = place_of(&now.classes, name.as_str());
+            numbers[place] = same_or_next(same, &mut next);
         }
     }
     if next > CLASSES { None } else { Some(numbers) }
@@ -59,7 +65,12 @@ fn class_numbers(new: &Directory, now: &Directory) -> Option<[usize; CLASSES]> {
 
 /// The place of a name in a list.
 fn place_of(names: &[String], name: &str) -> Option<usize> {
-    names.iter().position(|other| other.as_str() == name)
+    for (place, other) in names.iter().enumerate() {
+        if other.as_str() == name {
+            return Some(place);
+        }
+    }
+    None
 }
 
 /// The number of a class.
@@ -130,20 +141,20 @@ fn customer_numbers(
     let mut numbers = Vec::new(alloc);
     let mut next = now.customers.len();
     for terms in &new.customers {
-        let name = terms.name.as_str();
-        match now
-            .customers
-            .iter()
-            .position(|other| other.name.as_str() == name)
-        {
-            Some(number) => numbers.push(number)?,
-            None => {
-                numbers.push(next)?;
-                next = next.saturating_add(1);
-            }
-        }
+        let same = customer_of_name(&now.customers, terms.name.as_str());
+        numbers.push(same_or_next(same, &mut next))?;
     }
     Ok(numbers)
+}
+
+/// The place of a customer of this name.
+fn customer_of_name(customers: &[Terms], name: &str) -> Option<usize> {
+    for (place, terms) in customers.iter().enumerate() {
+        if terms.name.as_str() == name {
+            return Some(place);
+        }
+    }
+    None
 }
 
 /// The number behind all of these and behind `least`.
@@ -173,48 +184,73 @@ fn moved<T: Copy + Drop>(
 /// The plan with these numbers.
 fn rebuilt(
     alloc: Global,
-    plan: SitePlan,
+    plan: &SitePlan,
     now: &Directory,
     was: &[Server],
     numbers: &Numbers,
 ) -> Result<SitePlan, AllocError> {
-    let servers = new_servers(alloc, &plan, was, numbers)?;
-    let addresses = new_addresses(alloc, &plan, now, numbers)?;
-    let customers = new_customers(alloc, &plan, now, numbers)?;
-    let terms = new_terms(alloc, &plan, now, numbers)?;
-    let names = new_names(alloc, &plan.directory, now, &numbers.classes)?;
-    let keys = new_keys(alloc, &plan.directory.keys, &numbers.customers)?;
-    let order = new_order(alloc, &plan.directory.order, &numbers.classes)?;
-    let most = moved(&plan.site.classes, &numbers.classes, Class::NONE);
-    let share = new_customer(&plan.site.share, &numbers.classes);
-    let pool = moved(&plan.site.pool, &numbers.classes, Amount::NOTHING);
-    let addresses_known = plan.site.addresses;
-    let guest = Terms {
-        name: plan.directory.guest.name.clone()?,
-        connections: plan.directory.guest.connections,
-        classes: moved(&plan.directory.guest.classes, &numbers.classes, false),
-    };
-    Ok(SitePlan {
-        site: Site {
-            classes: most,
-            servers,
-            customers,
-            share,
-            pool,
-            addresses: addresses_known,
-        },
-        directory: Directory {
-            listen: plan.directory.listen,
-            control: plan.directory.control,
-            connections: plan.directory.connections,
-            classes: names,
-            most,
-            order,
-            servers: addresses,
-            customers: terms,
-            guest,
-            keys,
-        },
+    let site = new_site(alloc, plan, now, was, numbers)?;
+    let directory = new_directory(alloc, plan, now, numbers)?;
+    Ok(SitePlan { site, directory })
+}
+
+fn new_site(
+    alloc: Global,
+    plan: &SitePlan,
+    now: &Directory,
+    was: &[Server],
+    numbers: &Numbers,
+) -> Result<Site, AllocError> {
+    let servers = new_servers(alloc, plan, was, numbers)?;
+    let customers = new_customers(alloc, plan, now, numbers)?;
+    Ok(Site {
+        classes: moved(&plan.site.classes, &numbers.classes, Class::NONE),
+        servers,
+        customers,
+        share: new_customer(&plan.site.share, &numbers.classes),
+        pool: moved(&plan.site.pool, &numbers.classes, Amount::NOTHING),
+        addresses: plan.site.addresses,
+    })
+}
+
+fn new_directory(
+    alloc: Global,
+    plan: &SitePlan,
+    now: &Directory,
+    numbers: &Numbers,
+) -> Result<Directory, AllocError> {
+    let new = &plan.directory;
+    let servers = new_addresses(alloc, new, now, &numbers.servers)?;
+    let customers = new_terms(alloc, new, now, numbers)?;
+    let guest = new_guest(alloc, &new.guest, &numbers.classes)?;
+    let classes = new_names(alloc, new, now, &numbers.classes)?;
+    let order = new_order(alloc, &new.order, &numbers.classes)?;
+    let keys = new_keys(alloc, &new.keys, &numbers.customers)?;
+    Ok(Directory {
+        listen: new.listen,
+        control: new.control,
+        connections: new.connections,
+        classes,
+        most: moved(&plan.site.classes, &numbers.classes, Class::NONE),
+        order,
+        servers,
+        customers,
+        guest,
+        keys,
+    })
+}
+
+/// What is said of each guest, with the classes' new numbers.
+fn new_guest(
+    alloc: Global,
+    guest: &Terms,
+    classes: &[usize; CLASSES],
+) -> Result<Terms, AllocError> {
+    let name = guest.name.clone()?;
+    Ok(Terms {
+        name,
+        connections: guest.connections,
+        classes: moved(&guest.classes, classes, false),
     })
 }
 
@@ -234,6 +270,17 @@ fn new_servers(
     was: &[Server],
     numbers: &Numbers,
 ) -> Result<Vec<Server>, AllocError> {
+    let mut servers = old_servers(alloc, was)?;
+    for (server, number) in plan.site.servers.iter().zip(numbers.servers.iter()) {
+        let class = class_number(&numbers.classes, server.class as usize);
+        let class = u8::try_from(class).unwrap_or(u8::MAX);
+        set_server(&mut servers, *number, Server { class, ..*server })?;
+    }
+    Ok(servers)
+}
+
+/// The servers that were there before, without a place.
+fn old_servers(alloc: Global, was: &[Server]) -> Result<Vec<Server>, AllocError> {
     let mut servers = Vec::new(alloc);
     for server in was {
         servers.push(Server {
@@ -243,35 +290,38 @@ fn new_servers(
             nodes: 0,
         })?;
     }
-    for (server, number) in plan.site.servers.iter().zip(numbers.servers.iter()) {
-        let class = class_number(&numbers.classes, server.class as usize);
-        let new = Server {
-            class: u8::try_from(class).unwrap_or(u8::MAX),
-            ..*server
-        };
-        if *number < servers.len() {
-            servers[*number] = new;
-        } else {
-            servers.push(new)?;
-        }
-    }
     Ok(servers)
+}
+
+/// Puts a server at its number, or behind all.
+fn set_server(servers: &mut Vec<Server>, number: usize, server: Server) -> Result<(), AllocError> {
+    if number < servers.len() {
+        servers[number] = server;
+    } else {
+        servers.push(server)?;
+    }
+    Ok(())
 }
 
 fn new_addresses(
     alloc: Global,
-    plan: &SitePlan,
+    new: &Directory,
     now: &Directory,
-    numbers: &Numbers,
+    numbers: &[usize],
 ) -> Result<Vec<SocketAddr>, AllocError> {
-    let mut addresses = Vec::new(alloc);
-    for address in &now.servers {
-        addresses.push(*address)?;
-    }
-    for (address, number) in plan.directory.servers.iter().zip(numbers.servers.iter()) {
+    let mut addresses = old_addresses(alloc, &now.servers)?;
+    for (address, number) in new.servers.iter().zip(numbers.iter()) {
         if *number >= addresses.len() {
             addresses.push(*address)?;
         }
+    }
+    Ok(addresses)
+}
+
+fn old_addresses(alloc: Global, now: &[SocketAddr]) -> Result<Vec<SocketAddr>, AllocError> {
+    let mut addresses = Vec::new(alloc);
+    for address in now {
+        addresses.push(*address)?;
     }
     Ok(addresses)
 }
@@ -294,37 +344,51 @@ fn new_customers(
 
 fn new_terms(
     alloc: Global,
-    plan: &SitePlan,
+    new: &Directory,
     now: &Directory,
     numbers: &Numbers,
 ) -> Result<Vec<Terms>, AllocError> {
+    let mut customers = old_terms(alloc, &now.customers)?;
+    for (terms, number) in new.customers.iter().zip(numbers.customers.iter()) {
+        let classes = moved(&terms.classes, &numbers.classes, false);
+        set_terms(&mut customers, *number, terms, classes)?;
+    }
+    Ok(customers)
+}
+
+/// The customers that were there before, who may have nothing.
+fn old_terms(alloc: Global, now: &[Terms]) -> Result<Vec<Terms>, AllocError> {
     let mut customers = Vec::new(alloc);
-    for terms in &now.customers {
+    for terms in now {
+        let name = terms.name.clone()?;
         customers.push(Terms {
-            name: terms.name.clone()?,
+            name,
             connections: 0,
             classes: [false; CLASSES],
         })?;
     }
-    for (terms, number) in plan
-        .directory
-        .customers
-        .iter()
-        .zip(numbers.customers.iter())
-    {
-        let classes = moved(&terms.classes, &numbers.classes, false);
-        if *number < customers.len() {
-            customers[*number].connections = terms.connections;
-            customers[*number].classes = classes;
-        } else {
-            customers.push(Terms {
-                name: terms.name.clone()?,
-                connections: terms.connections,
-                classes,
-            })?;
-        }
-    }
     Ok(customers)
+}
+
+/// Puts what is said of a customer at its number, or behind all.
+fn set_terms(
+    customers: &mut Vec<Terms>,
+    number: usize,
+    terms: &Terms,
+    classes: [bool; CLASSES],
+) -> Result<(), AllocError> {
+    if number < customers.len() {
+        customers[number].connections = terms.connections;
+        customers[number].classes = classes;
+    } else {
+        let name = terms.name.clone()?;
+        customers.push(Terms {
+            name,
+            connections: terms.connections,
+            classes,
+        })?;
+    }
+    Ok(())
 }
 
 fn new_names(
@@ -333,14 +397,21 @@ fn new_names(
     now: &Directory,
     numbers: &[usize; CLASSES],
 ) -> Result<Vec<String>, AllocError> {
-    let mut names = Vec::new(alloc);
-    for name in &now.classes {
-        names.push(name.clone()?)?;
-    }
+    let mut names = old_names(alloc, &now.classes)?;
     for (name, number) in new.classes.iter().zip(numbers.iter()) {
         if *number >= names.len() {
-            names.push(name.clone()?)?;
+            let name = name.clone()?;
+            names.push(name)?;
         }
+    }
+    Ok(names)
+}
+
+fn old_names(alloc: Global, now: &[String]) -> Result<Vec<String>, AllocError> {
+    let mut names = Vec::new(alloc);
+    for name in now {
+        let name = name.clone()?;
+        names.push(name)?;
     }
     Ok(names)
 }
@@ -367,21 +438,40 @@ fn new_number(numbers: &[usize], customer: u32) -> u32 {
 }
 
 fn new_keys(alloc: Global, keys: &Keys, numbers: &[usize]) -> Result<Keys, AllocError> {
+    let tokens = new_tokens(alloc, &keys.tokens, numbers)?;
+    let networks = new_networks(alloc, &keys.networks, numbers)?;
+    let certificates = new_certificates(alloc, &keys.certificates, numbers)?;
+    Ok(Keys {
+        tokens,
+        certificates,
+        networks,
+    })
+}
+
+fn new_tokens(
+    alloc: Global,
+    keys: &[TokenKey],
+    numbers: &[usize],
+) -> Result<Vec<TokenKey>, AllocError> {
     let mut tokens = Vec::new(alloc);
-    for key in &keys.tokens {
+    for key in keys {
         let customer = new_number(numbers, key.customer);
         tokens.push(TokenKey { customer, ..*key })?;
     }
+    Ok(tokens)
+}
+
+fn new_networks(
+    alloc: Global,
+    keys: &[NetworkKey],
+    numbers: &[usize],
+) -> Result<Vec<NetworkKey>, AllocError> {
     let mut networks = Vec::new(alloc);
-    for key in &keys.networks {
+    for key in keys {
         let customer = new_number(numbers, key.customer);
         networks.push(NetworkKey { customer, ..*key })?;
     }
-    Ok(Keys {
-        tokens,
-        certificates: new_certificates(alloc, &keys.certificates, numbers)?,
-        networks,
-    })
+    Ok(networks)
 }
 
 fn new_certificates(
@@ -391,10 +481,9 @@ fn new_certificates(
 ) -> Result<Vec<CertificateKey>, AllocError> {
     let mut certificates = Vec::new(alloc);
     for key in keys {
-        certificates.push(CertificateKey {
-            name: key.name.clone()?,
-            customer: new_number(numbers, key.customer),
-        })?;
+        let customer = new_number(numbers, key.customer);
+        let name = key.name.clone()?;
+        certificates.push(CertificateKey { name, customer })?;
     }
     Ok(certificates)
 }

@@ -45,29 +45,63 @@ impl FileFault {
 /// The line of a file where this word of a table stands, or the table's head where it doesn't: of the tables of this head the
 /// one of this number, from 0. The file itself has the head ""; a word of it may also be a table's head.
 pub(crate) fn line_of(text: &str, head: &str, number: usize, key: &str) -> usize {
-    let mut found = 1;
-    let mut seen = 0usize;
-    let mut is_there = head.is_empty();
+    let mut search = Search {
+        seen: 0,
+        is_there: head.is_empty(),
+        found: 1,
+    };
     for (place, line) in text.split('\n').enumerate() {
         let words = line.trim();
         let here = place.saturating_add(1);
-        if words.starts_with('[') {
-            let name = head_of(words);
-            if head.is_empty() && name == key {
-                return here;
-            }
-            is_there = name == head && seen == number;
-            if name == head {
-                seen = seen.saturating_add(1);
-            }
-            if is_there {
-                found = here;
-            }
-        } else if is_there && key_of(words) == key {
+        if search.ends_at(words, head, key) {
             return here;
         }
+        search = search.after(words, here, head, number);
     }
-    found
+    search.found
+}
+
+/// How far the search for a word has come: how many tables of the head were seen, whether the last is the one that has the word,
+/// and the line to name where the word doesn't come.
+#[derive(Clone, Copy)]
+struct Search {
+    seen: usize,
+    is_there: bool,
+    found: usize,
+}
+
+impl Search {
+    /// Whether a line is that of the word.
+    fn ends_at(self, line: &str, head: &str, key: &str) -> bool {
+        if line.starts_with('[') {
+            head.is_empty() && head_of(line) == key
+        } else {
+            self.is_there && key_of(line) == key
+        }
+    }
+
+    /// The search after a line that isn't.
+    fn after(self, line: &str, here: usize, head: &str, number: usize) -> Search {
+        if line.starts_with('[') {
+            self.after_head(head_of(line) == head, here, number)
+        } else {
+            self
+        }
+    }
+
+    /// The search after the head of a table, which is one of those looked for, or isn't.
+    fn after_head(self, is_same: bool, here: usize, number: usize) -> Search {
+        let is_there = is_same && self.seen == number;
+        Search {
+            seen: if is_same {
+                self.seen.saturating_add(1)
+            } else {
+                self.seen
+            },
+            is_there,
+            found: if is_there { here } else { self.found },
+        }
+    }
 }
 
 /// The words in the brackets of a line.

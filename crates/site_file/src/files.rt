@@ -48,7 +48,8 @@ pub fn read_site_again(
 ) -> Result<SitePlan, FileFault>
     ensures { IfOk result (λ plan. sums_fit (plan_of plan.site) ≡ true) }
 {
-    let plan = numbered(alloc, read_site(alloc, text)?, now, servers)?;
+    let plan = read_site(alloc, text)?;
+    let plan = numbered(alloc, &plan, now, servers)?;
     if plan.site.sums_fit() {
         Ok(plan)
     } else {

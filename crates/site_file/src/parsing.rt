@@ -48,10 +48,19 @@ pub(crate) fn network_of(text: &str) -> Option<Network> {
 
 /// The number of one to three digits.
 fn bits_of(text: &str) -> Option<u8> {
-    if text.is_empty() || !text.bytes().all(|byte| byte.is_ascii_digit()) {
+    if text.is_empty() || !are_digits(text.as_bytes()) {
         return None;
     }
     text.parse::<u8>().ok()
+}
+
+fn are_digits(bytes: &[u8]) -> bool {
+    for byte in bytes {
+        if !byte.is_ascii_digit() {
+            return false;
+        }
+    }
+    true
 }
 
 fn v4_network(address: Address, bits: u8) -> Option<Network> {

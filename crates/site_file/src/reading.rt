@@ -1,6 +1,6 @@
 //! The text of a file as a plan.
 use crate::faults::FileFault;
-use crate::section::Section;
+use crate::section::{Section, has_name, is_among};
 use customer_book::{Amount, CLASSES, Class, Customer, Rate, Server, Site};
 use site_plan::{CertificateKey, Directory, Keys, NetworkKey, SitePlan, Terms, TokenKey};
 use std::alloc::{AllocError, Global};
@@ -45,39 +45,48 @@ struct Share {
     classes: [bool; CLASSES],
 }
 
+/// What a file says of each guest, and of all guests together.
+#[derive(Clone, Copy)]
+struct Guests {
+    each: Share,
+    together: [Amount; CLASSES],
+}
+
+/// Where a gate listens, and how many connections it takes.
+#[derive(Clone, Copy)]
+struct Entrance {
+    listen: SocketAddr,
+    control: Option<SocketAddr>,
+    connections: u32,
+}
+
 /// The plan of a file whose tables were read. Nothing is compared yet.
 pub(crate) fn plan_in(file: Section<'_>) -> Result<SitePlan, FileFault> {
     let classes = classes_in(&file)?;
-    let guests = file.table("guests", "guests")?;
-    let each = share_in(
-        &guests.table("each", "guests.each")?,
-        &classes.names,
-        &SHARE,
-    )?;
-    let together = pool_in(
-        &guests.table("together", "guests.together")?,
-        &classes.names,
-    )?;
-    guests.end(&["each", "together"], &[])?;
-    let mut named = Named::new(file.alloc);
-    for section in &file.tables("customer")? {
-        named.read(section, &classes.names)?;
-    }
-    file.end(
-        &[
-            "listen",
-            "control",
-            "connections",
-            "class",
-            "guests",
-            "customer",
-        ],
-        &[],
-    )?;
+    let guests = guests_in(&file, &classes.names)?;
+    let named = customers_in(&file, &classes.names)?;
+    let entrance = entrance_in(&file)?;
     let order = numbers(file.alloc, classes.names.len())?;
-    Ok(SitePlan {
+    let name = String::from_str(file.alloc, "guest")?;
+    Ok(plan_of(classes, guests, named, entrance, order, name))
+}
+
+/// The plan of all that a file says.
+fn plan_of(
+    classes: Classes,
+    guests: Guests,
+    named: Named,
+    entrance: Entrance,
+    order: Vec<u8>,
+    name: String,
+) -> SitePlan {
+    let most = classes.most;
+    let each = guests.each;
+    let together = guests.together;
+    let allowed = each.classes;
+    SitePlan {
         site: Site {
-            classes: classes.most,
+            classes: most,
             servers: classes.servers,
             customers: named.customers,
             share: each.customer,
@@ -85,25 +94,64 @@ pub(crate) fn plan_in(file: Section<'_>) -> Result<SitePlan, FileFault> {
             addresses: ADDRESSES,
         },
         directory: Directory {
-            listen: file.needed_place("listen")?,
-            control: control_in(&file)?,
-            connections: file
-                .count("connections", 1, GREATEST)?
-                .unwrap_or(CONNECTIONS),
+            listen: entrance.listen,
+            control: entrance.control,
+            connections: entrance.connections,
             classes: classes.names,
-            most: classes.most,
+            most,
             order,
             servers: classes.addresses,
             customers: named.terms,
             guest: Terms {
-                name: String::from_str(file.alloc, "guest")?,
+                name,
                 connections: each.connections,
-                classes: each.classes,
+                classes: allowed,
             },
             keys: named.keys,
         },
+    }
+}
+
+/// What a file says of guests.
+fn guests_in(file: &Section<'_>, names: &[String]) -> Result<Guests, FileFault> {
+    let guests = file.table("guests", "guests")?;
+    let each = share_in(&guests.table("each", "guests.each")?, names, &SHARE)?;
+    let together = pool_in(&guests.table("together", "guests.together")?, names)?;
+    guests.end(&["each", "together"], &[])?;
+    Ok(Guests { each, together })
+}
+
+/// The customers that a file names.
+fn customers_in(file: &Section<'_>, names: &[String]) -> Result<Named, FileFault> {
+    let mut named = Named::new(file.alloc);
+    for section in &file.tables("customer")? {
+        named.read(section, names)?;
+    }
+    Ok(named)
+}
+
+/// What a file says beside its tables; it has no other words.
+fn entrance_in(file: &Section<'_>) -> Result<Entrance, FileFault> {
+    file.end(&FILE, &[])?;
+    let listen = file.needed_place("listen")?;
+    let control = control_in(file)?;
+    let connections = file.count("connections", 1, GREATEST)?;
+    Ok(Entrance {
+        listen,
+        control,
+        connections: connections.unwrap_or(CONNECTIONS),
     })
 }
+
+/// The words of a file.
+const FILE: [&str; 6] = [
+    "listen",
+    "control",
+    "connections",
+    "class",
+    "guests",
+    "customer",
+];
 
 /// The words of a customer's table beside its budgets. No class can have one of them as its name.
 const CUSTOMER: [&str; 8] = [
@@ -159,49 +207,63 @@ fn classes_in(file: &Section<'_>) -> Result<Classes, FileFault> {
     Ok(classes)
 }
 
+/// The words of a class's table.
+const CLASS: [&str; 9] = [
+    "name",
+    "address",
+    "hosts",
+    "servers",
+    "segments",
+    "nodes",
+    "most_segments",
+    "most_nodes",
+    "places",
+];
+
+/// What one session may reserve in the class of a table.
+fn class_in(section: &Section<'_>) -> Result<Class, FileFault> {
+    let most_segments = section.needed_count("most_segments", 1, MOST_SEGMENTS)?;
+    let most_nodes = section.needed_count("most_nodes", 1, MOST_NODES)?;
+    Ok(Class {
+        most_segments,
+        most_nodes,
+    })
+}
+
+/// The name of the class of a table, which none of these has.
+fn class_name_in<'t>(section: &Section<'t>, names: &[String]) -> Result<&'t str, FileFault> {
+    let name = section.name(b"_-")?;
+    if has_name(names, name) {
+        return Err(section.fault("name", "a second class of this name"));
+    }
+    if is_among(&CUSTOMER, name) {
+        return Err(section.fault(
+            "name",
+            "a class can't have this name: it is a word of the file",
+        ));
+    }
+    Ok(name)
+}
+
 impl Classes {
     fn read(&mut self, section: &Section<'_>) -> Result<(), FileFault> {
         let number = self.names.len();
         if number >= CLASSES {
             return Err(section.fault("name", "there are more than 8 classes"));
         }
-        let name = section.name(b"_-")?;
-        if self.names.iter().any(|other| other.as_str() == name) {
-            return Err(section.fault("name", "a second class of this name"));
-        }
-        if CUSTOMER.iter().any(|word| *word == name) {
-            return Err(section.fault(
-                "name",
-                "a class can't have this name: it is a word of the file",
-            ));
-        }
-        self.names.push(String::from_str(section.alloc, name)?)?;
-        self.most[number] = Class {
-            most_segments: section.needed_count("most_segments", 1, MOST_SEGMENTS)?,
-            most_nodes: section.needed_count("most_nodes", 1, MOST_NODES)?,
-        };
+        let name = class_name_in(section, &self.names)?;
+        let name = String::from_str(section.alloc, name)?;
+        self.names.push(name)?;
+        self.most[number] = class_in(section)?;
         self.read_servers(section, number as u8)?;
-        section.end(
-            &[
-                "name",
-                "address",
-                "hosts",
-                "servers",
-                "segments",
-                "nodes",
-                "most_segments",
-                "most_nodes",
-                "places",
-            ],
-            &[],
-        )
+        section.end(&CLASS, &[])
     }
 
     fn read_servers(&mut self, section: &Section<'_>, class: u8) -> Result<(), FileFault> {
         let server = server_in(section, class)?;
         let first = self.addresses.len();
         for address in &addresses_in(section)? {
-            if is_among(&self.addresses, first, *address) {
+            if is_before(&self.addresses, first, *address) {
                 return Err(section.fault("address", "another class has a server of this address"));
             }
             self.push_server(server, *address)?;
@@ -217,7 +279,7 @@ impl Classes {
 }
 
 /// Whether an address is among the first ones of a list.
-fn is_among(addresses: &[SocketAddr], first: usize, address: SocketAddr) -> bool {
+fn is_before(addresses: &[SocketAddr], first: usize, address: SocketAddr) -> bool {
     addresses[..first.min(addresses.len())].contains(&address)
 }
 
@@ -236,58 +298,101 @@ fn server_in(section: &Section<'_>, class: u8) -> Result<Server, FileFault> {
 
 /// The address of each server of a class: its own, or the class's, as often as it has servers.
 fn addresses_in(section: &Section<'_>) -> Result<Vec<SocketAddr>, FileFault> {
-    if !section.has("hosts") {
-        let address = section.needed_place("address")?;
-        let servers = section.needed_count("servers", 1, MOST_SERVERS)?;
-        return Ok(vec![in section.alloc; address; servers as usize]?);
+    if section.has("hosts") {
+        hosts_in(section)
+    } else {
+        same_address_in(section)
     }
+}
+
+fn same_address_in(section: &Section<'_>) -> Result<Vec<SocketAddr>, FileFault> {
+    let address = section.needed_place("address")?;
+    let servers = section.needed_count("servers", 1, MOST_SERVERS)?;
+    Ok(vec![in section.alloc; address; servers as usize]?)
+}
+
+fn hosts_in(section: &Section<'_>) -> Result<Vec<SocketAddr>, FileFault> {
     let hosts = section.places("hosts")?;
+    match why_no_hosts(section, &hosts) {
+        Some(what) => Err(section.fault("hosts", what)),
+        None => Ok(hosts),
+    }
+}
+
+/// What is wrong with a list of hosts.
+fn why_no_hosts(section: &Section<'_>, hosts: &[SocketAddr]) -> Option<&'static str> {
     if section.has("address") || section.has("servers") {
-        return Err(section.fault(
-            "hosts",
-            "`hosts` stands in the place of `address` and `servers`",
-        ));
+        return Some("`hosts` stands in the place of `address` and `servers`");
     }
     if hosts.is_empty() {
-        return Err(section.fault("hosts", "`hosts` names no server"));
+        return Some("`hosts` names no server");
     }
+    if has_twice(hosts) {
+        return Some("`hosts` names a server twice");
+    }
+    None
+}
+
+/// Whether an address stands twice in a list.
+fn has_twice(hosts: &[SocketAddr]) -> bool {
     for (place, host) in hosts.iter().enumerate() {
         if hosts[..place].contains(host) {
-            return Err(section.fault("hosts", "`hosts` names a server twice"));
+            return true;
         }
     }
-    Ok(hosts)
+    false
 }
 
 /// Which classes a customer may use: all that are there, where it names none.
 fn allowed_in(section: &Section<'_>, names: &[String]) -> Result<[bool; CLASSES], FileFault> {
     let texts = section.texts("classes", "a list of classes")?;
+    if are_names(&texts, names) {
+        Ok(allowed_of(&texts, names))
+    } else {
+        Err(section.fault("classes", "`classes` names a class that isn't there"))
+    }
+}
+
+/// Whether each text is one of the names.
+fn are_names(texts: &[&str], names: &[String]) -> bool {
+    for text in texts {
+        if !has_name(names, *text) {
+            return false;
+        }
+    }
+    true
+}
+
+/// The classes of these names that the texts name; all, where there is no text.
+fn allowed_of(texts: &[&str], names: &[String]) -> [bool; CLASSES] {
     let mut allowed = [false; CLASSES];
     for (place, name) in names.iter().enumerate() {
         if place < CLASSES {
-            allowed[place] = texts.is_empty() || texts.iter().any(|text| *text == name.as_str());
+            allowed[place] = texts.is_empty() || is_among(texts, name.as_str());
         }
     }
-    for text in &texts {
-        if !names.iter().any(|name| name.as_str() == *text) {
-            return Err(section.fault("classes", "`classes` names a class that isn't there"));
-        }
-    }
-    Ok(allowed)
+    allowed
 }
 
 /// The amount that stands at a class's name.
 fn amount_in(section: &Section<'_>, name: &str) -> Result<Option<Amount>, FileFault> {
-    let Some(part) = section.part(name)? else {
-        return Ok(None);
-    };
-    let amount = Amount {
-        sessions: part.count("sessions", 0, GREATEST)?.unwrap_or(0),
-        segments: u64::from(part.count("segments", 0, GREATEST)?.unwrap_or(0)),
-        nodes: u64::from(part.count("nodes", 0, GREATEST)?.unwrap_or(0)),
-    };
+    match section.part(name)? {
+        Some(part) => Ok(Some(amount_of(&part)?)),
+        None => Ok(None),
+    }
+}
+
+/// The amount that a table says.
+fn amount_of(part: &Section<'_>) -> Result<Amount, FileFault> {
+    let sessions = part.count("sessions", 0, GREATEST)?.unwrap_or(0);
+    let segments = part.count("segments", 0, GREATEST)?.unwrap_or(0);
+    let nodes = part.count("nodes", 0, GREATEST)?.unwrap_or(0);
     part.end(&["sessions", "segments", "nodes"], &[])?;
-    Ok(Some(amount))
+    Ok(Amount {
+        sessions,
+        segments: u64::from(segments),
+        nodes: u64::from(nodes),
+    })
 }
 
 /// A budget for each class that is named.
@@ -327,16 +432,21 @@ fn usual_connections(budgets: &[Amount; CLASSES]) -> u32 {
     sessions.saturating_mul(4).saturating_add(16)
 }
 
+/// How often a customer may say something, and be refused without a wait.
+fn rate_in(section: &Section<'_>) -> Result<Rate, FileFault> {
+    let rate = section.count("rate", 1, MOMENTS)?.unwrap_or(10);
+    let burst = section.count("burst", 1, 65_535)?.unwrap_or(100);
+    Ok(Rate {
+        period: MOMENTS.div_ceil(rate),
+        burst: burst as u16,
+    })
+}
+
 /// What a table says of a customer or of each guest; it may have these words beside those of its budgets.
 fn share_in(section: &Section<'_>, names: &[String], known: &[&str]) -> Result<Share, FileFault> {
     let classes = allowed_in(section, names)?;
     let budgets = budgets_in(section, names, &classes)?;
-    let rate = section.count("rate", 1, MOMENTS)?.unwrap_or(10);
-    let burst = section.count("burst", 1, 65_535)?.unwrap_or(100);
-    let often = Rate {
-        period: MOMENTS.div_ceil(rate),
-        burst: burst as u16,
-    };
+    let often = rate_in(section)?;
     let connections = section.count("connections", 1, GREATEST)?;
     section.end(known, names)?;
     Ok(Share {
@@ -373,45 +483,85 @@ impl Named {
 
     fn read(&mut self, section: &Section<'_>, names: &[String]) -> Result<(), FileFault> {
         let name = section.name(b"_.@-")?;
-        if self.terms.iter().any(|other| other.name.as_str() == name) {
+        if has_customer(&self.terms, name) {
             return Err(section.fault("name", "a second customer of this name"));
         }
         let share = share_in(section, names, &CUSTOMER)?;
         let Ok(customer) = u32::try_from(self.customers.len()) else {
             return Err(section.fault("name", "there are too many customers"));
         };
-        self.read_keys(section, customer)?;
-        self.customers.push(share.customer)?;
-        self.terms.push(Terms {
-            name: String::from_str(section.alloc, name)?,
-            connections: share.connections,
-            classes: share.classes,
-        })?;
+        read_tokens(&mut self.keys.tokens, section, customer)?;
+        read_certificates(&mut self.keys.certificates, section, customer)?;
+        read_networks(&mut self.keys.networks, section, customer)?;
+        let name = String::from_str(section.alloc, name)?;
+        self.push(name, share)?;
         Ok(())
     }
 
-    fn read_keys(&mut self, section: &Section<'_>, customer: u32) -> Result<(), FileFault> {
-        for digest in &section.digests("token_sha256")? {
-            self.keys.tokens.push(TokenKey {
-                digest: *digest,
-                customer,
-            })?;
-        }
-        for name in &section.texts("certificate", "a list of names")? {
-            if name.trim().is_empty() {
-                return Err(section.fault("certificate", "`certificate` is to be a list of names"));
-            }
-            self.keys.certificates.push(CertificateKey {
-                name: String::from_str(section.alloc, name)?,
-                customer,
-            })?;
-        }
-        for network in &section.networks("address")? {
-            self.keys.networks.push(NetworkKey {
-                network: *network,
-                customer,
-            })?;
-        }
+    fn push(&mut self, name: String, share: Share) -> Result<(), AllocError> {
+        let classes = share.classes;
+        self.customers.push(share.customer)?;
+        self.terms.push(Terms {
+            name,
+            connections: share.connections,
+            classes,
+        })?;
         Ok(())
     }
+}
+
+/// Whether a customer has this name.
+fn has_customer(customers: &[Terms], name: &str) -> bool {
+    for terms in customers {
+        if terms.name.as_str() == name {
+            return true;
+        }
+    }
+    false
+}
+
+/// Adds the digests of a customer's tokens.
+fn read_tokens(
+    keys: &mut Vec<TokenKey>,
+    section: &Section<'_>,
+    customer: u32,
+) -> Result<(), FileFault> {
+    for digest in &section.digests("token_sha256")? {
+        keys.push(TokenKey {
+            digest: *digest,
+            customer,
+        })?;
+    }
+    Ok(())
+}
+
+/// Adds the names in a customer's certificates.
+fn read_certificates(
+    keys: &mut Vec<CertificateKey>,
+    section: &Section<'_>,
+    customer: u32,
+) -> Result<(), FileFault> {
+    for name in &section.texts("certificate", "a list of names")? {
+        if name.trim().is_empty() {
+            return Err(section.fault("certificate", "`certificate` is to be a list of names"));
+        }
+        let name = String::from_str(section.alloc, name)?;
+        keys.push(CertificateKey { name, customer })?;
+    }
+    Ok(())
+}
+
+/// Adds the networks from which a customer comes.
+fn read_networks(
+    keys: &mut Vec<NetworkKey>,
+    section: &Section<'_>,
+    customer: u32,
+) -> Result<(), FileFault> {
+    for network in &section.networks("address")? {
+        keys.push(NetworkKey {
+            network: *network,
+            customer,
+        })?;
+    }
+    Ok(())
 }

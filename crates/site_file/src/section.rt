@@ -88,10 +88,15 @@ impl<'t> Section<'t> {
         };
         match found {
             Some(count) => Ok(Some(count)),
-            None => {
-                let what = format!(in self.alloc; "a whole number from {least} to {most}")?;
-                Err(self.unfit(key, what.as_str()))
-            }
+            None => Err(self.no_count(key, least, most)),
+        }
+    }
+
+    /// That a word is no whole number within these limits.
+    fn no_count(&self, key: &str, least: u32, most: u32) -> FileFault {
+        match format!(in self.alloc; "a whole number from {least} to {most}") {
+            Ok(what) => self.unfit(key, what.as_str()),
+            Err(fault) => FileFault::Memory(fault),
         }
     }
 
@@ -253,19 +258,47 @@ impl<'t> Section<'t> {
     pub(crate) fn end(&self, known: &[&str], more: &[String]) -> Result<(), FileFault> {
         for key in self.table.keys() {
             let key = key.as_str();
-            if !known.iter().any(|word| *word == key)
-                && !more.iter().any(|word| word.as_str() == key)
-            {
-                let what = format!(in self.alloc; "`{key}` is an unknown word")?;
-                return Err(self.fault(key, what.as_str()));
+            if !is_among(known, key) && !has_name(more, key) {
+                return Err(self.unknown(key));
             }
         }
         Ok(())
     }
+
+    fn unknown(&self, key: &str) -> FileFault {
+        match format!(in self.alloc; "`{key}` is an unknown word") {
+            Ok(words) => self.fault(key, words.as_str()),
+            Err(fault) => FileFault::Memory(fault),
+        }
+    }
+}
+
+/// Whether a word is one of these.
+pub(crate) fn is_among(words: &[&str], word: &str) -> bool {
+    for other in words {
+        if *other == word {
+            return true;
+        }
+    }
+    false
+}
+
+/// Whether a word is one of these names.
+pub(crate) fn has_name(names: &[String], word: &str) -> bool {
+    for name in names {
+        if name.as_str() == word {
+            return true;
+        }
+    }
+    false
 }
 
 /// Whether a name has letters, digits and these signs alone.
 fn is_name(name: &str, signs: &[u8]) -> bool {
+    for byte in name.as_bytes() {
+        if !byte.is_ascii_alphanumeric() && !signs.contains(byte) {
+            return false;
+        }
+    }
     !name.is_empty()
-        && name.bytes().all(|byte| byte.is_ascii_alphanumeric() || signs.contains(&byte))
 }

@@ -1,6 +1,6 @@
 //! What the definitions of `customer_book` give, for all values.
 ghost use Rattle.std.specs.Prelude.{Bool, List, None, Option, Some, [], false, if◌then◌else◌, length, map, slice_index_or, true, ℕ, ◌&&◌, ◌*◌, ◌++◌, ◌+◌, ◌-◌, ◌<◌, ◌==◌, ◌||◌, ◌∷◌, ◌≡◌, ◌≤◌, ◌⊎◌};
-ghost use Rattle.customer_book.specs.Allowed.{HasLeft, HasPlace, HasToken, IsMore, IsSmallEnough, MayBegin, MayGrow, MaySay};
+ghost use Rattle.customer_book.specs.Allowed.{HasBudgetFor, HasPlace, HasToken, IsMore, IsSmallEnough, MayBegin, MayGrow, MaySay};
 ghost use Rattle.customer_book.specs.Amounts.{IsWithin, nothing, of_one, plus};
 ghost use Rattle.customer_book.specs.Grants.{grant_of, has_grant, is_held_as, is_in, used, without};
 ghost use Rattle.customer_book.specs.Keeping.{IsNamedIn, IsPlaced, IsSeated, server_at};
@@ -8,7 +8,7 @@ ghost use Rattle.customer_book.specs.Ledgers.{Ledger, account_of, after, answer_
 ghost use Rattle.customer_book.specs.Names.{is_guest, same_who};
 ghost use Rattle.customer_book.specs.Plans.{Plan, budget_in, budget_of, class_at, is_too_great, nobody, sums_fit, terms_of};
 ghost use Rattle.customer_book.specs.Reloads.{AreAllowed, IsAllowed, Step, go, go_answers, happens, is_their_step, only_steps, open_after_step, replanned, replans, step, step_answer, step_answers_of, still_open_after, stays, why_not_replan};
-ghost use Rattle.customer_book.specs.Runs.{Name, answers, answers_of, at_any, grants_of, is_kept, is_of, names_of, names_without, only, open_after, run, still_open, totals_of};
+ghost use Rattle.customer_book.specs.Runs.{Name, answers, answers_of, at_any, grants_of, is_kept, is_of, names_of, names_without, only_events, open_after, run, still_open, totals_of};
 ghost use Rattle.customer_book.specs.declared.amount.Amount.{Amount};
 ghost use Rattle.customer_book.specs.declared.amount.Ask.{Ask};
 ghost use Rattle.customer_book.specs.declared.event.Event.TheVariants.{Closes, Comes, Opens, Raises, Says};
@@ -72,7 +72,7 @@ pub fn grants()
     ensures without_more { (who : Who) (session : ℕ) (held : Held) (grants : List Held) → without who session (held ∷ grants) ≡ (if is_held_as who session held then grants else held ∷ without who session grants) }
 {}
 
-/// Of `customer_book`, Allowed: what `HasPlace`, `HasToken`, `MaySay`, `IsSmallEnough`, `HasLeft`, `MayBegin`, `IsMore` and `MayGrow` give.
+/// Of `customer_book`, Allowed: what `HasPlace`, `HasToken`, `MaySay`, `IsSmallEnough`, `HasBudgetFor`, `MayBegin`, `IsMore` and `MayGrow` give.
 pub fn allowed()
     ensures has_place { (book : Ledger) (who : Who) → HasPlace book who → is_guest who ≡ true → is_known who book.guests ≡ false → length book.guests < book.plan.addresses }
     ensures has_token { (rate : Rate) (now full_from : ℕ) → HasToken rate now full_from → full_from - now + rate.period ≤ rate.period * rate.burst }
@@ -81,19 +81,19 @@ pub fn allowed()
     ensures is_small_enough_there { (plan : Plan) (class : ℕ) (ask : Ask) (is : IsSmallEnough plan class ask) → class < length plan.classes }
     ensures is_small_enough_segments { (plan : Plan) (class : ℕ) (ask : Ask) (is : IsSmallEnough plan class ask) → ask.segments ≤ (class_at plan.classes class).most_segments }
     ensures is_small_enough_nodes { (plan : Plan) (class : ℕ) (ask : Ask) (is : IsSmallEnough plan class ask) → ask.nodes ≤ (class_at plan.classes class).most_nodes }
-    ensures has_left_own { (plan : Plan) (who : Who) (class : ℕ) (ask : Ask) (mine theirs : Amount) (is : HasLeft plan who class ask mine theirs) → IsWithin (plus (of_one ask) mine) (budget_of plan who class) }
-    ensures has_left_guests { (plan : Plan) (who : Who) (class : ℕ) (ask : Ask) (mine theirs : Amount) (is : HasLeft plan who class ask mine theirs) → is_guest who ≡ true → IsWithin (plus (of_one ask) theirs) (budget_in plan.pool class) }
+    ensures has_left_own { (plan : Plan) (who : Who) (class : ℕ) (ask : Ask) (mine theirs : Amount) (is : HasBudgetFor plan who class ask mine theirs) → IsWithin (plus (of_one ask) mine) (budget_of plan who class) }
+    ensures has_left_guests { (plan : Plan) (who : Who) (class : ℕ) (ask : Ask) (mine theirs : Amount) (is : HasBudgetFor plan who class ask mine theirs) → is_guest who ≡ true → IsWithin (plus (of_one ask) theirs) (budget_in plan.pool class) }
     ensures may_begin_line { (book : Ledger) (who : Who) (session class : ℕ) (ask : Ask) (is : MayBegin book who session class ask) → MaySay book who }
     ensures may_begin_new { (book : Ledger) (who : Who) (session class : ℕ) (ask : Ask) (is : MayBegin book who session class ask) → has_grant who session book.grants ≡ false }
     ensures may_begin_small { (book : Ledger) (who : Who) (session class : ℕ) (ask : Ask) (is : MayBegin book who session class ask) → IsSmallEnough book.plan class ask }
-    ensures may_begin_left { (book : Ledger) (who : Who) (session class : ℕ) (ask : Ask) (is : MayBegin book who session class ask) → HasLeft book.plan who class ask (used (Own who class) book.grants) (used (Guests class) book.grants) }
+    ensures may_begin_left { (book : Ledger) (who : Who) (session class : ℕ) (ask : Ask) (is : MayBegin book who session class ask) → HasBudgetFor book.plan who class ask (used (Own who class) book.grants) (used (Guests class) book.grants) }
     ensures is_more_segments { (now ask : Ask) (is : IsMore now ask) → now.segments ≤ ask.segments }
     ensures is_more_nodes { (now ask : Ask) (is : IsMore now ask) → now.nodes ≤ ask.nodes }
     ensures is_more_one { (now ask : Ask) (is : IsMore now ask) → (now.segments < ask.segments) ⊎ (now.nodes < ask.nodes) }
     ensures may_grow_line { (book : Ledger) (who : Who) (session : ℕ) (ask : Ask) (held : Held) (is : MayGrow book who session ask held) → MaySay book who }
     ensures may_grow_more { (book : Ledger) (who : Who) (session : ℕ) (ask : Ask) (held : Held) (is : MayGrow book who session ask held) → IsMore held.ask ask }
     ensures may_grow_small { (book : Ledger) (who : Who) (session : ℕ) (ask : Ask) (held : Held) (is : MayGrow book who session ask held) → IsSmallEnough book.plan held.class ask }
-    ensures may_grow_left { (book : Ledger) (who : Who) (session : ℕ) (ask : Ask) (held : Held) (is : MayGrow book who session ask held) → HasLeft book.plan who held.class ask (used (Own who held.class) (without who session book.grants)) (used (Guests held.class) (without who session book.grants)) }
+    ensures may_grow_left { (book : Ledger) (who : Who) (session : ℕ) (ask : Ask) (held : Held) (is : MayGrow book who session ask held) → HasBudgetFor book.plan who held.class ask (used (Own who held.class) (without who session book.grants)) (used (Guests held.class) (without who session book.grants)) }
 {}
 
 /// Of `customer_book`, Keeping: what `IsNamedIn`, `IsSeated` and `IsPlaced` give.
@@ -109,7 +109,7 @@ pub fn keeping()
     ensures is_placed_there { (plan : Plan) (held : Held) (is : IsPlaced plan held) → held.class < length plan.classes }
 {}
 
-/// Of `customer_book`, Runs: what `run`, `answers`, `is_of`, `is_kept`, `only`, `answers_of`, `at_any`, `grants_of`, `totals_of`, `names_without`, `open_after`, `still_open` and `names_of` give.
+/// Of `customer_book`, Runs: what `run`, `answers`, `is_of`, `is_kept`, `only_events`, `answers_of`, `at_any`, `grants_of`, `totals_of`, `names_without`, `open_after`, `still_open` and `names_of` give.
 pub fn runs()
     ensures run_none { (book : Ledger) → run book [] ≡ book }
     ensures run_more { (book : Ledger) (event : Event) (events : List Event) → run book (event ∷ events) ≡ run (after book event) events }
@@ -125,8 +125,8 @@ pub fn runs()
     ensures is_kept_says { (is_one : Who → Bool) (who : Who) → is_kept is_one (Says who) ≡ is_one who }
     ensures is_kept_closes { (is_one : Who → Bool) (who : Who) (session : ℕ) → is_kept is_one (Closes who session) ≡ is_one who }
     ensures is_kept_comes { (is_one : Who → Bool) (moment : ℕ) → is_kept is_one (Comes moment) ≡ true }
-    ensures only_none { (is_one : Who → Bool) → only is_one [] ≡ [] }
-    ensures only_more { (is_one : Who → Bool) (event : Event) (events : List Event) → only is_one (event ∷ events) ≡ (if is_kept is_one event then event ∷ only is_one events else only is_one events) }
+    ensures only_none { (is_one : Who → Bool) → only_events is_one [] ≡ [] }
+    ensures only_more { (is_one : Who → Bool) (event : Event) (events : List Event) → only_events is_one (event ∷ events) ≡ (if is_kept is_one event then event ∷ only_events is_one events else only_events is_one events) }
     ensures answers_of_none { (is_one : Who → Bool) (book : Ledger) → answers_of is_one book [] ≡ [] }
     ensures answers_of_more { (is_one : Who → Bool) (book : Ledger) (event : Event) (events : List Event) → answers_of is_one book (event ∷ events) ≡ (if is_of is_one event then answer_to book event ∷ answers_of is_one (after book event) events else answers_of is_one (after book event) events) }
     ensures at_any { (held : Held) → at_any held ≡ record held { server = 0 } }

@@ -43,8 +43,8 @@ IsTakenFromOwn task before after = after ≡ record before { own = with_taken ta
 
 -- what a worker holds next under the same lock: what it held, and its seats haven't changed; or, where it was without a frame,
 -- a task that its own seat has taken
-abbrev pub GoesOn : Holding → Holding → WorkerSeats → WorkerSeats → Type 0
-GoesOn held next before after =
+abbrev pub TakesOwnTask : Holding → Holding → WorkerSeats → WorkerSeats → Type 0
+TakesOwnTask held next before after =
     ((next ≡ held) × (after ≡ before)) ⊎ ((task : Task) × (held ≡ Nothing) × (next ≡ Next (Get task)) × IsTakenFromOwn task before after)
 
 -- a worker holds an answer to this frame, which it brings to the hall next, and which was computed from just this leaf

@@ -25,9 +25,9 @@ pub trait Gate {
 
 /// A gate that does nothing at any call.
 #[derive(Clone, Copy, Debug, PartialEq, Eq)]
-pub struct Open;
+pub struct OpenGate;
 
-impl Gate for Open {
+impl Gate for OpenGate {
     fn before(&self, _worker: Worker, _task: &Task) {}
 
     fn is_brief(&self) -> bool {

@@ -5,10 +5,10 @@
 //! started; where one can't be had it tells it nothing. A worker looks for a frame that is ready: the newest task of
 //! its own deque, else the oldest of another's (`task_deques`), else any that the hall knows of, for which it sleeps at
 //! the desk. With a frame it does turn after turn (`pool_rules`): each turn is one step, offered to the hall under its
-//! lock by [`desk::Held::offer`] and by nothing else (steps that follow each other under one lock), or one computation
-//! outside all locks. A frame that becomes ready by its step is pushed on the worker's deque; where there is no room it
-//! stays ready in the hall, where it is found again. A worker that is without a frame while it has the lock goes on with the
-//! newest task of its own deque under the same lock, up to 32 steps in all.
+//! lock by [`desk::DeskGuard::offer`] and by nothing else (steps that follow each other under one lock), or one
+//! computation outside all locks. A frame that becomes ready by its step is pushed on the worker's deque; where there
+//! is no room it stays ready in the hall, where it is found again. A worker that is without a frame while it has the
+//! lock goes on with the newest task of its own deque under the same lock, up to 32 steps in all.
 //!
 //! What is proved of a worker is that each of its turns is the table's, that no task but that of its
 //! turn is pushed (`specs/Works.antt`), that between turns under one lock it takes at most its own newest task, that it offers
@@ -31,7 +31,7 @@
 //!
 //! ```text
 //! // four workers, beside whoever speaks at the desk, until it is closed
-//! let end = run_pool(rt, alloc, &desk, Worker::new(4)?, &Open)?;
+//! let end = run_pool(rt, alloc, &desk, Worker::new(4)?, &OpenGate)?;
 //! end.pushed == end.taken + end.left
 //! ```
 #![tactic(auto)]
@@ -46,7 +46,7 @@ mod threads;
 mod worker;
 
 pub use announce::{Announce, Quiet};
-pub use gate::{Gate, Open};
+pub use gate::{Gate, OpenGate};
 pub use pool::{BeginFault, PoolConfig, PoolEnd, PoolFault, run_pool, run_pool_announced};
 pub use task_deques::pool_rules::Task;
 pub use tasks::{Shared, Tasks};

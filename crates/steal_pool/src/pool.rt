@@ -8,7 +8,7 @@ use crate::announce::{Announce, Quiet};
 use crate::gate::Gate;
 use crate::tasks::Shared;
 use crate::threads::{Site, Stock, Worked, run_all};
-use desk::{Badge, Desk, Hands};
+use desk::{Badge, Desk, DeskLedger};
 use sched_rules::Worker;
 use std::alloc::Global;
 use std::sync::Wait;
@@ -50,7 +50,7 @@ pub enum BeginFault {
 
 /// What a pool ends with.
 #[derive(Drop)]
-pub struct PoolEnd<L: Hands> {
+pub struct PoolEnd<L: DeskLedger> {
     /// How many workers it had.
     pub workers: usize,
     /// All workers' badges, joined: its share is the number of steps that they took.
@@ -102,7 +102,7 @@ const ROOM: usize = 1_024;
 /// Runs the workers 1 to `workers`, each in a thread of its own. Returns what the pool ends with when the desk is
 /// closed and all workers have ended. Where not all of them could be started it closes the desk, waits for those that
 /// were, and returns why (`PoolFault`).
-pub fn run_pool<L: Hands + Send + Sync, G: Gate + Sync, R: Threads + Wait + Sync>(
+pub fn run_pool<L: DeskLedger + Send + Sync, G: Gate + Sync, R: Threads + Wait + Sync>(
     rt: &R,
     alloc: Global,
     desk: &Desk<L>,
@@ -127,7 +127,7 @@ pub fn run_pool<L: Hands + Send + Sync, G: Gate + Sync, R: Threads + Wait + Sync
 /// ended. `Pool` where not all workers could be started: `announce` isn't called then. `Unsaid` where it returned
 /// false. In both cases the desk is closed, and the workers that were started have ended.
 pub fn run_pool_announced<
-    L: Hands + Send + Sync,
+    L: DeskLedger + Send + Sync,
     G: Gate + Sync,
     R: Threads + Wait + Sync,
     A: Announce + Drop,
@@ -194,7 +194,7 @@ impl Sizes {
 /// Runs a pool with these sizes: what `run_pool` and `run_pool_announced` do, which say when it returns. At an error it
 /// also tells how many workers' threads were started and have ended.
 pub(crate) fn run_pool_of<
-    L: Hands + Send + Sync,
+    L: DeskLedger + Send + Sync,
     G: Gate + Sync,
     R: Threads + Wait + Sync,
     A: Announce + Drop,
@@ -245,7 +245,7 @@ pub(crate) fn run_pool_of<
 /// What a pool ends with, by what its workers left: how many they were, their joined badge, and how many tasks were
 /// pushed, taken and left on all deques together. On each deque the tasks that were pushed are those that were taken
 /// and those that are left, each as often.
-fn end_of<L: Hands>(worked: Worked<L>) -> PoolEnd<L>
+fn end_of<L: DeskLedger>(worked: Worked<L>) -> PoolEnd<L>
     ensures workers { result.workers ≡ length (returned worked.back) }
     ensures badge { result.badge ≡ worked.badge }
     ensures pushed { result.pushed ≡ sum_by (λ deque. length deque.tally.pushed) (whole_deques (returned worked.back)) }

@@ -14,7 +14,7 @@ mod seats;
 
 use crate::pool::{Sizes, run_pool_of};
 use crate::{Gate, PoolEnd, PoolFault, Quiet, run_pool};
-use desk::{Desk, Hall, Hands, PARTS};
+use desk::{Desk, DeskLedger, Hall, PARTS};
 use sched_rules::{Config, Worker};
 use std::alloc::Global;
 use std::marker::Brand;
@@ -29,7 +29,7 @@ pub(crate) const MOST_TURNS: u32 = 10_000_000;
 /// What is said at the desk while a pool runs; true where all was as it should be.
 pub(crate) trait Scenario {
     /// Plays at the desk. It leaves no seat behind.
-    fn play<L: Hands, R: Wait>(&self, rt: &R, desk: &Desk<L>) -> bool
+    fn play<L: DeskLedger, R: Wait>(&self, rt: &R, desk: &Desk<L>) -> bool
         requires { L.all ≡ L.parts };
 }
 
@@ -101,7 +101,7 @@ pub(crate) fn well<S: Scenario, G: Gate + Sync, R: Threads + Wait + Sync>(
 }
 
 /// The same as `play` over the ledger of the desk.
-fn play_on<L: Hands + Send + Sync, S: Scenario, G: Gate + Sync, R: Threads + Wait + Sync>(
+fn play_on<L: DeskLedger + Send + Sync, S: Scenario, G: Gate + Sync, R: Threads + Wait + Sync>(
     rt: &R,
     alloc: Global,
     blank: Blank,
@@ -137,7 +137,7 @@ fn play_on<L: Hands + Send + Sync, S: Scenario, G: Gate + Sync, R: Threads + Wai
 }
 
 /// Runs the pool.
-fn run<L: Hands + Send + Sync, G: Gate + Sync, R: Threads + Wait + Sync>(
+fn run<L: DeskLedger + Send + Sync, G: Gate + Sync, R: Threads + Wait + Sync>(
     rt: &R,
     alloc: Global,
     desk: &Desk<L>,
@@ -164,7 +164,7 @@ fn run<L: Hands + Send + Sync, G: Gate + Sync, R: Threads + Wait + Sync>(
 }
 
 /// Runs the pool in a thread, plays, and closes the desk.
-fn beside<L: Hands + Send + Sync, S: Scenario, G: Gate + Sync, R: Threads + Wait + Sync>(
+fn beside<L: DeskLedger + Send + Sync, S: Scenario, G: Gate + Sync, R: Threads + Wait + Sync>(
     rt: &R,
     alloc: Global,
     desk: &Desk<L>,

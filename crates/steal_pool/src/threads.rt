@@ -14,7 +14,7 @@ use crate::pool::{BeginFault, NotRun, PoolFault, Sizes};
 use crate::tasks::{Shared, Tasks};
 use crate::worker::run_worker;
 use core::thread::Stack;
-use desk::{Badge, Desk, Hands};
+use desk::{Badge, Desk, DeskLedger};
 use sched_rules::Worker;
 use std::alloc::{AllocError, Global};
 use std::snapshot::Snapshot;
@@ -27,7 +27,7 @@ use task_deques::{DequeEnds, Returned, deal};
 #[derive(Drop)]
 pub(crate) struct SameEnds(Snapshot<DequeEnds>);
 
-impl<L: Hands> Promise<(Badge<L>, DequeEnds)> for SameEnds {
+impl<L: DeskLedger> Promise<(Badge<L>, DequeEnds)> for SameEnds {
     ghost kept_by = { λ promise came. posts came.1 ≡ posts promise.0.value };
 }
 
@@ -37,7 +37,7 @@ type Handle<L> = PromisedHandle<(Badge<L>, DequeEnds), SameEnds>;
 /// All memory that a pool takes at its start: its workers' deque ends, the room for those that come back, and the room
 /// for the threads' handles.
 #[derive(Drop)]
-pub(crate) struct Stock<L: Hands> {
+pub(crate) struct Stock<L: DeskLedger> {
     dealt: Vec<DequeEnds>,
     back: Returned,
     handles: Vec<Handle<L>>,
@@ -49,7 +49,7 @@ pub(crate) struct Stock<L: Hands> {
     ghost handle_room: { vec_len dealt ≤ vec_capacity handles },
 }
 
-impl<L: Hands> Stock<L> {
+impl<L: DeskLedger> Stock<L> {
     /// The memory for the workers 1 to `last`, with these sizes. `Err` only where memory is refused.
     pub(crate) fn made(alloc: Global, last: Worker, sizes: Sizes) -> Result<Stock<L>, AllocError>
         ensures { IfOk result (λ stock. vec_len stock.dealt ≡ last) }
@@ -68,7 +68,7 @@ impl<L: Hands> Stock<L> {
 
 /// What all threads of a pool are started with.
 #[derive(Drop)]
-pub(crate) struct Site<'s, E, L: Hands, G, R> {
+pub(crate) struct Site<'s, E, L: DeskLedger, G, R> {
     pub(crate) scope: &'s Scope<'s, E>,
     pub(crate) rt: &'s R,
     pub(crate) desk: &'s Desk<L>,
@@ -81,7 +81,7 @@ pub(crate) struct Site<'s, E, L: Hands, G, R> {
 
 /// What the workers of a pool leave when they have ended: their badges, joined, and the ends of all deques.
 #[derive(Drop)]
-pub(crate) struct Worked<L: Hands> {
+pub(crate) struct Worked<L: DeskLedger> {
     pub(crate) badge: Badge<L>,
     pub(crate) back: Returned,
     ghost whole: { IsWhole (map posts_of (returned back)) },
@@ -93,7 +93,7 @@ pub(crate) struct Worked<L: Hands> {
 pub(crate) fn run_all<
     's,
     E,
-    L: Hands + Send + Sync,
+    L: DeskLedger + Send + Sync,
     G: Gate + Sync,
     R: Threads + Wait + Sync,
     A: Announce,
@@ -148,7 +148,7 @@ fn announced<A: Announce>(started: Result<(), PoolFault>, call: &mut A) -> Resul
 
 /// Starts a worker with each of these deque ends, numbered from 1 on. `NoThread` at the first that can't be started;
 /// those before it run then, and their handles are in `handles`.
-fn start_all<'s, E, L: Hands + Send + Sync, G: Gate + Sync, R: Wait + Sync>(
+fn start_all<'s, E, L: DeskLedger + Send + Sync, G: Gate + Sync, R: Wait + Sync>(
     site: &Site<'s, E, L, G, R>,
     dealt: Vec<DequeEnds>,
     handles: &mut Vec<Handle<L>>,
@@ -173,7 +173,7 @@ fn start_all<'s, E, L: Hands + Send + Sync, G: Gate + Sync, R: Wait + Sync>(
 
 /// Starts a worker with a new badge in a thread of its own. `NoThread` where no badge or no thread can be had; the
 /// deque ends are dropped then.
-fn start<'s, E, L: Hands + Send + Sync, G: Gate + Sync, R: Wait + Sync>(
+fn start<'s, E, L: DeskLedger + Send + Sync, G: Gate + Sync, R: Wait + Sync>(
     site: &Site<'s, E, L, G, R>,
     worker: Worker,
     ends: DequeEnds,
@@ -207,7 +207,7 @@ fn start<'s, E, L: Hands + Send + Sync, G: Gate + Sync, R: Wait + Sync>(
 }
 
 /// What a worker's thread does: runs the worker until it ends, and returns its badge and its deque ends.
-fn work<L: Hands, G: Gate, R: Wait>(
+fn work<L: DeskLedger, G: Gate, R: Wait>(
     rt: &R,
     desk: &Desk<L>,
     worker: Worker,
@@ -225,7 +225,7 @@ fn work<L: Hands, G: Gate, R: Wait>(
 
 /// Waits until all these threads have ended, adds the deque ends that they return to `back`, and returns their badges,
 /// joined to `own`.
-fn join_all<L: Hands, R: Threads>(
+fn join_all<L: DeskLedger, R: Threads>(
     rt: &R,
     own: Badge<L>,
     handles: Vec<Handle<L>>,

@@ -8,12 +8,12 @@
 ghost use Rattle.std.specs.Prelude.{◌≡◌, ◌+◌, ◌≤◌, Some};
 ghost use Rattle.task_deques.specs.pool_rules.Turns.{offered};
 ghost use Rattle.task_deques.specs.Deals.{posts, worker_seats};
-ghost use Rattle.steal_pool.specs.Works.{IsTurn, BringsAnswerTo, GoesOn};
+ghost use Rattle.steal_pool.specs.Works.{IsTurn, BringsAnswerTo, TakesOwnTask};
 
 use crate::gate::Gate;
 use crate::tasks::Tasks;
 use desk::jamboree::{Jamboree, Leaf, LeafAnswer};
-use desk::{Badge, Desk, Hands, Held};
+use desk::{Badge, Desk, DeskGuard, DeskLedger};
 use frame_tree::FrameId;
 use sched_rules::{Step, Worker};
 use std::sync::Wait;
@@ -23,9 +23,9 @@ use task_deques::pool_rules::{Action, Holding, Task};
 const HELD_STEPS: u32 = 32;
 
 /// Does tasks until the desk is closed and none is found; before that it waits where it finds none. Returns the badge,
-/// whose share has grown by 1 for each step that the hall took, as every step goes through [`Held::offer`], and the
-/// tasks, whose ends are at the same deques as before.
-pub fn run_worker<'s, L: Hands, G: Gate, R: Wait>(
+/// whose share has grown by 1 for each step that the hall took, as every step goes through [`DeskGuard::offer`], and
+/// the tasks, whose ends are at the same deques as before.
+pub fn run_worker<'s, L: DeskLedger, G: Gate, R: Wait>(
     rt: &R,
     desk: &Desk<L>,
     worker: Worker,
@@ -49,7 +49,7 @@ pub fn run_worker<'s, L: Hands, G: Gate, R: Wait>(
 
 /// The task that a worker without a frame does next: one of the deques, else a frame that is ready in the hall, for
 /// which it waits at the desk. None once the desk is closed and the deques gave none.
-fn next_task<L: Hands, R: Wait>(
+fn next_task<L: DeskLedger, R: Wait>(
     rt: &R,
     desk: &Desk<L>,
     worker: Worker,
@@ -66,7 +66,7 @@ fn next_task<L: Hands, R: Wait>(
 
 /// Gets the frame of a task from the hall and does its steps and computations, until the worker is without a frame.
 /// That is at once where the frame can't be had any more.
-fn work_off<L: Hands, G: Gate, R: Wait>(
+fn work_off<L: DeskLedger, G: Gate, R: Wait>(
     rt: &R,
     desk: &Desk<L>,
     worker: Worker,
@@ -92,7 +92,7 @@ fn work_off<L: Hands, G: Gate, R: Wait>(
 /// Takes up to 32 steps of the worker that follow each other under one lock, pushes the tasks of the frames that they
 /// make ready, and returns what the worker holds then. It stops earlier where there is a leaf to compute, or the worker
 /// is without a frame and doesn't go on with a task of its own.
-fn steps<L: Hands, G: Gate, R: Wait>(
+fn steps<L: DeskLedger, G: Gate, R: Wait>(
     rt: &R,
     desk: &Desk<L>,
     worker: Worker,
@@ -121,7 +121,7 @@ fn steps<L: Hands, G: Gate, R: Wait>(
 /// of its own deque, if there is one. So the lock isn't let go and taken again between a frame and the next.
 fn gone_on<G: Gate>(worker: Worker, tasks: &mut Tasks<'_>, gate: &G, holding: Holding) -> Holding
     ensures ends { posts tasks.new.ends ≡ posts tasks.old.ends }
-    ensures next { GoesOn holding result (worker_seats tasks.old.ends) (worker_seats tasks.new.ends) }
+    ensures next { TakesOwnTask holding result (worker_seats tasks.old.ends) (worker_seats tasks.new.ends) }
 {
     match holding {
         Holding::Nothing if gate.is_brief() => match tasks.take_own() {
@@ -150,9 +150,9 @@ fn computed<G: Gate>(worker: Worker, number: u64, gate: &G, frame: FrameId, leaf
 /// Offers the step of what the worker holds, pushes the task of a frame that became ready by it, if one did, and
 /// returns what the worker holds then.
 #[tactic(auto, using(crate::proofs::Steps::offers_a_worker_step))]
-fn offered<L: Hands, R: Wait>(
+fn offered<L: DeskLedger, R: Wait>(
     rt: &R,
-    desk: &mut Held<'_, L>,
+    desk: &mut DeskGuard<'_, L>,
     worker: Worker,
     badge: &mut Badge<L>,
     tasks: &mut Tasks<'_>,

@@ -2,15 +2,15 @@
 use Rattle.std.specs.Prelude.{ℕ, ◌/◌, ◌%◌, ◌==◌, List, [], ◌∷◌, if◌then◌else◌}
 use Rattle.sched_rules.specs.declared.act.Act.{Act}
 use Rattle.sched_rules.specs.declared.act.InletAct.{InletAct}
-use Rattle.sched_rules.specs.declared.act.Then.{Then}
-use Rattle.sched_rules.specs.declared.act.Then.TheVariants.{Grow, Spawn, Go, Wait, Compute, Return}
+use Rattle.sched_rules.specs.declared.act.Continuation.{Continuation}
+use Rattle.sched_rules.specs.declared.act.Continuation.TheVariants.{Grow, Spawn, Go, Wait, Compute, Return}
 use Rattle.step_texts.specs.declared.reader.ReaderAnswer.{ReaderAnswer}
 use Rattle.sched_rules.specs.Functions.{Functions}
 use Rattle.sched_toys.specs.Toys.{word_at, toy}
 
 -- the act that stores this and then does that
-abbrev pub act_of : List (ℕ × ℕ) → Then → Act
-act_of stores after = record { stores = stores; after = after }
+abbrev pub act_with_stores : List (ℕ × ℕ) → Continuation → Act
+act_with_stores stores after = record { stores = stores; after = after }
 
 -- the store that takes the lowest digit off the octal number in word 0, a frame's acts
 abbrev pub acts_left : ℕ → List (ℕ × ℕ)
@@ -21,14 +21,14 @@ acts_left acts = (0, acts / 8) ∷ []
 -- has, and 7 goes on for ever
 abbrev pub act_of_digit : ℕ → ℕ → ℕ → Act
 act_of_digit digit acts below =
-    if digit == 0 then act_of [] Return
-    else if digit == 1 then act_of (acts_left acts) Go
-    else if digit == 2 then act_of (acts_left acts) (Grow 16)
-    else if digit == 3 then act_of (acts_left acts) (Spawn (below ∷ 0 ∷ []) 4)
-    else if digit == 4 then act_of (acts_left acts) Wait
-    else if digit == 5 then act_of (acts_left acts) Compute
-    else if digit == 6 then act_of ((128, acts) ∷ []) Go
-    else act_of [] Go
+    if digit == 0 then act_with_stores [] Return
+    else if digit == 1 then act_with_stores (acts_left acts) Go
+    else if digit == 2 then act_with_stores (acts_left acts) (Grow 16)
+    else if digit == 3 then act_with_stores (acts_left acts) (Spawn (below ∷ 0 ∷ []) 4)
+    else if digit == 4 then act_with_stores (acts_left acts) Wait
+    else if digit == 5 then act_with_stores (acts_left acts) Compute
+    else if digit == 6 then act_with_stores ((128, acts) ∷ []) Go
+    else act_with_stores [] Go
 
 -- the act that the lowest octal digit of a frame's acts stands for
 abbrev pub reader_act : ℕ → ℕ → Act

@@ -1,6 +1,6 @@
 //! The procedure Reader: a frame does what its words say.
 use cactus_stack::Words;
-use sched_core::{Act, GivenWords, InletAct, Stores, Then};
+use sched_core::{Act, Continuation, GivenWords, InletAct, Stores};
 use sched_toys::{Play, Toy, ToyAnswer, word};
 
 /// A place that no frame has: a store there can't be done.
@@ -52,35 +52,35 @@ impl Play for ReaderPlay {
         match acts % 8 {
             0 => Act {
                 stores: Stores::new(),
-                after: Then::Return,
+                after: Continuation::Return,
             },
             1 => Act {
                 stores: rest,
-                after: Then::Go,
+                after: Continuation::Go,
             },
             2 => Act {
                 stores: rest,
-                after: Then::Grow(16),
+                after: Continuation::Grow(16),
             },
             3 => Act {
                 stores: rest,
-                after: Then::Spawn(GivenWords::two(below, 0), 4),
+                after: Continuation::Spawn(GivenWords::two(below, 0), 4),
             },
             4 => Act {
                 stores: rest,
-                after: Then::Wait,
+                after: Continuation::Wait,
             },
             5 => Act {
                 stores: rest,
-                after: Then::Compute,
+                after: Continuation::Compute,
             },
             6 => Act {
                 stores: Stores::new().then(NOWHERE, acts),
-                after: Then::Go,
+                after: Continuation::Go,
             },
             _ => Act {
                 stores: Stores::new(),
-                after: Then::Go,
+                after: Continuation::Go,
             },
         }
     }

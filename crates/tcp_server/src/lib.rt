@@ -33,7 +33,7 @@
 //! ```text
 //! let listener = TcpListener::bind(&rt, "127.0.0.1:0")?;
 //! let config = ServerConfig::new(2, Worker::new(4)?);
-//! let end = serve(&rt, alloc, &desk, listener, config, &Open)?;   // after two sessions
+//! let end = serve(&rt, alloc, &desk, listener, config, &OpenGate)?;   // after two sessions
 //! ```
 #![tactic(auto)]
 

@@ -11,7 +11,7 @@ use std::net::{Net, SocketAddr, TcpListener, TcpStream};
 use std::sync::Wait;
 use std::sync::atomic::{AtomicBool, Ordering};
 use std::thread::{self, Builder, Scope, Threads};
-use steal_pool::desk::{Desk, Hands};
+use steal_pool::desk::{Desk, DeskLedger};
 use steal_pool::{Announce, BeginFault, Gate, PoolConfig, PoolEnd, Quiet, run_pool_announced};
 use tcp_door::Door;
 
@@ -59,7 +59,7 @@ impl ServerConfig {
 /// where no more connections could be taken, or the listener's address couldn't be had; `OutOfMemory` where there was
 /// no memory for the pool; `NoThread` where no thread could be had for a worker or for taking the connections, or no
 /// badge for a worker.
-pub fn serve<L: Hands + Send + Sync, G: Gate + Sync, R: Net + Threads + Wait + Sync>(
+pub fn serve<L: DeskLedger + Send + Sync, G: Gate + Sync, R: Net + Threads + Wait + Sync>(
     rt: &R,
     alloc: Global,
     desk: &Desk<L>,
@@ -80,7 +80,7 @@ pub fn serve<L: Hands + Send + Sync, G: Gate + Sync, R: Net + Threads + Wait + S
 /// where the pool can't begin it isn't called. Returns `call` too. Its faults are those of `serve`, and `Unsaid` where
 /// `announce` returned false: then no more connections are taken.
 pub fn serve_announced<
-    L: Hands + Send + Sync,
+    L: DeskLedger + Send + Sync,
     G: Gate + Sync,
     R: Net + Threads + Wait + Sync,
     A: Announce + Drop,
@@ -109,7 +109,7 @@ pub fn serve_announced<
 }
 
 /// The result of `run_pool_announced` as that of `serve_announced`; at an error the announcer is dropped.
-fn ended_as<A: Drop, L: Hands>(
+fn ended_as<A: Drop, L: DeskLedger>(
     came: (A, Result<PoolEnd<L>, BeginFault>),
 ) -> Result<(A, PoolEnd<L>), ServeFault>
     ensures call { IfOk result (λ served. came.0 ≡ served.0) }
@@ -127,7 +127,7 @@ fn ended_as<A: Drop, L: Hands>(
 /// connections are taken then. The other errors are `Listener`, which is returned in place of the pool's result, and
 /// `NoThread` where the thread that takes the connections can't be had; then the desk is closed and `pool` isn't run.
 fn serve_beside<
-    L: Hands + Send + Sync,
+    L: DeskLedger + Send + Sync,
     R: Net + Threads + Wait + Sync,
     T: Drop,
     P: FnOnce() -> Result<T, ServeFault>,
@@ -197,7 +197,7 @@ fn ended_with<T: Drop>(taken: io::Result<()>, ended: Result<T, ServeFault>) -> R
 
 /// Takes connections and serves them (`take_all`), waits until all their sessions have ended, and closes the desk. It
 /// does so at an error of the listener too, which it returns at the end.
-fn serve_and_close<L: Hands + Send + Sync, R: Threads + Wait + Sync>(
+fn serve_and_close<L: DeskLedger + Send + Sync, R: Threads + Wait + Sync>(
     rt: &R,
     desk: &Desk<L>,
     listener: TcpListener,
@@ -221,7 +221,7 @@ fn serve_and_close<L: Hands + Send + Sync, R: Threads + Wait + Sync>(
 /// wait for the sessions. A connection for which no thread or descriptor can be had is closed, and counts as one of
 /// them. Where `stop` is set when a connection was taken, that one is closed and no more are taken. `Err` where the
 /// listener fails.
-fn take_all<'s, E, L: Hands + Send + Sync, R: Wait + Sync>(
+fn take_all<'s, E, L: DeskLedger + Send + Sync, R: Wait + Sync>(
     scope: &'s Scope<'s, E>,
     rt: &'s R,
     desk: &'s Desk<L>,
@@ -246,7 +246,7 @@ fn take_all<'s, E, L: Hands + Send + Sync, R: Wait + Sync>(
 
 /// Starts a session on this connection in a thread of its own, with a stack of this size, or of the usual one at
 /// `None`. Where no thread can be had the connection is closed.
-fn start<'s, E, L: Hands + Send + Sync, R: Wait + Sync>(
+fn start<'s, E, L: DeskLedger + Send + Sync, R: Wait + Sync>(
     scope: &'s Scope<'s, E>,
     rt: &'s R,
     desk: &'s Desk<L>,
@@ -269,7 +269,7 @@ fn start<'s, E, L: Hands + Send + Sync, R: Wait + Sync>(
 
 /// Serves one session on a connection, up to a line BYE, the end of the input, or a failure of the connection. In each
 /// case its tenant has left when it returns. Each answer is sent at once, without Nagle's delay.
-fn converse<L: Hands, R: Wait>(rt: &R, desk: &Desk<L>, stream: &TcpStream)
+fn converse<L: DeskLedger, R: Wait>(rt: &R, desk: &Desk<L>, stream: &TcpStream)
     requires { L.all ≡ L.parts }
 {
     let _ = stream.set_nodelay(true);

@@ -5,21 +5,21 @@ use Rattle.std.specs.List.{insert}
 use Rattle.number_index.proofs.Edits as edits
 use Rattle.tenant_quota.proofs.Places.{account_place, entry-of}
 use Rattle.tenant_quota.specs.declared.account.Account.{Account}
-use Rattle.tenant_quota.specs.Accounts.{owner_of, account_of, with_new, AllEntries}
+use Rattle.tenant_quota.specs.Accounts.{owner_of_account, account_of, with_new, AllEntries}
 
 abbrev Entries : Type 0
 Entries = List (ℕ × Account)
 
 pub insert-account_place : (t : ℕ) (a : Account) (es : Entries) → insert es (account_place t es) (t, a) ≡ with_new t a es
-insert-account_place t a es = edits.place-inserted owner_of (t, a) es
+insert-account_place t a es = edits.place-inserted owner_of_account (t, a) es
 
 pub AllEntries-map : (P Q : ℕ × Account → Type 0) → ((e : ℕ × Account) → P e → Q e) → (es : Entries) → AllEntries P es → AllEntries Q es
 AllEntries-map P Q more es all = edits.all-map P Q more es all
 
 -- what all entries have, the tenant's has
 pub AllEntries-of : (P : ℕ × Account → Type 0) (t : ℕ) (a : Account) (es : Entries) → account_of t es ≡ Some a → AllEntries P es → P (t, a)
-AllEntries-of P t a es is all = edits.all-of P owner_of t (t, a) es (entry-of t a es is) all
+AllEntries-of P t a es is all = edits.all-of P owner_of_account t (t, a) es (entry-of t a es is) all
 
 -- what one entry has of h beyond g lies within what all together have
 pub sum_by-le_with : (g h : ℕ × Account → ℕ) (t : ℕ) (a : Account) (es : Entries) → account_of t es ≡ Some a → AllEntries (λ e. g e ≤ h e) es → sum_by g es + (h (t, a) - g (t, a)) ≤ sum_by h es
-sum_by-le_with g h t a es is all = edits.sum_by-le_with g h owner_of t (t, a) es (entry-of t a es is) all
+sum_by-le_with g h t a es is all = edits.sum_by-le_with g h owner_of_account t (t, a) es (entry-of t a es is) all

@@ -1,7 +1,7 @@
 -- Meaning: what each tenant has reserved and used: a list of tenants with their accounts, in rising order of tenants.
 use Rattle.std.specs.Prelude.{ℕ, ◌+◌, ◌-◌, ◌*◌, ◌≤◌, List, Option, Some, None, sum_by}
 use Rattle.std.specs.List.{AllByRecursion}
-use Rattle.number_index.specs.Places.{said_of, inserted, with_thing, without_thing, AreRising}
+use Rattle.number_index.specs.Places.{read_by_number, inserted, change_by_number, remove_by_number, AreRising}
 use Rattle.tenant_quota.specs.Quota.{Quota}
 use Rattle.tenant_quota.specs.declared.account.Account.{Account}
 use Rattle.tenant_quota.specs.declared.account.Left.{Left}
@@ -42,24 +42,24 @@ pub record IsWithinReserve (a : Account) : Type 0 where
   pub ticks_within : a.ticks ≤ 16 * a.reserve.nodes
 
 -- the tenant whose account an entry is
-abbrev pub owner_of : ℕ × Account → ℕ
-owner_of entry = entry.0
+abbrev pub owner_of_account : ℕ × Account → ℕ
+owner_of_account entry = entry.0
 
 -- the account of a tenant; None where the tenant isn't there
 abbrev pub account_of : ℕ → List (ℕ × Account) → Option Account
-account_of tenant es = said_of owner_of (λ e. Some e.1) None tenant es
+account_of tenant es = read_by_number owner_of_account (λ e. Some e.1) None tenant es
 
 -- the accounts with that of a new tenant, in front of the first tenant that isn't below it
 abbrev pub with_new : ℕ → Account → List (ℕ × Account) → List (ℕ × Account)
-with_new tenant a es = inserted owner_of (tenant, a) es
+with_new tenant a es = inserted owner_of_account (tenant, a) es
 
 -- the accounts with the tenant's own changed by f, and all others as they were
 abbrev pub with_changed : ℕ → (Account → Account) → List (ℕ × Account) → List (ℕ × Account)
-with_changed tenant f es = with_thing owner_of tenant (λ e. (e.0, f e.1)) es
+with_changed tenant f es = change_by_number owner_of_account tenant (λ e. (e.0, f e.1)) es
 
 -- the accounts without that of the tenant
 abbrev pub without : ℕ → List (ℕ × Account) → List (ℕ × Account)
-without tenant es = without_thing owner_of tenant es
+without tenant es = remove_by_number owner_of_account tenant es
 
 -- P holds of each entry
 abbrev pub AllEntries : (ℕ × Account → Type 0) → List (ℕ × Account) → Type 0
@@ -67,7 +67,7 @@ AllEntries P es = AllByRecursion P es
 
 -- each tenant is below all later ones, so none stands twice
 abbrev pub IsRising : List (ℕ × Account) → Type 0
-IsRising es = AreRising owner_of es
+IsRising es = AreRising owner_of_account es
 
 -- the segments that all tenants together have reserved
 abbrev pub reserved_segments : List (ℕ × Account) → ℕ

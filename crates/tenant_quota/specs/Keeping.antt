@@ -12,7 +12,7 @@ held_by {A} b = record { segments = b.segments; nodes = b.nodes; accounts = b.ac
 
 -- the invariant of the fields of a book: the book is sound, the kept sums are those of the accounts, and there is
 -- memory for 64 accounts
-pub record IsKept {A : Type 0} (b : Inside A) : Type 0 where
+pub record IsKeptBook {A : Type 0} (b : Inside A) : Type 0 where
   pub sound : IsSoundBook (held_by b)
   pub segments : b.reserved_segments ≡ reserved_segments b.accounts.items
   pub nodes : b.reserved_nodes ≡ reserved_nodes b.accounts.items

@@ -29,8 +29,8 @@ abbrev pub released : Reservations → ℕ → Reservations
 released b tenant = record b { accounts = without tenant b.accounts }
 
 -- what a tenant has left; None where it isn't there
-abbrev pub left_of : ℕ → Reservations → Option Left
-left_of tenant b = option_map left_in (account_of tenant b.accounts)
+abbrev pub left_in_book : ℕ → Reservations → Option Left
+left_in_book tenant b = option_map left_in (account_of tenant b.accounts)
 
 -- how many nodes a tenant ever opened; None where it isn't there
 abbrev pub opened_of : ℕ → Reservations → Option ℕ
@@ -78,26 +78,26 @@ IsTooMuch b tenant quota = IsSomeAnd (reserve_of tenant b) (λ now. IsAbove now 
 
 -- the tenant is there, and has at least so many segments and so many nodes left
 abbrev pub HasLeft : Reservations → ℕ → ℕ → ℕ → Type 0
-HasLeft b tenant segments nodes = IsSomeAnd (left_of tenant b) (λ left. (segments ≤ left.segments) × (nodes ≤ left.nodes))
+HasLeft b tenant segments nodes = IsSomeAnd (left_in_book tenant b) (λ left. (segments ≤ left.segments) × (nodes ≤ left.nodes))
 
 -- the tenant is there, and has fewer segments or fewer nodes left than these
 abbrev pub IsShort : Reservations → ℕ → ℕ → ℕ → Type 0
-IsShort b tenant segments nodes = IsSomeAnd (left_of tenant b) (λ left. (left.segments < segments) ⊎ (left.nodes < nodes))
+IsShort b tenant segments nodes = IsSomeAnd (left_in_book tenant b) (λ left. (left.segments < segments) ⊎ (left.nodes < nodes))
 
 -- the tenant is there, and has a step left
 abbrev pub HasStepLeft : Reservations → ℕ → Type 0
-HasStepLeft b tenant = IsSomeAnd (left_of tenant b) (λ left. 0 < left.steps)
+HasStepLeft b tenant = IsSomeAnd (left_in_book tenant b) (λ left. 0 < left.steps)
 
 -- the tenant is there, and has no step left
 abbrev pub IsOutOfSteps : Reservations → ℕ → Type 0
-IsOutOfSteps b tenant = IsSomeAnd (left_of tenant b) (λ left. left.steps ≡ 0)
+IsOutOfSteps b tenant = IsSomeAnd (left_in_book tenant b) (λ left. left.steps ≡ 0)
 
 -- the tenant is there, and is charged at least so many segments
 abbrev pub HasChargedAtLeast : Reservations → ℕ → ℕ → Type 0
 HasChargedAtLeast b tenant segments = IsSomeAnd (account_of tenant b.accounts) (λ a. segments ≤ a.charged)
 
 -- the totals and the accounts of all tenants but one are as they were
-pub record KeepsOthers (old new : Reservations) (tenant : ℕ) : Type 0 where
+pub record KeepsOtherAccounts (old new : Reservations) (tenant : ℕ) : Type 0 where
   pub segments : new.segments ≡ old.segments
   pub nodes : new.nodes ≡ old.nodes
   pub others : (other : ℕ) → other ≢ tenant → account_of other new.accounts ≡ account_of other old.accounts

@@ -44,16 +44,16 @@ impl<A: Allocator> Model for Book<A> {
 
     ghost Value = { Reservations };
 
-    ghost use Rattle.tenant_quota.specs.Keeping.{held_by, IsKept};
+    ghost use Rattle.tenant_quota.specs.Keeping.{held_by, IsKeptBook};
 
     ghost view = { λ book. held_by book };
 
-    ghost invariant = { λ book. IsKept book };
+    ghost invariant = { λ book. IsKeptBook book };
 }
 
 impl<A: Allocator> Book<A> {
     ghost use Rattle.tenant_quota.specs.Accounts.{fresh, raised_to, charged_by, credited_by, ticked, charged_segments};
-    ghost use Rattle.tenant_quota.specs.Reservations.{empty_of, left_of, opened_of, reserve_of, unreserved_of, HasRoom, IsFull, CanRaise, IsTooMuch, IsLower, HasLeft, IsShort, HasStepLeft, IsOutOfSteps, HasChargedAtLeast, KeepsOthers, Admits, Raises, ChangesOnly, Releases, IsSoundBook};
+    ghost use Rattle.tenant_quota.specs.Reservations.{empty_of, left_in_book, opened_of, reserve_of, unreserved_of, HasRoom, IsFull, CanRaise, IsTooMuch, IsLower, HasLeft, IsShort, HasStepLeft, IsOutOfSteps, HasChargedAtLeast, KeepsOtherAccounts, Admits, Raises, ChangesOnly, Releases, IsSoundBook};
 
     /// A book of `segments` segments (1 to 65,536) and `nodes` nodes (1 to 4,194,304) in all, with no tenant. It takes
     /// memory for the accounts of 64 tenants, and no other call takes any. Err where the allocator refuses it.
@@ -84,7 +84,7 @@ impl<A: Allocator> Book<A> {
         ensures ok { IsOk result ↔ HasRoom self.old reserve }
         ensures full { (result ≡ Err Refusal.Full) ↔ IsFull self.old reserve }
         ensures admits { OnOk result (Admits self.old self.new tenant reserve) }
-        ensures others { KeepsOthers self.old self.new tenant }
+        ensures others { KeepsOtherAccounts self.old self.new tenant }
         ensures err { OnErr result (self.new ≡ self.old) }
         ensures sound { IsSoundBook self.new }
     {
@@ -115,7 +115,7 @@ impl<A: Allocator> Book<A> {
         ensures full { (result ≡ Err Refusal.Full) ↔ IsTooMuch self.old tenant reserve }
         ensures raises { OnOk result (
             IfSome (reserve_of tenant self.old) (Raises self.old self.new tenant reserve)) }
-        ensures others { KeepsOthers self.old self.new tenant }
+        ensures others { KeepsOtherAccounts self.old self.new tenant }
         ensures err { OnErr result (self.new ≡ self.old) }
         ensures sound { IsSoundBook self.new }
     {
@@ -147,7 +147,7 @@ impl<A: Allocator> Book<A> {
         ensures charges { OnOk result (ChangesOnly self.old self.new tenant (charged_by segments nodes)) }
         ensures sum { OnOk result (
             charged_segments self.new.accounts ≡ charged_segments self.old.accounts + segments) }
-        ensures others { KeepsOthers self.old self.new tenant }
+        ensures others { KeepsOtherAccounts self.old self.new tenant }
         ensures err { OnErr result (self.new ≡ self.old) }
         ensures sound { IsSoundBook self.new }
     {
@@ -167,7 +167,7 @@ impl<A: Allocator> Book<A> {
         ensures charges { OnOk result (ChangesOnly self.old self.new tenant (charged_by segments 1)) }
         ensures sum { OnOk result (
             charged_segments self.new.accounts ≡ charged_segments self.old.accounts + segments) }
-        ensures others { KeepsOthers self.old self.new tenant }
+        ensures others { KeepsOtherAccounts self.old self.new tenant }
         ensures err { OnErr result (self.new ≡ self.old) }
         ensures sound { IsSoundBook self.new }
     {
@@ -179,7 +179,7 @@ impl<A: Allocator> Book<A> {
         requires { HasChargedAtLeast self.old tenant segments }
         ensures credits { ChangesOnly self.old self.new tenant (credited_by segments) }
         ensures sum { charged_segments self.new.accounts + segments ≡ charged_segments self.old.accounts }
-        ensures others { KeepsOthers self.old self.new tenant }
+        ensures others { KeepsOtherAccounts self.old self.new tenant }
         ensures sound { IsSoundBook self.new }
     {
         let place = self.index.place_of(&self.accounts, tenant);
@@ -195,7 +195,7 @@ impl<A: Allocator> Book<A> {
         ensures short { (result ≡ Err Refusal.Short) ↔ IsOutOfSteps self.old tenant }
         ensures ticks { OnOk result (ChangesOnly self.old self.new tenant ticked) }
         ensures sum { charged_segments self.new.accounts ≡ charged_segments self.old.accounts }
-        ensures others { KeepsOthers self.old self.new tenant }
+        ensures others { KeepsOtherAccounts self.old self.new tenant }
         ensures err { OnErr result (self.new ≡ self.old) }
         ensures sound { IsSoundBook self.new }
     {
@@ -212,7 +212,7 @@ impl<A: Allocator> Book<A> {
     pub fn release(&mut self, tenant: u64)
         requires { IsSome (account_of tenant self.old.accounts) }
         ensures releases { IfSome (account_of tenant self.old.accounts) (Releases self.old self.new tenant) }
-        ensures others { KeepsOthers self.old self.new tenant }
+        ensures others { KeepsOtherAccounts self.old self.new tenant }
         ensures sound { IsSoundBook self.new }
     {
         let place = self.index.place_of(&self.accounts, tenant);
@@ -224,7 +224,7 @@ impl<A: Allocator> Book<A> {
 
     /// What the tenant has left, or None where it isn't there.
     pub fn left(&self, tenant: u64) -> Option<Left>
-        ensures left { result ≡ left_of tenant self.now }
+        ensures left { result ≡ left_in_book tenant self.now }
 
         // The segments that a tenant has left are free, whatever others are charged.
         ensures there { IfSome result (λ left.
@@ -265,7 +265,7 @@ impl<A: Allocator> Book<A> {
         ensures opened { IfOk result (λ before. opened_of tenant self.old ≡ Some before) }
         ensures charges { OnOk result (ChangesOnly self.old self.new tenant (charged_by segments nodes)) }
         ensures sum { OnOk result (charged_segments self.new.accounts ≡ charged_segments self.old.accounts + segments) }
-        ensures others { KeepsOthers self.old self.new tenant }
+        ensures others { KeepsOtherAccounts self.old self.new tenant }
         ensures err { OnErr result (self.new ≡ self.old) }
         ensures sound { IsSoundBook self.new }
     {

@@ -2,9 +2,9 @@
 //!
 //! A text is a list of scenes. A scene begins with a head, a line `= ` and words: what is played, and its options, each a
 //! word and its numbers. The lines up to the next head are its rows. Empty lines and those that begin with `#` are
-//! remarks. What a row means is up to who plays it; of the lines of a talk [`read_said`] says which are sent and which
-//! are due, and [`push_line`] which bytes they stand for. A [`Tally`] counts the rows that agree, and keeps a line for
-//! each of the first that don't.
+//! remarks. What a row means is up to who plays it; of the lines of a talk [`read_talk_line`] says which are sent and
+//! which are due, and [`push_line`] which bytes they stand for. A [`Tally`] counts the rows that agree, and keeps a
+//! line for each of the first that don't.
 //!
 //! Nothing here reads a file or prints, and nothing is known of what is played.
 //!
@@ -16,13 +16,13 @@
 #![tactic(auto)]
 
 mod escapes;
-mod said;
 mod scenes;
+mod talk_line;
 mod tally;
 mod words;
 
 pub use escapes::{Ending, push_line};
-pub use said::{Said, read_said};
 pub use scenes::{Row, Scene, read_scenes};
+pub use talk_line::{TalkLine, read_talk_line};
 pub use tally::{Place, Tally};
 pub use words::{Words, has_word, next_number, number, option, options};

@@ -7,14 +7,14 @@
 ghost use Rattle.std.specs.Prelude.{◌≡◌, true, IfSome};
 ghost use Rattle.hall.specs.Journals.{is_worker_step};
 
-use desk::{Badge, Desk, Hands, Jamboree, LeafAnswer, Step, StepAnswer, Worker};
+use desk::{Badge, Desk, DeskLedger, Jamboree, LeafAnswer, Step, StepAnswer, Worker};
 use frame_tree::FrameId;
 use pool_rules::{Action, Holding, Task};
 use std::alloc::{Allocator, Global};
 use std::sync::Wait;
 
 /// The one worker of a desk.
-pub struct Crew<'a, L: Hands, R: Wait, A: Allocator> {
+pub struct Crew<'a, L: DeskLedger, R: Wait, A: Allocator> {
     rt: &'a R,
     desk: &'a Desk<L, A>,
     badge: Badge<L>,
@@ -27,7 +27,7 @@ pub struct Crew<'a, L: Hands, R: Wait, A: Allocator> {
     pub is_closed: bool,
 }
 
-impl<L: Hands, R: Wait, A: Allocator> Drop for Crew<'_, L, R, A> {
+impl<L: DeskLedger, R: Wait, A: Allocator> Drop for Crew<'_, L, R, A> {
     fn drop(self) {
         let Crew {
             rt: _rt,
@@ -42,7 +42,7 @@ impl<L: Hands, R: Wait, A: Allocator> Drop for Crew<'_, L, R, A> {
     }
 }
 
-impl<'a, L: Hands, R: Wait, A: Allocator + Clone> Crew<'a, L, R, A> {
+impl<'a, L: DeskLedger, R: Wait, A: Allocator + Clone> Crew<'a, L, R, A> {
     /// The worker of this number, with a badge of a desk at which no tenant was yet. None where the desk gives no badge.
     pub fn new(
         alloc: Global,

@@ -8,7 +8,7 @@ use crate::crew::Crew;
 use crate::guests::House;
 use crate::sessions::Stage;
 use counted_alloc::Counted;
-use desk::{Config, Desk, Hall, Hands, PARTS, Worker};
+use desk::{Config, Desk, DeskLedger, Hall, PARTS, Worker};
 use std::alloc::{AllocError, Allocator, Global};
 use std::marker::Brand;
 use std::sync::Wait;
@@ -80,7 +80,7 @@ pub fn play_sessions<R: Wait>(
 }
 
 /// Plays rows at a desk with this hall.
-fn play_at<L: Hands, R: Wait, A: Allocator + Clone>(
+fn play_at<L: DeskLedger, R: Wait, A: Allocator + Clone>(
     rt: &R,
     alloc: Global,
     blank: Blank,
@@ -98,7 +98,7 @@ fn play_at<L: Hands, R: Wait, A: Allocator + Clone>(
 }
 
 /// Plays rows at a desk.
-fn play_rows<L: Hands, R: Wait, A: Allocator + Clone>(
+fn play_rows<L: DeskLedger, R: Wait, A: Allocator + Clone>(
     rt: &R,
     alloc: Global,
     desk: &Desk<L, A>,

@@ -7,7 +7,7 @@ ghost use Rattle.std.specs.Prelude.{◌≡◌, ◌==◌, true};
 
 use crate::crew::Crew;
 use crate::pieces::Pieces;
-use desk::{Desk, Hands, Refusal};
+use desk::{Desk, DeskLedger, Refusal};
 use desk_office::DeskOffice;
 use line_io::FromWriter;
 use session::{End, Live, Office, Question, Standing, serve_lines};
@@ -26,7 +26,7 @@ pub const GOES_ON: &[u8] = b"HELLO 1 1\n";
 pub const WENT_ON: &[u8] = b"WELCOME 1 1\n";
 
 /// A session.
-pub struct Guest<'t, 'a, L: Hands, R: Wait, A: Allocator + Clone> {
+pub struct Guest<'t, 'a, L: DeskLedger, R: Wait, A: Allocator + Clone> {
     /// The name that its rows bear.
     pub name: &'t str,
     office: DeskOffice<'a, L, R, A>,
@@ -34,7 +34,7 @@ pub struct Guest<'t, 'a, L: Hands, R: Wait, A: Allocator + Clone> {
     tenant: Option<u64>,
 }
 
-impl<L: Hands, R: Wait, A: Allocator + Clone> Drop for Guest<'_, '_, L, R, A> {
+impl<L: DeskLedger, R: Wait, A: Allocator + Clone> Drop for Guest<'_, '_, L, R, A> {
     fn drop(self) {
         let Guest {
             name: _name,
@@ -45,7 +45,7 @@ impl<L: Hands, R: Wait, A: Allocator + Clone> Drop for Guest<'_, '_, L, R, A> {
     }
 }
 
-impl<'t, 'a, L: Hands, R: Wait, A: Allocator + Clone> Guest<'t, 'a, L, R, A> {
+impl<'t, 'a, L: DeskLedger, R: Wait, A: Allocator + Clone> Guest<'t, 'a, L, R, A> {
     /// A session without a tenant.
     pub fn new(name: &'t str, rt: &'a R, desk: &'a Desk<L, A>) -> Guest<'t, 'a, L, R, A> {
         Guest {
@@ -63,7 +63,7 @@ impl<'t, 'a, L: Hands, R: Wait, A: Allocator + Clone> Guest<'t, 'a, L, R, A> {
 
 /// The sessions at a desk so far, and the worker. It is the office of the part of a session that is served: it passes each
 /// call on to the tenant's office at the desk, and at `wait` the worker runs all jobs first.
-pub struct House<'t, 'a, L: Hands, R: Wait, A: Allocator + Clone> {
+pub struct House<'t, 'a, L: DeskLedger, R: Wait, A: Allocator + Clone> {
     /// The worker.
     pub crew: Crew<'a, L, R, A>,
     /// The sessions.
@@ -76,7 +76,7 @@ pub struct House<'t, 'a, L: Hands, R: Wait, A: Allocator + Clone> {
     stays: bool,
 }
 
-impl<L: Hands, R: Wait, A: Allocator + Clone> Drop for House<'_, '_, L, R, A> {
+impl<L: DeskLedger, R: Wait, A: Allocator + Clone> Drop for House<'_, '_, L, R, A> {
     fn drop(self) {
         let House {
             crew: _crew,
@@ -88,7 +88,7 @@ impl<L: Hands, R: Wait, A: Allocator + Clone> Drop for House<'_, '_, L, R, A> {
     }
 }
 
-impl<'t, 'a, L: Hands, R: Wait, A: Allocator + Clone> House<'t, 'a, L, R, A> {
+impl<'t, 'a, L: DeskLedger, R: Wait, A: Allocator + Clone> House<'t, 'a, L, R, A> {
     /// No session yet.
     pub fn new(alloc: Global, crew: Crew<'a, L, R, A>) -> House<'t, 'a, L, R, A> {
         House {
@@ -153,7 +153,7 @@ impl<'t, 'a, L: Hands, R: Wait, A: Allocator + Clone> House<'t, 'a, L, R, A> {
     }
 }
 
-impl<L: Hands, R: Wait, A: Allocator + Clone> Office for House<'_, '_, L, R, A> {
+impl<L: DeskLedger, R: Wait, A: Allocator + Clone> Office for House<'_, '_, L, R, A> {
     ghost does = { λ _ _ _ _. Unit {0} };
 
     ghost ready = { L.all == L.parts };
@@ -241,7 +241,7 @@ impl<L: Hands, R: Wait, A: Allocator + Clone> Office for House<'_, '_, L, R, A> 
 }
 
 /// Waits for a job, but not where it is pending at a desk that is open.
-fn wait_at<L: Hands, R: Wait, A: Allocator + Clone>(
+fn wait_at<L: DeskLedger, R: Wait, A: Allocator + Clone>(
     guest: &mut Guest<'_, '_, L, R, A>,
     job: u64,
     is_closed: bool,

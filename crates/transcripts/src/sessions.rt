@@ -8,13 +8,13 @@ ghost use Rattle.std.specs.Prelude.{◌≡◌, ◌≤◌, length};
 use crate::compared::compare_lines;
 use crate::guests::{GOES_ON, Guest, House, WENT_ON};
 use crate::pieces::Pieces;
-use desk::{Desk, Hands};
+use desk::{Desk, DeskLedger};
 use std::alloc::{AllocError, Allocator, Global};
 use std::sync::Wait;
-use text_rows::{Ending, Place, Row, Said, Tally, option, push_line, read_said};
+use text_rows::{Ending, Place, Row, TalkLine, Tally, option, push_line, read_talk_line};
 
 /// A desk with its worker, and the sessions at it so far.
-pub struct Stage<'t, 'a, L: Hands, R: Wait, A: Allocator + Clone> {
+pub struct Stage<'t, 'a, L: DeskLedger, R: Wait, A: Allocator + Clone> {
     pub rt: &'a R,
     pub alloc: Global,
     pub desk: &'a Desk<L, A>,
@@ -25,7 +25,7 @@ pub struct Stage<'t, 'a, L: Hands, R: Wait, A: Allocator + Clone> {
     pub pieces: usize,
 }
 
-impl<L: Hands, R: Wait, A: Allocator + Clone> Drop for Stage<'_, '_, L, R, A> {
+impl<L: DeskLedger, R: Wait, A: Allocator + Clone> Drop for Stage<'_, '_, L, R, A> {
     fn drop(self) {
         let Stage {
             rt: _rt,
@@ -54,10 +54,10 @@ fn part_of(rows: &[Row<'_>], name: &str) -> usize
 
 /// Whether a row is a line that the session of this name sends, or that is due to it.
 fn is_of(row: Row<'_>, name: &str) -> bool {
-    match read_said(row.text) {
-        Said::Sent(whose, _) => whose == name,
-        Said::Due(whose, _) => whose == name,
-        Said::Between(_, _) | Said::Nothing => false,
+    match read_talk_line(row.text) {
+        TalkLine::Sent(whose, _) => whose == name,
+        TalkLine::Due(whose, _) => whose == name,
+        TalkLine::Between(_, _) | TalkLine::Nothing => false,
     }
 }
 
@@ -65,9 +65,9 @@ fn is_of(row: Row<'_>, name: &str) -> bool {
 /// scene isn't over.
 fn goes_on(rows: &[Row<'_>], name: &str) -> bool {
     for row in rows {
-        match read_said(row.text) {
-            Said::Sent(whose, _) if whose == name => return true,
-            Said::Between(whose, "end") if whose == name => return false,
+        match read_talk_line(row.text) {
+            TalkLine::Sent(whose, _) if whose == name => return true,
+            TalkLine::Between(whose, "end") if whose == name => return false,
             _ => {}
         }
     }
@@ -84,21 +84,21 @@ struct Part<'t> {
 impl<'t> Part<'t> {
     /// Takes a row. False where it has a wrong escape.
     fn take(&mut self, row: Row<'t>) -> Result<bool, AllocError> {
-        match read_said(row.text) {
-            Said::Sent(_, text) => Ok(push_line(text, &mut self.sent)? != Ending::Bad),
-            Said::Due(_, text) => {
+        match read_talk_line(row.text) {
+            TalkLine::Sent(_, text) => Ok(push_line(text, &mut self.sent)? != Ending::Bad),
+            TalkLine::Due(_, text) => {
                 self.dues.push(Row {
                     line: row.line,
                     text,
                 })?;
                 Ok(true)
             }
-            Said::Between(_, _) | Said::Nothing => Ok(false),
+            TalkLine::Between(_, _) | TalkLine::Nothing => Ok(false),
         }
     }
 }
 
-impl<'t, 'a, L: Hands, R: Wait, A: Allocator + Clone> Stage<'t, 'a, L, R, A> {
+impl<'t, 'a, L: DeskLedger, R: Wait, A: Allocator + Clone> Stage<'t, 'a, L, R, A> {
     /// Plays all rows.
     pub fn play(&mut self, rows: &[Row<'t>], tally: &mut Tally) -> Result<(), AllocError>
         requires { L.all ≡ L.parts }
@@ -136,14 +136,14 @@ impl<'t, 'a, L: Hands, R: Wait, A: Allocator + Clone> Stage<'t, 'a, L, R, A> {
     ) -> Result<usize, AllocError>
         requires { L.all ≡ L.parts }
     {
-        match read_said(row.text) {
-            Said::Sent(name, _) => self.play_part(rows, name, tally),
-            Said::Due(name, _) => self.play_part(rows, name, tally),
-            Said::Between(name, words) => {
+        match read_talk_line(row.text) {
+            TalkLine::Sent(name, _) => self.play_part(rows, name, tally),
+            TalkLine::Due(name, _) => self.play_part(rows, name, tally),
+            TalkLine::Between(name, words) => {
                 self.happen(row, name, words, tally)?;
                 Ok(1)
             }
-            Said::Nothing => {
+            TalkLine::Nothing => {
                 tally.miss(self.place(row), "a line of a session", row.text)?;
                 Ok(1)
             }

@@ -9,7 +9,8 @@ use line_io::{FromReader, FromWriter};
 use solve_engine::{solve_bytes, solve_visited};
 use std::alloc::{AllocError, Global};
 use text_rows::{
-    Ending, Place, Row, Said, Scene, Tally, has_word, next_number, options, push_line, read_said,
+    Ending, Place, Row, Scene, TalkLine, Tally, has_word, next_number, options, push_line,
+    read_talk_line,
 };
 
 /// What a scene sends, and what is due.
@@ -69,16 +70,16 @@ fn gather<'t>(
 
 /// Takes a row. False where it is none of such a scene.
 fn take<'t>(lines: &mut Lines<'t>, row: Row<'t>) -> Result<bool, AllocError> {
-    match read_said(row.text) {
-        Said::Sent(_, text) => Ok(push_line(text, &mut lines.sent)? != Ending::Bad),
-        Said::Due(_, text) => {
+    match read_talk_line(row.text) {
+        TalkLine::Sent(_, text) => Ok(push_line(text, &mut lines.sent)? != Ending::Bad),
+        TalkLine::Due(_, text) => {
             lines.dues.push(Row {
                 line: row.line,
                 text,
             })?;
             Ok(true)
         }
-        Said::Between(_, _) | Said::Nothing => Ok(false),
+        TalkLine::Between(_, _) | TalkLine::Nothing => Ok(false),
     }
 }
 

@@ -9,8 +9,8 @@ mod waiting;
 mod wakes;
 
 use desk::{
-    Badge, Config, Desk, DidOf, Hall, Hands, LeafAnswer, Outcome, PARTS, Refusal, Seat, StepOf,
-    Worker,
+    Badge, Config, Desk, DeskLedger, DidOf, Hall, LeafAnswer, Outcome, PARTS, Refusal, Seat,
+    StepOf, Worker,
 };
 use frame_tree::FrameId;
 use holds::Call;
@@ -88,7 +88,7 @@ fn totals(trial: Trial) -> (u32, u32) {
 /// Tries something at a new desk, at which one worker searches each job.
 fn try_at<L, R>(rt: &R, alloc: Global, blank: Blank, trial: Trial) -> Result<(), Fail>
 where
-    L: Hands + Send + Sync,
+    L: DeskLedger + Send + Sync,
     R: Wait + Abort + Threads + Clock + CpuClock + Sync,
     requires name { blank.name ≡ L.name }
     requires parts { (blank.parts ≡ L.parts) × (L.all ≡ L.parts) × (L.all ≡ PARTS) }
@@ -111,7 +111,7 @@ where
 /// What is tried up to the desk's end, and what is tried at a desk that is there.
 fn is_tried<L, R>(rt: &R, alloc: Global, desk: Desk<L>, trial: Trial)
 where
-    L: Hands + Send + Sync,
+    L: DeskLedger + Send + Sync,
     R: Wait + Abort + Threads + Clock + CpuClock + Sync,
     requires { L.all ≡ L.parts }
 {
@@ -130,7 +130,7 @@ where
 /// What is tried at a desk that is there.
 fn is_tried_at<L, R>(rt: &R, desk: &Desk<L>, trial: Trial)
 where
-    L: Hands + Send + Sync,
+    L: DeskLedger + Send + Sync,
     R: Wait + Abort + Threads + Clock + CpuClock + Sync,
     requires { L.all ≡ L.parts }
 {
@@ -169,7 +169,7 @@ fn worker_of(rt: &impl Abort, number: u8) -> Worker {
 }
 
 /// The five steps of a worker that compute and finish the job under this root.
-fn compute<L: Hands, R: Wait>(
+fn compute<L: DeskLedger, R: Wait>(
     rt: &R,
     desk: &Desk<L>,
     badge: &mut Badge<L>,
@@ -206,7 +206,7 @@ fn left(segments: u32, nodes: u32, steps: u32) -> Result<Left, Refusal> {
 }
 
 /// A seat of a new tenant that reserves so much.
-fn seat_of<L: Hands, R: Wait + Abort>(
+fn seat_of<L: DeskLedger, R: Wait + Abort>(
     rt: &R,
     desk: &Desk<L>,
     segments: u32,
@@ -217,12 +217,12 @@ fn seat_of<L: Hands, R: Wait + Abort>(
 }
 
 /// A badge.
-fn badge_of<L: Hands, R: Wait + Abort>(rt: &R, desk: &Desk<L>) -> Badge<L> {
+fn badge_of<L: DeskLedger, R: Wait + Abort>(rt: &R, desk: &Desk<L>) -> Badge<L> {
     desk.badge(rt).expect(rt, "there are badges")
 }
 
 /// The root of a seat's first job.
-fn root_of<L: Hands>(seat: &Seat<L>) -> FrameId {
+fn root_of<L: DeskLedger>(seat: &Seat<L>) -> FrameId {
     FrameId {
         tenant: seat.tenant(),
         serial: 1,
@@ -230,7 +230,7 @@ fn root_of<L: Hands>(seat: &Seat<L>) -> FrameId {
 }
 
 /// A seat asks for the opening to this depth, and is answered so.
-fn asks<L: Hands, R: Wait + Abort>(
+fn asks<L: DeskLedger, R: Wait + Abort>(
     rt: &R,
     desk: &Desk<L>,
     seat: &mut Seat<L>,
@@ -243,7 +243,7 @@ fn asks<L: Hands, R: Wait + Abort>(
 }
 
 /// A seat cancels a job, and is answered so.
-fn cancels<L: Hands, R: Wait + Abort>(
+fn cancels<L: DeskLedger, R: Wait + Abort>(
     rt: &R,
     desk: &Desk<L>,
     seat: &mut Seat<L>,
@@ -254,7 +254,7 @@ fn cancels<L: Hands, R: Wait + Abort>(
 }
 
 /// A seat gets this of a job.
-fn gets<L: Hands, R: Wait + Abort>(
+fn gets<L: DeskLedger, R: Wait + Abort>(
     rt: &R,
     desk: &Desk<L>,
     seat: &Seat<L>,
@@ -265,7 +265,7 @@ fn gets<L: Hands, R: Wait + Abort>(
 }
 
 /// A seat's tenant has this left.
-fn has_left<L: Hands, R: Wait + Abort>(
+fn has_left<L: DeskLedger, R: Wait + Abort>(
     rt: &R,
     desk: &Desk<L>,
     seat: &Seat<L>,
@@ -277,18 +277,18 @@ fn has_left<L: Hands, R: Wait + Abort>(
 }
 
 /// A seat's tenant has one frame of 12 words.
-fn has_one_frame<L: Hands, R: Wait + Abort>(rt: &R, desk: &Desk<L>, seat: &Seat<L>) {
+fn has_one_frame<L: DeskLedger, R: Wait + Abort>(rt: &R, desk: &Desk<L>, seat: &Seat<L>) {
     has_frames(rt, desk, seat, 1);
 }
 
 /// A seat's tenant has so many frames of 12 words.
-fn has_frames<L: Hands, R: Wait + Abort>(rt: &R, desk: &Desk<L>, seat: &Seat<L>, many: u32) {
+fn has_frames<L: DeskLedger, R: Wait + Abort>(rt: &R, desk: &Desk<L>, seat: &Seat<L>, many: u32) {
     let frames = many as usize;
     assert_eq!(rt; desk.live(rt, seat), Ok((frames, 12 * frames)));
 }
 
 /// A worker does the first job, the opening at depth 0, and the seat that waited for it has its reply.
-fn do_first<L: Hands, R: Wait + Abort>(
+fn do_first<L: DeskLedger, R: Wait + Abort>(
     rt: &R,
     desk: &Desk<L>,
     seat: &Seat<L>,
@@ -302,7 +302,7 @@ fn do_first<L: Hands, R: Wait + Abort>(
 
 /// The end of a desk: so many steps its hall has taken, keeps, and let go with journals; and whether all
 /// shares are there.
-fn has_ended<L: Hands, R: Wait + Abort>(
+fn has_ended<L: DeskLedger, R: Wait + Abort>(
     rt: &R,
     desk: Desk<L>,
     badge: Badge<L>,
@@ -318,7 +318,7 @@ fn has_ended<L: Hands, R: Wait + Abort>(
 }
 
 /// A tenant's first job, which is done: its seat, and the badge of the worker of this number.
-fn work<L: Hands, R: Wait + Abort>(rt: &R, desk: &Desk<L>, number: u8) -> (Seat<L>, Badge<L>) {
+fn work<L: DeskLedger, R: Wait + Abort>(rt: &R, desk: &Desk<L>, number: u8) -> (Seat<L>, Badge<L>) {
     let worker = worker_of(rt, number);
     let mut seat = seat_of(rt, desk, 4, 8);
     let mut badge = badge_of(rt, desk);
@@ -331,7 +331,7 @@ fn work<L: Hands, R: Wait + Abort>(rt: &R, desk: &Desk<L>, number: u8) -> (Seat<
 }
 
 /// The seat's second job, which is cancelled.
-fn cancel_second<L: Hands, R: Wait + Abort>(rt: &R, desk: &Desk<L>, seat: &mut Seat<L>) {
+fn cancel_second<L: DeskLedger, R: Wait + Abort>(rt: &R, desk: &Desk<L>, seat: &mut Seat<L>) {
     asks(rt, desk, seat, 0, Ok(2));
     has_one_frame(rt, desk, seat);
     cancels(rt, desk, seat, 2, Ok(()));
@@ -341,7 +341,7 @@ fn cancel_second<L: Hands, R: Wait + Abort>(rt: &R, desk: &Desk<L>, seat: &mut S
 }
 
 /// Both jobs.
-fn work_twice<L: Hands, R: Wait + Abort>(
+fn work_twice<L: DeskLedger, R: Wait + Abort>(
     rt: &R,
     desk: &Desk<L>,
     number: u8,
@@ -352,7 +352,7 @@ fn work_twice<L: Hands, R: Wait + Abort>(
 }
 
 /// One seat, and one badge for its worker.
-fn one_stays<L: Hands, R: Wait + Abort>(rt: &R, desk: Desk<L>)
+fn one_stays<L: DeskLedger, R: Wait + Abort>(rt: &R, desk: Desk<L>)
     requires { L.all ≡ L.parts }
 {
     let badge = stay(rt, &desk);
@@ -360,7 +360,7 @@ fn one_stays<L: Hands, R: Wait + Abort>(rt: &R, desk: Desk<L>)
 }
 
 /// All that the seat does, until it leaves: its worker's badge.
-fn stay<L: Hands, R: Wait + Abort>(rt: &R, desk: &Desk<L>) -> Badge<L>
+fn stay<L: DeskLedger, R: Wait + Abort>(rt: &R, desk: &Desk<L>) -> Badge<L>
     requires { L.all ≡ L.parts }
 {
     let (mut seat, badge) = work(rt, desk, 1);
@@ -378,7 +378,7 @@ fn a_seat_and_a_badge(rt: HostRuntime) -> Result<(), Fail> {
 }
 
 /// Starts a stay for each worker of 1 to 4.
-fn start_four<'s, E, L: Hands + Send + Sync, R: Wait + Abort + Sync>(
+fn start_four<'s, E, L: DeskLedger + Send + Sync, R: Wait + Abort + Sync>(
     scope: &'s Scope<'s, E>,
     rt: &'s R,
     desk: &'s Desk<L>,
@@ -397,7 +397,7 @@ fn start_four<'s, E, L: Hands + Send + Sync, R: Wait + Abort + Sync>(
 }
 
 /// Joins all: their seats leave, and their badges are joined to this one.
-fn join_all<L: Hands, R: Wait + Threads>(
+fn join_all<L: DeskLedger, R: Wait + Threads>(
     rt: &R,
     desk: &Desk<L>,
     first: Badge<L>,
@@ -415,7 +415,7 @@ fn join_all<L: Hands, R: Wait + Threads>(
 }
 
 /// Four threads, each with a seat and a badge of its own.
-fn four_work<L: Hands + Send + Sync, R: Wait + Abort + Threads + Sync>(
+fn four_work<L: DeskLedger + Send + Sync, R: Wait + Abort + Threads + Sync>(
     rt: &R,
     alloc: Global,
     desk: &Desk<L>,
@@ -441,7 +441,7 @@ fn four_work<L: Hands + Send + Sync, R: Wait + Abort + Threads + Sync>(
 }
 
 /// The four up to the desk's end.
-fn four_stay<L: Hands + Send + Sync, R: Wait + Abort + Threads + Sync>(
+fn four_stay<L: DeskLedger + Send + Sync, R: Wait + Abort + Threads + Sync>(
     rt: &R,
     alloc: Global,
     desk: Desk<L>,
@@ -460,7 +460,7 @@ fn four_seats_in_four_threads(rt: HostRuntime) -> Result<(), Fail> {
 }
 
 /// A frame is ready, the root of this seat's job.
-fn next_root<L: Hands, R: Wait + Abort>(rt: &R, desk: &Desk<L>, seat: &Seat<L>) -> FrameId {
+fn next_root<L: DeskLedger, R: Wait + Abort>(rt: &R, desk: &Desk<L>, seat: &Seat<L>) -> FrameId {
     let (root, home) = desk.next_ready(rt).expect(rt, "the root is ready");
     assert_eq!(rt; (root.tenant, home), (seat.tenant(), 0));
     root
@@ -468,7 +468,7 @@ fn next_root<L: Hands, R: Wait + Abort>(rt: &R, desk: &Desk<L>, seat: &Seat<L>) 
 
 /// A seat asks for a position; its worker, who waits until something is ready, computes it; it is read
 /// back twice.
-fn ask_and_read<L: Hands, R: Wait + Abort>(
+fn ask_and_read<L: DeskLedger, R: Wait + Abort>(
     rt: &R,
     desk: &Desk<L>,
     badge: &mut Badge<L>,
@@ -491,7 +491,7 @@ fn ask_and_read<L: Hands, R: Wait + Abort>(
 }
 
 /// Two seats ask for three positions in turn, which this worker computes.
-fn ask_in_turn<L: Hands, R: Wait + Abort>(
+fn ask_in_turn<L: DeskLedger, R: Wait + Abort>(
     rt: &R,
     desk: &Desk<L>,
     worker: Worker,
@@ -518,7 +518,7 @@ fn ask_in_turn<L: Hands, R: Wait + Abort>(
 }
 
 /// What they ask, and the replies.
-fn two_seats_ask<L: Hands, R: Wait + Abort>(rt: &R, desk: &Desk<L>) {
+fn two_seats_ask<L: DeskLedger, R: Wait + Abort>(rt: &R, desk: &Desk<L>) {
     let asked = [
         (opening(rt), 0, (0, None)),
         (position(rt, 1, 2), 0, (124, None)),
@@ -533,7 +533,7 @@ fn two_seats_ask_in_turn(rt: HostRuntime) -> Result<(), Fail> {
 }
 
 /// 256 asks, each of which is cancelled, and the 257th.
-fn ask_all<L: Hands, R: Wait + Abort>(rt: &R, desk: &Desk<L>, seat: &mut Seat<L>) {
+fn ask_all<L: DeskLedger, R: Wait + Abort>(rt: &R, desk: &Desk<L>, seat: &mut Seat<L>) {
     for job in 1..257u64 {
         asks(rt, desk, seat, 3, Ok(job));
         cancels(rt, desk, seat, job, Ok(()));
@@ -544,19 +544,19 @@ fn ask_all<L: Hands, R: Wait + Abort>(rt: &R, desk: &Desk<L>, seat: &mut Seat<L>
 }
 
 /// A tenant that finds no room.
-fn is_refused<L: Hands, R: Wait + Abort>(rt: &R, desk: &Desk<L>) {
+fn is_refused<L: DeskLedger, R: Wait + Abort>(rt: &R, desk: &Desk<L>) {
     let reserve = Reserve::new(1, 1).expect(rt, "within the limits");
     assert_eq!(rt; desk.admit(rt, reserve).err(), Some(Refusal::Full));
 }
 
 /// At a closed desk no frame is ready, and who waits finds the job pending.
-fn wait_closed<L: Hands, R: Wait + Abort>(rt: &R, desk: &Desk<L>, seat: &Seat<L>) {
+fn wait_closed<L: DeskLedger, R: Wait + Abort>(rt: &R, desk: &Desk<L>, seat: &Seat<L>) {
     assert_eq!(rt; desk.next_ready(rt), None);
     assert_eq!(rt; desk.wait(rt, seat, 1), Ok(Outcome::Pending));
 }
 
 /// A tenant of all segments asks as often as it may, and leaves.
-fn fill<L: Hands, R: Wait + Abort>(rt: &R, desk: &Desk<L>)
+fn fill<L: DeskLedger, R: Wait + Abort>(rt: &R, desk: &Desk<L>)
     requires { L.all ≡ L.parts }
 {
     let mut seat = seat_of(rt, desk, SEGMENTS, 300);
@@ -566,7 +566,7 @@ fn fill<L: Hands, R: Wait + Abort>(rt: &R, desk: &Desk<L>)
 }
 
 /// 256 asks and the 257th; a desk without room, and a desk that is closed.
-fn limits<L: Hands, R: Wait + Abort>(rt: &R, desk: &Desk<L>)
+fn limits<L: DeskLedger, R: Wait + Abort>(rt: &R, desk: &Desk<L>)
     requires { L.all ≡ L.parts }
 {
     fill(rt, desk);

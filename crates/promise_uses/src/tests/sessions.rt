@@ -3,7 +3,9 @@ ghost use Rattle.std.specs.Prelude.{◌≡◌};
 
 use super::driving::{Offers, drive};
 use crate::third_answer;
-use desk::{Badge, Config, Desk, Hall, Hands, Jamboree, PARTS, Step, StepAnswer, StepOf, Worker};
+use desk::{
+    Badge, Config, Desk, DeskLedger, Hall, Jamboree, PARTS, Step, StepAnswer, StepOf, Worker,
+};
 use frame_tree::FrameId;
 use line_io::{FromWriter, ReadFailed, Source};
 use session::{End, SessionFault};
@@ -14,7 +16,7 @@ use std::sync::ledger::Blank;
 use std::test::Fail;
 
 /// Gives one line a call. Before a line WAIT a worker runs the job that is asked for.
-struct Working<'a, L: Hands, R: Wait> {
+struct Working<'a, L: DeskLedger, R: Wait> {
     rt: &'a R,
     desk: &'a Desk<L>,
     badge: Badge<L>,
@@ -23,7 +25,7 @@ struct Working<'a, L: Hands, R: Wait> {
     given: usize,
 }
 
-impl<L: Hands, R: Wait> Offers for Working<'_, L, R> {
+impl<L: DeskLedger, R: Wait> Offers for Working<'_, L, R> {
     fn offer(&mut self, step: Step<Jamboree>) -> StepAnswer {
         self.desk.offer(self.rt, &mut self.badge, &step)
     }
@@ -33,7 +35,7 @@ impl<L: Hands, R: Wait> Offers for Working<'_, L, R> {
     }
 }
 
-impl<L: Hands, R: Wait> Working<'_, L, R> {
+impl<L: DeskLedger, R: Wait> Working<'_, L, R> {
     /// Runs the job whose root is ready to its end.
     fn work(&mut self) {
         let worker = self.worker;
@@ -56,7 +58,7 @@ impl<L: Hands, R: Wait> Working<'_, L, R> {
     }
 }
 
-impl<L: Hands, R: Wait> Source for Working<'_, L, R> {
+impl<L: DeskLedger, R: Wait> Source for Working<'_, L, R> {
     ghost gives = { λ _ _ _. Unit {0} };
 
     fn fill(&mut self, block: &mut [u8]) -> Result<usize, ReadFailed> {
@@ -89,7 +91,7 @@ const ANSWERS: &[u8] =
     b"WELCOME 32 32\nJOB 1\nDONE 1 -3 d3\nTABLE 1 d3=-3 c4<-3 f5<-3 e6<-3\nERR 17\n";
 
 /// How such a session ends at a new desk of grain 1, and what it writes.
-fn served<L: Hands, R: Wait>(
+fn served<L: DeskLedger, R: Wait>(
     rt: &R,
     alloc: Global,
     blank: Blank,

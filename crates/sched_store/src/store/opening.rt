@@ -6,7 +6,7 @@ ghost use Rattle.frame_table.specs.Tables.{frames_of};
 ghost use Rattle.sched_rules.specs.Lone.{opened, is_frame_size};
 ghost use Rattle.sched_rules.specs.Changes.{on_tenant};
 ghost use Rattle.sched_store.specs.Stored.{node_above};
-ghost use Rattle.sched_store.specs.Reads.{frames_in, serials_in, HasLeft};
+ghost use Rattle.sched_store.specs.Reads.{frames_in_core, serials_in, TenantHasLeft};
 
 use crate::store::{Store, node_of};
 use cactus_stack::{NodeNo, charge};
@@ -26,8 +26,8 @@ impl<A: Allocator> Store<A> {
         size: usize,
         home: u8,
     ) -> FrameId
-        requires left { HasLeft self.old tenant (charge_of_words size) 1 }
-        requires parent { has_parent (frames_in self.old tenant) parent ≡ true }
+        requires left { TenantHasLeft self.old tenant (charge_of_words size) 1 }
+        requires parent { has_parent (frames_in_core self.old tenant) parent ≡ true }
         requires size { is_frame_size words.now size ≡ true }
         ensures name { result ≡ record { tenant = tenant; serial = serials_in self.old tenant + 1 } }
         ensures opened { self.new ≡ on_tenant tenant (opened parent words.now size home) self.old }

@@ -5,9 +5,9 @@ ghost use Rattle.frame_tree.specs.declared.names.State.TheVariants.{Ready};
 ghost use Rattle.frame_tree.specs.Frames.{root_of, IsTree};
 ghost use Rattle.sched_rules.specs.Trees.{is_held_by, has_child as has_child_in, is_root as is_root_path, job_under as number_under};
 ghost use Rattle.sched_rules.specs.Cores.{tenant_in, reservations_in, is_full as is_full_for, is_beyond as is_beyond_for};
-ghost use Rattle.sched_rules.specs.Headline.{IsKnown};
-ghost use Rattle.sched_rules.specs.Views.{left_of, job_of, named, frame_of, words_of_frame, live_of, newest_ready_in, ready_count, free_in};
-ghost use Rattle.sched_store.specs.Reads.{frames_in, jobs_in, serials_in, path_of, words_under, sight_of, is_busy_among, holds, AreRising, IsReadyIn};
+ghost use Rattle.sched_rules.specs.Headline.{AreNumbersGiven};
+ghost use Rattle.sched_rules.specs.Views.{left_in_core, job_of, named, frame_in_core, words_of_frame, live_of, newest_ready_in, ready_count, free_in};
+ghost use Rattle.sched_store.specs.Reads.{frames_in_core, jobs_in, serials_in, path_of, words_under, sight_of, is_busy_among, holds, AreTenantsRising, IsReadyIn};
 
 use crate::store::Store;
 use cactus_stack::{Sight, Words};
@@ -34,8 +34,8 @@ impl<A: Allocator> Store<A> {
     #[inline(always)]
     pub fn has_tenant(&self, number: u64) -> bool
         ensures there { result ≡ is_some (tenant_in self.now.tenants number) }
-        ensures known { IsKnown self.now }
-        ensures rising { AreRising self.now.tenants }
+        ensures known { AreNumbersGiven self.now }
+        ensures rising { AreTenantsRising self.now.tenants }
     {
         self.book.left(number).is_some()
     }
@@ -44,8 +44,8 @@ impl<A: Allocator> Store<A> {
     pub fn newest(&self) -> u64
         ensures newest { result ≡ self.now.newest }
         ensures within { result ≤ 2 ^ 62 }
-        ensures known { IsKnown self.now }
-        ensures rising { AreRising self.now.tenants }
+        ensures known { AreNumbersGiven self.now }
+        ensures rising { AreTenantsRising self.now.tenants }
     {
         self.newest
     }
@@ -87,7 +87,7 @@ impl<A: Allocator> Store<A> {
     /// What a tenant has left; `None` where it isn't there.
     #[inline(always)]
     pub fn left(&self, tenant: u64) -> Option<Left>
-        ensures left { result ≡ left_of self.now tenant }
+        ensures left { result ≡ left_in_core self.now tenant }
 
         // As many segments as the tenant has left are free, however many others use.
         ensures free { IfSome result (λ left. left.segments ≤ free_in self.now) }
@@ -98,9 +98,9 @@ impl<A: Allocator> Store<A> {
     /// The parent and the state of a frame; `None` where it isn't there. A root has no parent.
     #[inline(always)]
     pub fn find(&self, name: FrameId) -> Option<(Option<FrameId>, State)>
-        ensures frame { result ≡ frame_of self.now name }
+        ensures frame { result ≡ frame_in_core self.now name }
         ensures root { IfSome result (λ found. is_some found.0 ≡ not (is_root_path (path_of (named self.now name)))) }
-        ensures tree { IsTree (frames_in self.now name.tenant) }
+        ensures tree { IsTree (frames_in_core self.now name.tenant) }
     {
         match self.table.find(name) {
             Some(entry) => Some((entry.parent, entry.state)),
@@ -111,12 +111,12 @@ impl<A: Allocator> Store<A> {
     /// A frame with its words and its sight, by one look-up; `None` where it isn't there.
     #[inline(always)]
     pub fn look_up(&self, name: FrameId) -> Option<Sighted<'_>>
-        ensures frame { option_map (λ found. (found.parent, found.state)) result ≡ frame_of self.now name }
+        ensures frame { option_map (λ found. (found.parent, found.state)) result ≡ frame_in_core self.now name }
         ensures root { IfSome result (λ found. is_some found.parent ≡ not (is_root_path (path_of (named self.now name)))) }
         ensures words { IfSome result (λ found. found.words ≡ words_under self.now name) }
         ensures sight { IfSome result (λ found. found.sight ≡ sight_of self.now name) }
-        ensures tree { IsTree (frames_in self.now name.tenant) }
-        ensures rising { AreRising self.now.tenants }
+        ensures tree { IsTree (frames_in_core self.now name.tenant) }
+        ensures rising { AreTenantsRising self.now.tenants }
     {
         match self.table.find(name) {
             Some(entry) => Some(Sighted {
@@ -163,7 +163,7 @@ impl<A: Allocator> Store<A> {
     /// Whether a frame has a child, by its count of children; false also where there is no such frame.
     #[inline(always)]
     pub fn has_child(&self, name: FrameId) -> bool
-        ensures { result ≡ has_child_in (frames_in self.now name.tenant) name.serial }
+        ensures { result ≡ has_child_in (frames_in_core self.now name.tenant) name.serial }
     {
         self.table.has_child(name)
     }
@@ -173,7 +173,7 @@ impl<A: Allocator> Store<A> {
     #[inline(always)]
     pub fn is_busy(&self, worker: Worker) -> bool
         ensures busy { result ≡ is_busy_among worker self.now.tenants }
-        ensures rising { AreRising self.now.tenants }
+        ensures rising { AreTenantsRising self.now.tenants }
     {
         let number = worker.number();
         match self.places[number as usize] {

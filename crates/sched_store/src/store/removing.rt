@@ -4,7 +4,7 @@ ghost use Rattle.frame_tree.specs.Frames.{frames_under};
 ghost use Rattle.sched_rules.specs.Trees.{has_child as has_child_in};
 ghost use Rattle.sched_rules.specs.Changes.{on_tenant, without_frame, without_under};
 ghost use Rattle.sched_rules.specs.Views.{named};
-ghost use Rattle.sched_store.specs.Reads.{frames_in};
+ghost use Rattle.sched_store.specs.Reads.{frames_in_core};
 
 use crate::store::Store;
 use frame_tree::FrameId;
@@ -14,7 +14,7 @@ impl<A: Allocator> Store<A> {
     /// Removes a frame that has no child. Its tenant has the frame's segments left again, but not its node.
     pub fn remove(&mut self, name: FrameId)
         requires there { IsSome (named self.old name) }
-        requires leaf { has_child_in (frames_in self.old name.tenant) name.serial ≡ false }
+        requires leaf { has_child_in (frames_in_core self.old name.tenant) name.serial ≡ false }
         ensures { self.new ≡ on_tenant name.tenant (without_frame name.serial) self.old }
     {
         let before = self.stack.free_count();
@@ -29,7 +29,7 @@ impl<A: Allocator> Store<A> {
     pub fn abort(&mut self, name: FrameId) -> usize
         requires { IsSome (named self.old name) }
         ensures aborted { self.new ≡ on_tenant name.tenant (without_under name.serial) self.old }
-        ensures count { result ≡ length (frames_under name.serial (frames_in self.old name.tenant)) }
+        ensures count { result ≡ length (frames_under name.serial (frames_in_core self.old name.tenant)) }
     {
         let before = self.stack.free_count();
         let nodes = self.table.remove_under(name);

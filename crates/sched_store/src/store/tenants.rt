@@ -6,7 +6,7 @@ ghost use Rattle.sched_rules.specs.Cores.{tenant_in, reservations_in, reserved_b
 ghost use Rattle.sched_rules.specs.Changes.{on_tenant, with_reserve, with_job, ending_job};
 ghost use Rattle.sched_store.specs.Changes.{with_admitted, with_departed};
 ghost use Rattle.sched_store.specs.Ledgers.{is_live};
-ghost use Rattle.sched_store.specs.Reads.{jobs_in, HasStepLeft, IsAboveOwn};
+ghost use Rattle.sched_store.specs.Reads.{jobs_in, TenantHasStepLeft, IsAboveOwn};
 
 use crate::ledger::Ledger;
 use crate::store::Store;
@@ -64,7 +64,7 @@ impl<A: Allocator> Store<A> {
     /// Counts one more step of a tenant that has one left.
     #[inline(always)]
     pub fn count_step(&mut self, tenant: u64)
-        requires { HasStepLeft self.old tenant }
+        requires { TenantHasStepLeft self.old tenant }
         ensures { self.new ≡ on_tenant tenant counted self.old }
     {
         self.book.tick(tenant).unwrap();

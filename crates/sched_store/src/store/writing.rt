@@ -1,11 +1,11 @@
 //! Frames are written, made longer, and put into other states.
 ghost use Rattle.std.specs.Prelude.{◌≡◌, ◌+◌, ◌≤◌, ◌++◌, ℕ, true, false, length, replicate, IsSome};
-ghost use Rattle.cactus_stack.specs.Nodes.{IsOpen, node_words, with_words, growth_charge as growth_of_words};
+ghost use Rattle.cactus_stack.specs.Nodes.{IsOpen, node_words, with_node_words, growth_charge as growth_of_words};
 ghost use Rattle.sched_rules.specs.Trees.{stored, is_outside, is_held_by};
 ghost use Rattle.sched_rules.specs.Lone.{holding, in_state};
 ghost use Rattle.sched_rules.specs.Changes.{on_tenant};
 ghost use Rattle.sched_rules.specs.Views.{named};
-ghost use Rattle.sched_store.specs.Reads.{words_under, is_held, holds, may_hold, HasLeft};
+ghost use Rattle.sched_store.specs.Reads.{words_under, is_held, holds, may_hold, TenantHasLeft};
 
 use crate::store::{Store, node_of};
 use cactus_stack::{NodeNo, Stack, growth_charge};
@@ -46,7 +46,7 @@ impl<A: Allocator> Store<A> {
     pub fn grow(&mut self, name: FrameId, more: usize)
         requires there { IsSome (named self.old name) }
         requires size { length (words_under self.old name) + more ≤ 128 }
-        requires left { HasLeft self.old name.tenant (growth_of_words (length (words_under self.old name)) more) 0 }
+        requires left { TenantHasLeft self.old name.tenant (growth_of_words (length (words_under self.old name)) more) 0 }
         ensures { self.new ≡ on_tenant name.tenant (holding name.serial (words_under self.old name ++ replicate more 0)) self.old }
     {
         let node = node_of(&self.table, name);
@@ -99,7 +99,7 @@ impl<A: Allocator> Store<A> {
 fn store_words<A: Allocator>(stack: &mut Stack<A>, node: NodeNo, stores: &[(usize, u64)])
     requires is_open { IsOpen stack.old node }
     requires inside { is_outside stores.now (node_words stack.old node) ≡ false }
-    ensures { stack.new ≡ with_words stack.old node (stored stores.now (node_words stack.old node)) }
+    ensures { stack.new ≡ with_node_words stack.old node (stored stores.now (node_words stack.old node)) }
 {
     for (at, word) in stores {
         stack.store(node, *at, *word);

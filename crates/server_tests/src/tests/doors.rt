@@ -15,8 +15,8 @@ use std::thread::{self, Threads};
 use std::time::{Clock, CpuClock, Duration};
 use tcp_door::Door;
 use tcp_server::ServerConfig;
-use tcp_server::desk::{Desk, Hall, Hands, PARTS};
-use tcp_server::steal_pool::{Gate, Open, Task};
+use tcp_server::desk::{Desk, DeskLedger, Hall, PARTS};
+use tcp_server::steal_pool::{Gate, OpenGate, Task};
 
 /// A job with a long table: one of Black's fourteen moves takes all of White's discs.
 const TABLED: [Row; 3] = [
@@ -286,7 +286,7 @@ fn attended<L, R>(
     workers: u8,
 ) -> Result<(), Fail>
 where
-    L: Hands + Send + Sync,
+    L: DeskLedger + Send + Sync,
     R: Net<Listener = TcpListener, Stream = TcpStream> + Threads + Wait + Clock + CpuClock + Sync,
     requires name { blank.name ≡ L.name }
     requires parts { (blank.parts ≡ L.parts) × (L.all ≡ L.parts) × (L.all ≡ PARTS) }
@@ -431,7 +431,7 @@ impl<R: Net<Listener = TcpListener, Stream = TcpStream>> Net for Waiting<'_, R> 
 /// knows already that nobody is served any more.
 fn closes_its_own<L, R>(rt: &R, alloc: Global, blank: Blank) -> Result<bool, Fail>
 where
-    L: Hands + Send + Sync,
+    L: DeskLedger + Send + Sync,
     R: Net<Listener = TcpListener, Stream = TcpStream> + Threads + Wait + Sync,
     requires name { blank.name ≡ L.name }
     requires parts { (blank.parts ≡ L.parts) × (L.all ≡ L.parts) × (L.all ≡ PARTS) }
@@ -445,7 +445,7 @@ where
     let listener = TcpListener::bind(&waiting, "127.0.0.1:0")?;
     let mut server = ServerConfig::new(1, Worker::new(1).ok_or("one worker")?);
     server.pool.stack = Some(usize::MAX);
-    let served = serve_through(&waiting, alloc, &desk, listener, server, &Open);
+    let served = serve_through(&waiting, alloc, &desk, listener, server, &OpenGate);
     Ok(served.is_err() && waiting.is_closed.load(Ordering::SeqCst))
 }
 

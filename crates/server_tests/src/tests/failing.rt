@@ -13,8 +13,8 @@ use std::sync::ledger::Blank;
 use std::test::Fail;
 use std::thread::Threads;
 use tcp_door::Door;
-use tcp_server::desk::{Desk, Hall, Hands, PARTS};
-use tcp_server::steal_pool::{BeginFault, Open, PoolFault};
+use tcp_server::desk::{Desk, DeskLedger, Hall, PARTS};
+use tcp_server::steal_pool::{BeginFault, OpenGate, PoolFault};
 use tcp_server::{ServeFault, ServerConfig};
 
 /// A listener whose first tries to take a connection fail so.
@@ -100,7 +100,7 @@ fn each_error_of_a_listener(rt: HostRuntime) -> Result<(), Fail> {
 /// Why a server whose listener doesn't wait for connections ends, and whether its desk is closed then.
 fn ended<L, R>(rt: &R, alloc: Global, blank: Blank) -> Result<(Option<ServeFault>, bool), Fail>
 where
-    L: Hands + Send + Sync,
+    L: DeskLedger + Send + Sync,
     R: Net<Listener = TcpListener, Stream = TcpStream> + Threads + Wait + Sync,
     requires name { blank.name ≡ L.name }
     requires parts { (blank.parts ≡ L.parts) × (L.all ≡ L.parts) × (L.all ≡ PARTS) }
@@ -110,7 +110,7 @@ where
     let listener = TcpListener::bind(rt, "127.0.0.1:0")?;
     listener.set_nonblocking(true)?;
     let two = ServerConfig::new(2, Worker::new(2).ok_or("two workers")?);
-    let served = serve_through(rt, alloc, &desk, listener, two, &Open);
+    let served = serve_through(rt, alloc, &desk, listener, two, &OpenGate);
     Ok((served.err(), desk.next_ready(rt).is_none()))
 }
 

@@ -13,7 +13,7 @@ use std::sync::ledger::Blank;
 use std::test::Fail;
 use std::thread::{self, Threads};
 use tcp_server::ServerConfig;
-use tcp_server::desk::{Desk, Hall, Hands, PARTS};
+use tcp_server::desk::{Desk, DeskLedger, Hall, PARTS};
 use tcp_server::steal_pool::{Gate, Task};
 
 /// A tenant of one node has eight, and a job that takes five.
@@ -36,12 +36,12 @@ fn more_is_reserved_over_tcp(rt: HostRuntime) -> Result<(), Fail> {
 
 /// Holds the first computation of a pool.
 #[derive(Drop)]
-struct Held {
+struct HoldingGate {
     is_there: AtomicBool,
     is_open: AtomicBool,
 }
 
-impl Gate for Held {
+impl Gate for HoldingGate {
     fn before(&self, _worker: Worker, _task: &Task) {}
 
     fn inside(&self, _worker: Worker, _number: u64) {
@@ -62,7 +62,12 @@ fn is_set(flag: &AtomicBool) -> bool {
 }
 
 /// Whether a job of a tenant of two nodes ends so where more is asked for, or not, while its first computation is held.
-fn is_ended(stream: &TcpStream, gate: &Held, more: Option<Row>, end: Row) -> io::Result<bool> {
+fn is_ended(
+    stream: &TcpStream,
+    gate: &HoldingGate,
+    more: Option<Row>,
+    end: Row,
+) -> io::Result<bool> {
     let told = is_answered(stream, ("HELLO 8 2\n", "WELCOME 8 2\n"))?
         && is_answered(stream, (MORE[2].0, "JOB 1\n"))?
         && is_set(&gate.is_there);
@@ -83,7 +88,7 @@ fn ends<L, R>(
     end: Row,
 ) -> Result<bool, Fail>
 where
-    L: Hands + Send + Sync,
+    L: DeskLedger + Send + Sync,
     R: Net<Listener = TcpListener, Stream = TcpStream> + Threads + Wait + Sync,
     requires name { blank.name ≡ L.name }
     requires parts { (blank.parts ≡ L.parts) × (L.all ≡ L.parts) × (L.all ≡ PARTS) }
@@ -93,7 +98,7 @@ where
     let listener = TcpListener::bind(rt, "127.0.0.1:0")?;
     let stream = TcpStream::connect(rt, listener.local_addr()?)?;
     let one = ServerConfig::new(1, Worker::new(1).ok_or("one worker")?);
-    let gate = Held {
+    let gate = HoldingGate {
         is_there: AtomicBool::new(false),
         is_open: AtomicBool::new(false),
     };

@@ -5,7 +5,7 @@ use super::overlaps::is_set;
 use super::seats::{is_found, opening, seat};
 use super::{MOST_TURNS, Scenario, Table, well};
 use crate::{Gate, Task};
-use desk::{Desk, Hands, Outcome};
+use desk::{Desk, DeskLedger, Outcome};
 use sched_rules::Worker;
 use std::alloc::Global;
 use std::sync::Wait;
@@ -46,7 +46,7 @@ struct Untouched<'g> {
 }
 
 impl Scenario for Untouched<'_> {
-    fn play<L: Hands, R: Wait>(&self, rt: &R, desk: &Desk<L>) -> bool {
+    fn play<L: DeskLedger, R: Wait>(&self, rt: &R, desk: &Desk<L>) -> bool {
         let Some(mut seat) = seat(rt, desk, 8, 8) else {
             return false;
         };
@@ -127,7 +127,7 @@ struct Watching<'g> {
 }
 
 impl Scenario for Watching<'_> {
-    fn play<L: Hands, R: Wait>(&self, rt: &R, desk: &Desk<L>) -> bool {
+    fn play<L: DeskLedger, R: Wait>(&self, rt: &R, desk: &Desk<L>) -> bool {
         let Some(mut seat) = seat(rt, desk, 8, 8) else {
             return false;
         };

@@ -3,8 +3,8 @@ ghost use Rattle.std.specs.Prelude.{◌≡◌};
 
 use super::seats::{opening, seat};
 use crate::pool::{BeginFault, NotRun, Sizes, run_pool_of};
-use crate::{Announce, Open, PoolFault};
-use desk::{Badge, Desk, Hall, Hands, PARTS, Seat};
+use crate::{Announce, OpenGate, PoolFault};
+use desk::{Badge, Desk, DeskLedger, Hall, PARTS, Seat};
 use sched_rules::{Config, Worker};
 use std::alloc::Global;
 use std::marker::Brand;
@@ -53,14 +53,14 @@ fn hall_of(alloc: Global) -> Option<Hall> {
 }
 
 /// A seat with a job.
-fn asked<L: Hands, R: Wait>(rt: &R, desk: &Desk<L>) -> Option<Seat<L>> {
+fn asked<L: DeskLedger, R: Wait>(rt: &R, desk: &Desk<L>) -> Option<Seat<L>> {
     let mut seat = seat(rt, desk, 64, 1_024)?;
     let is_asked = desk.ask(rt, &mut seat, &opening(), 3).is_ok();
     if is_asked { Some(seat) } else { None }
 }
 
 /// Why a pool of these sizes doesn't run, whether the desk is closed then, and how often something was said.
-fn not_run<L: Hands + Send + Sync, R: Threads + Wait + Sync>(
+fn not_run<L: DeskLedger + Send + Sync, R: Threads + Wait + Sync>(
     rt: &R,
     alloc: Global,
     desk: &Desk<L>,
@@ -71,14 +71,14 @@ fn not_run<L: Hands + Send + Sync, R: Threads + Wait + Sync>(
 {
     let seat = asked(rt, desk)?;
     let call = Counted { count: 0, works };
-    let (call, ended) = run_pool_of(rt, alloc, desk, sizes, &Open, call);
+    let (call, ended) = run_pool_of(rt, alloc, desk, sizes, &OpenGate, call);
     let is_closed = desk.next_ready(rt).is_none();
     desk.leave(rt, seat);
     Some((ended.err()?, is_closed, call.count))
 }
 
 /// How many segments are free at the end.
-fn free_at<L: Hands>(desk: Desk<L>, badge: Badge<L>) -> usize
+fn free_at<L: DeskLedger>(desk: Desk<L>, badge: Badge<L>) -> usize
     requires { L.all ≡ L.parts }
 {
     let (hall, _whole) = desk.into_hall(badge);
@@ -86,7 +86,7 @@ fn free_at<L: Hands>(desk: Desk<L>, badge: Badge<L>) -> usize
 }
 
 /// Why a pool of these sizes doesn't run at a desk where a job was asked, and what there is then.
-fn found_at<L: Hands + Send + Sync, R: Threads + Wait + Sync>(
+fn found_at<L: DeskLedger + Send + Sync, R: Threads + Wait + Sync>(
     rt: &R,
     alloc: Global,
     blank: Blank,

@@ -4,8 +4,8 @@ ghost use Rattle.std.specs.Prelude.{◌≡◌, ◌≤◌};
 use super::overlaps::is_set;
 use super::seats::{all_white, corner, end_of, is_found, opening, seat};
 use super::{Played, Scenario, Table, well};
-use crate::{Gate, Open, Task};
-use desk::{Desk, Hands, Outcome, Seat};
+use crate::{Gate, OpenGate, Task};
+use desk::{Desk, DeskLedger, Outcome, Seat};
 use sched_rules::Worker;
 use std::sync::Wait;
 use std::sync::atomic::{AtomicBool, Ordering};
@@ -15,7 +15,7 @@ use std::sync::atomic::{AtomicBool, Ordering};
 struct Foreign;
 
 impl Scenario for Foreign {
-    fn play<L: Hands, R: Wait>(&self, rt: &R, desk: &Desk<L>) -> bool {
+    fn play<L: DeskLedger, R: Wait>(&self, rt: &R, desk: &Desk<L>) -> bool {
         let (Some(mut one), Some(mut two)) = (seat(rt, desk, 64, 512), seat(rt, desk, 64, 512))
         else {
             return false;
@@ -29,7 +29,7 @@ impl Scenario for Foreign {
 }
 
 /// Whether two seats have their replies, and have them again.
-fn are_found_twice<L: Hands, R: Wait>(
+fn are_found_twice<L: DeskLedger, R: Wait>(
     rt: &R,
     desk: &Desk<L>,
     one: &Seat<L>,
@@ -44,14 +44,14 @@ fn are_found_twice<L: Hands, R: Wait>(
 }
 
 /// Asks the opening to depth 1, the corner to depth 1, and the full board to depth 12.
-fn ask_three<L: Hands, R: Wait>(rt: &R, desk: &Desk<L>, seat: &mut Seat<L>) -> bool {
+fn ask_three<L: DeskLedger, R: Wait>(rt: &R, desk: &Desk<L>, seat: &mut Seat<L>) -> bool {
     desk.ask(rt, seat, &opening(), 1) == Ok(1)
         && desk.ask(rt, seat, &corner(), 1) == Ok(2)
         && desk.ask(rt, seat, &all_white(), 12) == Ok(3)
 }
 
 /// Whether each has the reply to its own position.
-fn are_three_found<L: Hands, R: Wait>(rt: &R, desk: &Desk<L>, seat: &Seat<L>) -> bool {
+fn are_three_found<L: DeskLedger, R: Wait>(rt: &R, desk: &Desk<L>, seat: &Seat<L>) -> bool {
     is_found(rt, desk, seat, 1, &opening(), 1)
         && is_found(rt, desk, seat, 2, &corner(), 1)
         && is_found(rt, desk, seat, 3, &all_white(), 12)
@@ -61,7 +61,7 @@ fn are_three_found<L: Hands, R: Wait>(rt: &R, desk: &Desk<L>, seat: &Seat<L>) ->
 #[test]
 fn replies_are_to_their_positions(rt: HostRuntime) {
     for workers in [1, 2, 8] {
-        let table = Table::of(&Foreign, &Open, workers, 0, 128);
+        let table = Table::of(&Foreign, &OpenGate, workers, 0, 128);
         assert!(rt;
             well(&rt, rt.alloc(), &table).is_some(),
             "{workers} workers"
@@ -71,13 +71,13 @@ fn replies_are_to_their_positions(rt: HostRuntime) {
 
 /// Two seats.
 #[derive(Drop)]
-struct Pair<L: Hands> {
+struct Pair<L: DeskLedger> {
     one: Seat<L>,
     two: Seat<L>,
 }
 
 /// Two seats with these reservations.
-fn two_seats<L: Hands, R: Wait>(
+fn two_seats<L: DeskLedger, R: Wait>(
     rt: &R,
     desk: &Desk<L>,
     one: (u32, u32),
@@ -89,7 +89,13 @@ fn two_seats<L: Hands, R: Wait>(
 }
 
 /// Asks the opening at both seats, to these depths.
-fn ask_both<L: Hands, R: Wait>(rt: &R, desk: &Desk<L>, pair: &mut Pair<L>, one: u8, two: u8) -> bool
+fn ask_both<L: DeskLedger, R: Wait>(
+    rt: &R,
+    desk: &Desk<L>,
+    pair: &mut Pair<L>,
+    one: u8,
+    two: u8,
+) -> bool
     requires one { one ≤ 12 }
     requires two { two ≤ 12 }
 {
@@ -98,7 +104,7 @@ fn ask_both<L: Hands, R: Wait>(rt: &R, desk: &Desk<L>, pair: &mut Pair<L>, one: 
 }
 
 /// Whether both have the reply to the opening and this depth.
-fn are_both_found<L: Hands, R: Wait>(rt: &R, desk: &Desk<L>, pair: &Pair<L>, depth: u8) -> bool
+fn are_both_found<L: DeskLedger, R: Wait>(rt: &R, desk: &Desk<L>, pair: &Pair<L>, depth: u8) -> bool
     requires { depth ≤ 12 }
 {
     is_found(rt, desk, &pair.one, 1, &opening(), depth)
@@ -106,7 +112,7 @@ fn are_both_found<L: Hands, R: Wait>(rt: &R, desk: &Desk<L>, pair: &Pair<L>, dep
 }
 
 /// Both leave.
-fn leave_both<L: Hands, R: Wait>(rt: &R, desk: &Desk<L>, pair: Pair<L>)
+fn leave_both<L: DeskLedger, R: Wait>(rt: &R, desk: &Desk<L>, pair: Pair<L>)
     requires { L.all ≡ L.parts }
 {
     let Pair { one, two } = pair;
@@ -124,7 +130,7 @@ struct Four {
 }
 
 impl Scenario for Four {
-    fn play<L: Hands, R: Wait>(&self, rt: &R, desk: &Desk<L>) -> bool {
+    fn play<L: DeskLedger, R: Wait>(&self, rt: &R, desk: &Desk<L>) -> bool {
         let depth = self.depth.min(12);
         let first = two_seats(rt, desk, QUARTER, QUARTER);
         let Some((mut one, mut two)) = first.zip(two_seats(rt, desk, QUARTER, QUARTER)) else {
@@ -155,7 +161,7 @@ fn adds_up(played: Option<Played>) -> bool {
 #[test]
 fn any_number_of_workers(rt: HostRuntime) {
     for workers in [1, 2, 8, 32] {
-        let table = Table::of(&Four { depth: 4 }, &Open, workers, 2, 1_024);
+        let table = Table::of(&Four { depth: 4 }, &OpenGate, workers, 2, 1_024);
         assert!(rt; adds_up(well(&rt, rt.alloc(), &table)), "{workers} workers");
     }
 }
@@ -165,7 +171,7 @@ fn any_number_of_workers(rt: HostRuntime) {
 fn no_room_for_tasks(rt: HostRuntime) {
     let table = Table {
         scenario: &Four { depth: 3 },
-        gate: &Open,
+        gate: &OpenGate,
         workers: 2,
         grain: 1,
         room: Some(0),
@@ -179,7 +185,7 @@ fn no_room_for_tasks(rt: HostRuntime) {
 #[test]
 fn two_hundred_pools_end(rt: HostRuntime) {
     for run in 0..200 {
-        let table = Table::of(&Four { depth: 2 }, &Open, 8, 0, 1_024);
+        let table = Table::of(&Four { depth: 2 }, &OpenGate, 8, 0, 1_024);
         assert!(rt; well(&rt, rt.alloc(), &table).is_some(), "run {run}");
     }
 }
@@ -210,7 +216,7 @@ struct Mixed<'g> {
 }
 
 impl Scenario for Mixed<'_> {
-    fn play<L: Hands, R: Wait>(&self, rt: &R, desk: &Desk<L>) -> bool {
+    fn play<L: DeskLedger, R: Wait>(&self, rt: &R, desk: &Desk<L>) -> bool {
         let going = two_seats(rt, desk, (4, 3), (64, 1_024));
         let Some((mut going, mut cut)) = going.zip(two_seats(rt, desk, (64, 1_024), (64, 1_024)))
         else {
@@ -227,7 +233,7 @@ impl Scenario for Mixed<'_> {
 }
 
 /// The first cancels its job, and the second leaves: the first is still there.
-fn cut_short<L: Hands, R: Wait>(rt: &R, desk: &Desk<L>, pair: Pair<L>) -> (bool, Seat<L>)
+fn cut_short<L: DeskLedger, R: Wait>(rt: &R, desk: &Desk<L>, pair: Pair<L>) -> (bool, Seat<L>)
     requires { L.all ≡ L.parts }
 {
     let Pair { mut one, two } = pair;
@@ -237,19 +243,24 @@ fn cut_short<L: Hands, R: Wait>(rt: &R, desk: &Desk<L>, pair: Pair<L>) -> (bool,
 }
 
 /// Whether the first one's job is spent and all is back, and the second one's is done.
-fn are_over<L: Hands, R: Wait>(rt: &R, desk: &Desk<L>, pair: &Pair<L>) -> bool {
+fn are_over<L: DeskLedger, R: Wait>(rt: &R, desk: &Desk<L>, pair: &Pair<L>) -> bool {
     is_found(rt, desk, &pair.two, 1, &opening(), 2)
         && end_of(rt, desk, &pair.one, 1) == Outcome::Spent
         && has_all_back(rt, desk, &pair.one, 4)
 }
 
 /// Whether a job is cancelled, and all is back.
-fn is_over<L: Hands, R: Wait>(rt: &R, desk: &Desk<L>, seat: &Seat<L>) -> bool {
+fn is_over<L: DeskLedger, R: Wait>(rt: &R, desk: &Desk<L>, seat: &Seat<L>) -> bool {
     end_of(rt, desk, seat, 1) == Outcome::Cancelled && has_all_back(rt, desk, seat, 64)
 }
 
 /// Whether a seat has no frame, and all its segments.
-fn has_all_back<L: Hands, R: Wait>(rt: &R, desk: &Desk<L>, seat: &Seat<L>, segments: u32) -> bool {
+fn has_all_back<L: DeskLedger, R: Wait>(
+    rt: &R,
+    desk: &Desk<L>,
+    seat: &Seat<L>,
+    segments: u32,
+) -> bool {
     let quota = desk.quota(rt, seat);
     desk.live(rt, seat) == Ok((0, 0)) && matches!(quota, Ok(left) if left.segments == segments)
 }

@@ -3,8 +3,8 @@ ghost use Rattle.std.specs.Prelude.{◌≡◌};
 
 use super::seats::{is_found, opening, seat};
 use super::{Scenario, Table, well};
-use crate::Open;
-use desk::{Desk, Hands};
+use crate::OpenGate;
+use desk::{Desk, DeskLedger};
 use std::sync::Wait;
 use std::thread;
 use std::time::{Clock, CpuClock, Duration};
@@ -16,7 +16,7 @@ struct Silence<'c, C> {
 }
 
 impl<C: Clock + CpuClock> Scenario for Silence<'_, C> {
-    fn play<L: Hands, R: Wait>(&self, rt: &R, desk: &Desk<L>) -> bool {
+    fn play<L: DeskLedger, R: Wait>(&self, rt: &R, desk: &Desk<L>) -> bool {
         let Some(mut seat) = seat(rt, desk, 8, 8) else {
             return false;
         };
@@ -44,6 +44,6 @@ fn is_short(before: Option<Duration>, after: Option<Duration>) -> bool {
 #[test]
 fn an_idle_pool_sleeps(rt: HostRuntime) {
     let scenario = Silence { clock: &rt };
-    let table = Table::of(&scenario, &Open, 4, 0, 8);
+    let table = Table::of(&scenario, &OpenGate, 4, 0, 8);
     assert!(rt; well(&rt, rt.alloc(), &table).is_some());
 }

@@ -4,7 +4,7 @@ ghost use Rattle.std.specs.Prelude.{◌≡◌};
 use super::seats::{is_found, opening, seat};
 use super::{MOST_TURNS, Scenario, Table, well};
 use crate::{BeginFault, Gate, PoolFault, Task};
-use desk::{Desk, Hands, Seat};
+use desk::{Desk, DeskLedger, Seat};
 use sched_rules::Worker;
 use std::alloc::Global;
 use std::sync::Wait;
@@ -60,7 +60,7 @@ impl Gate for AllCome {
 }
 
 /// Asks for so many short searches.
-fn asks<L: Hands, R: Wait>(rt: &R, desk: &Desk<L>, seat: &mut Seat<L>, many: u64) -> bool {
+fn asks<L: DeskLedger, R: Wait>(rt: &R, desk: &Desk<L>, seat: &mut Seat<L>, many: u64) -> bool {
     for job in 0..many {
         if desk.ask(rt, seat, &opening(), 0) != Ok(job + 1) {
             return false;
@@ -70,7 +70,7 @@ fn asks<L: Hands, R: Wait>(rt: &R, desk: &Desk<L>, seat: &mut Seat<L>, many: u64
 }
 
 /// A new seat asks for 256 short searches, has the reply to the last, and leaves.
-fn sits<L: Hands, R: Wait>(rt: &R, desk: &Desk<L>) -> bool
+fn sits<L: DeskLedger, R: Wait>(rt: &R, desk: &Desk<L>) -> bool
     requires { L.all ≡ L.parts }
 {
     let Some(mut seat) = seat(rt, desk, 256, 256) else {
@@ -89,7 +89,7 @@ struct Many<'g> {
 }
 
 impl Scenario for Many<'_> {
-    fn play<L: Hands, R: Wait>(&self, rt: &R, desk: &Desk<L>) -> bool {
+    fn play<L: DeskLedger, R: Wait>(&self, rt: &R, desk: &Desk<L>) -> bool {
         for _ in 0..8 {
             if !sits(rt, desk) {
                 return false;

@@ -4,7 +4,7 @@ ghost use Rattle.std.specs.Prelude.{◌≡◌};
 use super::seats::{is_found, opening, seat};
 use super::{MOST_TURNS, Scenario, Table, well};
 use crate::{Gate, Task};
-use desk::{Desk, Hands, Seat};
+use desk::{Desk, DeskLedger, Seat};
 use sched_rules::Worker;
 use std::alloc::Global;
 use std::sync::Wait;
@@ -13,7 +13,7 @@ use std::thread::{self, Threads};
 
 /// The computation of this number waits within a limit until it is let go on.
 #[derive(Drop)]
-struct Held {
+struct HoldingGate {
     number: u64,
     by_later: bool,
     began: AtomicBool,
@@ -22,8 +22,8 @@ struct Held {
 }
 
 /// A gate whose computation of this number is let go on by a later one, or else by the scenario.
-fn is_held(number: u64, by_later: bool) -> Held {
-    Held {
+fn is_held(number: u64, by_later: bool) -> HoldingGate {
+    HoldingGate {
         number,
         by_later,
         began: AtomicBool::new(false),
@@ -43,7 +43,7 @@ pub(crate) fn is_set(flag: &AtomicBool) -> bool {
     false
 }
 
-impl Gate for Held {
+impl Gate for HoldingGate {
     fn before(&self, _worker: Worker, _task: &Task) {}
 
     fn inside(&self, _worker: Worker, number: u64) {
@@ -64,7 +64,7 @@ impl Gate for Held {
 struct TwoJobs;
 
 impl Scenario for TwoJobs {
-    fn play<L: Hands, R: Wait>(&self, rt: &R, desk: &Desk<L>) -> bool {
+    fn play<L: DeskLedger, R: Wait>(&self, rt: &R, desk: &Desk<L>) -> bool {
         let Some(mut seat) = seat(rt, desk, 8, 8) else {
             return false;
         };
@@ -109,7 +109,7 @@ const IDLE_TURNS: u32 = 10_000;
 struct OneJob;
 
 impl Scenario for OneJob {
-    fn play<L: Hands, R: Wait>(&self, rt: &R, desk: &Desk<L>) -> bool {
+    fn play<L: DeskLedger, R: Wait>(&self, rt: &R, desk: &Desk<L>) -> bool {
         let Some(mut seat) = seat(rt, desk, 16, 16) else {
             return false;
         };
@@ -134,12 +134,12 @@ fn a_ready_frame_wakes_a_worker(rt: HostRuntime) {
 /// same.
 #[derive(Drop)]
 struct Late<'g> {
-    gate: &'g Held,
+    gate: &'g HoldingGate,
     leaves: bool,
 }
 
 impl Scenario for Late<'_> {
-    fn play<L: Hands, R: Wait>(&self, rt: &R, desk: &Desk<L>) -> bool {
+    fn play<L: DeskLedger, R: Wait>(&self, rt: &R, desk: &Desk<L>) -> bool {
         let (Some(first), Some(second)) = (seat(rt, desk, 4, 4), seat(rt, desk, 4, 4)) else {
             return false;
         };
@@ -152,7 +152,7 @@ impl Scenario for Late<'_> {
 }
 
 /// A seat asks, and leaves once its job is computed.
-fn leaves<L: Hands, R: Wait>(rt: &R, desk: &Desk<L>, gate: &Held, seat: Seat<L>) -> bool
+fn leaves<L: DeskLedger, R: Wait>(rt: &R, desk: &Desk<L>, gate: &HoldingGate, seat: Seat<L>) -> bool
     requires { L.all ≡ L.parts }
 {
     let mut seat = seat;
@@ -163,7 +163,12 @@ fn leaves<L: Hands, R: Wait>(rt: &R, desk: &Desk<L>, gate: &Held, seat: Seat<L>)
 }
 
 /// A seat asks, and cancels once its job is computed.
-fn cancels<L: Hands, R: Wait>(rt: &R, desk: &Desk<L>, gate: &Held, seat: Seat<L>) -> bool
+fn cancels<L: DeskLedger, R: Wait>(
+    rt: &R,
+    desk: &Desk<L>,
+    gate: &HoldingGate,
+    seat: Seat<L>,
+) -> bool
     requires { L.all ≡ L.parts }
 {
     let mut seat = seat;
@@ -175,7 +180,12 @@ fn cancels<L: Hands, R: Wait>(rt: &R, desk: &Desk<L>, gate: &Held, seat: Seat<L>
 }
 
 /// The computation is let go on, and another seat's job ends.
-fn goes_on<L: Hands, R: Wait>(rt: &R, desk: &Desk<L>, gate: &Held, seat: Seat<L>) -> bool
+fn goes_on<L: DeskLedger, R: Wait>(
+    rt: &R,
+    desk: &Desk<L>,
+    gate: &HoldingGate,
+    seat: Seat<L>,
+) -> bool
     requires { L.all ≡ L.parts }
 {
     let mut seat = seat;

@@ -3,8 +3,8 @@ ghost use Rattle.std.specs.Prelude.{◌≡◌};
 
 use super::seats::{is_found, opening, seat};
 use super::{Played, Scenario, Table, play};
-use crate::Open;
-use desk::{Desk, Hands};
+use crate::OpenGate;
+use desk::{Desk, DeskLedger};
 use std::sync::Wait;
 use tenant_quota::Left;
 
@@ -13,7 +13,7 @@ use tenant_quota::Left;
 struct OneJob;
 
 impl Scenario for OneJob {
-    fn play<L: Hands, R: Wait>(&self, rt: &R, desk: &Desk<L>) -> bool {
+    fn play<L: DeskLedger, R: Wait>(&self, rt: &R, desk: &Desk<L>) -> bool {
         let Some(mut seat) = seat(rt, desk, 8, 8) else {
             return false;
         };
@@ -33,7 +33,7 @@ impl Scenario for OneJob {
 /// One worker, the opening to depth 1 at grain 0: 36 steps, 8 tasks pushed and taken.
 #[test]
 fn one_worker_counted(rt: HostRuntime) {
-    let table = Table::of(&OneJob, &Open, 1, 0, 8);
+    let table = Table::of(&OneJob, &OpenGate, 1, 0, 8);
     let wanted = Played {
         content: true,
         share: 36,

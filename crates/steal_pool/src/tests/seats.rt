@@ -2,7 +2,7 @@
 ghost use Rattle.std.specs.Prelude.{◌≡◌, ◌≤◌};
 
 use super::MOST_TURNS;
-use desk::{Desk, Hands, Outcome, Seat};
+use desk::{Desk, DeskLedger, Outcome, Seat};
 use othello_board::Board;
 use position_text::{Position, Side};
 use std::sync::Wait;
@@ -11,7 +11,7 @@ use task_deques::leaf_search::search_full;
 use tenant_quota::Reserve;
 
 /// A seat, if the desk gives one.
-pub(crate) fn seat<L: Hands, R: Wait>(
+pub(crate) fn seat<L: DeskLedger, R: Wait>(
     rt: &R,
     desk: &Desk<L>,
     segments: u32,
@@ -21,7 +21,7 @@ pub(crate) fn seat<L: Hands, R: Wait>(
 }
 
 /// The end of a job, asked for again and again; Pending where it doesn't come within the limit.
-pub(crate) fn end_of<L: Hands, R: Wait>(
+pub(crate) fn end_of<L: DeskLedger, R: Wait>(
     rt: &R,
     desk: &Desk<L>,
     seat: &Seat<L>,
@@ -38,7 +38,7 @@ pub(crate) fn end_of<L: Hands, R: Wait>(
 }
 
 /// Whether a job ends with what the serial search finds.
-pub(crate) fn is_found<L: Hands, R: Wait>(
+pub(crate) fn is_found<L: DeskLedger, R: Wait>(
     rt: &R,
     desk: &Desk<L>,
     seat: &Seat<L>,

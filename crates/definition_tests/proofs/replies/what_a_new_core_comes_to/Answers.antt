@@ -9,8 +9,8 @@ use Rattle.sched_rules.specs.declared.step.DidOf.{DidOf}
 use Rattle.sched_rules.specs.declared.step.DidOf.TheVariants.{Left}
 use Rattle.sched_rules.specs.Trees.{Tenant, Tree}
 use Rattle.sched_rules.specs.Runs.{only}
-use Rattle.sched_rules.specs.Cores.{Shared, tenant_in}
-use Rattle.sched_rules.specs.Headline.{taken}
+use Rattle.sched_rules.specs.Cores.{CoreState, tenant_in}
+use Rattle.sched_rules.specs.Headline.{taken_steps}
 use Rattle.jamboree_rules.specs.declared.leaf.Leaf.{Leaf}
 use Rattle.jamboree_rules.specs.declared.leaf.LeafAnswer.{LeafAnswer}
 use Rattle.jamboree_rules.specs.Frames.{coded}
@@ -18,13 +18,13 @@ use Rattle.jamboree_core.specs.sched_laws.Fitted.{origins_of}
 use Rattle.jamboree_core.specs.Replies.{AreReplies, IsReplyTo, AreAllSound}
 use Rattle.jamboree_core.specs.NewRuns.{IsHeadlineFromNew}
 use Rattle.jamboree_core.specs.Rows.{asked, few}
-use Rattle.jamboree_core.proofs.Opening.{worth, best}
+use Rattle.jamboree_core.proofs.OpeningReply.{worth, best}
 use Rattle.definition_tests.specs.SmallSearches.{at_its_beta}
 use Rattle.definition_tests.proofs.replies.what_a_new_core_comes_to.Goals as goal
 
 -- what the only job holds
-reply : (steps : List (StepOf LeafAnswer)) (answers : List (Result (DidOf Leaf) Refusal)) (after : Shared) (tenant : Tenant) (words : List ℕ) →
-    IsHeadlineFromNew 0 few steps answers after → tenant_in after.tenants 1 ≡ Some tenant → origins_of (only 1 (taken steps answers)) ≡ asked ∷ [] → tenant.jobs ≡ Done words ∷ [] → IsReplyTo asked words
+reply : (steps : List (StepOf LeafAnswer)) (answers : List (Result (DidOf Leaf) Refusal)) (after : CoreState) (tenant : Tenant) (words : List ℕ) →
+    IsHeadlineFromNew 0 few steps answers after → tenant_in after.tenants 1 ≡ Some tenant → origins_of (only 1 (taken_steps steps answers)) ≡ asked ∷ [] → tenant.jobs ≡ Done words ∷ [] → IsReplyTo asked words
 reply steps answers after tenant words is there origins jobs =
     (subst (λ (js : List Job). AreReplies (asked ∷ []) js) jobs (subst (λ (os : List (List ℕ)). AreReplies os tenant.jobs) origins (is.replies 1 tenant there))).0
 

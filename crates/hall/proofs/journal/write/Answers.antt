@@ -1,32 +1,32 @@
-use Rattle.std.proofs.Common.{length, ap, sym, ◌∙◌, arith}
-use Rattle.hall.proofs.Lists.{StandsAt, at-within, at-read, at-written, further-longer}
-use Rattle.hall.proofs.journal.write.Given.{Over}
-use Rattle.hall.proofs.journal.write.Goals.{After-index_mut-journal}
+use Rattle.std.proofs.Common.{[], length, ap, sym, ◌∙◌, arith}
+use Rattle.number_index.proofs.Edits.{at-within, at-own, at-said, at-set}
+use Rattle.hall.specs.Journals.{owner_of_journal, longer}
+use Rattle.hall.proofs.Lists.{at-place, steps_of, places_of, further-longer}
 use Rattle.hall.proofs.journal.write.Goals as goal
 
 pub index_mut-journal-requires : goal.index_mut-journal-requires
 index_mut-journal-requires g c =
     let len = c.as_slice.ensures.len in let same = ap length c.as_slice.ensures.value in
-    let within = at-within c.args.tenant c.args.journals.now.items _ c.place_of-at.result c.requires.rising c.requires.there c.as_slice.ensures.value c.place_of-at.ensures in
+    let place = at-place c.args.tenant c.args.journals.now.items _ c.place_of-at.result c.requires.rising c.requires.there c.as_slice.ensures.value c.place_of-at.ensures in
+    let within = at-within owner_of_journal c.args.tenant c.args.journals.now.items c.place_of-at.result place in
     omega (arith, len, same, within)
-
--- the journal that was read is the tenant's
-read : (g : Over) (c : After-index_mut-journal g) → StandsAt c.args.tenant c.args.journals.now.items c.index_mut-journal.result.now
-read g c = at-read c.args.tenant c.args.journals.now.items _ c.place_of-at.result c.index_mut-journal.result.now c.requires.rising c.requires.there c.as_slice.ensures.value c.place_of-at.ensures c.index_mut-journal.ensures.value
 
 pub write-requires : goal.write-requires
 write-requires g c =
-    let stands = read g (goal.at.write-requires g c).After-index_mut-journal in
+    let place = at-place c.args.tenant c.args.journals.now.items _ c.place_of-at.result c.requires.rising c.requires.there c.as_slice.ensures.value c.place_of-at.ensures in
+    let steps = at-said owner_of_journal steps_of [] c.args.tenant c.args.journals.now.items c.place_of-at.result c.index_mut-journal.result.now place c.index_mut-journal.ensures.value in
+    let places = at-said owner_of_journal places_of 0 c.args.tenant c.args.journals.now.items c.place_of-at.result c.index_mut-journal.result.now place c.index_mut-journal.ensures.value in
     record {
-      own = c.requires.own ∙ sym stands.own;
+      own = c.requires.own ∙ sym (at-own owner_of_journal c.args.tenant c.args.journals.now.items c.place_of-at.result c.index_mut-journal.result.now place c.index_mut-journal.ensures.value);
       serial = c.requires.serial;
-      place = rw (ap length stands.steps, stands.places) at c.requires.place;
-      going = c.requires.goes_on;
+      place = rw (ap length steps, places) at c.requires.place;
+      going = c.requires.is_appended;
       search = c.requires.search;
       raises_not = c.requires.raises_not;
     }
 
 pub returns : goal.returns
 returns g c =
-    at-written c.args.tenant c.args.step.now c.args.journals.now.items _ c.place_of-at.result c.index_mut-journal.result.now c.write.new.self
-    c.requires.rising c.requires.there c.as_slice.ensures.value c.place_of-at.ensures c.index_mut-journal.ensures.value (c.write.ensures ∙ further-longer c.args.step.now c.index_mut-journal.result.now c.requires.raises_not)
+    let place = at-place c.args.tenant c.args.journals.now.items _ c.place_of-at.result c.requires.rising c.requires.there c.as_slice.ensures.value c.place_of-at.ensures in
+    at-set owner_of_journal c.args.tenant (longer c.args.step.now) c.args.journals.now.items c.place_of-at.result c.index_mut-journal.result.now c.write.new.self place c.index_mut-journal.ensures.value
+    (c.write.ensures ∙ further-longer c.args.step.now c.index_mut-journal.result.now c.requires.raises_not)

@@ -1,9 +1,9 @@
 use Rattle.sched_laws.specs.Fitted.{origins_of, TenantFits}
-use Rattle.sched_rules.specs.Headline.{taken}
+use Rattle.sched_rules.specs.Headline.{taken_steps}
 use Rattle.sched_rules.specs.Runs.{only}
 use Rattle.jamboree_core.proofs.Replying.{searched, replies-held}
 use Rattle.jamboree_core.proofs.laws.every_completed_reply_is_the_minimax_value.Goals as goal
 
 pub returns : goal.returns
 returns c grain totals steps answers number tenant right searches at =
-    replies-held tenant.frames (origins_of (only number (taken steps answers))) tenant.jobs (TenantFits.jobs (searched grain totals steps answers number tenant right searches at))
+    replies-held tenant.frames (origins_of (only number (taken_steps steps answers))) tenant.jobs (TenantFits.jobs (searched grain totals steps answers number tenant right searches at))

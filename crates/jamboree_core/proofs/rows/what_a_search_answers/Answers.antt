@@ -9,7 +9,7 @@ use Rattle.jamboree_rules.specs.othello_eval.Values.{weights}
 use Rattle.jamboree_rules.specs.othello_eval.Minimax.{minimax, best_choice}
 use Rattle.jamboree_rules.specs.othello_eval.Rows.{entry}
 use Rattle.jamboree_rules.specs.Frames.{coded}
-use Rattle.jamboree_core.proofs.Opening.{worth, best, answered}
+use Rattle.jamboree_core.proofs.OpeningReply.{worth, best, answered}
 use Rattle.jamboree_core.proofs.rows.what_a_search_answers.Goals as goal
 
 pub returns-clause-opening : goal.returns-clause-opening

@@ -6,13 +6,15 @@ use super::{
     Trial, asks, badge_of, cancel_second, cancels, do_first, has_ended, root_of, seat_of, try_out,
     wait_closed, worker_of,
 };
-use desk::{Badge, Desk, DidOf, Hands, Jamboree, LeafAnswer, Refusal, Seat, Step, StepOf, Worker};
+use desk::{
+    Badge, Desk, DeskLedger, DidOf, Jamboree, LeafAnswer, Refusal, Seat, Step, StepOf, Worker,
+};
 use std::process::Abort;
 use std::sync::Wait;
 use std::test::Fail;
 
 /// A job at a closed desk: who waits finds it pending, and then done.
-fn first_goes_on<L: Hands, R: Wait + Abort>(
+fn first_goes_on<L: DeskLedger, R: Wait + Abort>(
     rt: &R,
     desk: &Desk<L>,
     seat: &mut Seat<L>,
@@ -25,7 +27,7 @@ fn first_goes_on<L: Hands, R: Wait + Abort>(
 }
 
 /// All calls after the closing of a desk: each goes on, but those that wait.
-pub(super) fn go_on<L: Hands, R: Wait + Abort>(rt: &R, desk: Desk<L>)
+pub(super) fn go_on<L: DeskLedger, R: Wait + Abort>(rt: &R, desk: Desk<L>)
     requires { L.all ≡ L.parts }
 {
     desk.close(rt);
@@ -45,7 +47,7 @@ fn a_closed_desk_goes_on(rt: HostRuntime) -> Result<(), Fail> {
 }
 
 /// The end of a desk whose seat is still there.
-pub(super) fn seat_stays<L: Hands, R: Wait + Abort>(rt: &R, desk: Desk<L>)
+pub(super) fn seat_stays<L: DeskLedger, R: Wait + Abort>(rt: &R, desk: Desk<L>)
     requires { L.all ≡ L.parts }
 {
     let seat = seat_of(rt, &desk, 4, 8);
@@ -62,7 +64,7 @@ fn a_seat_is_still_there(rt: HostRuntime) -> Result<(), Fail> {
 }
 
 /// The end of a desk whose second badge was dropped.
-pub(super) fn badge_is_dropped<L: Hands, R: Wait + Abort>(rt: &R, desk: Desk<L>)
+pub(super) fn badge_is_dropped<L: DeskLedger, R: Wait + Abort>(rt: &R, desk: Desk<L>)
     requires { L.all ≡ L.parts }
 {
     let seat = seat_of(rt, &desk, 4, 8);
@@ -79,7 +81,7 @@ fn a_badge_is_dropped(rt: HostRuntime) -> Result<(), Fail> {
 }
 
 /// The answer of a seat's first job, which is being computed.
-fn begun<L: Hands, R: Wait + Abort>(
+fn begun<L: DeskLedger, R: Wait + Abort>(
     rt: &R,
     desk: &Desk<L>,
     badge: &mut Badge<L>,
@@ -101,7 +103,7 @@ fn begun<L: Hands, R: Wait + Abort>(
 }
 
 /// An answer is refused so; the badge's share and the desk's count don't count it.
-fn is_late<L: Hands, R: Wait + Abort>(
+fn is_late<L: DeskLedger, R: Wait + Abort>(
     rt: &R,
     desk: &Desk<L>,
     badge: &mut Badge<L>,
@@ -117,7 +119,7 @@ fn is_late<L: Hands, R: Wait + Abort>(
 }
 
 /// An answer after its tenant has left.
-fn after_a_leave<L: Hands, R: Wait + Abort>(
+fn after_a_leave<L: DeskLedger, R: Wait + Abort>(
     rt: &R,
     desk: &Desk<L>,
     badge: &mut Badge<L>,
@@ -132,7 +134,7 @@ fn after_a_leave<L: Hands, R: Wait + Abort>(
 }
 
 /// An answer after its job was cancelled.
-fn after_a_cancel<L: Hands, R: Wait + Abort>(
+fn after_a_cancel<L: DeskLedger, R: Wait + Abort>(
     rt: &R,
     desk: &Desk<L>,
     badge: &mut Badge<L>,
@@ -145,7 +147,7 @@ fn after_a_cancel<L: Hands, R: Wait + Abort>(
 }
 
 /// Both, at one desk.
-pub(super) fn late<L: Hands, R: Wait + Abort>(rt: &R, desk: &Desk<L>)
+pub(super) fn late<L: DeskLedger, R: Wait + Abort>(rt: &R, desk: &Desk<L>)
     requires { L.all ≡ L.parts }
 {
     let worker = worker_of(rt, 1);

@@ -1,7 +1,7 @@
 //! Calls of others while a worker holds the desk: each waits until the desk is let go, and tells what is there then.
 use super::wakes::{opens, takes_root};
 use super::{Trial, badge_of, root_of, seat_of, try_out, worker_of};
-use desk::{Badge, Desk, Hands, Outcome, Refusal, Seat};
+use desk::{Badge, Desk, DeskLedger, Outcome, Refusal, Seat};
 use std::process::Abort;
 use std::sync::Wait;
 use std::sync::atomic::{AtomicBool, Ordering};
@@ -33,7 +33,7 @@ enum Told {
 }
 
 /// Whether a tenant of one node finds room.
-fn finds_room<L: Hands, R: Wait>(rt: &R, desk: &Desk<L>) -> bool {
+fn finds_room<L: DeskLedger, R: Wait>(rt: &R, desk: &Desk<L>) -> bool {
     match Reserve::new(1, 1) {
         Some(reserve) => desk.admit(rt, reserve).is_ok(),
         None => false,
@@ -41,13 +41,13 @@ fn finds_room<L: Hands, R: Wait>(rt: &R, desk: &Desk<L>) -> bool {
 }
 
 /// Whether no frame is ready at a desk that was closed.
-fn is_closed<L: Hands, R: Wait>(rt: &R, desk: &Desk<L>) -> bool {
+fn is_closed<L: DeskLedger, R: Wait>(rt: &R, desk: &Desk<L>) -> bool {
     desk.close(rt);
     desk.next_ready(rt).is_none()
 }
 
 /// What a call tells of this seat.
-fn answered<L: Hands, R: Wait>(rt: &R, desk: &Desk<L>, seat: &Seat<L>, call: Call) -> Told {
+fn answered<L: DeskLedger, R: Wait>(rt: &R, desk: &Desk<L>, seat: &Seat<L>, call: Call) -> Told {
     match call {
         Call::Admit => Told::Done(finds_room(rt, desk)),
         Call::Badge => Told::Done(desk.badge(rt).is_some()),
@@ -60,7 +60,7 @@ fn answered<L: Hands, R: Wait>(rt: &R, desk: &Desk<L>, seat: &Seat<L>, call: Cal
 }
 
 /// The same in a thread of its own, which says when it was told, and gives the seat back.
-fn told_there<L: Hands, R: Wait>(
+fn told_there<L: DeskLedger, R: Wait>(
     rt: &R,
     desk: &Desk<L>,
     seat: Seat<L>,
@@ -86,7 +86,7 @@ fn told_beside<L, R>(
     call: Call,
 ) -> Option<(Seat<L>, Told)>
 where
-    L: Hands + Send + Sync,
+    L: DeskLedger + Send + Sync,
     R: Wait + Abort + Threads + Clock + Sync,
 {
     let flag = AtomicBool::new(false);
@@ -110,7 +110,7 @@ where
 /// A call beside a hold waits, and tells what it tells after the hold.
 pub(super) fn call_waits<L, R>(rt: &R, desk: &Desk<L>, call: Call)
 where
-    L: Hands + Send + Sync,
+    L: DeskLedger + Send + Sync,
     R: Wait + Abort + Threads + Clock + Sync,
 {
     let mut badge = badge_of(rt, desk);

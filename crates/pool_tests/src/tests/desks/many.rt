@@ -3,7 +3,7 @@ use super::{
     Trial, ask_and_read, asks, badge_of, has_frames, has_left, opening, position, reply_of,
     seat_of, try_out, worker_of,
 };
-use desk::{Desk, Hands, Seat};
+use desk::{Desk, DeskLedger, Seat};
 use othello_moves::Choice;
 use position_text::Position;
 use std::alloc::Global;
@@ -24,7 +24,7 @@ fn jobs_of(number: u32) -> u32 {
 }
 
 /// A new tenant's seat: number n reserves 4 segments and n + 3 nodes, and has n mod 4 jobs.
-fn new_seat<L: Hands, R: Wait + Abort>(rt: &R, desk: &Desk<L>, number: u32) -> Seat<L> {
+fn new_seat<L: DeskLedger, R: Wait + Abort>(rt: &R, desk: &Desk<L>, number: u32) -> Seat<L> {
     let mut seat = seat_of(rt, desk, 4, number.saturating_add(3));
     for job in 0..jobs_of(number) {
         asks(rt, desk, &mut seat, 0, Ok(u64::from(job) + 1));
@@ -33,7 +33,7 @@ fn new_seat<L: Hands, R: Wait + Abort>(rt: &R, desk: &Desk<L>, number: u32) -> S
 }
 
 /// The seat of the tenant of this number is told of its own.
-fn is_told<L: Hands, R: Wait + Abort>(rt: &R, desk: &Desk<L>, seat: &Seat<L>, number: u32) {
+fn is_told<L: DeskLedger, R: Wait + Abort>(rt: &R, desk: &Desk<L>, seat: &Seat<L>, number: u32) {
     let jobs = jobs_of(number);
     let nodes = number.saturating_add(3);
     has_frames(rt, desk, seat, jobs);
@@ -48,7 +48,7 @@ fn is_told<L: Hands, R: Wait + Abort>(rt: &R, desk: &Desk<L>, seat: &Seat<L>, nu
 }
 
 /// 64 tenants with reservations and jobs of their own, told of them once all are there.
-pub(super) fn all_tenants<L: Hands, R: Wait + Abort>(rt: &R, alloc: Global, desk: &Desk<L>) {
+pub(super) fn all_tenants<L: DeskLedger, R: Wait + Abort>(rt: &R, alloc: Global, desk: &Desk<L>) {
     let mut seats = Vec::new(alloc);
     for number in 1..65u32 {
         seats
@@ -79,7 +79,7 @@ fn asked_as(rt: &impl Abort, job: u64) -> (Position, (i32, Option<Choice>)) {
 }
 
 /// Worker 32 does each of a seat's 256 jobs.
-fn do_all<L: Hands, R: Wait + Abort>(rt: &R, desk: &Desk<L>, seat: &mut Seat<L>) {
+fn do_all<L: DeskLedger, R: Wait + Abort>(rt: &R, desk: &Desk<L>, seat: &mut Seat<L>) {
     let worker = worker_of(rt, 32);
     let mut badge = badge_of(rt, desk);
     for job in 1..257u64 {
@@ -89,7 +89,7 @@ fn do_all<L: Hands, R: Wait + Abort>(rt: &R, desk: &Desk<L>, seat: &mut Seat<L>)
 }
 
 /// A seat's 256 jobs are done and told, and are told again once all are done.
-pub(super) fn all_jobs<L: Hands, R: Wait + Abort>(rt: &R, desk: &Desk<L>) {
+pub(super) fn all_jobs<L: DeskLedger, R: Wait + Abort>(rt: &R, desk: &Desk<L>) {
     let mut seat = seat_of(rt, desk, 4, 256);
     do_all(rt, desk, &mut seat);
     for job in 1..257u64 {
@@ -106,7 +106,7 @@ fn each_of_256_jobs_is_told(rt: HostRuntime) -> Result<(), Fail> {
 }
 
 /// A seat with 256 frames, as many as its segments and nodes.
-fn full_seat<L: Hands, R: Wait + Abort>(rt: &R, desk: &Desk<L>) -> Seat<L> {
+fn full_seat<L: DeskLedger, R: Wait + Abort>(rt: &R, desk: &Desk<L>) -> Seat<L> {
     let mut seat = seat_of(rt, desk, 256, 256);
     for job in 1..257u64 {
         asks(rt, desk, &mut seat, 0, Ok(job));
@@ -116,7 +116,7 @@ fn full_seat<L: Hands, R: Wait + Abort>(rt: &R, desk: &Desk<L>) -> Seat<L> {
 }
 
 /// A seat with 256 frames reserves one segment and one node more, 64 times.
-pub(super) fn many_raises<L: Hands, R: Wait + Abort>(rt: &R, desk: &Desk<L>) {
+pub(super) fn many_raises<L: DeskLedger, R: Wait + Abort>(rt: &R, desk: &Desk<L>) {
     let mut seat = full_seat(rt, desk);
     for more in 1..65u32 {
         let reserve = Reserve::new(256 + more, 256 + more).expect(rt, "within the limits");

@@ -5,14 +5,14 @@ use super::{
     NODES, SEGMENTS, Trial, asks, badge_of, do_first, has_ended, has_left, seat_of, try_out,
     worker_of,
 };
-use desk::{Badge, Desk, Hands, Refusal, Seat, Worker};
+use desk::{Badge, Desk, DeskLedger, Refusal, Seat, Worker};
 use std::process::Abort;
 use std::sync::Wait;
 use std::test::Fail;
 use tenant_quota::Reserve;
 
 /// A seat reserves so much, and is answered so.
-fn reserves<L: Hands, R: Wait + Abort>(
+fn reserves<L: DeskLedger, R: Wait + Abort>(
     rt: &R,
     desk: &Desk<L>,
     seat: &mut Seat<L>,
@@ -25,7 +25,7 @@ fn reserves<L: Hands, R: Wait + Abort>(
 }
 
 /// Raises that are no raise or beyond the totals.
-fn refused<L: Hands, R: Wait + Abort>(rt: &R, desk: &Desk<L>, seat: &mut Seat<L>) {
+fn refused<L: DeskLedger, R: Wait + Abort>(rt: &R, desk: &Desk<L>, seat: &mut Seat<L>) {
     for (segments, nodes, refusal) in [
         (4, 8, Refusal::Lower),
         (3, 9, Refusal::Lower),
@@ -37,7 +37,7 @@ fn refused<L: Hands, R: Wait + Abort>(rt: &R, desk: &Desk<L>, seat: &mut Seat<L>
 }
 
 /// A seat with one node, which its job takes, reserves more of them.
-fn first_raise<L: Hands, R: Wait + Abort>(rt: &R, desk: &Desk<L>, seat: &mut Seat<L>) {
+fn first_raise<L: DeskLedger, R: Wait + Abort>(rt: &R, desk: &Desk<L>, seat: &mut Seat<L>) {
     asks(rt, desk, seat, 0, Ok(1));
     asks(rt, desk, seat, 0, Err(Refusal::NoNodes));
     reserves(rt, desk, seat, 4, 8, Ok(()));
@@ -48,7 +48,7 @@ fn first_raise<L: Hands, R: Wait + Abort>(rt: &R, desk: &Desk<L>, seat: &mut Sea
 }
 
 /// The first job is done, and the seat reserves all that there is.
-fn second_raise<L: Hands, R: Wait + Abort>(
+fn second_raise<L: DeskLedger, R: Wait + Abort>(
     rt: &R,
     desk: &Desk<L>,
     seat: &mut Seat<L>,
@@ -63,7 +63,7 @@ fn second_raise<L: Hands, R: Wait + Abort>(
 
 /// A job that has no node left is done with more of them; the raises that were taken are the seat's own
 /// steps, and those that were refused are nobody's.
-pub(super) fn more<L: Hands, R: Wait + Abort>(rt: &R, desk: Desk<L>)
+pub(super) fn more<L: DeskLedger, R: Wait + Abort>(rt: &R, desk: Desk<L>)
     requires { L.all ≡ L.parts }
 {
     let mut seat = seat_of(rt, &desk, 4, 1);

@@ -1,6 +1,6 @@
 //! Threads that wait at a desk, and what wakes them.
 use super::{Trial, badge_of, compute, opening, seat_of, try_out, worker_of};
-use desk::{Badge, Desk, Hands, Outcome, Seat, StepOf, Worker};
+use desk::{Badge, Desk, DeskLedger, Outcome, Seat, StepOf, Worker};
 use frame_tree::FrameId;
 use std::process::Abort;
 use std::sync::Wait;
@@ -49,7 +49,7 @@ fn is_set(flag: &AtomicBool) -> bool {
 
 /// A seat with one node asks for the opening to this depth and waits for it. It says so once the job
 /// has ended.
-fn wait_there<L: Hands, R: Wait + Abort>(
+fn wait_there<L: DeskLedger, R: Wait + Abort>(
     rt: &R,
     desk: &Desk<L>,
     depth: u8,
@@ -63,7 +63,7 @@ fn wait_there<L: Hands, R: Wait + Abort>(
 }
 
 /// Whether a desk has taken so many steps within a limit.
-fn has_taken<L: Hands, R: Wait>(rt: &R, desk: &Desk<L>, steps: u128) -> bool {
+fn has_taken<L: DeskLedger, R: Wait>(rt: &R, desk: &Desk<L>, steps: u128) -> bool {
     for _ in 0..MOST_TURNS {
         if desk.count(rt) == steps {
             return true;
@@ -74,7 +74,7 @@ fn has_taken<L: Hands, R: Wait>(rt: &R, desk: &Desk<L>, steps: u128) -> bool {
 }
 
 /// Waits for a frame that is ready, and says so once it is.
-fn look_there<L: Hands, R: Wait>(
+fn look_there<L: DeskLedger, R: Wait>(
     rt: &R,
     desk: &Desk<L>,
     woken: &AtomicBool,
@@ -85,7 +85,7 @@ fn look_there<L: Hands, R: Wait>(
 }
 
 /// Wakes who waits for the job of this root.
-fn wake<L: Hands, R: Wait + Abort>(
+fn wake<L: DeskLedger, R: Wait + Abort>(
     rt: &R,
     desk: &Desk<L>,
     badge: &mut Badge<L>,
@@ -104,7 +104,7 @@ fn wake<L: Hands, R: Wait + Abort>(
 }
 
 /// Advances a root until it is refused, and spends its job.
-fn spend<L: Hands, R: Wait + Abort>(
+fn spend<L: DeskLedger, R: Wait + Abort>(
     rt: &R,
     desk: &Desk<L>,
     badge: &mut Badge<L>,
@@ -127,7 +127,7 @@ fn spend<L: Hands, R: Wait + Abort>(
 }
 
 /// What the thread of a seat that waits for a job of this depth finds once it was woken so.
-fn woken_seat<L: Hands + Send + Sync, R: Wait + Abort + Threads + Sync>(
+fn woken_seat<L: DeskLedger + Send + Sync, R: Wait + Abort + Threads + Sync>(
     rt: &R,
     desk: &Desk<L>,
     depth: u8,
@@ -164,7 +164,7 @@ fn is_found(waker: Waker, found: Option<Outcome>) -> bool {
 }
 
 /// A seat waits for a job of this depth, and finds it as it is once it was woken so.
-pub(super) fn seat_waits<L: Hands + Send + Sync, R: Wait + Abort + Threads + Sync>(
+pub(super) fn seat_waits<L: DeskLedger + Send + Sync, R: Wait + Abort + Threads + Sync>(
     rt: &R,
     desk: &Desk<L>,
     depth: u8,
@@ -194,7 +194,7 @@ fn a_spend_wakes_a_seat(rt: HostRuntime) -> Result<(), Fail> {
 }
 
 /// What a worker's thread that waits for a frame finds once it was woken so.
-fn woken_worker<L: Hands + Send + Sync, R: Wait + Abort + Threads + Sync>(
+fn woken_worker<L: DeskLedger + Send + Sync, R: Wait + Abort + Threads + Sync>(
     rt: &R,
     desk: &Desk<L>,
     seat: &mut Seat<L>,
@@ -228,7 +228,7 @@ fn is_shown(waker: Waker, found: Option<Option<(FrameId, u8)>>) -> bool {
 }
 
 /// A worker waits for a frame, and finds what is there once it was woken so.
-pub(super) fn worker_waits<L: Hands + Send + Sync, R: Wait + Abort + Threads + Sync>(
+pub(super) fn worker_waits<L: DeskLedger + Send + Sync, R: Wait + Abort + Threads + Sync>(
     rt: &R,
     desk: &Desk<L>,
     waker: Waker,

@@ -1,6 +1,6 @@
 //! Several threads that wait at a desk at once: each is woken for what it waits for, and they sleep until then.
 use super::{Trial, asks, badge_of, cancels, compute, root_of, seat_of, try_out, worker_of};
-use desk::{Badge, Desk, DidOf, Hands, Held, Seat, StepOf, Worker};
+use desk::{Badge, Desk, DeskGuard, DeskLedger, DidOf, Seat, StepOf, Worker};
 use frame_tree::FrameId;
 use std::alloc::Global;
 use std::process::Abort;
@@ -33,20 +33,20 @@ pub(super) enum What {
 }
 
 /// A seat waits for its second job, and is counted once it is back.
-fn wait_for_own<L: Hands, R: Wait>(rt: &R, desk: &Desk<L>, seat: Seat<L>, back: &AtomicU64) {
+fn wait_for_own<L: DeskLedger, R: Wait>(rt: &R, desk: &Desk<L>, seat: Seat<L>, back: &AtomicU64) {
     let _found = desk.wait(rt, &seat, 2);
     back.fetch_add(1, Ordering::SeqCst);
     drop(seat);
 }
 
 /// A worker waits for a frame, and is counted once it is back.
-fn look_there<L: Hands, R: Wait>(rt: &R, desk: &Desk<L>, back: &AtomicU64) {
+fn look_there<L: DeskLedger, R: Wait>(rt: &R, desk: &Desk<L>, back: &AtomicU64) {
     let _found = desk.next_ready(rt);
     back.fetch_add(1, Ordering::SeqCst);
 }
 
 /// A seat of a tenant with two jobs, at depth 0, of which the first is cancelled.
-fn asked<L: Hands, R: Wait + Abort>(rt: &R, desk: &Desk<L>) -> Seat<L> {
+fn asked<L: DeskLedger, R: Wait + Abort>(rt: &R, desk: &Desk<L>) -> Seat<L> {
     let mut seat = seat_of(rt, desk, 1, 2);
     asks(rt, desk, &mut seat, 0, Ok(1));
     cancels(rt, desk, &mut seat, 1, Ok(()));
@@ -55,7 +55,7 @@ fn asked<L: Hands, R: Wait + Abort>(rt: &R, desk: &Desk<L>) -> Seat<L> {
 }
 
 /// Starts so many threads that wait; tells whether there were threads for all.
-fn start<'s, E, L: Hands + Send + Sync, R: Wait + Abort + Sync>(
+fn start<'s, E, L: DeskLedger + Send + Sync, R: Wait + Abort + Sync>(
     scope: &'s Scope<'s, E>,
     rt: &'s R,
     desk: &'s Desk<L>,
@@ -97,7 +97,7 @@ fn are_back(back: &AtomicU64, many: u64) -> bool {
 }
 
 /// The second jobs of the seats are finished one by one, the last first; each seat is back once its own is, and not before.
-fn finish_all<L: Hands, R: Wait + Abort + Clock>(
+fn finish_all<L: DeskLedger, R: Wait + Abort + Clock>(
     rt: &R,
     desk: &Desk<L>,
     badge: &mut Badge<L>,
@@ -116,7 +116,12 @@ fn finish_all<L: Hands, R: Wait + Abort + Clock>(
 }
 
 /// So many seats ask one by one; a worker is back after each.
-fn ask_all<L: Hands, R: Wait + Abort + Clock>(rt: &R, desk: &Desk<L>, back: &AtomicU64, many: u64) {
+fn ask_all<L: DeskLedger, R: Wait + Abort + Clock>(
+    rt: &R,
+    desk: &Desk<L>,
+    back: &AtomicU64,
+    many: u64,
+) {
     for done in 0..many {
         let mut seat = seat_of(rt, desk, 1, 1);
         asks(rt, desk, &mut seat, 0, Ok(1));
@@ -126,7 +131,7 @@ fn ask_all<L: Hands, R: Wait + Abort + Clock>(rt: &R, desk: &Desk<L>, back: &Ato
 }
 
 /// A seat's search beyond the grain, whose root this worker takes: no frame is ready.
-pub(super) fn takes_root<L: Hands, R: Wait + Abort>(
+pub(super) fn takes_root<L: DeskLedger, R: Wait + Abort>(
     rt: &R,
     desk: &Desk<L>,
     badge: &mut Badge<L>,
@@ -142,7 +147,7 @@ pub(super) fn takes_root<L: Hands, R: Wait + Abort>(
 }
 
 /// The root of a new seat's search, taken by this worker.
-fn taken_root<L: Hands, R: Wait + Abort>(
+fn taken_root<L: DeskLedger, R: Wait + Abort>(
     rt: &R,
     desk: &Desk<L>,
     badge: &mut Badge<L>,
@@ -154,9 +159,9 @@ fn taken_root<L: Hands, R: Wait + Abort>(
 }
 
 /// A root opens and has a child, by two steps of its worker.
-pub(super) fn opens<L: Hands, R: Wait + Abort>(
+pub(super) fn opens<L: DeskLedger, R: Wait + Abort>(
     rt: &R,
-    held: &mut Held<'_, L>,
+    held: &mut DeskGuard<'_, L>,
     badge: &mut Badge<L>,
     worker: Worker,
     root: FrameId,
@@ -174,7 +179,7 @@ pub(super) fn opens<L: Hands, R: Wait + Abort>(
 /// Two roots open a child each while one holds the desk, and two workers wait.
 pub(super) fn open_children<L, R>(rt: &R, desk: &Desk<L>)
 where
-    L: Hands + Send + Sync,
+    L: DeskLedger + Send + Sync,
     R: Wait + Abort + Threads + Clock + Sync,
 {
     let count = AtomicU64::new(0);
@@ -204,7 +209,7 @@ fn is_silent<R: Clock + CpuClock + Abort>(rt: &R) -> bool {
 }
 
 /// What comes to so many who wait.
-fn come<L: Hands, R: Wait + Abort + Clock + CpuClock>(
+fn come<L: DeskLedger, R: Wait + Abort + Clock + CpuClock>(
     rt: &R,
     desk: &Desk<L>,
     back: &AtomicU64,
@@ -229,7 +234,7 @@ fn come<L: Hands, R: Wait + Abort + Clock + CpuClock>(
 /// So many wait at a desk, and this comes to them.
 pub(super) fn come_back_there<L, R>(rt: &R, desk: &Desk<L>, who: Who, many: u64, what: What)
 where
-    L: Hands + Send + Sync,
+    L: DeskLedger + Send + Sync,
     R: Wait + Abort + Threads + Clock + CpuClock + Sync,
 {
     let count = AtomicU64::new(0);
@@ -261,7 +266,7 @@ fn each_of_two_children_wakes_a_worker(rt: HostRuntime) -> Result<(), Fail> {
 }
 
 /// A root opens a child, which another worker takes before the desk is let go.
-fn opens_in_vain<L: Hands, R: Wait + Abort>(
+fn opens_in_vain<L: DeskLedger, R: Wait + Abort>(
     rt: &R,
     desk: &Desk<L>,
     badge: &mut Badge<L>,
@@ -275,7 +280,7 @@ fn opens_in_vain<L: Hands, R: Wait + Abort>(
 }
 
 /// A worker waits for a frame, is counted once it is back, and tells whether it has found one.
-fn finds_there<L: Hands, R: Wait>(rt: &R, desk: &Desk<L>, back: &AtomicU64) -> bool {
+fn finds_there<L: DeskLedger, R: Wait>(rt: &R, desk: &Desk<L>, back: &AtomicU64) -> bool {
     let found = desk.next_ready(rt);
     back.fetch_add(1, Ordering::SeqCst);
     found.is_some()
@@ -284,7 +289,7 @@ fn finds_there<L: Hands, R: Wait>(rt: &R, desk: &Desk<L>, back: &AtomicU64) -> b
 /// A worker that waits is woken for a frame that is gone by then: it waits on, for the next.
 pub(super) fn wake_in_vain<L, R>(rt: &R, desk: &Desk<L>)
 where
-    L: Hands + Send + Sync,
+    L: DeskLedger + Send + Sync,
     R: Wait + Abort + Threads + Clock + Sync,
 {
     let count = AtomicU64::new(0);

@@ -1,12 +1,12 @@
 use Rattle.std.proofs.Common.{List, Option, ap, ◌∙◌}
 use Rattle.sched_rules.specs.Trees.{Tenant}
 use Rattle.sched_rules.specs.Runs.{alone_from, answers_from, only}
-use Rattle.sched_rules.specs.Headline.{taken}
+use Rattle.sched_rules.specs.Headline.{taken_steps}
 use Rattle.promise_uses.proofs.isolation.seven_in_a_running_core.Goals as goal
 
 pub returns : goal.returns
 returns g c procedure before steps answers tenant there known right =
     let seven = (c.no_tenant_is_disturbed.ensures procedure before steps answers known right).undisturbed 7 in (
-      seven.state ∙ ap (λ (one : Option Tenant). alone_from (g.P.Procedure.functions procedure) one (only 7 (taken steps answers))) there,
-      seven.replies ∙ ap (λ (one : Option Tenant). answers_from (g.P.Procedure.functions procedure) one (only 7 (taken steps answers))) there,
+      seven.state ∙ ap (λ (one : Option Tenant). alone_from (g.P.Procedure.functions procedure) one (only 7 (taken_steps steps answers))) there,
+      seven.replies ∙ ap (λ (one : Option Tenant). answers_from (g.P.Procedure.functions procedure) one (only 7 (taken_steps steps answers))) there,
     )

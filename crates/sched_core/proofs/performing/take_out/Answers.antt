@@ -1,7 +1,7 @@
 use Rattle.std.proofs.Common.{◌≡◌, true, refl, sym, ◌∙◌}
 use Rattle.sched_rules.specs.Changes.{on_tenant, without_frame, without_under}
-use Rattle.sched_core.specs.Judging.{staying_with}
-use Rattle.sched_core.proofs.Going.{begins, then-changed}
+use Rattle.sched_core.specs.StepResults.{staying_with}
+use Rattle.sched_core.proofs.TakenStep.{begins, then-changed}
 use Rattle.sched_core.proofs.Ending.{as-change}
 use Rattle.sched_core.proofs.Inlets.{parent-found, stays-beside, aborts-child, same-tenant}
 use Rattle.sched_core.proofs.performing.take_out.Goals as goal

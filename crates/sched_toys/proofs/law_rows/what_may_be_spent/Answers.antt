@@ -1,7 +1,7 @@
 use Rattle.std.proofs.Common.{refl, inl, inr, [], ◌∷◌}
 use Rattle.std.proofs.lemmas.Bool.{false≢true}
 use Rattle.frame_tree.specs.declared.names.State.TheVariants.{Ready, Running, Waiting, Returned}
-use Rattle.sched_rules.specs.declared.act.Then.TheVariants.{Grow}
+use Rattle.sched_rules.specs.declared.act.Continuation.TheVariants.{Grow}
 use Rattle.sched_rules.specs.declared.refusal.Refusal.TheVariants.{BadAct}
 use Rattle.sched_laws.proofs.Spending.{may-be-spent}
 use Rattle.sched_toys.specs.FanRows.{one}

@@ -1,7 +1,7 @@
 //! HELLO and RESERVE where memory is wanting, and then isn't: sessions at a desk whose hall lies in a small heap.
 ghost use Rattle.std.specs.Prelude.{◌≡◌, ◌<◌};
 
-use desk::{Config, Desk, Hall, Hands, PARTS};
+use desk::{Config, Desk, DeskLedger, Hall, PARTS};
 use desk_office::serve_desk;
 use line_io::{FromWriter, ReadFailed, Source};
 use linked_list_allocator::LocalHeap;
@@ -103,7 +103,7 @@ const RESERVE: Plan = Plan {
 };
 
 /// What the session reads at a desk over this heap; None where not even the hall could be made.
-fn told_in<L: Hands, R: Wait>(
+fn told_in<L: DeskLedger, R: Wait>(
     rt: &R,
     alloc: Global,
     heap: &LocalHeap,
@@ -130,7 +130,7 @@ fn told_in<L: Hands, R: Wait>(
 
 /// Whether memory was wanting for the line of the plan, in a heap with room for so many units beside the ballast, which
 /// gets all back. None where there isn't even room for what comes before.
-fn is_wanting<L: Hands, R: Wait>(
+fn is_wanting<L: DeskLedger, R: Wait>(
     rt: &R,
     alloc: Global,
     units: usize,

@@ -1,7 +1,7 @@
 //! An office that has no tenant refuses by number, and one that has a tenant takes no other. Sessions ask neither of it.
 ghost use Rattle.std.specs.Prelude.{◌≡◌};
 
-use desk::{Config, Desk, Hall, Hands, PARTS, Refusal};
+use desk::{Config, Desk, DeskLedger, Hall, PARTS, Refusal};
 use desk_office::DeskOffice;
 use session::Office;
 use std::alloc::Global;
@@ -58,7 +58,11 @@ fn is_as_it_says<O: Office>(office: &mut O, reserve: Reserve) -> bool {
 }
 
 /// Whether a new office of a desk is so.
-fn is_new_office_as_it_says<L: Hands, R: Wait>(rt: &R, desk: &Desk<L>, reserve: Reserve) -> bool {
+fn is_new_office_as_it_says<L: DeskLedger, R: Wait>(
+    rt: &R,
+    desk: &Desk<L>,
+    reserve: Reserve,
+) -> bool {
     let mut office = DeskOffice::new(rt, desk);
     let answer = is_as_it_says(&mut office, reserve);
     office.close();
@@ -72,7 +76,7 @@ fn small_hall(alloc: Global) -> Result<Hall, Fail> {
 }
 
 /// Whether the offices of a new desk are so.
-fn is_new_desk_as_it_says<L: Hands, R: Wait>(
+fn is_new_desk_as_it_says<L: DeskLedger, R: Wait>(
     rt: &R,
     hall: Hall,
     blank: Blank,

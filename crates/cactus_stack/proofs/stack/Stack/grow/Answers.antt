@@ -1,5 +1,5 @@
 use Rattle.std.proofs.Common.{◌≡◌, ◌+◌, ◌++◌, replicate, refl, arith}
-use Rattle.cactus_stack.specs.Nodes.{node_words, with_words}
+use Rattle.cactus_stack.specs.Nodes.{node_words, with_node_words}
 use Rattle.cactus_stack.specs.Places.{with_len, nodes_from, IsStack}
 use Rattle.cactus_stack.proofs.Sound.{charge-some}
 use Rattle.cactus_stack.proofs.Steps.{IsRead, is_read, free-is, grown}
@@ -12,7 +12,7 @@ read : (g : Over) (c : After-index g) → IsRead c.self.inside.region c.self.ins
 read g c = is_read c.self.invariant.stored c.self.view_is c.requires.is_open c.index-at.ensures c.first.ensures c.index.ensures
 
 -- the step that the region made
-step : (g : Over) (c : After-grow_chain g) → (nodes_from c.grow_chain.new.region 0 (with_len c.self.inside.places.items c.args.node (c.index.result.now.len + c.args.more)) ≡ with_words c.args.self.now c.args.node (node_words c.args.self.now c.args.node ++ replicate c.args.more 0))
+step : (g : Over) (c : After-grow_chain g) → (nodes_from c.grow_chain.new.region 0 (with_len c.self.inside.places.items c.args.node (c.index.result.now.len + c.args.more)) ≡ with_node_words c.args.self.now c.args.node (node_words c.args.self.now c.args.node ++ replicate c.args.more 0))
     × IsStack c.grow_chain.new.region (with_len c.self.inside.places.items c.args.node (c.index.result.now.len + c.args.more))
 step g c =
     let of = is_read c.self.invariant.stored c.self.view_is c.requires.is_open c.index-at.ensures c.first.ensures c.index.ensures in

@@ -1,5 +1,5 @@
 use Rattle.std.proofs.Common.{sym, ap, ◌∙◌}
-use Rattle.cactus_stack.specs.Nodes.{parent_of}
+use Rattle.cactus_stack.specs.Nodes.{parent_of_node}
 use Rattle.cactus_stack.specs.declared.place.Place.{Place}
 use Rattle.cactus_stack.proofs.Steps.{is_read}
 use Rattle.cactus_stack.proofs.view.StackView.parent.Goals as goal
@@ -7,4 +7,4 @@ use Rattle.cactus_stack.proofs.view.StackView.parent.Goals as goal
 pub returns : goal.returns
 returns c =
     let of = is_read c.self.invariant.stored c.self.view_is c.requires c.index-at.ensures c.first.ensures c.index-self-at.is in
-    rw (← c.index-self-at.is) (ap (λ (place : Place). place.parent) of.is ∙ sym (ap parent_of of.it.entry))
+    rw (← c.index-self-at.is) (ap (λ (place : Place). place.parent) of.is ∙ sym (ap parent_of_node of.it.entry))

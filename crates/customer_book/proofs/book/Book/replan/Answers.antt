@@ -22,3 +22,6 @@ invariant_of-self-2 c =
       guest_memory = c.self.invariant.guest_memory;
       grant_memory = search rules;
     }
+
+pub returns-clause-done : goal.returns-clause-done
+returns-clause-done c = search rules

@@ -5,7 +5,7 @@ use Rattle.frame_tree.proofs.Forest.{linked_rises}
 use Rattle.frame_tree.proofs.Finds.{has_parent-slots, frames_from-length}
 use Rattle.frame_tree.proofs.Trees.{few_counts, added_sound, added_frames}
 use Rattle.frame_tree.proofs.Readies.{is_tenant, few_ready_in, added_ready}
-use Rattle.frame_tree.proofs.Shelves.{length-with_child}
+use Rattle.frame_tree.proofs.SlotStores.{length-with_child}
 use Rattle.frame_tree.proofs.Lengths.{length_more}
 use Rattle.frame_tree.proofs.Indexes.{length-serials_of, added_index}
 use Rattle.frame_tree.proofs.tree.TenantFrames.add.Goals as goal
@@ -16,35 +16,35 @@ push-requires-clause-rise g c = linked_rises [] _ c.self.invariant.sound.linked
 pub push-requires-clause-there : goal.push-requires-clause-there
 push-requires-clause-there g c =
     let there = rw (← c.self.view_is) at c.requires.parent in
-    sym (has_parent-slots c.self.inside.shelf.slots c.args.parent) ∙ there
+    sym (has_parent-slots c.self.inside.store.slots c.args.parent) ∙ there
 
 pub push-requires-clause-few : goal.push-requires-clause-few
 push-requires-clause-few g c =
     let room = rw (← c.self.view_is) at c.requires.room in
-    few_counts c.self.inside.shelf.slots (length c.self.inside.ready.list) 4096 c.self.invariant.sound (omega (arith, room, c.self.invariant.few))
+    few_counts c.self.inside.store.slots (length c.self.inside.ready.list) 4096 c.self.invariant.sound (omega (arith, room, c.self.invariant.few))
 
 pub push-requires-clause-room : goal.push-requires-clause-room
 push-requires-clause-room g c =
     let room = rw (← c.self.view_is) at c.requires.room in
-    let long = frames_from-length [] c.self.inside.shelf.slots in
+    let long = frames_from-length [] c.self.inside.store.slots in
     omega (arith, room, long)
 
 pub push-requires-2 : goal.push-requires-2
 push-requires-2 g c =
     let room = rw (← c.self.view_is) at c.requires.room in
-    let long = frames_from-length [] c.self.inside.shelf.slots in
-    omega (arith, room, long, ap length c.self.invariant.index, length-serials_of c.self.inside.shelf.slots, c.self.invariant.serial_places)
+    let long = frames_from-length [] c.self.inside.store.slots in
+    omega (arith, room, long, ap length c.self.invariant.index, length-serials_of c.self.inside.store.slots, c.self.invariant.serial_places)
 
 pub push-requires-3 : goal.push-requires-3
 push-requires-3 g c =
     let room = rw (← c.self.view_is) at c.requires.room in
-    let long = frames_from-length [] c.self.inside.shelf.slots in
-    let few = few_ready_in c.self.inside.shelf.slots in
+    let long = frames_from-length [] c.self.inside.store.slots in
+    let few = few_ready_in c.self.inside.store.slots in
     omega (arith, room, long, few, ap length c.self.invariant.ready_frames, c.self.invariant.ready_places)
 
 pub invariant_of-self : goal.invariant_of-self
 invariant_of-self g c =
-    let slots = c.self.inside.shelf.slots in
+    let slots = c.self.inside.store.slots in
     let above = rw (← c.self.view_is) at c.requires.above in
     let there = rw (← c.self.view_is) at c.requires.parent in
     let room = rw (← c.self.view_is) at c.requires.room in
@@ -61,7 +61,7 @@ invariant_of-self g c =
 
 pub returns : goal.returns
 returns g c =
-    let slots = c.self.inside.shelf.slots in
+    let slots = c.self.inside.store.slots in
     let root = root_under slots c.args.parent c.args.serial in
     let frames = added_frames slots _ c.args.serial root c.args.home c.args.parent c.args.value refl in
     rw (← c.self.view_is, c.push.ensures, frames) refl

@@ -8,5 +8,5 @@ place_of-requires g c = index_rises _ _ c.self.invariant.index c.self.invariant.
 
 pub returns : goal.returns
 returns g c =
-    let there = found_there c.self.inside.shelf.slots _ c.args.serial c.place_of.result c.self.invariant.index c.place_of.ensures.found c.place_of.ensures.none in
-    rw (← c.self.view_is) (c.is_some.ensures ∙ (there ∙ sym (has_frame-frames_from [] c.self.inside.shelf.slots c.args.serial)))
+    let there = found_there c.self.inside.store.slots _ c.args.serial c.place_of.result c.self.invariant.index c.place_of.ensures.found c.place_of.ensures.none in
+    rw (← c.self.view_is) (c.is_some.ensures ∙ (there ∙ sym (has_frame-frames_from [] c.self.inside.store.slots c.args.serial)))

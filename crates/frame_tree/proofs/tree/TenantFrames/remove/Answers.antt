@@ -3,7 +3,7 @@ use Rattle.std.specs.List.{remove}
 use Rattle.std.proofs.lemmas.List.Edits.{length-remove}
 use Rattle.frame_tree.specs.Slots.{without_child}
 use Rattle.frame_tree.specs.Frames.{is_ready}
-use Rattle.frame_tree.proofs.Shelves.{length-without_child}
+use Rattle.frame_tree.proofs.SlotStores.{length-without_child}
 use Rattle.frame_tree.proofs.Forest.{linked_rises, has_frame-frames_from}
 use Rattle.frame_tree.proofs.Finds.{found, ready_frames-length}
 use Rattle.frame_tree.proofs.Counts.{length-filter_remove}
@@ -19,7 +19,7 @@ known_place-at-requires-clause-rise g c = index_rises _ _ c.self.invariant.index
 pub known_place-at-requires-clause-there : goal.known_place-at-requires-clause-there
 known_place-at-requires-clause-there g c =
     let there = rw (← c.self.view_is) at c.requires.there in
-    there_at _ _ _ c.self.invariant.index (sym (has_frame-frames_from [] c.self.inside.shelf.slots c.args.serial) ∙ there)
+    there_at _ _ _ c.self.invariant.index (sym (has_frame-frames_from [] c.self.inside.store.slots c.args.serial) ∙ there)
 
 pub take-slot-requires-clause-linked : goal.take-slot-requires-clause-linked
 take-slot-requires-clause-linked g c = c.self.invariant.sound.linked
@@ -28,13 +28,13 @@ pub take-slot-requires-clause-leaf : goal.take-slot-requires-clause-leaf
 take-slot-requires-clause-leaf g c =
     let place = found_at _ _ _ _ c.self.invariant.index c.known_place-at.ensures.within c.known_place-at.ensures.found in
     let leaf = rw (← c.self.view_is) at c.requires.leaf in
-    rw place.found (leaf_slots c.self.inside.shelf.slots c.args.serial c.self.invariant.sound.linked leaf)
+    rw place.found (leaf_slots c.self.inside.store.slots c.args.serial c.self.invariant.sound.linked leaf)
 
 pub take-slot-requires-clause-counted : goal.take-slot-requires-clause-counted
 take-slot-requires-clause-counted g c slot is =
     let place = found_at _ _ _ _ c.self.invariant.index c.known_place-at.ensures.within c.known_place-at.ensures.found in
     let leaf = rw (← c.self.view_is) at c.requires.leaf in
-    lost_counted _ _ slot (lost c.self.inside.shelf.slots _ c.known_place-at.result c.args.serial slot c.self.invariant.sound place.within place.found is leaf)
+    lost_counted _ _ slot (lost c.self.inside.store.slots _ c.known_place-at.result c.args.serial slot c.self.invariant.sound place.within place.found is leaf)
 
 pub remove-requires : goal.remove-requires
 remove-requires g c = c.known_place-at.ensures.within
@@ -45,7 +45,7 @@ leave-requires g c = tenant_rises _ _ _ _ c.self.invariant
 pub invariant_of-self : goal.invariant_of-self
 invariant_of-self g c =
     let place = found_at _ _ _ _ c.self.invariant.index c.known_place-at.ensures.within c.known_place-at.ensures.found in
-    let slots = c.self.inside.shelf.slots in
+    let slots = c.self.inside.store.slots in
     let leaf = rw (← c.self.view_is) at c.requires.leaf in
     let gone = ready_in-remove slots c.known_place-at.result c.args.serial c.take-slot.result (linked_rises [] slots c.self.invariant.sound.linked) place.within place.found c.take-slot.ensures.value in
     rw (c.take-slot.ensures.left, c.leave.ensures, c.remove.ensures.left) (is_tenant _ _ _ _ _
@@ -61,19 +61,19 @@ pub returns-clause-left : goal.returns-clause-left
 returns-clause-left g c =
     let place = found_at _ _ _ _ c.self.invariant.index c.known_place-at.ensures.within c.known_place-at.ensures.found in
     let leaf = rw (← c.self.view_is) at c.requires.leaf in
-    let frames = lost_frames c.self.inside.shelf.slots _ _ _ c.known_place-at.result c.args.serial c.take-slot.result c.self.invariant.sound place.within place.found c.take-slot.ensures.value leaf refl refl in
+    let frames = lost_frames c.self.inside.store.slots _ _ _ c.known_place-at.result c.args.serial c.take-slot.result c.self.invariant.sound place.within place.found c.take-slot.ensures.value leaf refl refl in
     rw (← c.self.view_is, c.take-slot.ensures.left, frames) refl
 
 pub returns-clause-value : goal.returns-clause-value
 returns-clause-value g c =
     let place = found_at _ _ _ _ c.self.invariant.index c.known_place-at.ensures.within c.known_place-at.ensures.found in
-    let f = found [] c.self.inside.shelf.slots c.known_place-at.result c.args.serial c.take-slot.result c.self.invariant.sound.linked tt place.within place.found c.take-slot.ensures.value in
+    let f = found [] c.self.inside.store.slots c.known_place-at.result c.args.serial c.take-slot.result c.self.invariant.sound.linked tt place.within place.found c.take-slot.ensures.value in
     rw (← c.self.view_is) (found_value _ c.take-slot.result c.args.serial f.0 c.take-slot.result.value f.1 refl)
 
 pub returns-clause-count : goal.returns-clause-count
 returns-clause-count g c =
     let place = found_at _ _ _ _ c.self.invariant.index c.known_place-at.ensures.within c.known_place-at.ensures.found in
-    let slots = c.self.inside.shelf.slots in
+    let slots = c.self.inside.store.slots in
     let slot = c.take-slot.result in
     let left = remove slots c.known_place-at.result in
     let old = ready_frames-length {T = g.row.T.Denot} [] slots in

@@ -6,8 +6,8 @@ use Rattle.frame_tree.proofs.tree.TenantFrames.remove_all.Goals as goal
 pub clear-requires : goal.clear-requires
 clear-requires g c =
     let room = rw (← c.self.view_is) at c.requires in
-    let long = frames_from-length [] c.self.inside.shelf.slots in
+    let long = frames_from-length [] c.self.inside.store.slots in
     omega (arith, room, long)
 
 pub returns-clause-values : goal.returns-clause-values
-returns-clause-values g c = rw (← c.self.view_is, ← slot_values-frames [] c.self.inside.shelf.slots) c.clear.ensures.values
+returns-clause-values g c = rw (← c.self.view_is, ← slot_values-frames [] c.self.inside.store.slots) c.clear.ensures.values

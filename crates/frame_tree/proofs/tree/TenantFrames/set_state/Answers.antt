@@ -13,7 +13,7 @@ set_state-was-requires-clause-rise g c = linked_rises [] _ c.self.invariant.soun
 pub set_state-was-requires-clause-there : goal.set_state-was-requires-clause-there
 set_state-was-requires-clause-there g c =
     let there = rw (← c.self.view_is) at c.requires in
-    sym (has_frame-frames_from [] c.self.inside.shelf.slots c.args.serial) ∙ there
+    sym (has_frame-frames_from [] c.self.inside.store.slots c.args.serial) ∙ there
 
 pub follow-requires-clause-rise : goal.follow-requires-clause-rise
 follow-requires-clause-rise g c = tenant_rises _ _ _ _ c.self.invariant
@@ -21,7 +21,7 @@ follow-requires-clause-rise g c = tenant_rises _ _ _ _ c.self.invariant
 pub follow-requires-clause-room : goal.follow-requires-clause-room
 follow-requires-clause-room g c =
     let was = c.set_state-was.ensures in
-    let slots = c.self.inside.shelf.slots in
+    let slots = c.self.inside.store.slots in
     let changed = ready_in-state slots was.at c.args.serial was.slot c.args.state (linked_rises [] slots c.self.invariant.sound.linked) was.seen.within was.seen.named was.seen.read in
     let few = few_ready_in (set slots was.at (in_state c.args.state was.slot)) in
     rw (was.told, c.self.invariant.ready_frames, changed) (omega (arith, few, length-set slots was.at (in_state c.args.state was.slot), c.self.invariant.within, c.self.invariant.ready_places))
@@ -29,7 +29,7 @@ follow-requires-clause-room g c =
 pub invariant_of-self : goal.invariant_of-self
 invariant_of-self g c =
     let was = c.set_state-was.ensures in
-    let slots = c.self.inside.shelf.slots in
+    let slots = c.self.inside.store.slots in
     let slot = was.slot in
     let changed = ready_in-state slots was.at c.args.serial slot c.args.state (linked_rises [] slots c.self.invariant.sound.linked) was.seen.within was.seen.named was.seen.read in
     rw (was.changed, c.follow.ensures, was.told) (is_tenant _ _ _ _ _
@@ -44,7 +44,7 @@ invariant_of-self g c =
 pub returns-clause-count : goal.returns-clause-count
 returns-clause-count g c =
     let was = c.set_state-was.ensures in
-    let slots = c.self.inside.shelf.slots in
+    let slots = c.self.inside.store.slots in
     let old = ready_frames-length {T = g.row.T.Denot} [] slots in
     let new = ready_frames-length {T = g.row.T.Denot} [] (set slots was.at (in_state c.args.state was.slot)) in
     rw (← c.self.view_is, was.changed, was.told, old, new) (ready_state slots was.at was.slot c.args.state was.seen.within was.seen.read)
@@ -52,6 +52,6 @@ returns-clause-count g c =
 pub returns-clause-frames : goal.returns-clause-frames
 returns-clause-frames g c =
     let was = c.set_state-was.ensures in
-    let slots = c.self.inside.shelf.slots in
+    let slots = c.self.inside.store.slots in
     let slot = was.slot in
     rw (← c.self.view_is, was.changed, frames_state slots was.at c.args.serial slot c.args.state c.self.invariant.sound.linked was.seen.within was.seen.named was.seen.read) refl

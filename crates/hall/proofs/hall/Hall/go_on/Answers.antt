@@ -1,49 +1,45 @@
 -- A taken step goes on in its tenant's journal.
 use Rattle.std.proofs.Common.{◌≡◌, ℕ, ◌+◌, true, Option, None, ap, sym, subst, ◌∙◌, rules}
-use Rattle.std.specs.Prelude.{Result, Ok, Err, OnOk, is_ok}
+use Rattle.std.specs.Prelude.{Result, Ok, Err, is_ok}
 use Rattle.std.proofs.lemmas.Bool.{false≢true}
 use Rattle.sched_rules.specs.declared.refusal.Refusal.{Refusal}
 use Rattle.sched_rules.specs.declared.step.DidOf.{DidOf}
-use Rattle.sched_rules.specs.Cores.{Shared}
-use Rattle.sched_rules.specs.Headline.{IsOneStep, IsKnown}
+use Rattle.sched_rules.specs.Cores.{CoreState}
+use Rattle.sched_rules.specs.Headline.{IsOneStep, AreNumbersGiven}
 use Rattle.jamboree_core.specs.jamboree_rules.declared.leaf.Leaf.{Leaf}
 use Rattle.jamboree_core.specs.jamboree_rules.Procedure.{jamboree}
 use Rattle.jamboree_core.specs.Replies.{IsSearch}
 use Rattle.tenant_quota.specs.Quota.{Quota}
-use Rattle.hall.specs.Journals.{goes_on, raise_in}
+use Rattle.hall.specs.Journals.{is_appended, raise_in}
 use Rattle.hall.specs.Halls.{HallOf, IsHall}
 use Rattle.hall.proofs.Lists.{IsAllowed}
-use Rattle.hall.proofs.Halls.{Step, GoesOn, goes-on}
+use Rattle.hall.proofs.Halls.{on-ok, Step, GoesOn, goes-on}
 use Rattle.hall.proofs.hall.Hall.go_on.Goals as goal
 
-taken : (hall : HallOf) (latest count : ℕ) (step : Step) (answer : Result (DidOf Leaf) Refusal) (after : Shared) → is_ok answer ≡ true → IsHall hall latest count → IsOneStep (jamboree hall.grain) hall.shared step answer after →
-    goes_on step ≡ true → raise_in step ≡ None → IsSearch step → IsKnown after → GoesOn hall latest count step after
+taken : (hall : HallOf) (latest count : ℕ) (step : Step) (answer : Result (DidOf Leaf) Refusal) (after : CoreState) → is_ok answer ≡ true → IsHall hall latest count → IsOneStep (jamboree hall.grain) hall.shared step answer after →
+    is_appended step ≡ true → raise_in step ≡ None → IsSearch step → AreNumbersGiven after → GoesOn hall latest count step after
 taken hall latest count step (Ok did) after ok keeps one goes none search known =
     let P : Option Quota → Type 0 = λ r. IsAllowed r in goes-on hall latest count step did after keeps one goes (subst P (sym none) tt) search known
 taken hall latest count step (Err refusal) after ok keeps one goes none search known = absurd (false≢true ok)
 
-on-ok : {T E : Type 0} {P : Type 0} (answer : Result T E) → P → OnOk answer P
-on-ok (Ok value) it = it
-on-ok (Err error) it = tt
-
 pub write-requires-clause-there : goal.write-requires-clause-there
 write-requires-clause-there g c =
-    let on = taken _ _ _ c.args.step.now c.step_as-answer.result c.step_as-answer.new.self.shared (sym c.is_ok.ensures.value ∙ c.if-is_ok.true) c.self.invariant c.step_as-answer.ensures.one c.requires.goes_on c.requires.raises_not c.requires.search c.step_as-answer.ensures.known in
+    let on = taken _ _ _ c.args.step.now c.step_as-answer.result c.step_as-answer.new.self.shared (sym c.is_ok.ensures.value ∙ c.if-is_ok.true) c.self.invariant c.step_as-answer.ensures.one c.requires.is_appended c.requires.raises_not c.requires.search c.step_as-answer.ensures.known in
     rw (← c.requires.own) on.has
 
 pub write-requires-clause-place : goal.write-requires-clause-place
 write-requires-clause-place g c =
-    let on = taken _ _ _ c.args.step.now c.step_as-answer.result c.step_as-answer.new.self.shared (sym c.is_ok.ensures.value ∙ c.if-is_ok.true) c.self.invariant c.step_as-answer.ensures.one c.requires.goes_on c.requires.raises_not c.requires.search c.step_as-answer.ensures.known in
+    let on = taken _ _ _ c.args.step.now c.step_as-answer.result c.step_as-answer.new.self.shared (sym c.is_ok.ensures.value ∙ c.if-is_ok.true) c.self.invariant c.step_as-answer.ensures.one c.requires.is_appended c.requires.raises_not c.requires.search c.step_as-answer.ensures.known in
     rw (← c.requires.own) (on.place c.requires.raises_not)
 
 pub write-requires-clause-serial : goal.write-requires-clause-serial
 write-requires-clause-serial g c =
-    let on = taken _ _ _ c.args.step.now c.step_as-answer.result c.step_as-answer.new.self.shared (sym c.is_ok.ensures.value ∙ c.if-is_ok.true) c.self.invariant c.step_as-answer.ensures.one c.requires.goes_on c.requires.raises_not c.requires.search c.step_as-answer.ensures.known in
+    let on = taken _ _ _ c.args.step.now c.step_as-answer.result c.step_as-answer.new.self.shared (sym c.is_ok.ensures.value ∙ c.if-is_ok.true) c.self.invariant c.step_as-answer.ensures.one c.requires.is_appended c.requires.raises_not c.requires.search c.step_as-answer.ensures.known in
     on.serial
 
 pub invariant_of-self : goal.invariant_of-self
 invariant_of-self g c =
-    let on = taken _ _ _ c.args.step.now c.step_as-answer.result c.step_as-answer.new.self.shared (sym c.is_ok.ensures.value ∙ c.if-is_ok.true) c.self.invariant c.step_as-answer.ensures.one c.requires.goes_on c.requires.raises_not c.requires.search c.step_as-answer.ensures.known in
+    let on = taken _ _ _ c.args.step.now c.step_as-answer.result c.step_as-answer.new.self.shared (sym c.is_ok.ensures.value ∙ c.if-is_ok.true) c.self.invariant c.step_as-answer.ensures.one c.requires.is_appended c.requires.raises_not c.requires.search c.step_as-answer.ensures.known in
     rw (c.step_as-answer.ensures.procedure, c.write.ensures, ← c.requires.own) on.keeps
 
 pub returns-then-is_ok-clause-decided : goal.returns-then-is_ok-clause-decided

@@ -6,27 +6,23 @@ use Rattle.tenant_quota.specs.Quota.{Quota, IsWithinLimits}
 use Rattle.sched_rules.specs.declared.refusal.Refusal.{Refusal}
 use Rattle.sched_rules.specs.declared.step.DidOf.{DidOf}
 use Rattle.sched_rules.specs.declared.step.StepOf.TheVariants.{AdmitMore}
-use Rattle.sched_rules.specs.Cores.{Shared}
-use Rattle.sched_rules.specs.Headline.{IsOneStep, IsKnown}
+use Rattle.sched_rules.specs.Cores.{CoreState}
+use Rattle.sched_rules.specs.Headline.{IsOneStep, AreNumbersGiven}
 use Rattle.jamboree_core.specs.jamboree_rules.declared.leaf.Leaf.{Leaf}
 use Rattle.jamboree_core.specs.jamboree_rules.declared.leaf.LeafAnswer.{LeafAnswer}
 use Rattle.jamboree_core.specs.jamboree_rules.Procedure.{jamboree}
 use Rattle.hall.specs.Halls.{HallOf, IsHall}
-use Rattle.hall.proofs.Halls.{GoesOn, goes-on, is-ready}
+use Rattle.hall.proofs.Halls.{on-ok, GoesOn, goes-on, is-ready}
 use Rattle.hall.proofs.hall.Hall.raise.Goals as goal
 
-taken : (hall : HallOf) (latest count number : ℕ) (quota : Quota) (answer : Result (DidOf Leaf) Refusal) (after : Shared) → is_ok answer ≡ true → IsHall hall latest count →
-    IsOneStep {A = LeafAnswer} (jamboree hall.grain) hall.shared (AdmitMore number quota) answer after → IsWithinLimits quota → OnOk answer (IsKnown after) → GoesOn hall latest count (AdmitMore number quota) after
+taken : (hall : HallOf) (latest count number : ℕ) (quota : Quota) (answer : Result (DidOf Leaf) Refusal) (after : CoreState) → is_ok answer ≡ true → IsHall hall latest count →
+    IsOneStep {A = LeafAnswer} (jamboree hall.grain) hall.shared (AdmitMore number quota) answer after → IsWithinLimits quota → OnOk answer (AreNumbersGiven after) → GoesOn hall latest count (AdmitMore number quota) after
 taken hall latest count number quota (Ok did) after ok keeps one limits known = goes-on hall latest count (AdmitMore number quota) did after keeps one refl limits tt known
 taken hall latest count number quota (Err refusal) after ok keeps one limits known = absurd (false≢true ok)
 
 ok-then : {T E P : Type 0} (answer : Result T E) → is_ok answer ≡ true → OnOk answer P → P
 ok-then (Ok value) ok it = it
 ok-then (Err error) ok it = absurd (false≢true ok)
-
-on-ok : {T E : Type 0} {P : Type 0} (answer : Result T E) → P → OnOk answer P
-on-ok (Ok value) it = it
-on-ok (Err error) it = tt
 
 pub raise-answer-requires-clause-there : goal.raise-answer-requires-clause-there
 raise-answer-requires-clause-there g c =

@@ -1,9 +1,9 @@
 use Rattle.std.proofs.Common.{refl}
 use Rattle.std.proofs.lemmas.Result.{err_from_is_err_and}
 use Rattle.sched_core.proofs.Deciding.{root-is, advance-told}
-use Rattle.sched_core.proofs.Going.{judged-refused}
+use Rattle.sched_core.proofs.TakenStep.{step_result-refused}
 use Rattle.sched_core.proofs.Acting.{IsSetOut, sets-out}
-use Rattle.sched_core.proofs.Advancing.{set-left, counted-there, counted-inside, goes-on, judged-advance}
+use Rattle.sched_core.proofs.Advancing.{set-left, counted-there, counted-inside, goes-on, step_result-advance}
 use Rattle.sched_core.proofs.Fitting.{seen-fits}
 use Rattle.sched_core.proofs.engine.Engine.advance.Given.{Over}
 use Rattle.sched_core.proofs.engine.Engine.advance.Goals.{In_ok-may_do}
@@ -22,11 +22,11 @@ set g c =
     let s = c.in_ok-seen.ensures.frame in
     sets-out _ _ _ _ s.0 s.1 _ _ s.2 (rw c.in_ok-seen.ensures.sight at c.next_of-act.ensures) (c.in_ok-may_do.ensures s.0 s.1 _ s.2.seen_so refl c.in_ok-seen.ensures.words)
 
-pub returns-in_err-may_do-clause-judged : goal.returns-in_err-may_do-clause-judged
-returns-in_err-may_do-clause-judged g c =
+pub returns-in_err-may_do-clause-step_result : goal.returns-in_err-may_do-clause-step_result
+returns-in_err-may_do-clause-step_result g c =
     let s = c.in_ok-seen.ensures.frame in
     let p = err_from_is_err_and c.from_residual-in_err-may_do.result c.from_residual-in_err-may_do.ensures.1 in
-    judged-refused _ _ _ _ _ _ _ p.1 p.2
+    step_result-refused _ _ _ _ _ _ _ p.1 p.2
     (advance-told (g.P.Procedure.functions c.args.self.now.procedure) _ _ _ s.0 s.1 _ _ _ s.2 (rw c.in_ok-seen.ensures.sight at c.next_of-act.ensures) (c.in_err-may_do.ensures s.0 s.1 _ s.2.seen_so refl c.in_ok-seen.ensures.words)) refl
 
 pub count_step-requires : goal.count_step-requires
@@ -41,8 +41,8 @@ store_all-requires-clause-inside g c = rw c.as_slice.ensures (counted-inside (se
 pub go_on-requires : goal.go_on-requires
 go_on-requires g c = (_, _, goes-on (set g (goal.at.go_on-requires g c).In_ok-may_do) c.count_step.ensures (rw c.as_slice.ensures at c.store_all.ensures) c.requires.kept.shaped)
 
-pub returns-clause-judged : goal.returns-clause-judged
-returns-clause-judged g c =
+pub returns-clause-step_result : goal.returns-clause-step_result
+returns-clause-step_result g c =
     let s = c.in_ok-seen.ensures.frame in
-    judged-advance (set g (goal.at.returns-clause-judged g c).In_ok-may_do) c.count_step.ensures (rw c.as_slice.ensures at c.store_all.ensures) c.requires.kept.shaped
+    step_result-advance (set g (goal.at.returns-clause-step_result g c).In_ok-may_do) c.count_step.ensures (rw c.as_slice.ensures at c.store_all.ensures) c.requires.kept.shaped
     (root-is c.is_none-is_root.result c.in_ok-seen.field-0.seen s.1.path c.is_none-is_root.ensures s.2.seen_so.root) c.go_on.ensures.came

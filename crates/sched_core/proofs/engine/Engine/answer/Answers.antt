@@ -1,7 +1,7 @@
 use Rattle.std.proofs.Common.{refl}
 use Rattle.sched_rules.specs.declared.step.StepOf.TheVariants.{Answer}
 use Rattle.sched_core.proofs.Deciding.{seen-serial}
-use Rattle.sched_core.proofs.Going.{judged-taken, then-run, step-left}
+use Rattle.sched_core.proofs.TakenStep.{step_result-taken, then-run, step-left}
 use Rattle.sched_core.proofs.Ending.{with-named}
 use Rattle.sched_core.proofs.Acting.{IsAnswered, is-answered, not-false, computes-holds, may-hold}
 use Rattle.sched_core.proofs.engine.Engine.answer.Given.{Over}
@@ -27,8 +27,8 @@ run-requires-clause-left g c =
     let a = accepted g (goal.at.run-requires-clause-left g c).After-store_all in
     step-left _ _ _ _ a.has_words a.going.passes.1.1.0
 
-pub returns-clause-judged : goal.returns-clause-judged
-returns-clause-judged g c =
-    let a = accepted g (goal.at.returns-clause-judged g c).After-store_all in
-    judged-taken (g.P.Procedure.functions c.args.self.now.procedure) c.args.self.now.store (Answer c.args.worker c.args.name c.args.answer.now) _ _ _ a.going.among refl
+pub returns-clause-step_result : goal.returns-clause-step_result
+returns-clause-step_result g c =
+    let a = accepted g (goal.at.returns-clause-step_result g c).After-store_all in
+    step_result-taken (g.P.Procedure.functions c.args.self.now.procedure) c.args.self.now.store (Answer c.args.worker c.args.name c.args.answer.now) _ _ _ a.going.among refl
     (rw (seen-serial a.going.tenant.frames c.args.name.serial a.going.frame a.going.found) (then-run _ _ _ _ _ _ _ a.has_words c.run.ensures.ran).is)

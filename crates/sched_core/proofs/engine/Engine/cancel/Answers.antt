@@ -2,7 +2,7 @@ use Rattle.std.proofs.Common.{refl}
 use Rattle.sched_rules.specs.declared.job.Job.TheVariants.{Cancelled as CancelledJob}
 use Rattle.sched_rules.specs.declared.step.StepOf.TheVariants.{Cancel}
 use Rattle.sched_rules.specs.Lone.{ended}
-use Rattle.sched_core.proofs.Going.{begins, then-changed, judged-taken}
+use Rattle.sched_core.proofs.TakenStep.{begins, then-changed, step_result-taken}
 use Rattle.sched_core.proofs.Ending.{cancel-going, cancel-root}
 use Rattle.sched_core.proofs.engine.Engine.cancel.Goals as goal
 
@@ -11,9 +11,9 @@ end_at-requires-clause-there g c =
     let l = cancel-going (g.P.Procedure.functions c.args.self.now.procedure) c.args.self.now.store c.args.number c.args.job c.in_ok-serial.serial c.in_ok-serial.ensures.root in
     cancel-root c.args.self.now.store c.args.number c.args.job c.in_ok-serial.serial l.tenant c.requires l.owner l.job_is
 
-pub returns-clause-judged : goal.returns-clause-judged
-returns-clause-judged g c =
+pub returns-clause-step_result : goal.returns-clause-step_result
+returns-clause-step_result g c =
     let l = cancel-going (g.P.Procedure.functions c.args.self.now.procedure) c.args.self.now.store c.args.number c.args.job c.in_ok-serial.serial c.in_ok-serial.ensures.root in
     let w = begins c.args.self.now.store c.args.number l.tenant l.owner in
     let w1 = then-changed _ _ _ _ c.end_at.new.store (ended c.in_ok-serial.serial CancelledJob) w c.end_at.ensures in
-    judged-taken (g.P.Procedure.functions c.args.self.now.procedure) c.args.self.now.store (Cancel c.args.number c.args.job) _ _ _ l.among refl w1.is
+    step_result-taken (g.P.Procedure.functions c.args.self.now.procedure) c.args.self.now.store (Cancel c.args.number c.args.job) _ _ _ l.among refl w1.is

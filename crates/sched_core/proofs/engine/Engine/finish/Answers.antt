@@ -4,7 +4,7 @@ use Rattle.sched_rules.specs.declared.step.StepOf.TheVariants.{Finish}
 use Rattle.sched_rules.specs.Trees.{kept_words}
 use Rattle.sched_rules.specs.Lone.{ended, counted}
 use Rattle.sched_core.proofs.Deciding.{seen-serial}
-use Rattle.sched_core.proofs.Going.{judged-taken, begins, then-changed, step-left}
+use Rattle.sched_core.proofs.TakenStep.{step_result-taken, begins, then-changed, step-left}
 use Rattle.sched_core.proofs.Ending.{finish-going, named-words}
 use Rattle.sched_core.proofs.engine.Engine.finish.Goals as goal
 
@@ -15,8 +15,8 @@ count_step-requires g c =
     let w1 = then-changed _ _ _ _ c.end_at.new.store (ended c.args.name.serial (Done c.of-kept.result)) w c.end_at.ensures in
     step-left _ _ _ _ w1 t.passes.1.0
 
-pub returns-clause-judged : goal.returns-clause-judged
-returns-clause-judged g c =
+pub returns-clause-step_result : goal.returns-clause-step_result
+returns-clause-step_result g c =
     let t = finish-going (g.P.Procedure.functions c.args.self.now.procedure) c.args.self.now.store c.args.worker c.args.name c.in_ok-may_finish.ensures.refusal in
     let w = begins c.args.self.now.store c.args.name.tenant t.tenant t.owner in
     let w1 = then-changed _ _ _ _ c.end_at.new.store (ended c.args.name.serial (Done c.of-kept.result)) w c.end_at.ensures in
@@ -24,4 +24,4 @@ returns-clause-judged g c =
     let words = named-words c.args.self.now.store c.args.name t.tenant t.frame t.owner t.found in
     let kept : c.of-kept.result ≡ kept_words t.frame.value = c.of-kept.ensures ∙ rw (c.own.ensures, words) refl in
     let serial = seen-serial t.tenant.frames c.args.name.serial t.frame t.found in
-    judged-taken (g.P.Procedure.functions c.args.self.now.procedure) c.args.self.now.store (Finish c.args.worker c.args.name) _ _ _ t.among (rw (serial, c.job_under-job.ensures, t.owner) refl) (rw (serial, ← kept) w2.is)
+    step_result-taken (g.P.Procedure.functions c.args.self.now.procedure) c.args.self.now.store (Finish c.args.worker c.args.name) _ _ _ t.among (rw (serial, c.job_under-job.ensures, t.owner) refl) (rw (serial, ← kept) w2.is)

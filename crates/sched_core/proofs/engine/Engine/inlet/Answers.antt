@@ -1,9 +1,9 @@
 use Rattle.std.proofs.Common.{◌≡◌, true, false, refl, sym, ◌∙◌}
 use Rattle.std.proofs.lemmas.Result.{err_from_is_err_and}
 use Rattle.sched_store.specs.Reads.{words_under}
-use Rattle.sched_core.proofs.Going.{judged-refused}
+use Rattle.sched_core.proofs.TakenStep.{step_result-refused}
 use Rattle.sched_core.proofs.Parents.{parent-there, inlet-told}
-use Rattle.sched_core.proofs.Inlets.{IsTakenOut, takes-in, may-be-taken-in, takes-out, still-there, still-inside, stored-left, counted-there, judged-inlet}
+use Rattle.sched_core.proofs.Inlets.{IsTakenOut, takes-in, may-be-taken-in, takes-out, still-there, still-inside, stored-left, counted-there, step_result-inlet}
 use Rattle.sched_core.proofs.Fitting.{parent-fits}
 use Rattle.sched_core.proofs.engine.Engine.inlet.Given.{Over}
 use Rattle.sched_core.proofs.engine.Engine.inlet.Goals.{After-may_take_in, After-as_slice}
@@ -32,12 +32,12 @@ out g c =
     takes-out _ _ _ _ _ s.0 s.1 _ _ _ c.requires.kept.shaped s.3 c.known-state.ensures.rising (acts g (goal.at.store_all-requires-clause-there g c).After-may_take_in)
     (rw c.known-state.ensures.words at c.in_ok-may_take_in.ensures) c.take_out-aborted.ensures.left
 
-pub returns-in_err-may_take_in-clause-judged : goal.returns-in_err-may_take_in-clause-judged
-returns-in_err-may_take_in-clause-judged g c =
+pub returns-in_err-may_take_in-clause-step_result : goal.returns-in_err-may_take_in-clause-step_result
+returns-in_err-may_take_in-clause-step_result g c =
     let s = c.in_ok-own.ensures.frame in
     let p = err_from_is_err_and c.from_residual-in_err-may_take_in.result c.from_residual-in_err-may_take_in.ensures.1 in
-    judged-refused _ _ _ _ _ _ _ p.1 p.2
-    (inlet-told (g.P.Procedure.functions c.args.self.now.procedure) _ _ _ s.0 s.1 _ _ _ _ s.3 c.known-state.ensures.rising (acts g (goal.at.returns-in_err-may_take_in-clause-judged g c).After-may_take_in) (rw c.known-state.ensures.words at c.in_err-may_take_in.ensures)) refl
+    step_result-refused _ _ _ _ _ _ _ p.1 p.2
+    (inlet-told (g.P.Procedure.functions c.args.self.now.procedure) _ _ _ s.0 s.1 _ _ _ _ s.3 c.known-state.ensures.rising (acts g (goal.at.returns-in_err-may_take_in-clause-step_result g c).After-may_take_in) (rw c.known-state.ensures.words at c.in_err-may_take_in.ensures)) refl
 
 pub take_out-aborted-requires : goal.take_out-aborted-requires
 take_out-aborted-requires g c =
@@ -54,15 +54,15 @@ store_all-requires-clause-inside g c = rw c.as_slice.ensures (still-inside (out 
 pub count_step-requires : goal.count_step-requires
 count_step-requires g c = stored-left (out g (goal.at.count_step-requires g c).After-as_slice) (rw c.as_slice.ensures at c.store_all.ensures)
 
-pub returns-then-not-is_woken-clause-judged : goal.returns-then-not-is_woken-clause-judged
-returns-then-not-is_woken-clause-judged g c =
-    judged-inlet (out g (goal.at.returns-then-not-is_woken-clause-judged g c).After-as_slice) (rw c.as_slice.ensures at c.store_all.ensures) c.count_step.ensures false
+pub returns-then-not-is_woken-clause-step_result : goal.returns-then-not-is_woken-clause-step_result
+returns-then-not-is_woken-clause-step_result g c =
+    step_result-inlet (out g (goal.at.returns-then-not-is_woken-clause-step_result g c).After-as_slice) (rw c.as_slice.ensures at c.store_all.ensures) c.count_step.ensures false
     c.known-state.ensures.state c.is_waiting-was_waiting.ensures c.take_out-aborted.ensures.count (sym c.is_to_wake-is_woken.ensures ∙ c.if-not-is_woken.true) refl
 
 pub set_state-requires-clause-there : goal.set_state-requires-clause-there
 set_state-requires-clause-there g c = counted-there (out g (goal.at.set_state-requires-clause-there g c).After-as_slice) (rw c.as_slice.ensures at c.store_all.ensures) c.count_step.ensures
 
-pub returns-clause-judged : goal.returns-clause-judged
-returns-clause-judged g c =
-    judged-inlet (out g (goal.at.returns-clause-judged g c).After-as_slice) (rw c.as_slice.ensures at c.store_all.ensures) c.count_step.ensures true
+pub returns-clause-step_result : goal.returns-clause-step_result
+returns-clause-step_result g c =
+    step_result-inlet (out g (goal.at.returns-clause-step_result g c).After-as_slice) (rw c.as_slice.ensures at c.store_all.ensures) c.count_step.ensures true
     c.known-state.ensures.state c.is_waiting-was_waiting.ensures c.take_out-aborted.ensures.count (sym c.is_to_wake-is_woken.ensures ∙ c.if-not-is_woken.false) (rw c.number.ensures.value at c.set_state.ensures)

@@ -1,6 +1,6 @@
 use Rattle.std.proofs.Common.{arith}
 use Rattle.std.proofs.lemmas.Bool.Decides.{nat_tests}
-use Rattle.sched_core.proofs.Going.{left-still}
+use Rattle.sched_core.proofs.TakenStep.{left-still}
 use Rattle.sched_core.proofs.engine.Engine.run.Goals as goal
 
 pub hold-requires-clause-names : goal.hold-requires-clause-names

@@ -2,21 +2,21 @@ use Rattle.std.proofs.Common.{refl}
 use Rattle.std.proofs.lemmas.Result.{err_from_is_err_and}
 use Rattle.sched_rules.specs.declared.step.StepOf.TheVariants.{Steal}
 use Rattle.sched_core.proofs.Deciding.{seen-serial}
-use Rattle.sched_core.proofs.Going.{judged-taken, judged-refused, steal-going, begins, then-run, step-left}
+use Rattle.sched_core.proofs.TakenStep.{step_result-taken, step_result-refused, steal-going, begins, then-run, step-left}
 use Rattle.sched_core.proofs.engine.Engine.steal.Goals as goal
 
-pub returns-in_err-may_steal-clause-judged : goal.returns-in_err-may_steal-clause-judged
-returns-in_err-may_steal-clause-judged g c =
+pub returns-in_err-may_steal-clause-step_result : goal.returns-in_err-may_steal-clause-step_result
+returns-in_err-may_steal-clause-step_result g c =
     let p = err_from_is_err_and c.from_residual.result c.from_residual.ensures.1 in
-    judged-refused (g.P.Procedure.functions c.args.self.now.procedure) c.args.self.now.store (Steal c.args.worker c.args.from c.args.name) _ _ _ _ p.1 p.2 c.in_err-may_steal.ensures.refusal refl
+    step_result-refused (g.P.Procedure.functions c.args.self.now.procedure) c.args.self.now.store (Steal c.args.worker c.args.from c.args.name) _ _ _ _ p.1 p.2 c.in_err-may_steal.ensures.refusal refl
 
 pub run-requires-clause-left : goal.run-requires-clause-left
 run-requires-clause-left g c =
     let t = steal-going (g.P.Procedure.functions c.args.self.now.procedure) c.args.self.now.store c.args.worker c.args.from c.args.name c.in_ok-may_steal.ensures.refusal in
     step-left _ _ _ _ (begins c.args.self.now.store c.args.name.tenant t.tenant t.owner) t.passes.1.1.0
 
-pub returns-clause-judged : goal.returns-clause-judged
-returns-clause-judged g c =
+pub returns-clause-step_result : goal.returns-clause-step_result
+returns-clause-step_result g c =
     let t = steal-going (g.P.Procedure.functions c.args.self.now.procedure) c.args.self.now.store c.args.worker c.args.from c.args.name c.in_ok-may_steal.ensures.refusal in
     let w = begins c.args.self.now.store c.args.name.tenant t.tenant t.owner in
-    judged-taken (g.P.Procedure.functions c.args.self.now.procedure) c.args.self.now.store (Steal c.args.worker c.args.from c.args.name) _ _ _ t.among refl (rw (seen-serial t.tenant.frames c.args.name.serial t.frame t.found) (then-run _ _ _ _ _ _ _ w c.run.ensures.ran).is)
+    step_result-taken (g.P.Procedure.functions c.args.self.now.procedure) c.args.self.now.store (Steal c.args.worker c.args.from c.args.name) _ _ _ t.among refl (rw (seen-serial t.tenant.frames c.args.name.serial t.frame t.found) (then-run _ _ _ _ _ _ _ w c.run.ensures.ran).is)

@@ -2,16 +2,16 @@ use Rattle.sched_core.proofs.Stepping.{one-step}
 use Rattle.sched_core.proofs.engine.Engine.step.Goals as goal
 
 pub returns-in-Take-clause-one : goal.returns-in-Take-clause-one
-returns-in-Take-clause-one g c = rw c.in-Take.is (one-step (g.P.Procedure.functions c.args.self.now.procedure) c.args.self.now.store _ _ _ c.take.ensures.judged)
+returns-in-Take-clause-one g c = rw c.in-Take.is (one-step (g.P.Procedure.functions c.args.self.now.procedure) c.args.self.now.store _ _ _ c.take.ensures.step_result)
 
 pub returns-in-Advance-clause-one : goal.returns-in-Advance-clause-one
-returns-in-Advance-clause-one g c = rw c.in-Advance.is (one-step (g.P.Procedure.functions c.args.self.now.procedure) c.args.self.now.store _ _ _ c.advance.ensures.judged)
+returns-in-Advance-clause-one g c = rw c.in-Advance.is (one-step (g.P.Procedure.functions c.args.self.now.procedure) c.args.self.now.store _ _ _ c.advance.ensures.step_result)
 
 pub returns-in-Answer-clause-one : goal.returns-in-Answer-clause-one
-returns-in-Answer-clause-one g c = rw c.in-Answer.is (one-step (g.P.Procedure.functions c.args.self.now.procedure) c.args.self.now.store _ _ _ c.answer.ensures.judged)
+returns-in-Answer-clause-one g c = rw c.in-Answer.is (one-step (g.P.Procedure.functions c.args.self.now.procedure) c.args.self.now.store _ _ _ c.answer.ensures.step_result)
 
 pub returns-in-Inlet-clause-one : goal.returns-in-Inlet-clause-one
-returns-in-Inlet-clause-one g c = rw c.in-Inlet.is (one-step (g.P.Procedure.functions c.args.self.now.procedure) c.args.self.now.store _ _ _ c.inlet.ensures.judged)
+returns-in-Inlet-clause-one g c = rw c.in-Inlet.is (one-step (g.P.Procedure.functions c.args.self.now.procedure) c.args.self.now.store _ _ _ c.inlet.ensures.step_result)
 
 pub returns-in-Take-clause-procedure : goal.returns-in-Take-clause-procedure
 returns-in-Take-clause-procedure g c = c.take.ensures.procedure

@@ -6,15 +6,15 @@ use Rattle.sched_rules.specs.declared.step.StepOf.TheVariants.{Submit}
 use Rattle.sched_rules.specs.Changes.{on_tenant, with_job}
 use Rattle.sched_rules.specs.Lone.{opened}
 use Rattle.sched_laws.proofs.Answers.{shaped-in}
-use Rattle.sched_core.proofs.Going.{judged-refused, judged-taken, begins, then-changed}
+use Rattle.sched_core.proofs.TakenStep.{step_result-refused, step_result-taken, begins, then-changed}
 use Rattle.sched_core.proofs.Ending.{with-there}
 use Rattle.sched_core.proofs.Beginning.{submit-going, fresh-root}
 use Rattle.sched_core.proofs.engine.Engine.submit.Goals as goal
 
-pub returns-in_err-may_submit-clause-judged : goal.returns-in_err-may_submit-clause-judged
-returns-in_err-may_submit-clause-judged g c =
+pub returns-in_err-may_submit-clause-step_result : goal.returns-in_err-may_submit-clause-step_result
+returns-in_err-may_submit-clause-step_result g c =
     let p = err_from_is_err_and c.from_residual.result c.from_residual.ensures.1 in
-    judged-refused (g.P.Procedure.functions c.args.self.now.procedure) c.args.self.now.store (Submit c.args.number c.args.words.now c.args.size) _ _ _ _ p.1 p.2 c.in_err-may_submit.ensures.refusal refl
+    step_result-refused (g.P.Procedure.functions c.args.self.now.procedure) c.args.self.now.store (Submit c.args.number c.args.words.now c.args.size) _ _ _ _ p.1 p.2 c.in_err-may_submit.ensures.refusal refl
 
 pub begin_job-requires-clause-there : goal.begin_job-requires-clause-there
 begin_job-requires-clause-there g c =
@@ -38,12 +38,12 @@ begin_job-requires-clause-fresh g c =
     let fresh = fresh-root t.tenant (shaped-in c.args.number c.args.self.now.store.tenants t.tenant c.requires t.owner) in
     rw (w1.there, c.open-root.ensures.name, t.owner) fresh
 
-pub returns-clause-judged : goal.returns-clause-judged
-returns-clause-judged g c =
+pub returns-clause-step_result : goal.returns-clause-step_result
+returns-clause-step_result g c =
     let t = submit-going (g.P.Procedure.functions c.args.self.now.procedure) c.args.self.now.store c.args.number c.args.words.now c.args.size c.in_ok-may_submit.ensures.refusal in
     let w = begins c.args.self.now.store c.args.number t.tenant t.owner in
     let w1 = then-changed _ _ _ _ c.open-root.new.self (opened None c.args.words.now c.args.size 0) w c.open-root.ensures.opened in
     let name : c.open-root.result ≡ record { tenant = c.args.number; serial = t.tenant.serials + 1 } = rw t.owner at c.open-root.ensures.name in
     let begun : c.begin_job.new.self ≡ on_tenant c.args.number (with_job (Live (t.tenant.serials + 1))) c.open-root.new.self = rw name at c.begin_job.ensures in
     let w2 = then-changed _ _ _ _ c.begin_job.new.self (with_job (Live (t.tenant.serials + 1))) w1 begun in
-    judged-taken (g.P.Procedure.functions c.args.self.now.procedure) c.args.self.now.store (Submit c.args.number c.args.words.now c.args.size) _ _ _ t.among (rw (name, c.job_count.ensures.count, t.owner) refl) w2.is
+    step_result-taken (g.P.Procedure.functions c.args.self.now.procedure) c.args.self.now.store (Submit c.args.number c.args.words.now c.args.size) _ _ _ t.among (rw (name, c.job_count.ensures.count, t.owner) refl) w2.is

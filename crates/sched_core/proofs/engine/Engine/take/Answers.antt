@@ -1,7 +1,7 @@
 use Rattle.std.proofs.Common.{refl}
 use Rattle.sched_rules.specs.declared.step.StepOf.TheVariants.{Take}
 use Rattle.sched_core.proofs.Deciding.{seen-serial}
-use Rattle.sched_core.proofs.Going.{judged-taken, take-going, begins, then-run, step-left}
+use Rattle.sched_core.proofs.TakenStep.{step_result-taken, take-going, begins, then-run, step-left}
 use Rattle.sched_core.proofs.engine.Engine.take.Goals as goal
 
 pub run-requires-clause-left : goal.run-requires-clause-left
@@ -9,8 +9,8 @@ run-requires-clause-left g c =
     let t = take-going (g.P.Procedure.functions c.args.self.now.procedure) c.args.self.now.store c.args.worker c.args.name c.in_ok-may_take.ensures.refusal in
     step-left _ _ _ _ (begins c.args.self.now.store c.args.name.tenant t.tenant t.owner) t.passes.1.1.0
 
-pub returns-clause-judged : goal.returns-clause-judged
-returns-clause-judged g c =
+pub returns-clause-step_result : goal.returns-clause-step_result
+returns-clause-step_result g c =
     let t = take-going (g.P.Procedure.functions c.args.self.now.procedure) c.args.self.now.store c.args.worker c.args.name c.in_ok-may_take.ensures.refusal in
     let w = begins c.args.self.now.store c.args.name.tenant t.tenant t.owner in
-    judged-taken (g.P.Procedure.functions c.args.self.now.procedure) c.args.self.now.store (Take c.args.worker c.args.name) _ _ _ t.among refl (rw (seen-serial t.tenant.frames c.args.name.serial t.frame t.found) (then-run _ _ _ _ _ _ _ w c.run.ensures.ran).is)
+    step_result-taken (g.P.Procedure.functions c.args.self.now.procedure) c.args.self.now.store (Take c.args.worker c.args.name) _ _ _ t.among refl (rw (seen-serial t.tenant.frames c.args.name.serial t.frame t.found) (then-run _ _ _ _ _ _ _ w c.run.ensures.ran).is)

@@ -1,9 +1,9 @@
 use Rattle.std.proofs.Common.{length, IsSome, sym, subst, arith, ap, ◌∙◌}
 use Rattle.sched_rules.specs.Changes.{on_tenant, without_under}
-use Rattle.sched_rules.specs.Cores.{Shared}
+use Rattle.sched_rules.specs.Cores.{CoreState}
 use Rattle.sched_rules.specs.Views.{named}
 use Rattle.sched_store.specs.Inside.{parts_of}
-use Rattle.sched_store.specs.Reads.{frames_in}
+use Rattle.sched_store.specs.Reads.{frames_in_core}
 use Rattle.frame_tree.specs.Frames.{aborted, frames_under}
 use Rattle.sched_store.proofs.Aborting.{has-frame, stays, abort-cut, abort-closes, abort-gone, abort-words, AreFreed, nodes-free, AreGone, gone-stored, gone-shared, abort-count}
 use Rattle.sched_store.proofs.store.Store.abort.Given.{Over}
@@ -13,7 +13,7 @@ use Rattle.sched_store.proofs.store.Store.abort.Goals as goal
 -- what the nodes gave back
 freed : (g : Over) (c : After-free_count g) → AreFreed (parts_of c.self.inside) c.args.name (stays c.args.name.serial) c.free_count-before.result c.free_count.result
 freed g c =
-    nodes-free _ c.close_all.new.self _ _ _ _ c.self.invariant (subst (λ (s : Shared). IsSome (named s c.args.name)) (sym c.self.view_is) c.requires)
+    nodes-free _ c.close_all.new.self _ _ _ _ c.self.invariant (subst (λ (s : CoreState). IsSome (named s c.args.name)) (sym c.self.view_is) c.requires)
     (abort-gone (parts_of c.self.inside) _ c.args.name c.remove_under-nodes.result.now c.remove_under-nodes.ensures.values c.close_all.ensures) c.free_count-before.ensures c.free_count.ensures
 
 -- what the table, the stack and the book told
@@ -21,7 +21,7 @@ told : (g : Over) (c : After-give_back g) → AreGone (parts_of c.self.inside) c
 told g c =
     let under = c.remove_under-nodes.follows.holds-at-none in
     record {
-      some = subst (λ (s : Shared). IsSome (named s c.args.name)) (sym c.self.view_is) c.requires;
+      some = subst (λ (s : CoreState). IsSome (named s c.args.name)) (sym c.self.view_is) c.requires;
       gone = abort-gone (parts_of c.self.inside) _ c.args.name c.remove_under-nodes.result.now c.remove_under-nodes.ensures.values c.close_all.ensures;
       was_free = c.free_count-before.ensures;
       is_free = c.free_count.ensures;
@@ -35,7 +35,7 @@ told g c =
 
 pub remove_under-nodes-requires : goal.remove_under-nodes-requires
 remove_under-nodes-requires g c =
-    has-frame (parts_of c.self.inside) c.self.invariant c.args.name (subst (λ (s : Shared). IsSome (named s c.args.name)) (sym c.self.view_is) c.requires)
+    has-frame (parts_of c.self.inside) c.self.invariant c.args.name (subst (λ (s : CoreState). IsSome (named s c.args.name)) (sym c.self.view_is) c.requires)
 
 pub close_all-requires-clause-are_open : goal.close_all-requires-clause-are_open
 close_all-requires-clause-are_open g c = (abort-closes (parts_of c.self.inside) c.args.name c.remove_under-nodes.result.now c.self.invariant c.remove_under-nodes.ensures.values).are_open
@@ -66,4 +66,4 @@ returns-clause-aborted g c =
 pub returns-clause-count : goal.returns-clause-count
 returns-clause-count g c =
     abort-count (parts_of c.self.inside) c.self.invariant c.args.name c.remove_under-nodes.result.now c.remove_under-nodes.ensures.values
-    ∙ ap (λ (s : Shared). length (frames_under c.args.name.serial (frames_in s c.args.name.tenant))) c.self.view_is
+    ∙ ap (λ (s : CoreState). length (frames_under c.args.name.serial (frames_in_core s c.args.name.tenant))) c.self.view_is

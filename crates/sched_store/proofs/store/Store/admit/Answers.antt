@@ -1,7 +1,7 @@
 use Rattle.std.proofs.Common.{List, ap, ◌∙◌, arith}
 use Rattle.sched_store.specs.Changes.{with_admitted}
 use Rattle.sched_store.specs.Inside.{parts_of}
-use Rattle.sched_store.specs.Ledgers.{Ledger}
+use Rattle.sched_store.specs.Ledgers.{JobLedger}
 use Rattle.sched_store.specs.Parts.{shared_of}
 use Rattle.sched_store.proofs.Admitting.{CanBeAdmitted, can-be-admitted, IsAdmitted, admit-stored, admit-shared}
 use Rattle.sched_store.proofs.store.Store.admit.Given.{Over}
@@ -53,6 +53,6 @@ invariant_of-self-2 g c = rw c.add.ensures (admit-stored _ _ _ _ _ _ c.self.inva
 
 pub returns-clause-ok : goal.returns-clause-ok
 returns-clause-ok g c =
-    ap (λ (ls : List Ledger). shared_of (record (parts_of c.self.inside) { book = c.reserve-2.new.self; trees = c.reserve.new.self; ledgers = ls; newest = c.args.number })) c.add.ensures
+    ap (λ (ls : List JobLedger). shared_of (record (parts_of c.self.inside) { book = c.reserve-2.new.self; trees = c.reserve.new.self; ledgers = ls; newest = c.args.number })) c.add.ensures
     ∙ admit-shared _ _ _ _ _ _ c.self.invariant (told g (goal.at.returns-clause-ok g c).After-unwrap)
     ∙ ap (with_admitted c.args.number c.args.reserve) c.self.view_is

@@ -1,5 +1,5 @@
 use Rattle.std.proofs.Common.{ℕ, IfSome, sym, ◌∙◌, ap, subst}
-use Rattle.sched_rules.specs.Cores.{Shared}
+use Rattle.sched_rules.specs.Cores.{CoreState}
 use Rattle.sched_rules.specs.Views.{ready_count}
 use Rattle.frame_tree.specs.declared.names.FrameId.{FrameId}
 use Rattle.sched_store.specs.Inside.{parts_of}
@@ -9,12 +9,12 @@ use Rattle.sched_store.proofs.store.Store.any_ready.Goals as goal
 
 pub returns-clause-found : goal.returns-clause-found
 returns-clause-found g c =
-    subst (λ (s : Shared). IfSome c.any_ready.result (λ (ready : FrameId × ℕ). IsReadyIn s ready.0 ready.1)) c.self.view_is
+    subst (λ (s : CoreState). IfSome c.any_ready.result (λ (ready : FrameId × ℕ). IsReadyIn s ready.0 ready.1)) c.self.view_is
     (ready-found (parts_of c.self.inside) c.self.invariant c.any_ready.result c.any_ready.ensures.found)
 
 pub returns-clause-none : goal.returns-clause-none
 returns-clause-none g c =
-    let same = ap (λ (s : Shared). ready_count s.tenants) c.self.view_is in (
+    let same = ap (λ (s : CoreState). ready_count s.tenants) c.self.view_is in (
       λ none. sym same ∙ none-counted (parts_of c.self.inside) c.self.inside.book.accounts (c.any_ready.ensures.none.0 none),
       λ zero. c.any_ready.ensures.none.1 (nobody-ready (parts_of c.self.inside) c.self.invariant (same ∙ zero)),
     )

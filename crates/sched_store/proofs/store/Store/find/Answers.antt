@@ -1,5 +1,5 @@
 use Rattle.std.proofs.Common.{not, sym, ◌∙◌, ap}
-use Rattle.sched_rules.specs.Cores.{Shared}
+use Rattle.sched_rules.specs.Cores.{CoreState}
 use Rattle.sched_rules.specs.Trees.{is_root}
 use Rattle.sched_rules.specs.Views.{named}
 use Rattle.sched_store.specs.Inside.{parts_of}
@@ -15,7 +15,7 @@ returns-in-Some-clause-frame g c =
 pub returns-in-Some-clause-root : goal.returns-in-Some-clause-root
 returns-in-Some-clause-root g c =
     child-or-root (parts_of c.self.inside) c.self.invariant c.args.name c.in-Some.entry (sym c.in-Some.is ∙ c.find.ensures.entry)
-    ∙ ap (λ (s : Shared). not (is_root (path_of (named s c.args.name)))) c.self.view_is
+    ∙ ap (λ (s : CoreState). not (is_root (path_of (named s c.args.name)))) c.self.view_is
 
 pub returns-in-Some-clause-tree : goal.returns-in-Some-clause-tree
 returns-in-Some-clause-tree g c = rw (← c.self.view_is) (tree-found (parts_of c.self.inside) c.self.invariant c.args.name.tenant)

@@ -4,13 +4,13 @@ use Rattle.tenant_quota.specs.declared.account.Account.{Account}
 use Rattle.sched_store.specs.Changes.{with_departed}
 use Rattle.sched_store.specs.Inside.{parts_of}
 use Rattle.sched_store.proofs.Tenants.{there-account-in, ledger-there}
-use Rattle.sched_store.proofs.Leaving.{has-places, leave-closes, HasLeft, leave-stored, leave-shared}
+use Rattle.sched_store.proofs.LeaveTenant.{has-places, leave-closes, IsDeparture, leave-stored, leave-shared}
 use Rattle.sched_store.proofs.store.Store.leave.Given.{Over}
 use Rattle.sched_store.proofs.store.Store.leave.Goals.{After-release-2}
 use Rattle.sched_store.proofs.store.Store.leave.Goals as goal
 
 -- what the table, the stack, the ledgers and the book told
-told : (g : Over) (c : After-release-2 g) → (a : Account) × HasLeft (parts_of c.self.inside) c.close_all.new.self c.release.new.self c.remove.new.self c.release-2.new.self c.args.tenant c.remove_all-nodes.result.now a
+told : (g : Over) (c : After-release-2 g) → (a : Account) × IsDeparture (parts_of c.self.inside) c.close_all.new.self c.release.new.self c.remove.new.self c.release-2.new.self c.args.tenant c.remove_all-nodes.result.now a
 told g c =
     let a = there-account-in (parts_of c.self.inside) c.args.tenant c.self.view_is c.requires in
     let emptied = c.remove_all-nodes.follows.holds-at-none in (

@@ -3,7 +3,7 @@ use Rattle.std.proofs.lemmas.List.Sums.{sum_by-cons}
 use Rattle.frame_tree.specs.declared.names.FrameId.{FrameId}
 use Rattle.frame_tree.specs.Frames.{names_of}
 use Rattle.frame_table.specs.Tables.{frames_of}
-use Rattle.sched_rules.specs.Cores.{Shared, tenant_in}
+use Rattle.sched_rules.specs.Cores.{CoreState, tenant_in}
 use Rattle.sched_rules.specs.Views.{live_of}
 use Rattle.sched_store.specs.Inside.{parts_of}
 use Rattle.sched_store.specs.Reads.{words_under}
@@ -17,7 +17,7 @@ pub overflow_add-words : goal.overflow_add-words
 overflow_add-words g c =
     let f : FrameId → ℕ = λ name. length (words_under c.args.self.now name) in
     let few = words-few (parts_of c.self.inside) c.self.invariant c.args.tenant in
-    let same : sum_by f (names_of c.args.tenant (frames_of c.self.inside.table c.args.tenant)) ≤ 65536 = subst (λ (s : Shared). sum_by (λ (name : FrameId). length (words_under s name)) (names_of c.args.tenant (frames_of c.self.inside.table c.args.tenant)) ≤ 65536) c.self.view_is few in
+    let same : sum_by f (names_of c.args.tenant (frames_of c.self.inside.table c.args.tenant)) ≤ 65536 = subst (λ (s : CoreState). sum_by (λ (name : FrameId). length (words_under s name)) (names_of c.args.tenant (frames_of c.self.inside.table c.args.tenant)) ≤ 65536) c.self.view_is few in
     let initial = ap (sum_by f) (c.into_iter-name-iterator.ensures.into_iter_gives ∙ c.frames-name-items.ensures.names) in
     let step = ap (sum_by f) c.in-Some.ensures.steps ∙ sum_by-cons f c.in-Some.name c.next.new.self in
     let invariant = c.loop-name.invariant in
@@ -36,13 +36,13 @@ pub returns : goal.returns
 returns g c =
     let parts = parts_of c.self.inside in
     let there : is_some (tenant_in c.args.self.now.tenants c.args.tenant) ≡ true = sym c.has_tenant.ensures.there ∙ c.if-not-has_tenant.false in
-    let some = subst (λ (s : Shared). is_some (tenant_in s.tenants c.args.tenant) ≡ true) (sym c.self.view_is) there in
-    let f : Shared → FrameId → ℕ = λ s name. length (words_under s name) in
+    let some = subst (λ (s : CoreState). is_some (tenant_in s.tenants c.args.tenant) ≡ true) (sym c.self.view_is) there in
+    let f : CoreState → FrameId → ℕ = λ s name. length (words_under s name) in
     let names = names_of c.args.tenant (frames_of c.self.inside.table c.args.tenant) in
     let initial = ap (sum_by (f c.args.self.now)) (c.into_iter-name-iterator.ensures.into_iter_gives ∙ c.frames-name-items.ensures.names) in
     let none : sum_by (f c.args.self.now) c.loop-name.name-iterator ≡ 0 = ap (sum_by (f c.args.self.now)) c.in-None.ensures.steps.0 in
     let invariant = c.loop-name.invariant in
     let words : c.loop-name.words ≡ sum_by (f c.args.self.now) names = omega (arith, initial, none, invariant) in
-    let total = words ∙ sym (ap (λ (s : Shared). sum_by (f s) names) c.self.view_is) in
+    let total = words ∙ sym (ap (λ (s : CoreState). sum_by (f s) names) c.self.view_is) in
     live-found parts c.self.invariant c.args.tenant c.frame_count.result c.loop-name.words some c.frame_count.ensures total
-    ∙ ap (λ (s : Shared). live_of s c.args.tenant) c.self.view_is
+    ∙ ap (λ (s : CoreState). live_of s c.args.tenant) c.self.view_is

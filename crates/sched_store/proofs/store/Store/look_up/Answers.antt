@@ -1,5 +1,5 @@
 use Rattle.std.proofs.Common.{not, ap, ◌∙◌}
-use Rattle.sched_rules.specs.Cores.{Shared}
+use Rattle.sched_rules.specs.Cores.{CoreState}
 use Rattle.sched_rules.specs.Trees.{is_root}
 use Rattle.sched_rules.specs.Views.{named}
 use Rattle.sched_store.specs.Inside.{parts_of}
@@ -22,17 +22,17 @@ returns-in-Some-clause-frame g c = rw (← c.self.view_is) (frame-found (parts_o
 pub returns-in-Some-clause-root : goal.returns-in-Some-clause-root
 returns-in-Some-clause-root g c =
     child-or-root (parts_of c.self.inside) c.self.invariant c.args.name c.in-Some.entry c.in-Some.ensures.entry
-    ∙ ap (λ (s : Shared). not (is_root (path_of (named s c.args.name)))) c.self.view_is
+    ∙ ap (λ (s : CoreState). not (is_root (path_of (named s c.args.name)))) c.self.view_is
 
 pub returns-in-Some-clause-words : goal.returns-in-Some-clause-words
 returns-in-Some-clause-words g c =
     own-words-shown (parts_of c.self.inside) c.self.invariant c.args.name c.in-Some.entry c.own.result c.in-Some.ensures.entry c.own.ensures
-    ∙ ap (λ (s : Shared). words_under s c.args.name) c.self.view_is
+    ∙ ap (λ (s : CoreState). words_under s c.args.name) c.self.view_is
 
 pub returns-in-Some-clause-sight : goal.returns-in-Some-clause-sight
 returns-in-Some-clause-sight g c =
     sight-found (parts_of c.self.inside) c.self.invariant c.args.name c.in-Some.entry c.sight.result c.in-Some.ensures.entry c.sight.ensures
-    ∙ ap (λ (s : Shared). sight_of s c.args.name) c.self.view_is
+    ∙ ap (λ (s : CoreState). sight_of s c.args.name) c.self.view_is
 
 pub returns-in-Some-clause-tree : goal.returns-in-Some-clause-tree
 returns-in-Some-clause-tree g c = rw (← c.self.view_is) (tree-found (parts_of c.self.inside) c.self.invariant c.args.name.tenant)

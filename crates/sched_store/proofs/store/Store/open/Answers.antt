@@ -4,8 +4,8 @@ use Rattle.frame_table.specs.Tables.{frames_of}
 use Rattle.sched_store.specs.Inside.{parts_of}
 use Rattle.sched_store.proofs.Tenants.{book-left}
 use Rattle.sched_store.proofs.Writing.{has-free, not-refused}
-use Rattle.sched_store.proofs.Opens.{serials-found, opened-next, left-for, parent-for, parent-open, parent-in, serial-of-name, place-left, size-some}
-use Rattle.sched_store.proofs.Opening.{Opened, open-step}
+use Rattle.sched_store.proofs.OpenFrameParts.{serials-found, opened-next, left-for, parent-for, parent-open, parent-in, serial-of-name, place-left, size-some}
+use Rattle.sched_store.proofs.OpenFrame.{Opened, open-step}
 use Rattle.sched_store.proofs.store.Store.open.Given.{Over}
 use Rattle.sched_store.proofs.store.Store.open.Goals.{After-add}
 use Rattle.sched_store.proofs.store.Store.open.Goals as goal

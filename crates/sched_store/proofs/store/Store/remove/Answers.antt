@@ -1,15 +1,15 @@
 use Rattle.std.proofs.Common.{◌≡◌, IsSome, false, ℕ, ap, sym, ◌∙◌, subst}
 use Rattle.sched_rules.specs.Trees.{has_child}
 use Rattle.sched_rules.specs.Changes.{on_tenant, without_frame}
-use Rattle.sched_rules.specs.Cores.{Shared}
+use Rattle.sched_rules.specs.Cores.{CoreState}
 use Rattle.sched_rules.specs.Views.{named}
 use Rattle.cactus_stack.specs.Nodes.{IsOpen, HasNoChild}
 use Rattle.frame_table.specs.Tables.{frames_of}
 use Rattle.frame_tree.specs.Frames.{frame_at, frames_without}
 use Rattle.sched_store.specs.Inside.{parts_of}
-use Rattle.sched_store.specs.Reads.{frames_in}
+use Rattle.sched_store.specs.Reads.{frames_in_core}
 use Rattle.sched_store.proofs.Aborting.{has-frame, AreFreed, nodes-free, AreGone, gone-stored, gone-shared}
-use Rattle.sched_store.proofs.Leaves.{others_stay, no-children, leaf-node, has-value, leaf-gone, leaf-cut, leaf-words}
+use Rattle.sched_store.proofs.RemoveFrame.{others_stay, no-children, leaf-node, has-value, leaf-gone, leaf-cut, leaf-words}
 use Rattle.sched_store.proofs.store.Store.remove.Given.{Over}
 use Rattle.sched_store.proofs.store.Store.remove.Goals.{After-free_count, After-give_back}
 use Rattle.sched_store.proofs.store.Store.remove.Goals as goal
@@ -17,16 +17,16 @@ use Rattle.sched_store.proofs.store.Store.remove.Goals as goal
 -- what the node gave back
 freed : (g : Over) (c : After-free_count g) → AreFreed (parts_of c.self.inside) c.args.name (others_stay c.args.name.serial) c.free_count-before.result c.free_count.result
 freed g c =
-    nodes-free _ c.close.new.self _ _ _ _ c.self.invariant (subst (λ (s : Shared). IsSome (named s c.args.name)) (sym c.self.view_is) c.requires.there)
+    nodes-free _ c.close.new.self _ _ _ _ c.self.invariant (subst (λ (s : CoreState). IsSome (named s c.args.name)) (sym c.self.view_is) c.requires.there)
     (leaf-gone (parts_of c.self.inside) _ c.args.name c.remove-node.result c.self.invariant c.remove-node.ensures.value c.close.ensures) c.free_count-before.ensures c.free_count.ensures
 
 -- what the table, the stack and the book told
 told : (g : Over) (c : After-give_back g) → AreGone (parts_of c.self.inside) c.close.new.self c.remove-node.new.self c.give_back.new.self c.args.name (others_stay c.args.name.serial) c.free_count-before.result c.free_count.result
 told g c =
     let back = c.give_back.ensures in
-    let leaf = no-children (parts_of c.self.inside) c.self.invariant c.args.name (subst (λ (s : Shared). has_child (frames_in s c.args.name.tenant) c.args.name.serial ≡ false) (sym c.self.view_is) c.requires.leaf) in
+    let leaf = no-children (parts_of c.self.inside) c.self.invariant c.args.name (subst (λ (s : CoreState). has_child (frames_in_core s c.args.name.tenant) c.args.name.serial ≡ false) (sym c.self.view_is) c.requires.leaf) in
     record {
-      some = subst (λ (s : Shared). IsSome (named s c.args.name)) (sym c.self.view_is) c.requires.there;
+      some = subst (λ (s : CoreState). IsSome (named s c.args.name)) (sym c.self.view_is) c.requires.there;
       gone = leaf-gone (parts_of c.self.inside) _ c.args.name c.remove-node.result c.self.invariant c.remove-node.ensures.value c.close.ensures;
       was_free = c.free_count-before.ensures;
       is_free = c.free_count.ensures;
@@ -40,11 +40,11 @@ told g c =
 
 pub remove-node-requires-clause-there : goal.remove-node-requires-clause-there
 remove-node-requires-clause-there g c =
-    has-frame (parts_of c.self.inside) c.self.invariant c.args.name (subst (λ (s : Shared). IsSome (named s c.args.name)) (sym c.self.view_is) c.requires.there)
+    has-frame (parts_of c.self.inside) c.self.invariant c.args.name (subst (λ (s : CoreState). IsSome (named s c.args.name)) (sym c.self.view_is) c.requires.there)
 
 pub remove-node-requires-clause-leaf : goal.remove-node-requires-clause-leaf
 remove-node-requires-clause-leaf g c =
-    no-children (parts_of c.self.inside) c.self.invariant c.args.name (subst (λ (s : Shared). has_child (frames_in s c.args.name.tenant) c.args.name.serial ≡ false) (sym c.self.view_is) c.requires.leaf)
+    no-children (parts_of c.self.inside) c.self.invariant c.args.name (subst (λ (s : CoreState). has_child (frames_in_core s c.args.name.tenant) c.args.name.serial ≡ false) (sym c.self.view_is) c.requires.leaf)
 
 pub close-requires-clause-is_open : goal.close-requires-clause-is_open
 close-requires-clause-is_open g c =
@@ -53,7 +53,7 @@ close-requires-clause-is_open g c =
 
 pub close-requires-clause-no_child : goal.close-requires-clause-no_child
 close-requires-clause-no_child g c =
-    let leaf = subst (λ (s : Shared). has_child (frames_in s c.args.name.tenant) c.args.name.serial ≡ false) (sym c.self.view_is) c.requires.leaf in
+    let leaf = subst (λ (s : CoreState). has_child (frames_in_core s c.args.name.tenant) c.args.name.serial ≡ false) (sym c.self.view_is) c.requires.leaf in
     let f = has-value (frame_at (frames_of c.self.inside.table c.args.name.tenant) c.args.name.serial) c.remove-node.result c.remove-node.ensures.value in
     let none = leaf-node (parts_of c.self.inside) c.args.name f.0 c.self.invariant f.1 (no-children (parts_of c.self.inside) c.self.invariant c.args.name leaf) in
     subst (λ (n : ℕ). HasNoChild c.self.inside.stack n) f.2 none

@@ -1,7 +1,7 @@
 use Rattle.std.proofs.Common.{ℕ, List, IsSome, ap, sym, ◌∙◌, subst}
 use Rattle.frame_tree.specs.declared.names.FrameId.{FrameId}
 use Rattle.frame_tree.specs.Frames.{root_of}
-use Rattle.sched_rules.specs.Cores.{Shared}
+use Rattle.sched_rules.specs.Cores.{CoreState}
 use Rattle.sched_rules.specs.Views.{named}
 use Rattle.sched_store.specs.Inside.{parts_of}
 use Rattle.sched_store.specs.Reads.{path_of}
@@ -11,13 +11,13 @@ use Rattle.sched_store.proofs.store.Store.root.Goals as goal
 
 pub root-requires : goal.root-requires
 root-requires g c =
-    let some = subst (λ (s : Shared). IsSome (named s c.args.name)) (sym c.self.view_is) c.requires in
+    let some = subst (λ (s : CoreState). IsSome (named s c.args.name)) (sym c.self.view_is) c.requires in
     has-frame (parts_of c.self.inside) c.self.invariant c.args.name some
 
 pub returns : goal.returns
 returns g c =
-    let some = subst (λ (s : Shared). IsSome (named s c.args.name)) (sym c.self.view_is) c.requires in
-    let path = sym (path-shown (parts_of c.self.inside) c.self.invariant c.args.name some) ∙ ap (λ (s : Shared). path_of (named s c.args.name)) c.self.view_is in
+    let some = subst (λ (s : CoreState). IsSome (named s c.args.name)) (sym c.self.view_is) c.requires in
+    let path = sym (path-shown (parts_of c.self.inside) c.self.invariant c.args.name some) ∙ ap (λ (s : CoreState). path_of (named s c.args.name)) c.self.view_is in
     c.root.ensures ∙ ap (λ (p : List ℕ). made p) path
   where
     made : List ℕ → FrameId

@@ -1,5 +1,5 @@
 use Rattle.std.proofs.Common.{IsSome, ap, sym, ◌∙◌, subst}
-use Rattle.sched_rules.specs.Cores.{Shared}
+use Rattle.sched_rules.specs.Cores.{CoreState}
 use Rattle.sched_rules.specs.Views.{named}
 use Rattle.sched_store.specs.Inside.{parts_of}
 use Rattle.sched_store.specs.Reads.{sight_of}
@@ -11,10 +11,10 @@ sight-requires g c = entry-open (parts_of c.self.inside) c.self.invariant c.args
 
 pub unreachable-requires : goal.unreachable-requires
 unreachable-requires g c =
-    let some = subst (λ (s : Shared). IsSome (named s c.args.name)) (sym c.self.view_is) c.requires in
+    let some = subst (λ (s : CoreState). IsSome (named s c.args.name)) (sym c.self.view_is) c.requires in
     there-not-missing (parts_of c.self.inside) c.self.invariant c.args.name some c.in-None.ensures.entry
 
 pub returns : goal.returns
 returns g c =
     sight-found (parts_of c.self.inside) c.self.invariant c.args.name c.in-Some.entry c.sight.result c.in-Some.ensures.entry c.sight.ensures
-    ∙ ap (λ (s : Shared). sight_of s c.args.name) c.self.view_is
+    ∙ ap (λ (s : CoreState). sight_of s c.args.name) c.self.view_is

@@ -1,5 +1,5 @@
 use Rattle.std.proofs.Common.{ap, ◌∙◌}
-use Rattle.sched_rules.specs.Cores.{Shared}
+use Rattle.sched_rules.specs.Cores.{CoreState}
 use Rattle.sched_rules.specs.Views.{words_of_frame}
 use Rattle.sched_store.specs.Inside.{parts_of}
 use Rattle.sched_store.proofs.Seeing.{entry-open}
@@ -12,9 +12,9 @@ own-requires g c = entry-open (parts_of c.self.inside) c.self.invariant c.args.n
 pub returns-in-Some : goal.returns-in-Some
 returns-in-Some g c =
     words-shown (parts_of c.self.inside) c.self.invariant c.args.name c.in-Some.entry c.own.result c.in-Some.ensures.entry c.own.ensures
-    ∙ ap (λ (s : Shared). words_of_frame s c.args.name) c.self.view_is
+    ∙ ap (λ (s : CoreState). words_of_frame s c.args.name) c.self.view_is
 
 pub returns-in-None : goal.returns-in-None
 returns-in-None g c =
     no-words-shown (parts_of c.self.inside) c.self.invariant c.args.name c.in-None.ensures.entry
-    ∙ ap (λ (s : Shared). words_of_frame s c.args.name) c.self.view_is
+    ∙ ap (λ (s : CoreState). words_of_frame s c.args.name) c.self.view_is

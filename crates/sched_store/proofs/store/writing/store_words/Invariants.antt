@@ -1,5 +1,5 @@
 use Rattle.std.proofs.Common.{◌≡◌, drop, false}
-use Rattle.cactus_stack.specs.Nodes.{IsOpen, node_words, with_words}
+use Rattle.cactus_stack.specs.Nodes.{IsOpen, node_words, with_node_words}
 use Rattle.sched_rules.specs.Trees.{stored, is_outside}
 use Rattle.sched_store.proofs.store.writing.store_words.Given as goal
 
@@ -7,5 +7,5 @@ abbrev pub invariant-loop-at : goal.invariant-loop-at
 invariant-loop-at g l = record {
   is_open : IsOpen l.stack l.node;
   inside : is_outside (drop l.at-index l.stores) (node_words l.stack l.node) ≡ false;
-  so_far : with_words l.stack l.node (stored (drop l.at-index l.stores) (node_words l.stack l.node)) ≡ with_words l.fn.stack l.node (stored l.stores (node_words l.fn.stack l.node));
+  so_far : with_node_words l.stack l.node (stored (drop l.at-index l.stores) (node_words l.stack l.node)) ≡ with_node_words l.fn.stack l.node (stored l.stores (node_words l.fn.stack l.node));
 }

@@ -3,5 +3,5 @@ use Rattle.server_tests.proofs.tests.failing.a_listener_that_fails_ends_the_serv
 abbrev pub ghosts-ended-L-Ledger : goal.ghosts-ended-L-Ledger
 ghosts-ended-L-Ledger g a = record { name = a.blank.name; parts = a.blank.parts }
 
-abbrev pub ghosts-ended-L-Hands : goal.ghosts-ended-L-Hands
-ghosts-ended-L-Hands g a = record { all = a.blank.parts }
+abbrev pub ghosts-ended-L-DeskLedger : goal.ghosts-ended-L-DeskLedger
+ghosts-ended-L-DeskLedger g a = record { all = a.blank.parts }

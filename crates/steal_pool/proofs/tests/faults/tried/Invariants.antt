@@ -3,5 +3,5 @@ use Rattle.steal_pool.proofs.tests.faults.tried.Given as goal
 abbrev pub ghosts-found_at-L-Ledger : goal.ghosts-found_at-L-Ledger
 ghosts-found_at-L-Ledger g a = record { name = a.blank.name; parts = a.blank.parts }
 
-abbrev pub ghosts-found_at-L-Hands : goal.ghosts-found_at-L-Hands
-ghosts-found_at-L-Hands g a = record { all = a.blank.parts }
+abbrev pub ghosts-found_at-L-DeskLedger : goal.ghosts-found_at-L-DeskLedger
+ghosts-found_at-L-DeskLedger g a = record { all = a.blank.parts }

@@ -5,7 +5,7 @@ use Rattle.tenant_quota.specs.declared.account.Account.{Account}
 use Rattle.tenant_quota.specs.declared.account.Left.{Left}
 use Rattle.tenant_quota.specs.Accounts.{account_of, charged_by, left_in, charged_segments, IsWithinReserve}
 use Rattle.tenant_quota.proofs.Places.{account_place, read-rising}
-use Rattle.tenant_quota.specs.Reservations.{Reservations, HasLeft, IsShort, left_of, opened_of, IsSoundBook}
+use Rattle.tenant_quota.specs.Reservations.{Reservations, HasLeft, IsShort, left_in_book, opened_of, IsSoundBook}
 use Rattle.tenant_quota.specs.Keeping.{held_by}
 use Rattle.tenant_quota.proofs.Standing.{and_at, and_from, left_is, place_within, stands_for, within_with, IsChange, change_by_write, sum_by_write, one_less}
 use Rattle.tenant_quota.proofs.book.Book.charge_nodes.Goals as goal
@@ -31,8 +31,8 @@ charges b t i segments nodes read e l sound there same is at left some_left more
     let fits = charged_within e.1 l segments nodes left some_left more_left stands.within in
     record {
       fits = fits;
-      has = and_from (left_of t b) (λ (x : Left). (segments ≤ x.segments) × (nodes ≤ x.nodes)) l left_here (some_left, more_left);
-      enough = λ short. elim (and_at (left_of t b) (λ (x : Left). (x.segments < segments) ⊎ (x.nodes < nodes)) l left_here short) [ inl less ↦ omega arith | inr less ↦ omega arith ];
+      has = and_from (left_in_book t b) (λ (x : Left). (segments ≤ x.segments) × (nodes ≤ x.nodes)) l left_here (some_left, more_left);
+      enough = λ short. elim (and_at (left_in_book t b) (λ (x : Left). (x.segments < segments) ⊎ (x.nodes < nodes)) l left_here short) [ inl less ↦ omega arith | inr less ↦ omega arith ];
       change = change_by_write b t i read e (charged_by segments nodes) sound there same is at (λ x. refl) fits;
       sum = omega (arith, sum_by_write (λ x. x.1.charged) b t i read e (charged_by segments nodes) sound there same is at);
     }
@@ -46,8 +46,8 @@ refuses b t i segments nodes read e l sound there same is at left less =
     let stands = stands_for b t i read e sound there same is at in
     let left_here = left_is b t e.1 l stands.account left in
     record {
-      lacks = λ has. let enough = and_at (left_of t b) (λ (x : Left). (segments ≤ x.segments) × (nodes ≤ x.nodes)) l left_here has in elim less [ inl few ↦ omega arith | inr few ↦ omega arith ];
-      short = and_from (left_of t b) (λ (x : Left). (x.segments < segments) ⊎ (x.nodes < nodes)) l left_here less;
+      lacks = λ has. let enough = and_at (left_in_book t b) (λ (x : Left). (segments ≤ x.segments) × (nodes ≤ x.nodes)) l left_here has in elim less [ inl few ↦ omega arith | inr few ↦ omega arith ];
+      short = and_from (left_in_book t b) (λ (x : Left). (x.segments < segments) ⊎ (x.nodes < nodes)) l left_here less;
     }
 
 opened_is : (b : Reservations) (t i : ℕ) (read : List (ℕ × Account)) (e : ℕ × Account) → IsSoundBook b → IsSome (account_of t b.accounts) → read ≡ b.accounts → i ≡ account_place t read → e ≡ get_or b.accounts i e → opened_of t b ≡ Some e.1.opened

@@ -6,11 +6,11 @@ use Rattle.tenant_quota.specs.declared.account.Account.{Account}
 use Rattle.tenant_quota.specs.declared.book.Rest.{Rest}
 use Rattle.tenant_quota.specs.Quota.{Quota, IsWithinLimits}
 use Rattle.tenant_quota.specs.Accounts.{account_of, fresh, with_new}
-use Rattle.tenant_quota.specs.Reservations.{Reservations, admitted, unreserved_of, HasRoom, Admits, KeepsOthers, IsSoundBook}
+use Rattle.tenant_quota.specs.Reservations.{Reservations, admitted, unreserved_of, HasRoom, Admits, KeepsOtherAccounts, IsSoundBook}
 use Rattle.tenant_quota.specs.Keeping.{held_by}
 use Rattle.tenant_quota.proofs.Places.{account_place, account_place-le-length, read-rising}
 use Rattle.tenant_quota.proofs.Edits.{insert-account_place}
-use Rattle.tenant_quota.proofs.Effects.{Admits-admitted, KeepsOthers-admitted, IsSoundBook-admitted}
+use Rattle.tenant_quota.proofs.Effects.{Admits-admitted, KeepsOtherAccounts-admitted, IsSoundBook-admitted}
 use Rattle.tenant_quota.proofs.book.Book.reserve.Goals as goal
 
 has_room : (b : Reservations) (quota : Quota) (r : Rest) (segments nodes : ℕ) → IsSoundBook b → r ≡ unreserved_of b → r.tenants ≢ 0 → segments ≡ quota.segments → nodes ≡ quota.nodes → segments ≤ r.segments → nodes ≤ r.nodes → HasRoom b quota
@@ -27,7 +27,7 @@ has_room b quota r segments nodes sound rest some segments_are nodes_are enough_
 -- the entry of a new tenant, seen in full
 record IsAdmission (old new : Reservations) (t : ℕ) (quota : Quota) : Type 0 where
   admits : Admits old new t quota
-  others : KeepsOthers old new t
+  others : KeepsOtherAccounts old new t
   sound : IsSoundBook new
 
 admission : (b : Reservations) (t i : ℕ) (quota : Quota) (read : List (ℕ × Account)) (a : Account) (l : List (ℕ × Account)) → IsSoundBook b → account_of t b.accounts ≡ None → IsWithinLimits quota → HasRoom b quota → read ≡ b.accounts → i ≡ account_place t read → a ≡ fresh quota → l ≡ insert b.accounts i (t, a) → IsAdmission b (record b { accounts = l }) t quota
@@ -35,7 +35,7 @@ admission b t i quota read a l sound none limits room same is new inserted =
     let place : i ≡ account_place t b.accounts = is ∙ ap (account_place t) same in
     let list : l ≡ with_new t (fresh quota) b.accounts = inserted ∙ ap (λ k. insert b.accounts k (t, a)) place ∙ ap (λ x. insert b.accounts (account_place t b.accounts) (t, x)) new ∙ insert-account_place t (fresh quota) b.accounts in
     let facts : IsAdmission b (admitted b t quota) t quota =
-    record { admits = Admits-admitted b t quota none; others = KeepsOthers-admitted b t quota; sound = IsSoundBook-admitted b t quota none limits room sound } in
+    record { admits = Admits-admitted b t quota none; others = KeepsOtherAccounts-admitted b t quota; sound = IsSoundBook-admitted b t quota none limits room sound } in
     subst (λ k. IsAdmission b (record b { accounts = k }) t quota) (sym list) facts
 
 -- an insertion that succeeded

@@ -4,7 +4,7 @@ use Rattle.tenant_quota.specs.declared.account.Account.{Account}
 use Rattle.tenant_quota.specs.declared.account.Left.{Left}
 use Rattle.tenant_quota.specs.Accounts.{account_of, ticked, left_in, charged_segments, IsWithinReserve}
 use Rattle.tenant_quota.proofs.Places.{account_place, read-rising}
-use Rattle.tenant_quota.specs.Reservations.{Reservations, HasStepLeft, IsOutOfSteps, left_of, IsSoundBook}
+use Rattle.tenant_quota.specs.Reservations.{Reservations, HasStepLeft, IsOutOfSteps, left_in_book, IsSoundBook}
 use Rattle.tenant_quota.specs.Keeping.{held_by}
 use Rattle.tenant_quota.proofs.Standing.{and_at, and_from, left_is, place_within, stands_for, within_with, IsChange, change_by_write, sum_by_write}
 use Rattle.tenant_quota.proofs.book.Book.tick.Goals as goal
@@ -29,8 +29,8 @@ ticks b t i read e l sound there same is at left some_left =
     let fits = ticked_within e.1 l left some_left stands.within in
     record {
       fits = fits;
-      has = and_from (left_of t b) (λ (x : Left). 0 < x.steps) l left_here some_left;
-      enough = λ out. let none = and_at (left_of t b) (λ (x : Left). x.steps ≡ 0) l left_here out in omega arith;
+      has = and_from (left_in_book t b) (λ (x : Left). 0 < x.steps) l left_here some_left;
+      enough = λ out. let none = and_at (left_in_book t b) (λ (x : Left). x.steps ≡ 0) l left_here out in omega arith;
       change = change_by_write b t i read e ticked sound there same is at (λ x. refl) fits;
       sum = omega (arith, sum_by_write (λ x. x.1.charged) b t i read e ticked sound there same is at);
     }
@@ -44,8 +44,8 @@ refuses b t i read e l sound there same is at left none =
     let stands = stands_for b t i read e sound there same is at in
     let left_here = left_is b t e.1 l stands.account left in
     record {
-      lacks = λ has. let some = and_at (left_of t b) (λ (x : Left). 0 < x.steps) l left_here has in omega arith;
-      out = and_from (left_of t b) (λ (x : Left). x.steps ≡ 0) l left_here none;
+      lacks = λ has. let some = and_at (left_in_book t b) (λ (x : Left). 0 < x.steps) l left_here has in omega arith;
+      out = and_from (left_in_book t b) (λ (x : Left). x.steps ≡ 0) l left_here none;
     }
 
 pub place_of-place-requires : goal.place_of-place-requires

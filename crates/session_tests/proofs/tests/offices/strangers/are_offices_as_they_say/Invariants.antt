@@ -3,5 +3,5 @@ use Rattle.session_tests.proofs.tests.offices.strangers.are_offices_as_they_say.
 abbrev pub ghosts-is_new_desk_as_it_says-L-Ledger : goal.ghosts-is_new_desk_as_it_says-L-Ledger
 ghosts-is_new_desk_as_it_says-L-Ledger g a = record { name = a.blank.name; parts = a.blank.parts }
 
-abbrev pub ghosts-is_new_desk_as_it_says-L-Hands : goal.ghosts-is_new_desk_as_it_says-L-Hands
-ghosts-is_new_desk_as_it_says-L-Hands g a = record { all = a.blank.parts }
+abbrev pub ghosts-is_new_desk_as_it_says-L-DeskLedger : goal.ghosts-is_new_desk_as_it_says-L-DeskLedger
+ghosts-is_new_desk_as_it_says-L-DeskLedger g a = record { all = a.blank.parts }

@@ -1,9 +1,0 @@
-use Rattle.std.proofs.Common.{rules, Contains, IfErr}
-use Rattle.desk.specs.Seats.{ask_refusals}
-use Rattle.desk.proofs.Refused.{ask_refused}
-use Rattle.desk.proofs.kept.Kept.ask.Goals as goal
-
-pub returns-in_err-take_for-clause-refused : goal.returns-in_err-take_for-clause-refused
-returns-in_err-take_for-clause-refused g c =
-    let known : IfErr c.take_for.result (Contains ask_refusals) = ask_refused _ _ _ _ _ _ c.take_for.result (rw c.submit-search.ensures.step at c.take_for.ensures.step) in
-    search rules

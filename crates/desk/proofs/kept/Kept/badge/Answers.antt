@@ -1,8 +1,0 @@
-use Rattle.std.proofs.Common.{rules}
-use Rattle.desk.proofs.kept.Kept.badge.Goals as goal
-
-pub invariant_of-result : goal.invariant_of-result
-invariant_of-result g c = search rules
-
-pub returns-clause-share : goal.returns-clause-share
-returns-clause-share g c = search rules

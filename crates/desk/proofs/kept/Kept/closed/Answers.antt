@@ -1,8 +1,0 @@
-use Rattle.std.proofs.Common.{rules}
-use Rattle.desk.proofs.kept.Kept.closed.Goals as goal
-
-pub returns-clause-parts : goal.returns-clause-parts
-returns-clause-parts g c = search rules
-
-pub returns-clause-count : goal.returns-clause-count
-returns-clause-count g c = search rules

@@ -1,0 +1,5 @@
+use Rattle.std.proofs.Common.{rules}
+use Rattle.desk.proofs.locked_hall.LockedHall.has_sleepers.Goals as goal
+
+pub returns : goal.returns
+returns g c = search rules

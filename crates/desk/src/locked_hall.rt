@@ -1,0 +1,456 @@
+//! What lies under the lock: the hall, and the book of the shares.
+ghost use Rattle.std.specs.Prelude.{◌≡◌, ◌≢◌, ◌+◌, ◌%◌, ◌^◌, ◌<◌, ◌≤◌, ◌==◌, ◌↔◌, not, [], true, false, length, Ok, Err, Some, None, Contains, IfErr, IfNone, IfOk, IfSome, IsNone, OnSome, Option, MatchResult, option_copied};
+ghost use Rattle.sched_rules.specs.declared.refusal.Refusal.TheVariants.{NoJob, OutOfMemory};
+ghost use Rattle.sched_rules.specs.declared.step.StepOf.TheVariants.{Admit, AdmitMore, Submit, Cancel, Leave};
+ghost use Rattle.sched_rules.specs.declared.step.DidOf.{DidOf};
+ghost use Rattle.hall.specs.jamboree_rules.declared.leaf.Leaf.{Leaf as LeafOf};
+ghost use Rattle.hall.specs.jamboree_rules.Places.{root_words, frame_size};
+ghost use Rattle.hall.specs.Journals.{is_worker_step};
+ghost use Rattle.hall.specs.Halls.{count_of};
+ghost use Rattle.sched_rules.specs.Headline.{is_admission};
+ghost use Rattle.sched_rules.specs.Views.{left_in_core, live_of, job_of};
+ghost use Rattle.hall.specs.jamboree_core.Replies.{IsSearch};
+ghost use Rattle.hall.specs.jamboree_core.declared.outcomes.Outcome.{Outcome as OutcomeOf};
+ghost use Rattle.hall.specs.jamboree_core.Outcomes.{IsOutcomeIn};
+ghost use Rattle.desk.specs.Seats.{admit_refusals, reserve_refusals, ask_refusals, cancel_refusals, stepped, seat_asked_at, IsAsked, Shows, IsShown, IsShownOf, IsToldBy};
+ghost use Rattle.desk.specs.Counts.{IsOffered, IsLeft, IsAsOpen, IsNext, with_kept, found_or_no_tenant, waits_on, has_news};
+
+use crate::backoff::Backoff;
+use crate::seat::{JOBS, Seat, SeatAsked};
+use crate::shares::{Badge, DeskLedger, PARTS};
+use arrayvec::ArrayVec;
+use frame_tree::FrameId;
+use hall::{Hall, Jamboree, Outcome, Refusal, Step, StepAnswer, StepOf, submit};
+use position_text::Position;
+use std::alloc::{Allocator, Global};
+use std::marker::Model;
+use std::sync::ledger::{Blank, Book, Share};
+use tenant_quota::{Left, Reserve};
+
+/// The most badges that one desk ever gives.
+const BADGES: u64 = 1 << 62;
+
+/// What lies under the desk's lock: the hall, and the ledger that counts the steps taken since the desk was made.
+#[derive(Drop)]
+pub(crate) struct LockedHall<L: DeskLedger, A: Allocator = Global> {
+    hall: Hall<A>,
+    /// Its total is the number of steps taken since the desk was made.
+    book: Book<L>,
+    /// The share that no seat and no badge has: parts that can be given, and the steps of seats that have left.
+    spare: Share<L>,
+    /// How many parts the spare share has.
+    parts: u64,
+    /// How many badges were given.
+    badges: u64,
+    /// How many steps the hall had taken before the desk was made.
+    before: u128,
+    /// Whether the desk is closed, so that nobody waits any more.
+    closed: bool,
+    /// How many workers sleep until a frame is ready.
+    sleepers: u32,
+}
+
+// Clauses see the hall, whether the desk is closed, how many workers sleep, and how many badges were given.
+impl<L: DeskLedger, A: Allocator> Model for LockedHall<L, A> {
+    ghost use Rattle.std.specs.Prelude.{◌≡◌, ◌+◌, ◌^◌, ◌≤◌};
+    ghost use Rattle.hall.specs.Halls.{count_of};
+    ghost use Rattle.desk.specs.Counts.{LockedHallOf};
+
+    ghost Value = { LockedHallOf };
+
+    ghost view = { λ k. record { hall = k.hall; closed = k.closed; sleepers = k.sleepers; badges = k.badges } };
+
+    ghost invariant = { λ k. (count_of k.hall ≡ k.before + k.book.total) × (k.hall.kept ≡ k.before + k.spare.amount) × (k.spare.parts ≡ k.parts)
+        × (L.all ≡ 13835058055282163712) × (k.parts ≤ 13835058055282163712) × (13835058055282163712 ≤ k.parts + k.badges + k.hall.shared.newest) × (k.badges ≤ 2 ^ 62) };
+}
+
+impl<L: DeskLedger, A: Allocator + Clone> LockedHall<L, A> {
+    /// A hall with a new ledger. The number of steps that it has taken so far is stored in the hall as its number
+    /// `kept` (`Hall::keep`).
+    pub(crate) fn new(hall: Hall<A>, blank: Blank) -> LockedHall<L, A>
+        requires name { blank.name ≡ L.name }
+        requires parts { (blank.parts ≡ L.parts) × (L.all ≡ L.parts) × (L.all ≡ PARTS) }
+        ensures hall { result.hall ≡ record hall { kept = count_of hall } }
+        ensures open { result.closed ≡ false }
+        ensures none { result.sleepers ≡ 0 }
+        ensures no_badges { result.badges ≡ 0 }
+    {
+        let (book, spare) = blank.open::<L>();
+        let mut hall = hall;
+        let before = hall.count();
+        hall.keep(before);
+        LockedHall {
+            hall,
+            book,
+            spare,
+            parts: PARTS,
+            badges: 0,
+            before,
+            closed: false,
+            sleepers: 0,
+        }
+    }
+
+    /// Offers a step to the hall. If the hall takes it, the share `mine` and the book count it.
+    fn take(&mut self, mine: &mut Share<L>, step: &Step<Jamboree>) -> StepAnswer
+        requires search { IsSearch step.now }
+        requires part { 0 < mine.old.parts }
+        ensures step { IsOffered self.old.hall step.now result self.new.hall }
+        ensures others { IsAsOpen self.old self.new }
+        ensures amount { MatchResult result (λ _. mine.new.amount ≡ mine.old.amount + 1) (λ _. mine.new.amount ≡ mine.old.amount) }
+        ensures parts { mine.new.parts ≡ mine.old.parts }
+        ensures bound { mine.new.amount ≤ 2 ^ 84 }
+        ensures memory { is_admission step.now ≡ false → result ≢ Err OutOfMemory }
+    {
+        let LockedHall { hall, book, .. } = self;
+        let answer = hall.offer(step);
+        if answer.is_ok() {
+            book.add(mine, 1);
+        }
+        book.audit(mine);
+        answer
+    }
+
+    /// Offers a step for a seat; the seat's share and its number of steps count it if the hall took it.
+    fn take_for(&mut self, seat: &mut Seat<L>, step: &Step<Jamboree>) -> StepAnswer
+        requires { IsSearch step.now }
+        ensures share { MatchResult result (λ _. seat.new ≡ stepped seat.old) (λ _. seat.new ≡ seat.old) }
+        ensures step { IsOffered self.old.hall step.now result self.new.hall }
+        ensures others { IsAsOpen self.old self.new }
+    {
+        let answer = self.take(&mut seat.mine, step);
+        if answer.is_ok() {
+            seat.steps += 1;
+        }
+        answer
+    }
+
+    /// Admits a tenant under the number after the greatest so far, and returns its seat. The seat's share, with one
+    /// part of the spare one, is 1: it counts the admission. The refusals are the hall's: `Full`, `OldTenant`,
+    /// `OutOfMemory`.
+    pub(crate) fn admit(&mut self, reserve: Reserve) -> Result<Seat<L>, Refusal>
+        ensures seat { IfOk result (λ seat. seat ≡ record { tenant = self.old.hall.shared.newest + 1; share = 1; asked = [] }) }
+        ensures step { MatchResult result
+            (λ _. (did : DidOf LeafOf) × IsOffered self.old.hall (Admit (self.old.hall.shared.newest + 1) reserve) (Ok did) self.new.hall)
+            (λ refusal. IsOffered self.old.hall (Admit (self.old.hall.shared.newest + 1) reserve) (Err refusal) self.new.hall) }
+        ensures refused { IfErr result (Contains admit_refusals) }
+        ensures others { IsAsOpen self.old self.new }
+    {
+        let LockedHall {
+            hall,
+            book,
+            spare,
+            parts,
+            ..
+        } = self;
+        let tenant = hall.next_tenant();
+        match hall.offer(&StepOf::Admit(tenant, reserve)) {
+            Ok(_) => {
+                let mut mine = spare.split_off(1, 0);
+                *parts -= 1;
+                book.add(&mut mine, 1);
+                Ok(Seat {
+                    tenant,
+                    mine,
+                    steps: 1,
+                    asked: ArrayVec::new(),
+                })
+            }
+            Err(refusal) => Err(refusal),
+        }
+    }
+
+    /// Raises the reservation of a seat's tenant to this one. The refusals are the hall's: `NoTenant`, `Lower`, `Full`,
+    /// `OutOfMemory`; then nothing changes.
+    pub(crate) fn reserve(&mut self, seat: &mut Seat<L>, reserve: Reserve) -> Result<(), Refusal>
+        ensures share { MatchResult result (λ _. seat.new ≡ stepped seat.old) (λ _. seat.new ≡ seat.old) }
+        ensures step { MatchResult result
+            (λ _. (did : DidOf LeafOf) × IsOffered self.old.hall (AdmitMore seat.old.tenant reserve) (Ok did) self.new.hall)
+            (λ refusal. IsOffered self.old.hall (AdmitMore seat.old.tenant reserve) (Err refusal) self.new.hall) }
+        ensures refused { IfErr result (Contains reserve_refusals) }
+        ensures others { IsAsOpen self.old self.new }
+    {
+        let step = StepOf::AdmitMore(seat.tenant, reserve);
+        self.take_for(seat, &step)?;
+        Ok(())
+    }
+
+    /// Submits the search of a position for a seat, adds it to the seat's list, and returns the job's number, the
+    /// list's new length. Where the list has 256 entries the hall isn't asked, and the refusal is `NoJobsLeft`. At any
+    /// refusal nothing changes.
+    pub(crate) fn ask(
+        &mut self,
+        seat: &mut Seat<L>,
+        position: &Position,
+        depth: u8,
+    ) -> Result<u64, Refusal>
+        requires { depth ≤ 12 }
+        ensures others { IsAsOpen self.old self.new }
+        ensures asked { IsAsked (record { board = position.now.board; depth = depth }) seat.old result seat.new }
+        ensures refused { IfErr result (Contains ask_refusals) }
+        ensures full { length seat.old.asked ≡ 256 → self.new ≡ self.old }
+        ensures step { MatchResult result
+            (λ _. (did : DidOf LeafOf) × IsOffered self.old.hall (Submit seat.old.tenant (root_words position.now.board.own position.now.board.opp depth) frame_size) (Ok did) self.new.hall)
+            (λ refusal. length seat.old.asked ≢ 256 → IsOffered self.old.hall (Submit seat.old.tenant (root_words position.now.board.own position.now.board.opp depth) frame_size) (Err refusal) self.new.hall) }
+    {
+        if seat.asked.len() == JOBS {
+            return Err(Refusal::NoJobsLeft);
+        }
+        let search = submit(seat.tenant, position, depth);
+        self.take_for(seat, &search)?;
+        seat.asked.push(SeatAsked {
+            board: position.board,
+            depth,
+        });
+        Ok(seat.asked.len() as u64)
+    }
+
+    /// Cancels a seat's job. Where the seat asked for no job of this number the hall isn't asked, and the refusal is
+    /// `NoJob`; the hall refuses with `NoJob` where the job has ended, and with `NoTenant`.
+    pub(crate) fn cancel(&mut self, seat: &mut Seat<L>, job: u64) -> Result<(), Refusal>
+        ensures share { MatchResult result (λ _. seat.new ≡ stepped seat.old) (λ _. seat.new ≡ seat.old) }
+        ensures none { seat_asked_at seat.old.asked job ≡ None → (result ≡ Err NoJob) × (self.new ≡ self.old) }
+        ensures step { MatchResult result
+            (λ _. (did : DidOf LeafOf) × IsOffered self.old.hall (Cancel seat.old.tenant job) (Ok did) self.new.hall)
+            (λ refusal. seat_asked_at seat.old.asked job ≢ None → IsOffered self.old.hall (Cancel seat.old.tenant job) (Err refusal) self.new.hall) }
+        ensures others { IsAsOpen self.old self.new }
+        ensures refused { IfErr result (Contains cancel_refusals) }
+    {
+        if seat_asked_at(seat.asked.as_slice(), job).is_none() {
+            return Err(Refusal::NoJob);
+        }
+        let step = StepOf::Cancel(seat.tenant, job);
+        self.take_for(seat, &step)?;
+        Ok(())
+    }
+
+    /// Offers a worker's step to the hall; the badge's share counts it if the hall took it.
+    pub(crate) fn offer(&mut self, badge: &mut Badge<L>, step: &Step<Jamboree>) -> StepAnswer
+        requires worker { is_worker_step step.now ≡ true }
+        requires few { badge.old + 1 < 2 ^ 64 }
+        ensures share { MatchResult result (λ _. badge.new ≡ badge.old + 1) (λ _. badge.new ≡ badge.old) }
+        ensures step { IsOffered self.old.hall step.now result self.new.hall }
+        ensures others { IsAsOpen self.old self.new }
+        ensures memory { result ≢ Err OutOfMemory }
+    {
+        let answer = self.take(&mut badge.mine, step);
+        if answer.is_ok() {
+            badge.steps += 1;
+        }
+        answer
+    }
+
+    /// How a seat's job stands, as `shown` tells it; `NoJob` where the seat asked for no job of this number.
+    pub(crate) fn get(&self, seat: &Seat<L>, job: u64) -> Result<Outcome, Refusal>
+        ensures shown { IsShown (seat_asked_at seat.now.asked job) result }
+        ensures told { (told : Option OutcomeOf) × IsOutcomeIn (job_of self.now.hall.shared seat.now.tenant job) told × IsToldBy (seat_asked_at seat.now.asked job) told result }
+    {
+        let told = self.hall.outcome(seat.tenant(), job);
+        match seat_asked_at(seat.asked(), job) {
+            Some(asked) => Ok(shown(asked, told)),
+            None => Err(Refusal::NoJob),
+        }
+    }
+
+    /// Whether a seat goes on waiting for this job: it is there and hasn't ended, and the desk isn't closed.
+    pub(crate) fn keeps_waiting(&self, tenant: u64, job: u64) -> bool
+        ensures { result ≡ waits_on self.now tenant job }
+    {
+        match self.hall.outcome(tenant, job) {
+            Some(Outcome::Pending) => !self.closed,
+            _ => false,
+        }
+    }
+
+    /// Whether a worker that waits may go on: the desk is closed, or some frame is ready.
+    pub(crate) fn has_news(&self) -> bool
+        ensures { result ≡ has_news self.now }
+    {
+        self.closed || self.hall.core().any_ready().is_some()
+    }
+
+    /// A frame that is ready, with its home; `None` where no frame is ready or the desk is closed. The frame isn't
+    /// taken: it stays ready until a worker's step takes it.
+    pub(crate) fn next_ready(&self) -> Option<(FrameId, u8)>
+        ensures { IsNext self.now result }
+    {
+        if self.closed {
+            None
+        } else {
+            self.hall.core().any_ready()
+        }
+    }
+
+    /// Counts one worker more that sleeps until a frame is ready, modulo 2^32.
+    pub(crate) fn begin_sleep(&mut self)
+        ensures { self.new ≡ record self.old { sleepers = (self.old.sleepers + 1) % 2 ^ 32 } }
+    {
+        self.sleepers = self.sleepers.wrapping_add(1);
+    }
+
+    /// Counts one worker fewer that sleeps, modulo 2^32.
+    pub(crate) fn end_sleep(&mut self)
+        ensures { self.new ≡ record self.old { sleepers = (self.old.sleepers + 4294967295) % 2 ^ 32 } }
+    {
+        self.sleepers = self.sleepers.wrapping_sub(1);
+    }
+
+    /// Whether some worker sleeps until a frame is ready.
+    pub(crate) fn has_sleepers(&self) -> bool
+        ensures { result ≡ not (self.now.sleepers == 0) }
+    {
+        self.sleepers > 0
+    }
+
+    /// Marks the desk as closed. To wake those who wait is the caller's part.
+    pub(crate) fn close(&mut self)
+        ensures { self.new ≡ record self.old { closed = true } }
+    {
+        self.closed = true;
+    }
+
+    /// How many steps the hall has taken since it was made, those before the desk included.
+    pub(crate) fn count(&self) -> u128
+        ensures { result ≡ count_of self.now.hall }
+    {
+        self.hall.count()
+    }
+
+    /// The segments, nodes and steps that a tenant has left; `NoTenant` where it isn't there.
+    pub(crate) fn quota(&self, tenant: u64) -> Result<Left, Refusal>
+        ensures { result ≡ found_or_no_tenant (left_in_core self.now.hall.shared tenant) }
+    {
+        self.hall.core().left(tenant).ok_or(Refusal::NoTenant)
+    }
+
+    /// How many frames a tenant has, and how many words these have together; `NoTenant` where it isn't there.
+    pub(crate) fn live(&self, tenant: u64) -> Result<(usize, usize), Refusal>
+        ensures { result ≡ found_or_no_tenant (live_of self.now.hall.shared tenant) }
+    {
+        self.hall.core().live(tenant).ok_or(Refusal::NoTenant)
+    }
+
+    /// A new badge with a share of 0, which has one part of the spare share. `None` only after 2^62 badges.
+    pub(crate) fn badge(&mut self) -> Option<Badge<L>>
+        ensures share { IfSome result (λ badge. badge ≡ 0) }
+        ensures given { OnSome result (self.new ≡ record self.old { badges = self.old.badges + 1 }) }
+        ensures none { IfNone result (self.old.badges ≡ 2 ^ 62) }
+        ensures same { IfNone result (self.new ≡ self.old) }
+    {
+        if self.badges == BADGES {
+            return None;
+        }
+        // This call tells the prover what `IsExplained` says of the tenants' numbers.
+        let _next = self.hall.next_tenant();
+        let mine = self.spare.split_off(1, 0);
+        self.parts -= 1;
+        self.badges += 1;
+        Some(Badge {
+            mine,
+            steps: 0,
+            parts: 1,
+            backoff: Backoff::new(),
+        })
+    }
+
+    /// A seat's tenant leaves: its jobs, frames and reservation are removed. The seat's steps, and this one where it
+    /// was taken, are added to the hall's number `kept`, and the seat's share to the spare one.
+    pub(crate) fn leave(&mut self, seat: Seat<L>)
+        requires { L.all ≡ L.parts }
+        ensures step { IsLeft self.old.hall seat self.new.hall }
+        ensures others { IsAsOpen self.old self.new }
+    {
+        let Seat {
+            tenant,
+            mut mine,
+            steps,
+            ..
+        } = seat;
+        match self.take(&mut mine, &StepOf::Leave(tenant)) {
+            Ok(_) => self.keep_share(mine, steps + 1),
+            Err(_) => self.keep_share(mine, steps),
+        }
+    }
+
+    /// Adds the share of a seat that has left to the spare one, and its number of steps to the hall's number `kept`.
+    fn keep_share(&mut self, mine: Share<L>, steps: u128)
+        requires all { L.all ≡ L.parts }
+        requires amount { mine.amount ≡ steps }
+        requires part { mine.parts ≡ 1 }
+        ensures { self.new ≡ with_kept steps self.old }
+    {
+        self.spare.merge(mine);
+        self.book.audit(&mut self.spare);
+        self.parts += 1;
+        // This call tells the prover what `IsExplained` says of the counts.
+        let _count = self.hall.count();
+        let kept = self.hall.kept();
+        self.hall.keep(kept + steps);
+    }
+
+    /// Takes the hall out, and gives the share that has all parts of the ledger where this badge has those that the
+    /// spare share hasn't. Then the hall's count of steps is its number `kept` plus the badge's share.
+    pub(crate) fn closed(self, badge: Badge<L>) -> (Hall<A>, Option<Share<L>>)
+        requires { L.all ≡ L.parts }
+        ensures same { result.0 ≡ self.hall }
+        ensures parts { IfSome result.1 (λ whole. whole.parts ≡ L.parts) }
+        ensures count { OnSome result.1 (count_of result.0 ≡ result.0.kept + badge) }
+    {
+        let LockedHall {
+            hall,
+            mut book,
+            mut spare,
+            parts,
+            ..
+        } = self;
+        let Badge {
+            mine,
+            parts: out,
+            ..
+        } = badge;
+        if PARTS - parts != out {
+            return (hall, None);
+        }
+        spare.merge(mine);
+        book.audit(&mut spare);
+        (hall, Some(spare))
+    }
+}
+
+/// What was asked as the job of this number, from 1 on. `None` where the number is 0 or above the length.
+fn seat_asked_at(asked: &[SeatAsked], job: u64) -> Option<&SeatAsked>
+    ensures { option_copied result ≡ seat_asked_at asked.now job }
+{
+    if job == 0 {
+        return None;
+    }
+    let at = job as usize - 1;
+    if at < asked.len() {
+        Some(&asked[at])
+    } else {
+        None
+    }
+}
+
+/// What a seat is told of a job by which it asked this, where `told` is the hall's outcome of it: that outcome, but
+/// `Pending` in place of a reply to another board or depth, and where the hall has no such job (`None`).
+fn shown(asked: &SeatAsked, told: Option<Outcome>) -> Outcome
+    ensures fits { Shows asked.now result }
+    ensures told { IsShownOf asked.now told result }
+{
+    match told {
+        Some(Outcome::Done(reply)) => {
+            let board = reply.board();
+            if board.own == asked.board.own
+                && board.opp == asked.board.opp
+                && reply.depth() == asked.depth
+            {
+                Outcome::Done(reply)
+            } else {
+                Outcome::Pending
+            }
+        }
+        Some(outcome) => outcome,
+        None => Outcome::Pending,
+    }
+}

@@ -1,0 +1,198 @@
+-- What stands up to an aborted frame stays.
+use Rattle.std.proofs.Common.{◌≡◌, ℕ, zero, suc, ◌+◌, ◌<◌, ◌≤◌, nat_lt, Bool, true, false, List, [], ◌∷◌, ◌++◌, Option, Some, None, length, length-set, take, drop, set, get_or, slice_index, refl, ap, sym, ◌∙◌, inl, inr, arith}
+use Rattle.std.proofs.lemmas.Bool.{cases_eq, cases_Bool, false≢true, eq-eqb, ne_eqb}
+use Rattle.std.specs.List.{filter}
+use Rattle.std.proofs.lemmas.List.{get_or-set_same}
+use Rattle.slab.specs.Slab.{Slab, get}
+use Rattle.frame_tree.specs.declared.slot.Slot.{Slot as TenantSlot}
+use Rattle.frame_tree.specs.declared.slot_store.StoredSlot.{StoredSlot}
+use Rattle.frame_tree.specs.Frames.{Frame, has_parent}
+use Rattle.frame_tree.specs.declared.ready.ReadyFrame.{ReadyFrame}
+use Rattle.frame_tree.specs.Readies.{ready_in}
+use Rattle.frame_tree.specs.Slots.{frame_of_slot, frames_from, is_kept, kept_slots, IsLinked, AreSoundSlots, Rises, serials_of}
+use Rattle.frame_tree.specs.Places.{has_number}
+use Rattle.frame_tree.specs.SlotStores.{with_found, slots_in, IsHere, AllHere, is_marked, marked_in, Marks, NoneMarked}
+use Rattle.frame_tree.proofs.Cuts.{FollowsBy, kept_follows}
+use Rattle.frame_tree.proofs.Changes.{below_bound, childless}
+use Rattle.frame_tree.proofs.Forest.{linked_rises}
+use Rattle.frame_tree.proofs.Search.{above_at, serial_read}
+use Rattle.frame_tree.proofs.Cutting.{NoParent}
+use Rattle.frame_tree.proofs.AbortChildless.{AllStay, all_stay, filter_all}
+use Rattle.frame_tree.proofs.Lengths.{length-take-le}
+use Rattle.frame_tree.proofs.Trees.{cut_linked, cut_length}
+use Rattle.frame_tree.proofs.Indexes.{serials_of-take}
+use Rattle.frame_tree.proofs.Readies.{ready_in-append, ready_in-take, few_ready_in}
+
+-- each serial is below this one
+abbrev pub AreBefore : {T : Type 0} → ℕ → List (TenantSlot T) → Type 0
+AreBefore n [] = Unit {0}
+AreBefore n (x ∷ xs) = (x.serial < n) × AreBefore n xs
+
+pub before_at : {T : Type 0} (xs : List (TenantSlot T)) (i n : ℕ) → Rises xs → i < length xs → slice_index (serials_of xs) i ≡ n → AreBefore n (take i xs)
+before_at [] i n rise lt at = absurd (omega arith)
+before_at (x ∷ xs) zero n rise lt at = tt
+before_at (x ∷ xs) (suc i) n rise lt at = (let h = above_at xs x.serial i rise.0 (omega arith) in omega (arith, h, at), before_at xs i n rise.1 (omega arith) at)
+
+no_parent_before : {T : Type 0} (n : ℕ) (frames : List (Frame T)) (xs : List (TenantSlot T)) → IsLinked frames xs → AreBefore n xs → NoParent n xs
+no_parent_before n frames [] l b = tt
+no_parent_before n frames (x ∷ xs) l b = (λ e. not_it n frames x.parent x.serial e l.0.parent b.0 (λ p has. below_bound frames x.serial p l.0.above has), no_parent_before n (frames ++ frame_of_slot frames x ∷ []) xs l.1 b.1)
+  where
+    not_it : {T : Type 0} (n : ℕ) (frames : List (Frame T)) (parent : Option ℕ) (serial : ℕ) → parent ≡ Some n → has_parent frames parent ≡ true → serial < n → ((p : ℕ) → has_parent frames (Some p) ≡ true → p < serial) → ⊥
+    not_it n frames parent serial e there lt below = let h = below n (rw e at there) in omega (arith, h, lt)
+
+linked-take : {T : Type 0} (frames : List (Frame T)) (xs : List (TenantSlot T)) (i : ℕ) → IsLinked frames xs → IsLinked frames (take i xs)
+linked-take frames [] zero l = tt
+linked-take frames [] (suc i) l = tt
+linked-take frames (x ∷ xs) zero l = tt
+linked-take frames (x ∷ xs) (suc i) l = (l.0, linked-take (frames ++ frame_of_slot frames x ∷ []) xs i l.1)
+
+follows-take : {T : Type 0} (keep : ℕ → Bool) (n : ℕ) (xs : List (TenantSlot T)) (i : ℕ) → FollowsBy keep n xs → FollowsBy keep n (take i xs)
+follows-take keep n [] zero f = tt
+follows-take keep n [] (suc i) f = tt
+follows-take keep n (x ∷ xs) zero f = tt
+follows-take keep n (x ∷ xs) (suc i) f = (f.0, follows-take keep n xs i f.1)
+
+-- the slots before the aborted one stay
+pub early_stay : {T : Type 0} (n : ℕ) (xs : List (TenantSlot T)) (i : ℕ) → IsLinked [] xs → i < length xs → slice_index (serials_of xs) i ≡ n → AllStay (is_kept n (frames_from [] xs)) (take i xs)
+early_stay n xs i l lt at =
+    let keep = is_kept n (frames_from [] xs) in
+    let linked = linked-take [] xs i l in
+    all_stay keep n [] (take i xs) (follows-take keep n xs i (kept_follows n (frames_from [] xs) [] xs refl l tt)) (no_parent_before n [] (take i xs) linked (before_at xs i n (linked_rises [] xs l) lt at)) linked (λ p has. absurd (false≢true has))
+
+all_here-take : {T : Type 0} (slab : Slab (StoredSlot T)) (before keys : List ℕ) (i : ℕ) → AllHere slab before keys → AllHere slab before (take i keys)
+all_here-take slab before [] zero h = tt
+all_here-take slab before [] (suc i) h = tt
+all_here-take slab before (k ∷ keys) zero h = tt
+all_here-take slab before (k ∷ keys) (suc i) h = (h.0, all_here-take slab (before ++ k ∷ []) keys i h.1)
+
+slots_in-take : {T : Type 0} (slab : Slab (StoredSlot T)) (before keys : List ℕ) (i : ℕ) → AllHere slab before keys → slots_in slab (take i keys) ≡ take i (slots_in slab keys)
+slots_in-take slab before [] zero h = refl
+slots_in-take slab before [] (suc i) h = refl
+slots_in-take slab before (k ∷ keys) zero h = refl
+slots_in-take slab before (k ∷ keys) (suc i) h = ap (with_found (get slab k)) (slots_in-take slab (before ++ k ∷ []) keys i h.1) ∙ found slab before (get slab k) i (slots_in slab keys) h.0
+  where
+    found : {T : Type 0} (slab : Slab (StoredSlot T)) (before : List ℕ) (o : Option (StoredSlot T)) (i : ℕ) (xs : List (TenantSlot T)) → IsHere slab before o → with_found o (take i xs) ≡ take (suc i) (with_found o xs)
+    found slab before None i xs h = absurd h
+    found slab before (Some x) i xs h = refl
+
+-- the keys of slots that stay are those of slots with no mark
+abbrev AreStaying : {T : Type 0} → (ℕ → Bool) → Slab (StoredSlot T) → List ℕ → Type 0
+AreStaying keep slab keys = (k : ℕ) (x : StoredSlot _) → has_number keys k ≡ true → get slab k ≡ Some x → (x.marked ≡ false) × (keep x.slot.serial ≡ true)
+
+staying : {T : Type 0} (keep : ℕ → Bool) (slab : Slab (StoredSlot T)) (before keys : List ℕ) → AllHere slab before keys → AllStay keep (slots_in slab keys) → AreStaying keep slab keys
+staying keep slab before [] h s k x has is = absurd (false≢true has)
+staying {T} keep slab before (j ∷ keys) h s k x has is =
+    elim (cases_eq j k) [
+      | inl same ↦ one keep slab before (get slab j) (slots_in slab keys) x (ap (get slab) same ∙ is) h.0 s
+      | inr differs ↦ staying keep slab (before ++ j ∷ []) keys h.1 (rest keep slab before (get slab j) (slots_in slab keys) h.0 s) k x (rw (ne_eqb j k differs) at has) is
+    ]
+  where
+    one : {T : Type 0} (keep : ℕ → Bool) (slab : Slab (StoredSlot T)) (before : List ℕ) (o : Option (StoredSlot T)) (xs : List (TenantSlot T)) (x : StoredSlot T) → o ≡ Some x → IsHere slab before o → AllStay keep (with_found o xs) → (x.marked ≡ false) × (keep x.slot.serial ≡ true)
+    one keep slab before o xs x e h s = (let a = rw e at h in a.0, let b = rw e at s in b.0)
+
+    rest : {T : Type 0} (keep : ℕ → Bool) (slab : Slab (StoredSlot T)) (before : List ℕ) (o : Option (StoredSlot T)) (xs : List (TenantSlot T)) → IsHere slab before o → AllStay keep (with_found o xs) → AllStay keep xs
+    rest keep slab before None xs h s = absurd h
+    rest keep slab before (Some x) xs h s = s.1
+
+early_staying : {T : Type 0} (n : ℕ) (slab : Slab (StoredSlot T)) (keys : List ℕ) (i : ℕ) → AllHere slab [] keys → IsLinked [] (slots_in slab keys) → i < length (slots_in slab keys) → slice_index (serials_of (slots_in slab keys)) i ≡ n → AreStaying (is_kept n (frames_from [] (slots_in slab keys))) slab (take i keys)
+early_staying n slab keys i h l lt at =
+    staying (is_kept n (frames_from [] (slots_in slab keys))) slab [] (take i keys) (all_here-take slab [] keys i h) (rw (slots_in-take slab [] keys i h) (early_stay n (slots_in slab keys) i l lt at))
+
+-- so marking may begin behind it
+pub marks_early : {T : Type 0} (n : ℕ) (slab : Slab (StoredSlot T)) (keys : List ℕ) (i : ℕ) → AllHere slab [] keys → IsLinked [] (slots_in slab keys) → i < length (slots_in slab keys) → slice_index (serials_of (slots_in slab keys)) i ≡ n → Marks n (slots_in slab keys) (take i keys) slab slab
+marks_early n slab keys i h l lt at k = by_slot n (slots_in slab keys) (take i keys) k (get slab k) (λ x has is. early_staying n slab keys i h l lt at k x has is)
+  where
+    by_slot : {T : Type 0} (n : ℕ) (slots : List (TenantSlot T)) (keys : List ℕ) (k : ℕ) (o : Option (StoredSlot T)) → ((x : StoredSlot T) → has_number keys k ≡ true → o ≡ Some x → (x.marked ≡ false) × (is_kept n (frames_from [] slots) x.slot.serial ≡ true)) → o ≡ marked_in n slots keys k o
+    by_slot n slots keys k None stays = refl
+    by_slot n slots keys k (Some x) stays =
+        elim (cases_Bool (has_number keys k)) [
+          | inl has ↦ (let s = stays x has refl in rw (has, s.1) (ap (λ b. Some (record x { marked = b })) s.0))
+          | inr none ↦ rw none refl
+        ]
+
+-- and so may the removal of the marked
+pub none_marked_early : {T : Type 0} (n : ℕ) (old marked : Slab (StoredSlot T)) (keys : List ℕ) (i : ℕ) → AllHere old [] keys → IsLinked [] (slots_in old keys) → i < length (slots_in old keys) → slice_index (serials_of (slots_in old keys)) i ≡ n → Marks n (slots_in old keys) keys old marked → NoneMarked marked (take i keys)
+none_marked_early n old marked keys i h l lt at m = none n (slots_in old keys) keys old marked (take i keys) m (early_staying n old keys i h l lt at) (λ k has. has)
+  where
+    none : {T : Type 0} (n : ℕ) (slots : List (TenantSlot T)) (all : List ℕ) (old marked : Slab (StoredSlot T)) (keys : List ℕ) → Marks n slots all old marked → ((k : ℕ) (x : StoredSlot T) → has_number keys k ≡ true → get old k ≡ Some x → (x.marked ≡ false) × (is_kept n (frames_from [] slots) x.slot.serial ≡ true)) → ((k : ℕ) → has_number keys k ≡ true → has_number keys k ≡ true) → NoneMarked marked keys
+    none n slots all old marked [] m stays up = tt
+    none n slots all old marked (k ∷ keys) m stays up =
+        (ap is_marked (m k) ∙ off n slots all k (get old k) (λ x is. stays k x (rw (eq-eqb k k refl) refl) is), none n slots all old marked keys m (λ j x has is. stays j x (tail_key k j keys has) is) (λ j has. has))
+      where
+        tail_key : (k j : ℕ) (keys : List ℕ) → has_number keys j ≡ true → has_number (k ∷ keys) j ≡ true
+        tail_key k j keys h = elim (cases_eq k j) [ inl same ↦ rw (eq-eqb k j same) refl | inr differs ↦ rw (ne_eqb k j differs) h ]
+
+        off : {T : Type 0} (n : ℕ) (slots : List (TenantSlot T)) (all : List ℕ) (k : ℕ) (o : Option (StoredSlot T)) → ((x : StoredSlot T) → o ≡ Some x → (x.marked ≡ false) × (is_kept n (frames_from [] slots) x.slot.serial ≡ true)) → is_marked (marked_in n slots all k o) ≡ false
+        off n slots all k None stays = refl
+        off n slots all k (Some x) stays =
+            let s = stays x refl in
+            elim (cases_Bool (has_number all k)) [ inl has ↦ rw (has, s.1) refl | inr absent ↦ rw absent s.0 ]
+
+-- the serial of a slot that was put in the place of one of its name
+pub childless_at : {T : Type 0} (xs : List (TenantSlot T)) (i n : ℕ) (slot : TenantSlot T) → i < length xs → slice_index (serials_of xs) i ≡ n → slot ≡ get_or xs i slot → slice_index (serials_of (set xs i (childless slot))) i ≡ n
+childless_at xs i n slot lt at is =
+    let within : i < length (set xs i (childless slot)) = rw (length-set xs i (childless slot)) lt in
+    serial_read (set xs i (childless slot)) i (childless slot) within (sym (get_or-set_same xs i (childless slot) (childless slot) lt)) ∙ (sym (serial_read xs i slot lt is) ∙ at)
+
+-- the ready frames after an abort: those below the aborted frame, and those among the slots from its place on
+pub record CutsReady {T : Type 0} (xs zs : List (TenantSlot T)) (i n places : ℕ) (frames : List ReadyFrame) : Type 0 where
+  pub within : i ≤ length zs
+  pub front : take i (serials_of zs) ≡ take i (serials_of xs)
+  pub room : length (filter (λ frame. nat_lt frame.serial n) frames) + length zs ≤ places + i
+  pub ready : filter (λ frame. nat_lt frame.serial n) frames ++ ready_in (drop i zs) ≡ ready_in zs
+
+pub cut_ready : {T : Type 0} (xs : List (TenantSlot T)) (count i n places : ℕ) (slot : TenantSlot T) (zs : List (TenantSlot T)) (frames : List ReadyFrame) → AreSoundSlots xs count → i < length xs → slice_index (serials_of xs) i ≡ n → slot ≡ get_or xs i slot → zs ≡ kept_slots n (set xs i (childless slot)) → frames ≡ ready_in xs → length xs ≤ places → CutsReady xs zs i n places frames
+cut_ready {T} xs count i n places slot zs frames s lt at is kept ready within =
+    let ys : List (TenantSlot T) = set xs i (childless slot) in
+    let long : length ys ≡ length xs = length-set xs i (childless slot) in
+    let stay = early_stay n ys i (cut_linked xs count i n slot s lt at is) (omega (arith, long, lt)) (childless_at xs i n slot lt at is) in
+    let keep : ℕ → Bool = is_kept n (frames_from [] ys) in
+    let rest : List (TenantSlot T) = filter (λ x. keep x.serial) (drop i ys) in
+    let parts : zs ≡ take i ys ++ rest = kept ∙ (filter_split keep i ys ∙ ap (λ ws. ws ++ rest) (filter_all keep (take i ys) stay)) in
+    let early : filter (λ frame. nat_lt frame.serial n) frames ≡ ready_in (take i ys) = rw (ready, ready_in-take xs i n (linked_rises [] xs s.linked) lt at) (ap ready_in (sym (take_set i xs (childless slot)))) in
+    let few = few_ready_in (take i ys) in
+    let fewer = cut_length n xs i slot zs kept in
+    record {
+      within = rw parts (front_long i ys rest (omega (arith, long, lt)));
+      front = sym (serials_of-take zs i) ∙ (ap serials_of (rw parts (take_front i ys rest (omega (arith, long, lt)) ∙ take_set i xs (childless slot))) ∙ serials_of-take xs i);
+      room = omega (arith, ap length early, few, length-take-le i ys, fewer, within);
+      ready = rw (early, parts, drop_front i ys rest (omega (arith, long, lt))) (sym (ready_in-append (take i ys) rest));
+    }
+  where
+    filter_split : {T : Type 0} (keep : ℕ → Bool) (i : ℕ) (xs : List (TenantSlot T)) → filter (λ x. keep x.serial) xs ≡ filter (λ x. keep x.serial) (take i xs) ++ filter (λ x. keep x.serial) (drop i xs)
+    filter_split keep zero [] = refl
+    filter_split keep (suc i) [] = refl
+    filter_split keep zero (x ∷ xs) = refl
+    filter_split keep (suc i) (x ∷ xs) =
+        elim (cases_Bool (keep x.serial)) [ inl stays ↦ rw stays (ap (λ ys. x ∷ ys) (filter_split keep i xs)) | inr goes ↦ rw goes (filter_split keep i xs) ]
+
+    take_set : {X : Type 0} (i : ℕ) (xs : List X) (y : X) → take i (set xs i y) ≡ take i xs
+    take_set zero [] y = refl
+    take_set (suc i) [] y = refl
+    take_set zero (x ∷ xs) y = refl
+    take_set (suc i) (x ∷ xs) y = ap (λ ys. x ∷ ys) (take_set i xs y)
+
+    front_long : {X : Type 0} (i : ℕ) (xs rest : List X) → i ≤ length xs → i ≤ length (take i xs ++ rest)
+    front_long zero xs rest le = omega arith
+    front_long (suc i) [] rest le = absurd (omega arith)
+    front_long (suc i) (x ∷ xs) rest le = let h = front_long i xs rest (omega arith) in omega (arith, h)
+
+    take_front : {X : Type 0} (i : ℕ) (xs rest : List X) → i ≤ length xs → take i (take i xs ++ rest) ≡ take i xs
+    take_front zero [] rest le = none rest
+      where
+        none : {X : Type 0} (rest : List X) → take 0 rest ≡ []
+        none [] = refl
+        none (x ∷ rest) = refl
+    take_front zero (x ∷ xs) rest le = none rest
+      where
+        none : {X : Type 0} (rest : List X) → take 0 rest ≡ []
+        none [] = refl
+        none (x ∷ rest) = refl
+    take_front (suc i) [] rest le = absurd (omega arith)
+    take_front (suc i) (x ∷ xs) rest le = ap (λ ys. x ∷ ys) (take_front i xs rest (omega arith))
+
+    drop_front : {X : Type 0} (i : ℕ) (xs rest : List X) → i ≤ length xs → drop i (take i xs ++ rest) ≡ rest
+    drop_front zero [] rest le = refl
+    drop_front zero (x ∷ xs) rest le = refl
+    drop_front (suc i) [] rest le = absurd (omega arith)
+    drop_front (suc i) (x ∷ xs) rest le = drop_front i xs rest (omega arith)

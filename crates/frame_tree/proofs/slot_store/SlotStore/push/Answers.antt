@@ -1,0 +1,40 @@
+use Rattle.std.proofs.Common.{[], refl, arith}
+use Rattle.frame_tree.specs.declared.names.State.TheVariants.{Ready}
+use Rattle.frame_tree.specs.SlotStores.{IsSlotStore}
+use Rattle.frame_tree.proofs.SlotStores.{slots_in-length, push_store, push_slots}
+use Rattle.frame_tree.proofs.slot_store.SlotStore.push.Goals as goal
+
+pub insert_reserved-key-requires : goal.insert_reserved-key-requires
+insert_reserved-key-requires g c =
+    let less = rw (← c.self.view_is) at c.requires.room in
+    let long = slots_in-length c.self.inside.slab [] c.self.inside.order.list c.self.invariant.here in
+    omega (arith, less, long, c.adopt-root.ensures.keys.counted, c.self.invariant.slab_room, c.adopt-root.ensures.capacity)
+
+pub push-requires : goal.push-requires
+push-requires g c =
+    let less = rw (← c.self.view_is) at c.requires.room in
+    let long = slots_in-length c.self.inside.slab [] c.self.inside.order.list c.self.invariant.here in
+    omega (arith, less, long, c.self.invariant.order_room)
+
+pub invariant_of-self : goal.invariant_of-self
+invariant_of-self g c =
+    let slab = c.adopt-root.new.slab in
+    let order = c.self.inside.order.list in
+    let less = rw (← c.self.view_is, slots_in-length c.self.inside.slab [] order c.self.invariant.here) at c.requires.room in
+    let keys = c.adopt-root.ensures.keys in
+    let store : IsSlotStore slab order c.self.inside.order.places c.self.inside.places = record {
+      here = keys.here;
+      apart = keys.apart;
+      counted = keys.counted;
+      within = c.self.invariant.within;
+      slab_room = omega (arith, c.self.invariant.slab_room, c.adopt-root.ensures.capacity);
+      order_room = c.self.invariant.order_room;
+    } in
+    rw c.push.ensures (push_store slab c.insert_reserved-key.new.self order _ _ c.insert_reserved-key.result (record { serial = c.args.serial; parent = c.args.parent; root = c.adopt-root.result.0; state = Ready c.args.home; children = 0; value = c.args.value }) c.adopt-root.result.1 store less c.adopt-root.ensures.above c.insert_reserved-key.ensures.was_vacant c.insert_reserved-key.ensures.updates c.insert_reserved-key.ensures.len c.insert_reserved-key.ensures.capacity)
+
+pub returns : goal.returns
+returns g c =
+    let slab = c.adopt-root.new.slab in
+    let order = c.self.inside.order.list in
+    let slots = push_slots slab c.insert_reserved-key.new.self order c.insert_reserved-key.result _ c.adopt-root.ensures.keys.here c.insert_reserved-key.ensures.was_vacant c.insert_reserved-key.ensures.updates in
+    rw (← c.self.view_is, c.push.ensures, slots, c.adopt-root.ensures.slots, c.adopt-root.ensures.root) refl

@@ -1,0 +1,11 @@
+use Rattle.std.proofs.Common.{◌≡◌, take}
+use Rattle.slab.specs.Slab.{slab_len}
+use Rattle.frame_tree.specs.SlotStores.{slots_in}
+use Rattle.frame_tree.specs.SlotStores.{Marks}
+use Rattle.frame_tree.proofs.slot_store.mark_under.Given as goal
+
+abbrev pub invariant-loop-at : goal.invariant-loop-at
+invariant-loop-at g l =
+    Marks l.under (slots_in l.initial.slab l.order) (take l.at l.order) l.initial.slab l.slab
+    × (slab_len l.slab ≡ slab_len l.initial.slab)
+    × (l.slab.capacity ≡ l.initial.slab.capacity)

@@ -1,0 +1,149 @@
+-- A step that is taken: what it comes to, and one change of its tenant after another.
+use Rattle.std.proofs.Common.{◌≡◌, ℕ, ◌==◌, Bool, true, false, List, [], ◌∷◌, Option, Some, None, Result, Ok, Err, inl, inr, refl, sym, ◌∙◌, ap, arith}
+use Rattle.std.specs.Prelude.{MatchResult, OnOk, OnErr}
+use Rattle.std.proofs.lemmas.Bool.Decides.{nat_tests}
+use Rattle.frame_tree.specs.declared.names.FrameId.{FrameId}
+use Rattle.frame_tree.specs.declared.names.State.{State}
+use Rattle.frame_tree.specs.declared.names.State.TheVariants.{Running}
+use Rattle.frame_tree.specs.Frames.{Frame, frame_at}
+use Rattle.sched_rules.specs.declared.refusal.Refusal.{Refusal}
+use Rattle.sched_rules.specs.declared.refusal.Refusal.TheVariants.{NoTenant, OutOfMemory}
+use Rattle.sched_rules.specs.declared.step.StepOf.{StepOf}
+use Rattle.sched_rules.specs.declared.step.StepOf.TheVariants.{Take, Steal}
+use Rattle.sched_rules.specs.declared.step.DidOf.{DidOf}
+use Rattle.sched_rules.specs.Functions.{Functions}
+use Rattle.sched_rules.specs.Trees.{Tenant, left}
+use Rattle.sched_rules.specs.Lone.{Outcome, unless, lone, refusal_in, at_frame, take_tests, steal_tests, taken_by, in_state, counted}
+use Rattle.sched_rules.specs.Changes.{on_tenant, with_change}
+use Rattle.sched_rules.specs.Cores.{CoreState, tenant_in, with_tenant, unless_busy, step_result, shared_refusal, shared_with}
+use Rattle.sched_store.specs.Reads.{TenantHasStepLeft}
+use Rattle.sched_core.specs.StepResults.{FollowsResult, IsAdmitted}
+use Rattle.sched_core.proofs.Changing.{with_change-there}
+use Rattle.sched_core.proofs.Deciding.{some-is}
+
+-- a step that is refused, as it is judged
+pub step_result-refused : {I A : Type 0} (functions : Functions I A) (before : CoreState) (step : StepOf A) (answer : Result (DidOf I) Refusal) (after : CoreState) (told refusal : Refusal) →
+    answer ≡ Err told → told ≡ refusal → Some refusal ≡ shared_refusal functions before step → after ≡ before → FollowsResult functions before step answer after
+step_result-refused functions before step answer after told refusal is same right stays = refused (step_result functions before step) refl
+  where
+    refused : (judgement : Result (Outcome _) Refusal) → step_result functions before step ≡ judgement → FollowsResult functions before step answer after
+    refused (Ok outcome) at = absurd (let no : Some refusal ≡ None = rw at at right in cc)
+    refused (Err other) at = let own : Some refusal ≡ Some other = rw at at right in record { told = rw at cc; left = rw at stays }
+
+-- and one that is taken
+pub step_result-taken : {I A : Type 0} (functions : Functions I A) (before : CoreState) (step : StepOf A) (outcome : Outcome I) (answer : Result (DidOf I) Refusal) (after : CoreState) →
+    step_result functions before step ≡ Ok outcome → answer ≡ Ok outcome.1 → after ≡ shared_with before step outcome.0 → FollowsResult functions before step answer after
+step_result-taken functions before step outcome answer after at is stays = record { told = rw at is; left = rw at stays }
+
+-- an admission that isn't refused, as its memory was there or not
+pub step_result-admission : {I A M E Done : Type 0} (functions : Functions I A) (before after : CoreState) (step : StepOf A) (did : DidOf I) (answer : Result (DidOf I) Refusal) (taken : Result M E) →
+    None ≡ shared_refusal functions before step → MatchResult taken (λ _. answer ≡ Ok did) (λ _. answer ≡ Err OutOfMemory) → OnOk taken Done → OnErr taken (after ≡ before) →
+    (Done → FollowsResult functions before step (Ok did) after) → IsAdmitted functions before step answer after
+step_result-admission functions before after step did answer (Ok memory) none told done stays step_result = inl (rw told (step_result done))
+step_result-admission functions before after step did answer (Err refused) none told done stays step_result = inr (sym none, told, stays)
+
+-- no test of a list applies
+abbrev pub AllPass : List (Bool × Refusal) → Type 0
+AllPass [] = Unit {0}
+AllPass (test ∷ tests) = (test.0 ≡ false) × AllPass tests
+
+pub all-pass : {I : Type 0} (busy : Bool) (tests : List (Bool × Refusal)) (effect : Outcome I) → refusal_in (unless_busy busy (unless tests effect)) ≡ None →
+    (unless_busy busy (unless tests effect) ≡ Ok effect) × AllPass tests
+all-pass true [] effect none = absurd cc
+all-pass false [] effect none = (refl, tt)
+all-pass busy ((true, refusal) ∷ tests) effect none = absurd cc
+all-pass busy ((false, refusal) ∷ tests) effect none = let rest = all-pass busy tests effect none in (rest.0, (refl, rest.1))
+
+-- a step that names a frame and is taken: the frame is there, no test applies, and this comes of it
+pub record IsGoing {I A : Type 0} (functions : Functions I A) (shared : CoreState) (step : StepOf A) (name : FrameId) (tests : Tenant → Frame (List ℕ) → List (Bool × Refusal)) (effect : Tenant → Frame (List ℕ) → Outcome I) : Type 0 where
+  pub tenant : Tenant
+  pub frame : Frame (List ℕ)
+  pub owner : tenant_in shared.tenants name.tenant ≡ Some tenant
+  pub found : frame_at tenant.frames name.serial ≡ Some frame
+  pub passes : AllPass (tests tenant frame)
+  pub among : step_result functions shared step ≡ Ok (effect tenant frame)
+
+pub going : {I A : Type 0} (functions : Functions I A) (shared : CoreState) (step : StepOf A) (name : FrameId) (busy : Bool) (tests : Tenant → Frame (List ℕ) → List (Bool × Refusal)) (effect : Tenant → Frame (List ℕ) → Outcome I) →
+    step_result functions shared step ≡ unless_busy busy (lone functions (tenant_in shared.tenants name.tenant) step) →
+    lone functions None step ≡ Err NoTenant →
+    ((tenant : Tenant) → lone functions (Some tenant) step ≡ at_frame (frame_at tenant.frames name.serial) (λ frame. unless (tests tenant frame) (effect tenant frame))) →
+    None ≡ shared_refusal functions shared step → IsGoing functions shared step name tests effect
+going {I = I} {A = A} functions shared step name busy tests effect at nobody somebody none = by-owner (tenant_in shared.tenants name.tenant) refl
+  where
+    by-frame : (tenant : Tenant) → tenant_in shared.tenants name.tenant ≡ Some tenant → (found : Option (Frame (List ℕ))) → frame_at tenant.frames name.serial ≡ found → IsGoing functions shared step name tests effect
+    by-frame tenant owner None lost = absurd (let no : None ≡ refusal_in (unless_busy busy (lone functions (Some tenant) step)) = rw (at, owner) at none in let no' = rw (somebody tenant, lost) at no in cc)
+    by-frame tenant owner (Some frame) found =
+        let is : step_result functions shared step ≡ unless_busy busy (unless (tests tenant frame) (effect tenant frame)) = at ∙ rw (owner, somebody tenant, found) refl in
+        let passed = all-pass busy (tests tenant frame) (effect tenant frame) (sym (rw is at none)) in
+        record { tenant = tenant; frame = frame; owner = owner; found = found; passes = passed.1; among = is ∙ passed.0 }
+
+    by-owner : (owner : Option Tenant) → tenant_in shared.tenants name.tenant ≡ owner → IsGoing functions shared step name tests effect
+    by-owner None lost = absurd (let no : None ≡ refusal_in (unless_busy busy (lone functions None step)) = rw (at, lost) at none in let no' = rw nobody at no in cc)
+    by-owner (Some tenant) owner = by-frame tenant owner (frame_at tenant.frames name.serial) refl
+
+-- a core in which one tenant came to this, and nothing else changed
+pub record IsWith (before : CoreState) (number : ℕ) (tenant : Tenant) (now : CoreState) : Type 0 where
+  pub is : now ≡ record before { tenants = with_tenant number tenant before.tenants }
+  pub there : tenant_in now.tenants number ≡ Some tenant
+
+tenant_in-with_tenant : (n : ℕ) (t : Tenant) (es : List (ℕ × Tenant)) → tenant_in (with_tenant n t es) n ≡ Some t
+tenant_in-with_tenant n t [] = grind (arith, nat_tests)
+tenant_in-with_tenant n t (e ∷ es) = grind (arith, nat_tests, tenant_in-with_tenant n t es)
+
+with_tenant-same : (n : ℕ) (t : Tenant) (es : List (ℕ × Tenant)) → tenant_in es n ≡ Some t → with_tenant n t es ≡ es
+with_tenant-same n t [] is = absurd cc
+with_tenant-same n t (e ∷ es) is =
+    elim (e.0 == n) as (λ b. (e.0 == n) ≡ b → with_tenant n t (e ∷ es) ≡ e ∷ es) [
+      | true ↦ λ same. (let own : e.1 ≡ t = some-is e.1 t (rw same at is) in let at : e.0 ≡ n = grind (arith, nat_tests, same) in rw same (rw (← at, ← own) refl))
+      | false ↦ λ other. rw other (ap (λ rest. e ∷ rest) (with_tenant-same n t es (rw other at is)))
+    ] refl
+
+pub with_tenant-twice : (n : ℕ) (s t : Tenant) (es : List (ℕ × Tenant)) → with_tenant n t (with_tenant n s es) ≡ with_tenant n t es
+with_tenant-twice n s t [] = grind (arith, nat_tests)
+with_tenant-twice n s t (e ∷ es) =
+    elim (e.0 == n) as (λ b. (e.0 == n) ≡ b → with_tenant n t (with_tenant n s (e ∷ es)) ≡ with_tenant n t (e ∷ es)) [
+      | true ↦ λ same. rw same (grind (arith, nat_tests))
+      | false ↦ λ other. rw other (rw other (ap (λ rest. e ∷ rest) (with_tenant-twice n s t es)))
+    ] refl
+
+-- a tenant that is there
+pub begins : (shared : CoreState) (number : ℕ) (tenant : Tenant) → tenant_in shared.tenants number ≡ Some tenant → IsWith shared number tenant shared
+begins shared number tenant owner = record { is = rw (with_tenant-same number tenant shared.tenants owner) refl; there = owner }
+
+-- and one more change
+pub then-changed : (before : CoreState) (number : ℕ) (tenant : Tenant) (now next : CoreState) (change : Tenant → Tenant) → IsWith before number tenant now → next ≡ on_tenant number change now → IsWith before number (change tenant) next
+then-changed before number tenant now next change is at =
+    let there : with_change number change now.tenants ≡ with_tenant number (change tenant) now.tenants = with_change-there number change now.tenants tenant is.there in
+    let tenants : with_tenant number (change tenant) now.tenants ≡ with_tenant number (change tenant) before.tenants = rw is.is (with_tenant-twice number tenant (change tenant) before.tenants) in
+    record {
+      is = at ∙ rw (there, tenants, is.is) refl;
+      there = rw (at, there) (tenant_in-with_tenant number (change tenant) now.tenants);
+    }
+
+-- and a worker that runs its frame, which is counted
+pub then-run : (before : CoreState) (number serial worker : ℕ) (tenant : Tenant) (now next : CoreState) → IsWith before number tenant now → next ≡ on_tenant number counted (on_tenant number (in_state serial (Running worker)) now) →
+    IsWith before number (counted (in_state serial (Running worker) tenant)) next
+then-run before number serial worker tenant now next is ran = then-changed _ _ _ _ next counted (then-changed _ _ _ now _ (in_state serial (Running worker)) is refl) ran
+
+-- a step is left to it
+pub step-left : (before : CoreState) (number : ℕ) (tenant : Tenant) (now : CoreState) → IsWith before number tenant now → ((left tenant).steps == 0) ≡ false → TenantHasStepLeft now number
+step-left before number tenant now is some = rw is.there (grind (arith, nat_tests, some))
+
+-- and still is where a frame of it has another state
+pub left-still : (shared : CoreState) (number serial : ℕ) (state : State) (next : CoreState) → TenantHasStepLeft shared number → next ≡ on_tenant number (in_state serial state) shared → TenantHasStepLeft next number
+left-still shared number serial state next left is = by-owner (tenant_in shared.tenants number) refl
+  where
+    by-owner : (owner : Option Tenant) → tenant_in shared.tenants number ≡ owner → TenantHasStepLeft next number
+    by-owner None lost = absurd (rw lost at left)
+    by-owner (Some tenant) owner =
+        let w = then-changed _ _ _ shared next (in_state serial state) (begins shared number tenant owner) is in
+        rw w.there (rw owner at left)
+
+-- Take and Steal
+pub take-going : {I A : Type 0} (functions : Functions I A) (shared : CoreState) (worker : ℕ) (name : FrameId) → None ≡ shared_refusal functions shared (Take worker name) →
+    IsGoing functions shared (Take worker name) name (λ tenant. take_tests tenant worker) (λ tenant. taken_by tenant worker)
+take-going functions shared worker name none = going functions shared (Take worker name) name _ (λ tenant. take_tests tenant worker) (λ tenant. taken_by tenant worker) refl refl (λ tenant. refl) none
+
+pub steal-going : {I A : Type 0} (functions : Functions I A) (shared : CoreState) (worker from : ℕ) (name : FrameId) → None ≡ shared_refusal functions shared (Steal worker from name) →
+    IsGoing functions shared (Steal worker from name) name (λ tenant. steal_tests tenant worker from) (λ tenant. taken_by tenant worker)
+steal-going functions shared worker from name none = going functions shared (Steal worker from name) name _ (λ tenant. steal_tests tenant worker from) (λ tenant. taken_by tenant worker) refl refl (λ tenant. refl) none

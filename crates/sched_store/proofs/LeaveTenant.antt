@@ -1,0 +1,204 @@
+-- A tenant leaves: its frames go with their nodes, its places, its jobs and its account, and nothing of any other tenant.
+use Rattle.std.proofs.Common.{◌≡◌, ◌≢◌, ℕ, ◌+◌, ◌<◌, ◌≤◌, inl, inr, Bool, true, false, eqb, List, [], ◌∷◌, length, Some, refl, ap, sym, ◌∙◌, subst, arith}
+use Rattle.std.specs.List.{filter}
+use Rattle.std.proofs.lemmas.Bool.{cases_Bool, cases_eq, ne_eqb, eqb-true, eqb-false}
+use Rattle.cactus_stack.specs.Nodes.{Nodes, without, total_charge}
+use Rattle.tenant_quota.specs.Accounts.{owner_of_account, account_of, without as without_account, AllEntries, IsRising, IsWithinReserve, charged_segments}
+use Rattle.tenant_quota.specs.Reservations.{Reservations, IsSoundBook, Releases, KeepsOtherAccounts}
+use Rattle.tenant_quota.specs.declared.account.Account.{Account}
+use Rattle.tenant_quota.proofs.Edits.{AllEntries-of}
+use Rattle.frame_tree.specs.Frames.{Frame, values_of, AllBelow, IsTree, TenantTree}
+use Rattle.frame_table.specs.Tables.{frames_of, places_of, tenant_count}
+use Rattle.sched_rules.specs.Trees.{Tenant, charged_for}
+use Rattle.sched_rules.specs.Cores.{CoreState, without_tenant}
+use Rattle.sched_store.specs.Changes.{with_departed}
+use Rattle.number_index.proofs.Edits.{said-without_other, all-without}
+use Rattle.sched_store.specs.Ledgers.{JobLedger, owner_of_ledger, jobs_of, numbers_of, without_ledger}
+use Rattle.sched_store.specs.Parts.{Parts, with_words_of_nodes, tenant_from, tenants_from, shared_of}
+use Rattle.sched_store.specs.Stored.{IsStored, IsAccountFor, numbers_in, AreAtMost}
+use Rattle.sched_store.proofs.Cut.{IsCut, closed, closing, cut-belongs, cut-sized, cut-places, cut-words, cut-trees}
+use Rattle.sched_store.proofs.Closing.{TakesChildren, closing-open, closing-once, closing-children, cut-frees}
+use Rattle.sched_store.proofs.Removing.{length-without}
+use Rattle.sched_store.proofs.Aborting.{AreClosable}
+
+-- no frame stays
+abbrev pub none_stays : Frame ℕ → Bool
+none_stays frame = false
+
+filter-none : (xs : List (Frame ℕ)) → filter none_stays xs ≡ []
+filter-none [] = refl
+filter-none (x ∷ xs) = filter-none xs
+
+closed-whole : (xs : List (Frame ℕ)) → closed none_stays xs ≡ values_of xs
+closed-whole [] = refl
+closed-whole (x ∷ xs) = ap (λ (ns : List ℕ). x.value ∷ ns) (closed-whole xs)
+
+-- a tenant that is there has a place at least
+pub has-places : (parts : Parts) → IsStored parts → (number : ℕ) (account : Account) → account_of number parts.book.accounts ≡ Some account → 0 < places_of parts.trees number
+has-places parts stored number account there =
+    let within : IsWithinReserve account = AllEntries-of (λ (e : ℕ × Account). IsWithinReserve e.1) number account parts.book.accounts there (IsSoundBook.within stored.book) in
+    let some = within.some_segments in
+    let places = IsAccountFor.places (stored.accounts number account there) in
+    omega (arith, some, places)
+
+-- the nodes of all frames of a tenant: open, once, with their children
+pub leave-closes : (parts : Parts) (number : ℕ) (numbers : List ℕ) → IsStored parts → numbers ≡ values_of (frames_of parts.trees number) → AreClosable parts.nodes numbers
+leave-closes parts number numbers stored is =
+    let tree = stored.forest number in
+    let same : closing parts.trees number none_stays ≡ numbers = closed-whole (frames_of parts.trees number) ∙ sym is in
+    let takes : TakesChildren (frames_of parts.trees number) none_stays = λ serial parent frame above at up at_above out. refl in
+    subst (AreClosable parts.nodes) same (record {
+      are_open = closing-open parts.nodes parts.trees number none_stays stored.frames_nodes tree;
+      once = closing-once parts.nodes parts.trees number none_stays stored.frames_nodes tree;
+      with_children = closing-children parts.nodes parts.trees number none_stays stored.frames_nodes tree takes;
+    })
+
+-- what a departure was told by the table, the stack, the ledgers and the book
+pub record IsDeparture (parts : Parts) (nodes : Nodes) (trees : List (TenantTree ℕ)) (ledgers : List JobLedger) (book : Reservations) (number : ℕ) (numbers : List ℕ) (account : Account) : Type 0 where
+  pub there : account_of number parts.book.accounts ≡ Some account
+  pub values : numbers ≡ values_of (frames_of parts.trees number)
+  pub closed_all : nodes ≡ without parts.nodes numbers
+  pub frames : frames_of trees number ≡ []
+  pub places : places_of trees number ≡ 0
+  pub other_frames : (other : ℕ) → other ≢ number → frames_of trees other ≡ frames_of parts.trees other
+  pub other_places : (other : ℕ) → other ≢ number → places_of trees other ≡ places_of parts.trees other
+  pub count : tenant_count trees + 1 ≡ tenant_count parts.trees
+  pub jobs : ledgers ≡ without_ledger number parts.ledgers
+  pub released : Releases parts.book book number account
+  pub others : KeepsOtherAccounts parts.book book number
+  pub sound : IsSoundBook book
+
+-- the parts after it
+abbrev pub departed : Parts → Nodes → List (TenantTree ℕ) → List JobLedger → Reservations → Parts
+departed parts nodes trees ledgers book = record parts { nodes = nodes; trees = trees; ledgers = ledgers; book = book }
+
+numbers-without : (number : ℕ) (ledgers : List JobLedger) (entries : List (ℕ × Account)) → numbers_of ledgers ≡ numbers_in entries → numbers_of (without_ledger number ledgers) ≡ numbers_in (without_account number entries)
+numbers-without number [] [] same = refl
+numbers-without number [] (entry ∷ entries) same = absurd cc
+numbers-without number (ledger ∷ ledgers) [] same = absurd cc
+numbers-without number (ledger ∷ ledgers) (entry ∷ entries) same =
+    let first : ledger.0 ≡ entry.0 = cc in
+    let rest : numbers_of ledgers ≡ numbers_in entries = cc in
+    elim (cases_Bool (eqb entry.0 number)) [
+      | inl is ↦ (let this : eqb ledger.0 number ≡ true = ap (λ (n : ℕ). eqb n number) first ∙ is in rw (is, this) rest)
+      | inr other ↦ (let this : eqb ledger.0 number ≡ false = ap (λ (n : ℕ). eqb n number) first ∙ other in rw (other, this) (let more = numbers-without number ledgers entries rest in cc))
+    ]
+
+most-without : (most number : ℕ) (entries : List (ℕ × Account)) → AreAtMost most entries → AreAtMost most (without_account number entries)
+most-without most number entries all = all-without (λ (e : ℕ × Account). e.0 ≤ most) owner_of_account number entries all
+
+jobs-without : (number other : ℕ) (ledgers : List JobLedger) → other ≢ number → jobs_of (without_ledger number ledgers) other ≡ jobs_of ledgers other
+jobs-without number other ledgers differs = said-without_other owner_of_ledger (λ (l : JobLedger). l.1) [] other number ledgers (λ e. differs (sym e))
+
+-- the cut that takes all frames
+leave-cut : (parts : Parts) (nodes : Nodes) (trees : List (TenantTree ℕ)) (ledgers : List JobLedger) (book : Reservations) (number : ℕ) (numbers : List ℕ) (account : Account) → IsStored parts →
+    IsDeparture parts nodes trees ledgers book number numbers account → IsCut parts.trees trees number none_stays
+leave-cut parts nodes trees ledgers book number numbers account stored is = record {
+  tree = stored.forest;
+  tree_after = subst (λ (xs : List (Frame ℕ)). IsTree xs) (sym is.frames) tt;
+  cut = is.frames ∙ sym (filter-none (frames_of parts.trees number));
+  others = is.other_frames;
+}
+
+closed-same : (parts : Parts) (nodes : Nodes) (number : ℕ) (numbers : List ℕ) → numbers ≡ values_of (frames_of parts.trees number) → nodes ≡ without parts.nodes numbers → without parts.nodes (closing parts.trees number none_stays) ≡ nodes
+closed-same parts nodes number numbers values closed_all = ap (without parts.nodes) (closed-whole (frames_of parts.trees number) ∙ sym values) ∙ sym closed_all
+
+-- another tenant's words
+leave-words : (parts : Parts) (nodes : Nodes) (trees : List (TenantTree ℕ)) (ledgers : List JobLedger) (book : Reservations) (number : ℕ) (numbers : List ℕ) (account : Account) → IsStored parts →
+    IsDeparture parts nodes trees ledgers book number numbers account → (other : ℕ) → other ≢ number → with_words_of_nodes nodes (frames_of trees other) ≡ with_words_of_nodes parts.nodes (frames_of parts.trees other)
+leave-words parts nodes trees ledgers book number numbers account stored is other differs =
+    let cut = leave-cut parts nodes trees ledgers book number numbers account stored is in
+    let same = closed-same parts nodes number numbers is.values is.closed_all in
+    ap (λ (n : Nodes). with_words_of_nodes n (frames_of trees other)) (sym same)
+    ∙ cut-words parts.nodes parts.trees trees number none_stays stored.frames_nodes cut other (cut-trees parts.trees trees number none_stays cut other)
+    ∙ ap (with_words_of_nodes parts.nodes) (is.other_frames other differs)
+
+leave-charges : (parts : Parts) (nodes : Nodes) (trees : List (TenantTree ℕ)) (ledgers : List JobLedger) (book : Reservations) (number : ℕ) (numbers : List ℕ) (account : Account) → IsStored parts →
+    IsDeparture parts nodes trees ledgers book number numbers account → total_charge nodes ≡ charged_segments book.accounts
+leave-charges parts nodes trees ledgers book number numbers account stored is =
+    let frees = cut-frees parts.nodes parts.trees number none_stays stored.frames_nodes (stored.forest number) in
+    let none : charged_for (with_words_of_nodes parts.nodes (filter none_stays (frames_of parts.trees number))) ≡ 0 = ap (λ (xs : List (Frame ℕ)). charged_for (with_words_of_nodes parts.nodes xs)) (filter-none (frames_of parts.trees number)) in
+    let same = ap total_charge (closed-same parts nodes number numbers is.values is.closed_all) in
+    let charged = IsAccountFor.charged (stored.accounts number account is.there) in
+    let whole = stored.charges in
+    let back = is.released.charged in
+    omega (arith, frees, none, same, charged, whole, back)
+
+-- what a store keeps true is true after it
+pub leave-stored : (parts : Parts) (nodes : Nodes) (trees : List (TenantTree ℕ)) (ledgers : List JobLedger) (book : Reservations) (number : ℕ) (numbers : List ℕ) (account : Account) → IsStored parts →
+    IsDeparture parts nodes trees ledgers book number numbers account → IsStored (departed parts nodes trees ledgers book)
+leave-stored parts nodes trees ledgers book number numbers account stored is =
+    let cut = leave-cut parts nodes trees ledgers book number numbers account stored is in
+    let same = closed-same parts nodes number numbers is.values is.closed_all in
+    let tenants = stored.tenants in
+    let fewer = is.count in
+    let left = is.released.tenants in
+    record {
+      book = is.sound;
+      frames_nodes = rw (← same) (cut-belongs parts.nodes parts.trees trees number none_stays stored.frames_nodes cut);
+      sized = rw (← same) (cut-sized parts.nodes (closing parts.trees number none_stays) stored.sized);
+      accounts = λ other a found. other-account other a (differs other a found) found;
+      nobody = λ other none. elim (cases_eq other number) [
+        | inl here ↦ rw here is.places
+        | inr not_it ↦ is.other_places other not_it ∙ stored.nobody other (sym (is.others.others other not_it) ∙ none)
+      ];
+      nothing = λ other none. elim (cases_eq other number) [
+        | inl here ↦ rw here is.frames
+        | inr not_it ↦ is.other_frames other not_it ∙ stored.nothing other (sym (is.others.others other not_it) ∙ none)
+      ];
+      forest = cut-trees parts.trees trees number none_stays cut;
+      tenants = omega (arith, tenants, fewer, left);
+      charges = leave-charges parts nodes trees ledgers book number numbers account stored is;
+      segments = ap length (sym same) ∙ length-without parts.nodes (closing parts.trees number none_stays) ∙ stored.segments ∙ sym is.others.segments;
+      ledgers = ap numbers_of is.jobs ∙ numbers-without number parts.ledgers parts.book.accounts stored.ledgers ∙ sym (ap (λ (b : Reservations). numbers_in b.accounts) is.released.whole);
+      workers = stored.workers;
+      places = cut-places parts.nodes parts.trees trees parts.places number none_stays stored.frames_nodes cut stored.places;
+      taken = subst (λ (b : Reservations). AreAtMost parts.newest b.accounts) (sym is.released.whole) (most-without parts.newest number parts.book.accounts stored.taken);
+      newest = stored.newest;
+    }
+  where
+    differs : (other : ℕ) (a : Account) → account_of other book.accounts ≡ Some a → other ≢ number
+    differs other a found e = (let here : account_of number book.accounts ≡ Some a = subst (λ (n : ℕ). account_of n book.accounts ≡ Some a) e found in let gone = is.released.account in absurd cc)
+
+    other-account : (other : ℕ) (a : Account) → other ≢ number → account_of other book.accounts ≡ Some a → IsAccountFor nodes trees other a
+    other-account other a not_it found =
+        let was = stored.accounts other a (sym (is.others.others other not_it) ∙ found) in
+        record {
+          charged = was.charged ∙ sym (ap charged_for (leave-words parts nodes trees ledgers book number numbers account stored is other not_it));
+          places = is.other_places other not_it ∙ was.places;
+          serials = subst (λ (xs : List (Frame ℕ)). AllBelow (a.opened + 1) xs) (sym (is.other_frames other not_it)) was.serials;
+        }
+
+-- the tenants of accounts above the one that leaves
+above-stay : (parts after : Parts) (number : ℕ) (entries : List (ℕ × Account)) → AllEntries (λ later. number < later.0) entries →
+    ((other : ℕ) (a : Account) → other ≢ number → tenant_from after other a ≡ tenant_from parts other a) → tenants_from after entries ≡ without_tenant number (tenants_from parts entries)
+above-stay parts after number [] above others = refl
+above-stay parts after number (entry ∷ entries) above others =
+    let low : number < entry.0 = above.0 in
+    let differs : entry.0 ≢ number = λ e. omega (arith, e, low) in
+    rw (ne_eqb entry.0 number differs, others entry.0 entry.1 differs, above-stay parts after number entries above.1 others) refl
+
+tenants-without : (parts after : Parts) (number : ℕ) (entries : List (ℕ × Account)) → IsRising entries →
+    ((other : ℕ) (a : Account) → other ≢ number → tenant_from after other a ≡ tenant_from parts other a) → tenants_from after (without_account number entries) ≡ without_tenant number (tenants_from parts entries)
+tenants-without parts after number [] rising others = refl
+tenants-without parts after number (entry ∷ entries) rising others =
+    elim (cases_Bool (eqb entry.0 number)) [
+      | inl same ↦ (let above : AllEntries (λ later. number < later.0) entries = subst (λ (n : ℕ). AllEntries (λ later. n < later.0) entries) (eqb-true entry.0 number same) rising.0 in rw same (above-stay parts after number entries above others))
+      | inr other ↦ rw (other, others entry.0 entry.1 (eqb-false entry.0 number other), tenants-without parts after number entries rising.1 others) refl
+    ]
+
+-- and the core is the one before without that tenant
+pub leave-shared : (parts : Parts) (nodes : Nodes) (trees : List (TenantTree ℕ)) (ledgers : List JobLedger) (book : Reservations) (number : ℕ) (numbers : List ℕ) (account : Account) → IsStored parts →
+    IsDeparture parts nodes trees ledgers book number numbers account → shared_of (departed parts nodes trees ledgers book) ≡ with_departed number (shared_of parts)
+leave-shared parts nodes trees ledgers book number numbers account stored is =
+    let after = departed parts nodes trees ledgers book in
+    let others : (other : ℕ) (a : Account) → other ≢ number → tenant_from after other a ≡ tenant_from parts other a =
+    λ other a differs. (
+    let words = leave-words parts nodes trees ledgers book number numbers account stored is other differs in
+    let jobs : jobs_of ledgers other ≡ jobs_of parts.ledgers other = ap (λ (ls : List JobLedger). jobs_of ls other) is.jobs ∙ jobs-without number other parts.ledgers differs in
+    rw (jobs, words) refl) in
+    let tenants = tenants-without parts after number parts.book.accounts stored.book.rising others in
+    rw is.released.whole (ap (λ (entries : List (ℕ × Tenant)). with-entries entries) tenants)
+  where
+    with-entries : List (ℕ × Tenant) → CoreState
+    with-entries entries = record { totals = record { segments = parts.book.segments; nodes = parts.book.nodes }; newest = parts.newest; tenants = entries }

@@ -1,5 +1,0 @@
-mod books;
-mod files;
-mod relays;
-mod sessions;
-mod texts;

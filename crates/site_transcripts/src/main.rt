@@ -1,0 +1,41 @@
+//! `site_transcripts`: plays the texts of rows about a site's gate, and reports which of their rows agree.
+//!
+//! A text is a file `NAME.rows` of the folder that the program runs in, cut into scenes (`text_rows`). A row `< LINE` is a line
+//! that is due, and so are, in a talk, `NAME< LINE` and `! LINE`; each other row is put in. Rows that are put in one after
+//! another are a turn: the lines that come of them are compared with those that are due next, in their order. So a row
+//! is added by a line or two, and costs no proof. The first word of a scene's head says what plays it:
+//!
+//! - `= site` ([`sites`]): a file of a site, what it is read to, or refused for; whose a connection is;
+//! - `= book` ([`books`]): events of a book of customers, with its answers;
+//! - `= session` and `= relay` ([`talks`]): lines of a client and of servers, in the order in which they are told;
+//! - `= texts` ([`figures`]): STATS, the metrics and the log.
+//!
+//! Printed are the first rows that disagree, with file, line, what was due and what came, and last how many rows of how many
+//! texts agree; the exit status is 1 where some don't.
+//!
+//! ```text
+//! = book school 2 pool 2
+//! open 4 7 1 0 10 100
+//! < server 0
+//! open 4 7 2 0 10 100
+//! < budget 0
+//! ```
+#![tactic(auto)]
+
+mod books;
+mod figures;
+mod files;
+mod sites;
+mod talks;
+mod turns;
+mod words;
+
+use std::io;
+use std::process::ExitCode;
+use text_rows::Tally;
+
+fn main(rt: HostRuntime) -> io::Result<ExitCode> {
+    let mut tally = Tally::new(rt.alloc());
+    let count = files::play_all(&rt, &mut tally)?;
+    files::report(&rt, count, &tally)
+}
