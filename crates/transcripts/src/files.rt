@@ -1,6 +1,7 @@
 //! The files of the folder that the program runs in.
 use crate::desks::play_sessions;
 use crate::solving::play_solve;
+use site_texts::play_site;
 use std::alloc::{AllocError, Global};
 use std::process::ExitCode;
 use std::rt::Files;
@@ -55,6 +56,7 @@ enum Kind {
     Solve,
     Session,
     Steps,
+    Site,
 }
 
 /// What plays a file of this name, by its ending.
@@ -68,6 +70,9 @@ fn kind_of(file: &str) -> Option<Kind> {
     }
     if ending == "steps" {
         return Some(Kind::Steps);
+    }
+    if ending == "rows" {
+        return Some(Kind::Site);
     }
     None
 }
@@ -98,6 +103,7 @@ fn play_scene<R: Wait>(
     tally: &mut Tally,
 ) -> Result<(), AllocError> {
     match kind {
+        Kind::Site => play_site(rt, alloc, file, scene, tally),
         Kind::Solve if scene.head.text.starts_with("solve ") => {
             play_solve(alloc, file, scene, tally)
         }
