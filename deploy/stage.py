@@ -73,7 +73,7 @@ def free_port():
     return fail("no port is free")
 
 
-def until(what, told, seconds=60):
+def until(what, told, seconds=180):
     """Waits until something is so."""
     end = time.monotonic() + seconds
     while not told():
