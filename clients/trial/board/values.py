@@ -219,12 +219,12 @@ def try_lost(browser):
             server.kill()
             server.wait()
             shown.click('[data-square="c3"]')
-            shown.until("that the server is lost", "document.getElementById('state').textContent.startsWith('The server was lost. It is asked again in')", 60)
+            shown.until("that the server is lost", "document.getElementById('state').textContent.startsWith('The server was lost. It is asked again in')", 180)
             with stage.server(*options):
                 shown.until("the server again", f"{KNOWN}", 200)
                 check(shown.text("#moves [aria-current]") == "c3" and "8 plies deep" in shown.text("#value"), "the position after the loss")
                 shown.click('[data-square="d3"]')
-        shown.until("that the service is lost", "document.getElementById('state').textContent.startsWith(\"The page's service can't be reached\")", 60)
+        shown.until("that the service is lost", "document.getElementById('state').textContent.startsWith(\"The page's service can't be reached\")", 180)
         with page_at(home, port, options):
             shown.until("the service again", KNOWN, 200)
     print("board: a server that is lost and the page's service are said, and asked again")
