@@ -5,6 +5,9 @@
 //! its records and for each case of its definitions by cases. So a field or a case that is left out, made trivial or given
 //! a premise is refused here. The proofs only project. `bench/definitions run` takes parts out and says what refuses.
 //!
+//! [`files`] has calls in place of definitions: what they promise follows from the contracts of `site_file` alone, so a clause that
+//! is weakened there is refused here.
+//!
 //! A clause is named for its definition, and behind that for the field or the case. A definition over streams, a judge or
 //! a book is asked for any source, sink, judge or book.
 //!
@@ -15,6 +18,7 @@
 #![tactic(auto)]
 
 pub mod books;
+pub mod files;
 pub mod gates;
 pub mod headers;
 pub mod relays;
