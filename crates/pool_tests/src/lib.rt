@@ -1,10 +1,11 @@
-//! Tests of `desk` and `task_deques`.
+//! Tests of `desk`, `task_deques` and `steal_pool`.
 //!
-//! What each call does to what lies under the lock is proved in `desk`, and that no task is lost or doubled in
-//! `task_deques`. No contract can say that a thread which waits is woken, that a closed desk lets everyone go, or
-//! that an ask succeeds where there is room. Here threads wait, are woken and are let go, in one thread and in
-//! four, and each growth of a deal is refused in turn. The tests stand in a crate of their own, so that the crates
-//! below are not proved once more with them.
+//! What each call does to what lies under the lock is proved in `desk`, that no task is lost or doubled in
+//! `task_deques`, and what a worker's turns are in `steal_pool`. No contract can say that a thread which waits is
+//! woken, that a closed desk lets everyone go, that an ask succeeds where there is room, or that searches run at the
+//! same time. Here threads wait, are woken and are let go, in one thread and in four; pools of 1 to 32 workers run
+//! beside those who ask; and each growth of a deal and of a pool is refused in turn. The tests stand in a crate of
+//! their own, so that the crates below are not proved once more with them.
 //!
 //! ```text
 //! let seat = seat_of(rt, desk, 1)?;

@@ -1,2 +1,3 @@
 mod deques;
 mod desks;
+mod pools;

@@ -23,7 +23,7 @@
 //!
 //! Why it is so:
 //!
-//! - `run_pool` returns OutOfMemory before any thread starts. `Sizes` lets tests make each growth fail, and
+//! - `run_pool` returns OutOfMemory before any thread starts. `PoolSizes` lets tests make each growth fail, and
 //!   each thread by a stack that can't be had (`spawn_scoped_with`). `worker::computed` gets no lock, tasks or
 //!   means to wait: a body that locks around the search alone fails `a_short_search_is_over_before_a_long_one`.
 //!   `PoolEnd` says `pushed = taken + left` alone, as a caller has no deque left to name; `pool::end_of` says
@@ -47,10 +47,10 @@ mod worker;
 
 pub use announce::{Announce, Quiet};
 pub use gate::{Gate, OpenGate};
-pub use pool::{BeginFault, PoolConfig, PoolEnd, PoolFault, run_pool, run_pool_announced};
+pub use pool::{
+    BeginFault, NotRun, PoolConfig, PoolEnd, PoolFault, PoolSizes, run_pool, run_pool_announced,
+    run_pool_sized,
+};
 pub use task_deques::pool_rules::Task;
 pub use tasks::{Shared, Tasks};
 pub use worker::run_worker;
-
-#[cfg(test)]
-mod tests;

@@ -66,11 +66,11 @@ pub struct PoolEnd<L: DeskLedger> {
 
 /// A pool that didn't run.
 #[derive(Clone, Copy, Debug, PartialEq, Eq)]
-pub(crate) struct NotRun {
+pub struct NotRun {
     /// Why.
-    pub(crate) fault: BeginFault,
+    pub fault: BeginFault,
     /// How many workers' threads were started and have ended.
-    pub(crate) ended: usize,
+    pub ended: usize,
 }
 
 /// How many workers a pool has, and the size of their stacks.
@@ -112,7 +112,7 @@ pub fn run_pool<L: DeskLedger + Send + Sync, G: Gate + Sync, R: Threads + Wait +
     requires { L.all ≡ L.parts }
     ensures workers { IfOk result (λ end. end.workers ≡ workers) }
 {
-    let (_quiet, ended) = run_pool_of(rt, alloc, desk, Sizes::usual(workers), gate, Quiet);
+    let (_quiet, ended) = run_pool_sized(rt, alloc, desk, PoolSizes::usual(workers), gate, Quiet);
     match ended {
         Ok(end) => Ok(end),
         Err(not_run) => match not_run.fault {
@@ -144,44 +144,44 @@ pub fn run_pool_announced<
     ensures said { IfOk result.1 (λ _. A.says call true result.0) }
     ensures unsaid { IfErr result.1 (λ fault. IsUnsaid A.says call fault result.0) }
 {
-    let sizes = Sizes {
+    let sizes = PoolSizes {
         stack: match config.stack {
             Some(size) => Some((1, size)),
             None => None,
         },
-        ..Sizes::usual(config.workers)
+        ..PoolSizes::usual(config.workers)
     };
-    let (call, ended) = run_pool_of(rt, alloc, desk, sizes, gate, call);
+    let (call, ended) = run_pool_sized(rt, alloc, desk, sizes, gate, call);
     match ended {
         Ok(end) => (call, Ok(end)),
         Err(not_run) => (call, Err(not_run.fault)),
     }
 }
 
-/// How much a pool takes at its start. Tests ask for more than can be had, one field at a time.
+/// How much a pool takes at its start. Tests (`pool_tests`) ask for more than can be had, one field at a time.
 #[derive(Clone, Copy, Debug)]
-pub(crate) struct Sizes {
+pub struct PoolSizes {
     /// The number of the last worker, which is how many there are.
-    pub(crate) workers: Worker,
+    pub workers: Worker,
     /// How many tasks there is room for in each deque.
-    pub(crate) room: usize,
+    pub room: usize,
     /// Room for the deque ends that come back from the threads is taken for so many more workers than there are: 0 but
     /// in tests.
-    pub(crate) more_ends: usize,
+    pub more_ends: usize,
     /// Room for thread handles is taken for so many more threads than there are workers: 0 but in tests.
-    pub(crate) more_threads: usize,
+    pub more_threads: usize,
     /// `Some((from, size))`: the workers from number `from` on have stacks of `size` bytes. All others, and all at
     /// `None`, have the usual size.
-    pub(crate) stack: Option<(u8, usize)>,
+    pub stack: Option<(u8, usize)>,
 }
 
-impl Sizes {
+impl PoolSizes {
     /// The workers 1 to `workers`, each with room for 1,024 tasks and a stack of the usual size; no more room than
     /// needed for all else.
-    pub(crate) fn usual(workers: Worker) -> Sizes
+    pub fn usual(workers: Worker) -> PoolSizes
         ensures { result.workers ≡ workers }
     {
-        Sizes {
+        PoolSizes {
             workers,
             room: ROOM,
             more_ends: 0,
@@ -192,8 +192,8 @@ impl Sizes {
 }
 
 /// Runs a pool with these sizes: what `run_pool` and `run_pool_announced` do, which say when it returns. At an error it
-/// also tells how many workers' threads were started and have ended.
-pub(crate) fn run_pool_of<
+/// also tells how many workers' threads were started and have ended. For tests (`pool_tests`).
+pub fn run_pool_sized<
     L: DeskLedger + Send + Sync,
     G: Gate + Sync,
     R: Threads + Wait + Sync,
@@ -202,7 +202,7 @@ pub(crate) fn run_pool_of<
     rt: &R,
     alloc: Global,
     desk: &Desk<L>,
-    sizes: Sizes,
+    sizes: PoolSizes,
     gate: &G,
     call: A,
 ) -> (A, Result<PoolEnd<L>, NotRun>)

@@ -10,7 +10,7 @@ ghost use Rattle.steal_pool.specs.Announced.{IsUnsaid};
 
 use crate::announce::Announce;
 use crate::gate::Gate;
-use crate::pool::{BeginFault, NotRun, PoolFault, Sizes};
+use crate::pool::{BeginFault, NotRun, PoolFault, PoolSizes};
 use crate::tasks::{Shared, Tasks};
 use crate::worker::run_worker;
 use core::thread::Stack;
@@ -51,7 +51,11 @@ pub(crate) struct Stock<L: DeskLedger> {
 
 impl<L: DeskLedger> Stock<L> {
     /// The memory for the workers 1 to `last`, with these sizes. `Err` only where memory is refused.
-    pub(crate) fn made(alloc: Global, last: Worker, sizes: Sizes) -> Result<Stock<L>, AllocError>
+    pub(crate) fn made(
+        alloc: Global,
+        last: Worker,
+        sizes: PoolSizes,
+    ) -> Result<Stock<L>, AllocError>
         ensures { IfOk result (λ stock. vec_len stock.dealt ≡ last) }
     {
         let dealt = deal(alloc, last, sizes.room)?;

@@ -8,10 +8,8 @@ use std::sync::atomic::{AtomicBool, Ordering};
 use std::test::Fail;
 use std::thread;
 use std::thread::Threads;
+use std::time::{Clock, Duration};
 use tenant_quota::Reserve;
-
-/// How often others are let run, so that a thread that waits falls asleep.
-const IDLE_TURNS: u32 = 10_000;
 
 /// The most turns until a thread that was woken has said so.
 const MOST_TURNS: u32 = 10_000_000;
@@ -30,10 +28,8 @@ pub(super) enum Waker {
 }
 
 /// Lets a thread that waits fall asleep.
-fn idle() {
-    for _ in 0..IDLE_TURNS {
-        thread::yield_now();
-    }
+fn idle<R: Clock>(rt: &R) {
+    thread::sleep(rt, Duration::from_millis(100));
 }
 
 /// Whether a thread says within a limit that it was woken.
@@ -127,7 +123,7 @@ fn spend<L: DeskLedger, R: Wait + Abort>(
 }
 
 /// What the thread of a seat that waits for a job of this depth finds once it was woken so.
-fn woken_seat<L: DeskLedger + Send + Sync, R: Wait + Abort + Threads + Sync>(
+fn woken_seat<L: DeskLedger + Send + Sync, R: Wait + Abort + Threads + Clock + Sync>(
     rt: &R,
     desk: &Desk<L>,
     depth: u8,
@@ -145,7 +141,7 @@ fn woken_seat<L: DeskLedger + Send + Sync, R: Wait + Abort + Threads + Sync>(
             return None;
         };
         assert!(rt; has_taken(rt, desk, 2), "the seat has asked");
-        idle();
+        idle(rt);
         assert!(rt; !flag.load(Ordering::SeqCst), "{waker:?} hasn't come");
         wake(rt, desk, badge, root, waker);
         assert!(rt; is_set(flag), "{waker:?} wakes the seat");
@@ -164,7 +160,7 @@ fn is_found(waker: Waker, found: Option<Outcome>) -> bool {
 }
 
 /// A seat waits for a job of this depth, and finds it as it is once it was woken so.
-pub(super) fn seat_waits<L: DeskLedger + Send + Sync, R: Wait + Abort + Threads + Sync>(
+pub(super) fn seat_waits<L: DeskLedger + Send + Sync, R: Wait + Abort + Threads + Clock + Sync>(
     rt: &R,
     desk: &Desk<L>,
     depth: u8,
@@ -194,7 +190,7 @@ fn a_spend_wakes_a_seat(rt: HostRuntime) -> Result<(), Fail> {
 }
 
 /// What a worker's thread that waits for a frame finds once it was woken so.
-fn woken_worker<L: DeskLedger + Send + Sync, R: Wait + Abort + Threads + Sync>(
+fn woken_worker<L: DeskLedger + Send + Sync, R: Wait + Abort + Threads + Clock + Sync>(
     rt: &R,
     desk: &Desk<L>,
     seat: &mut Seat<L>,
@@ -206,7 +202,7 @@ fn woken_worker<L: DeskLedger + Send + Sync, R: Wait + Abort + Threads + Sync>(
         let Ok(waiting) = scope.spawn(move || look_there(rt, desk, flag)) else {
             return None;
         };
-        idle();
+        idle(rt);
         assert!(rt; !flag.load(Ordering::SeqCst), "{waker:?} hasn't come");
         match waker {
             Waker::Ask => assert_eq!(rt; desk.ask(rt, seat, &opening(rt), 0), Ok(1)),
@@ -228,7 +224,7 @@ fn is_shown(waker: Waker, found: Option<Option<(FrameId, u8)>>) -> bool {
 }
 
 /// A worker waits for a frame, and finds what is there once it was woken so.
-pub(super) fn worker_waits<L: DeskLedger + Send + Sync, R: Wait + Abort + Threads + Sync>(
+pub(super) fn worker_waits<L: DeskLedger + Send + Sync, R: Wait + Abort + Threads + Clock + Sync>(
     rt: &R,
     desk: &Desk<L>,
     waker: Waker,

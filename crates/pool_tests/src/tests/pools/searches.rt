@@ -3,7 +3,6 @@ ghost use Rattle.std.specs.Prelude.{◌≡◌};
 
 use super::seats::{is_found, opening, seat};
 use super::{Scenario, Table, well};
-use crate::{Gate, Task};
 use desk::{Desk, DeskLedger, Seat};
 use othello_board::Board;
 use position_text::{Position, Side};
@@ -12,6 +11,7 @@ use std::sync::Wait;
 use std::sync::atomic::{AtomicBool, AtomicU64, Ordering};
 use std::time::{Clock, CpuClock, Duration};
 use std::{io, thread};
+use steal_pool::{Gate, Task};
 
 /// How many short searches there are.
 const SHORT: u64 = 8;

@@ -1,4 +1,4 @@
-use Rattle.steal_pool.proofs.tests.play.Given as goal
+use Rattle.pool_tests.proofs.tests.pools.play.Given as goal
 
 abbrev pub ghosts-play_on-L-Ledger : goal.ghosts-play_on-L-Ledger
 ghosts-play_on-L-Ledger g a = record { name = a.blank.name; parts = a.blank.parts }

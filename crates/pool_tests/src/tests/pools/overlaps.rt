@@ -3,13 +3,14 @@ ghost use Rattle.std.specs.Prelude.{◌≡◌};
 
 use super::seats::{is_found, opening, seat};
 use super::{MOST_TURNS, Scenario, Table, well};
-use crate::{Gate, Task};
 use desk::{Desk, DeskLedger, Seat};
 use sched_rules::Worker;
 use std::alloc::Global;
 use std::sync::Wait;
 use std::sync::atomic::{AtomicBool, Ordering};
 use std::thread::{self, Threads};
+use std::time::{Clock, Duration};
+use steal_pool::{Gate, Task};
 
 /// The computation of this number waits within a limit until it is let go on.
 #[derive(Drop)]
@@ -101,21 +102,18 @@ fn two_computations_overlap(rt: HostRuntime) {
     assert!(rt; overlap(&rt, rt.alloc(), &TwoJobs, 1));
 }
 
-/// How often the scenario lets others run, so that workers with nothing to do fall asleep.
-const IDLE_TURNS: u32 = 10_000;
-
 /// One job of depth 1, asked once all workers have had time to fall asleep.
 #[derive(Drop)]
-struct OneJob;
+struct OneJob<'c, C> {
+    clock: &'c C,
+}
 
-impl Scenario for OneJob {
+impl<C: Clock> Scenario for OneJob<'_, C> {
     fn play<L: DeskLedger, R: Wait>(&self, rt: &R, desk: &Desk<L>) -> bool {
         let Some(mut seat) = seat(rt, desk, 16, 16) else {
             return false;
         };
-        for _ in 0..IDLE_TURNS {
-            thread::yield_now();
-        }
+        thread::sleep(self.clock, Duration::from_millis(100));
         let asked = desk.ask(rt, &mut seat, &opening(), 1).is_ok();
         let found = is_found(rt, desk, &seat, 1, &opening(), 1);
         desk.leave(rt, seat);
@@ -127,7 +125,7 @@ impl Scenario for OneJob {
 /// computation waits, another worker begins the third.
 #[test]
 fn a_ready_frame_wakes_a_worker(rt: HostRuntime) {
-    assert!(rt; overlap(&rt, rt.alloc(), &OneJob, 2));
+    assert!(rt; overlap(&rt, rt.alloc(), &OneJob { clock: &rt }, 2));
 }
 
 /// A first seat's job is computed when the seat leaves, or cancels it; a second seat's job ends all the

@@ -3,11 +3,11 @@ ghost use Rattle.std.specs.Prelude.{◌≡◌};
 
 use super::seats::{is_found, opening, seat};
 use super::{Scenario, Table, well};
-use crate::OpenGate;
 use desk::{Desk, DeskLedger};
 use std::sync::Wait;
 use std::thread;
 use std::time::{Clock, CpuClock, Duration};
+use steal_pool::OpenGate;
 
 /// Nothing is asked for a second, and one job then.
 #[derive(Drop)]

@@ -4,7 +4,6 @@ ghost use Rattle.std.specs.Prelude.{◌≡◌};
 use super::overlaps::is_set;
 use super::seats::{is_found, opening, seat};
 use super::{MOST_TURNS, Scenario, Table, well};
-use crate::{Gate, Task};
 use desk::{Desk, DeskLedger, Outcome};
 use sched_rules::Worker;
 use std::alloc::Global;
@@ -13,6 +12,7 @@ use std::sync::atomic::{AtomicBool, AtomicU64, Ordering};
 use std::test::Fail;
 use std::thread;
 use std::thread::Threads;
+use steal_pool::{Gate, Task};
 use tenant_quota::Left;
 
 /// Each task waits within a limit, before it is done, until the scenario has seen that none was; how many

@@ -3,9 +3,9 @@ ghost use Rattle.std.specs.Prelude.{◌≡◌};
 
 use super::seats::{is_found, opening, seat};
 use super::{Played, Scenario, Table, play};
-use crate::OpenGate;
 use desk::{Desk, DeskLedger};
 use std::sync::Wait;
+use steal_pool::OpenGate;
 use tenant_quota::Left;
 
 /// The opening is asked to depth 1, and the quota read.

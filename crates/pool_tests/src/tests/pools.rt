@@ -12,8 +12,6 @@ mod rows;
 mod searches;
 mod seats;
 
-use crate::pool::{Sizes, run_pool_of};
-use crate::{Gate, PoolEnd, PoolFault, Quiet, run_pool};
 use desk::{Desk, DeskLedger, Hall, PARTS};
 use sched_rules::{Config, Worker};
 use std::alloc::Global;
@@ -22,6 +20,7 @@ use std::sync::Wait;
 use std::sync::ledger::Blank;
 use std::thread;
 use std::thread::Threads;
+use steal_pool::{Gate, PoolEnd, PoolFault, PoolSizes, Quiet, run_pool, run_pool_sized};
 
 /// The most turns of a loop that waits for another thread.
 pub(crate) const MOST_TURNS: u32 = 10_000_000;
@@ -152,11 +151,11 @@ fn run<L: DeskLedger + Send + Sync, G: Gate + Sync, R: Threads + Wait + Sync>(
     };
     match room {
         Some(room) => {
-            let sizes = Sizes {
+            let sizes = PoolSizes {
                 room,
-                ..Sizes::usual(workers)
+                ..PoolSizes::usual(workers)
             };
-            let (_quiet, ended) = run_pool_of(rt, alloc, desk, sizes, gate, Quiet);
+            let (_quiet, ended) = run_pool_sized(rt, alloc, desk, sizes, gate, Quiet);
             ended.map_err(|_not_run| PoolFault::NoThread)
         }
         None => run_pool(rt, alloc, desk, workers, gate),

@@ -3,7 +3,6 @@ ghost use Rattle.std.specs.Prelude.{◌≡◌};
 
 use super::seats::{is_found, opening, seat};
 use super::{MOST_TURNS, Scenario, Table, well};
-use crate::{BeginFault, Gate, PoolFault, Task};
 use desk::{Desk, DeskLedger, Seat};
 use sched_rules::Worker;
 use std::alloc::Global;
@@ -11,6 +10,7 @@ use std::sync::Wait;
 use std::sync::atomic::{AtomicBool, AtomicU32, AtomicU64, Ordering};
 use std::test::Fail;
 use std::thread;
+use steal_pool::{BeginFault, Gate, PoolFault, Task};
 
 /// How many workers there are.
 const WORKERS: u8 = 12;

@@ -4,11 +4,11 @@ ghost use Rattle.std.specs.Prelude.{◌≡◌, ◌≤◌};
 use super::overlaps::is_set;
 use super::seats::{all_white, corner, end_of, is_found, opening, seat};
 use super::{Played, Scenario, Table, well};
-use crate::{Gate, OpenGate, Task};
 use desk::{Desk, DeskLedger, Outcome, Seat};
 use sched_rules::Worker;
 use std::sync::Wait;
 use std::sync::atomic::{AtomicBool, Ordering};
+use steal_pool::{Gate, OpenGate, Task};
 
 /// Two seats ask three positions in turn, and read each reply twice.
 #[derive(Drop)]

@@ -1,4 +1,4 @@
-use Rattle.steal_pool.proofs.tests.faults.tried.Given as goal
+use Rattle.pool_tests.proofs.tests.pools.faults.tried.Given as goal
 
 abbrev pub ghosts-found_at-L-Ledger : goal.ghosts-found_at-L-Ledger
 ghosts-found_at-L-Ledger g a = record { name = a.blank.name; parts = a.blank.parts }

@@ -2,8 +2,6 @@
 ghost use Rattle.std.specs.Prelude.{◌≡◌};
 
 use super::seats::{opening, seat};
-use crate::pool::{BeginFault, NotRun, Sizes, run_pool_of};
-use crate::{Announce, OpenGate, PoolFault};
 use desk::{Badge, Desk, DeskLedger, Hall, PARTS, Seat};
 use sched_rules::{Config, Worker};
 use std::alloc::Global;
@@ -11,6 +9,7 @@ use std::marker::Brand;
 use std::sync::Wait;
 use std::sync::ledger::Blank;
 use std::thread::Threads;
+use steal_pool::{Announce, BeginFault, NotRun, OpenGate, PoolFault, PoolSizes, run_pool_sized};
 
 /// Counts how often it is said that a pool has begun.
 #[derive(Drop)]
@@ -43,8 +42,8 @@ struct Found {
 }
 
 /// The usual sizes of a pool of four.
-fn four() -> Sizes {
-    Sizes::usual(Worker::new(4).unwrap())
+fn four() -> PoolSizes {
+    PoolSizes::usual(Worker::new(4).unwrap())
 }
 
 /// A hall of 64 segments.
@@ -64,14 +63,14 @@ fn not_run<L: DeskLedger + Send + Sync, R: Threads + Wait + Sync>(
     rt: &R,
     alloc: Global,
     desk: &Desk<L>,
-    sizes: Sizes,
+    sizes: PoolSizes,
     works: bool,
 ) -> Option<(NotRun, bool, u32)>
     requires { L.all ≡ L.parts }
 {
     let seat = asked(rt, desk)?;
     let call = Counted { count: 0, works };
-    let (call, ended) = run_pool_of(rt, alloc, desk, sizes, &OpenGate, call);
+    let (call, ended) = run_pool_sized(rt, alloc, desk, sizes, &OpenGate, call);
     let is_closed = desk.next_ready(rt).is_none();
     desk.leave(rt, seat);
     Some((ended.err()?, is_closed, call.count))
@@ -90,7 +89,7 @@ fn found_at<L: DeskLedger + Send + Sync, R: Threads + Wait + Sync>(
     rt: &R,
     alloc: Global,
     blank: Blank,
-    sizes: Sizes,
+    sizes: PoolSizes,
     works: bool,
 ) -> Option<Found>
     requires name { blank.name ≡ L.name }
@@ -111,7 +110,7 @@ fn found_at<L: DeskLedger + Send + Sync, R: Threads + Wait + Sync>(
 fn tried<R: Threads + Wait + Sync>(
     rt: &R,
     alloc: Global,
-    sizes: Sizes,
+    sizes: PoolSizes,
     works: bool,
 ) -> Option<Found> {
     found_at::<Brand, R>(rt, alloc, Blank::new(PARTS), sizes, works)
@@ -150,7 +149,7 @@ fn no_memory(rt: HostRuntime) {
 #[test]
 fn no_thread(rt: HostRuntime) {
     for (from, ended) in [(1u8, 0usize), (2, 1), (4, 3)] {
-        let sizes = Sizes {
+        let sizes = PoolSizes {
             stack: Some((from, usize::MAX)),
             ..four()
         };
