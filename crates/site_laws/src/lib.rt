@@ -7,7 +7,7 @@
 //!
 //! A function with arguments makes a call, and promises what a caller reads out of the call's contract. It is proved from that contract
 //! alone, so a clause that is weakened there, or taken away, is refused here whatever body it has: [`rules`], [`headers`],
-//! [`relays`], [`grants`], [`sessions`], [`plans`], [`files`] and [`texts`]. These stand in the place of mutants, each of which shows one wrong
+//! [`passing`], [`grants`], [`sessions`], [`plans`], [`files`] and [`texts`]. These stand in the place of mutants, each of which shows one wrong
 //! body.
 //!
 //! A clause is named for its definition, and behind that for the field or the case. A definition over streams, a judge or
@@ -24,6 +24,7 @@ pub mod files;
 pub mod gates;
 pub mod grants;
 pub mod headers;
+pub mod passing;
 pub mod plans;
 pub mod relays;
 pub mod rules;

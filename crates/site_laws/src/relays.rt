@@ -1,9 +1,8 @@
-//! What the definitions of `line_relay` give, for all values, and calls whose contracts are proved from those of [`line_relay`] alone.
+//! What the definitions of `line_relay` give, for all values.
 ghost use Rattle.std.specs.List.{concat, list_any};
 ghost use Rattle.std.specs.Prelude.{All, Bool, Err, List, None, Ok, Option, Result, Some, [], codes, false, if◌then◌else◌, length, map, take, true, ℕ, ◌++◌, ◌-◌, ◌==◌, ◌∷◌, ◌≡◌};
 ghost use Rattle.std.specs.Str.{bytes_eq};
 ghost use Rattle.std.specs.Str.Lines.{strip_carriage_return};
-ghost use Rattle.line_io.specs.Held.{ended_line};
 ghost use Rattle.line_io.specs.Leads.{Leads};
 ghost use Rattle.line_io.specs.Lines.{LineText, TooLong, Whole, line_text, lines_of, up_to_last_end};
 ghost use Rattle.line_io.specs.Streams.{Ended, Failed, Gave, ReadAnswer, Took};
@@ -28,12 +27,8 @@ ghost use Rattle.line_relay.specs.declared.relaying.RelayEnd.{RelayEnd};
 ghost use Rattle.protocol.specs.Texts.{error_text};
 ghost use Rattle.protocol.specs.Words.{split_at_space};
 
-use line_io::{LineCutter, Sink, Source};
-use line_relay::{
-    Judge, Peer as Side, RelayEnd as EndOf, RelayFault as FaultOf, lines_pass_unchanged,
-    relay_lines,
-};
-use std::sync::Wait;
+use line_io::{Sink, Source};
+use line_relay::Judge;
 
 /// Of `line_relay`, Takes: what `TakesFirst`, `ByteTaken`, `Stops`, `has_end`, `EndedTaken`, `CutShort`, `LineTaken` and `LineRead` give.
 pub fn takes<S: Source>()
@@ -148,33 +143,3 @@ pub fn passed<C: Source, K: Sink, S: Source, T: Sink, J: Judge>()
     ensures is_read_reads { (from : S × List ℕ) (bytes : List ℕ) (to : S × List ℕ) (is : IsRead S.gives from bytes to) → Leads S.gives from.0 (map Gave is.blocks) to.0 }
     ensures is_read_parts { (from : S × List ℕ) (bytes : List ℕ) (to : S × List ℕ) (is : IsRead S.gives from bytes to) → from.1 ++ concat is.blocks ≡ bytes ++ to.1 }
 {}
-
-/// What a relay does, whoever judges its lines: over some turns the server was sent the lines of the client but for those that were
-/// refused and for the tokens that were cut, and the client was told, line by line, the server's answer or `ERR`; and then it ended
-/// by a line, by the end of the client's bytes or by a fault, as its result says.
-pub fn a_relay_passes_lines<C: Source, K: Sink, S: Source, T: Sink, J: Judge, R: Wait>(
-    rt: &R,
-    client: &mut Side<C, K>,
-    server: &mut Side<S, T>,
-    judge: &mut J,
-    line: &mut LineCutter,
-) -> Result<EndOf, FaultOf>
-    ensures { (turns : List Turn) × (mid : Peer C K × Peer S T × J)
-        × PassedOn C.gives K.takes S.gives T.takes (client.old, server.old, judge.old) turns mid
-        × IsRelayEnd C.gives K.takes S.gives T.takes J.judges J.hears result (ended_line line.new) mid (client.new, server.new, judge.new) }
-{
-    lines_pass_unchanged::<C, K, S, T, J>();
-    relay_lines(rt, client, server, judge, line)
-}
-
-/// The number of each fault of a relay: the client's are 1 and 2, the server's 3 to 6.
-pub fn the_number_of_a_relay_fault(fault: FaultOf) -> u8
-    ensures client_read { fault ≡ Read → result ≡ 1 }
-    ensures client_write { fault ≡ Write → result ≡ 2 }
-    ensures read { fault ≡ Server server_read → result ≡ 3 }
-    ensures write { fault ≡ Server server_write → result ≡ 4 }
-    ensures ended { fault ≡ Server server_ended → result ≡ 5 }
-    ensures long { fault ≡ Server LongAnswer → result ≡ 6 }
-{
-    fault.number()
-}

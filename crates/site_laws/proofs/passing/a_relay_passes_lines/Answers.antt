@@ -1,4 +1,4 @@
-use Rattle.site_laws.proofs.relays.a_relay_passes_lines.Goals as goal
+use Rattle.site_laws.proofs.passing.a_relay_passes_lines.Goals as goal
 
 pub returns : goal.returns
 returns g c =
