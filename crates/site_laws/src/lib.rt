@@ -1,12 +1,14 @@
 //! What each part of the definitions of a site's gate gives, for all values.
 //!
 //! The same as `definition_laws`, for the crates that a gate stands on: `customer_book`, `line_relay`, `gate_session`
-//! and `proxy_header`. A function here is about one file of `specs/` of such a crate, and has a clause for each field of
+//! and `proxy_header`. A function without arguments is about one file of `specs/` of such a crate, and has a clause for each field of
 //! its records and for each case of its definitions by cases. So a field or a case that is left out, made trivial or given
 //! a premise is refused here. The proofs only project. `bench/definitions run` takes parts out and says what refuses.
 //!
-//! [`files`] has calls in place of definitions: what they promise follows from the contracts of `site_file` alone, so a clause that
-//! is weakened there is refused here.
+//! A function with arguments makes a call, and promises what a caller reads out of the call's contract. It is proved from that contract
+//! alone, so a clause that is weakened there, or taken away, is refused here whatever body it has: [`rules`], [`headers`],
+//! [`passing`], [`grants`], [`sessions`], [`plans`], [`files`] and [`texts`]. These stand in the place of mutants, each of which shows one wrong
+//! body.
 //!
 //! A clause is named for its definition, and behind that for the field or the case. A definition over streams, a judge or
 //! a book is asked for any source, sink, judge or book.
@@ -20,5 +22,11 @@
 pub mod books;
 pub mod files;
 pub mod gates;
+pub mod grants;
 pub mod headers;
+pub mod passing;
+pub mod plans;
 pub mod relays;
+pub mod rules;
+pub mod sessions;
+pub mod texts;
