@@ -3,7 +3,7 @@ ghost use Rattle.customer_book.specs.Amounts.{is_within, plus, minus, of_one, Is
 
 /// So many sessions, and the segments and nodes that they reserve together. A segment is 16 words of 64 bits, a node is
 /// one frame opened.
-#[derive(Clone, Copy, Debug, PartialEq, Eq)]
+#[derive(Clone, Copy)]
 pub struct Amount {
     /// Sessions at once.
     pub sessions: u32,

@@ -4,7 +4,7 @@ ghost use Rattle.customer_book.specs.Rates.{whole_of, has_one, after_one, after_
 use crate::site::Customer;
 
 /// How often something may come: a bucket of `burst` tokens, which gets one back every `period` moments until it is full.
-#[derive(Clone, Copy, Debug, PartialEq, Eq)]
+#[derive(Clone, Copy)]
 pub struct Rate {
     /// Moments until a token comes back.
     pub period: u32,

@@ -1,5 +1,5 @@
 /// Why the book refuses an event.
-#[derive(Clone, Copy, Debug, PartialEq, Eq)]
+#[derive(Clone, Copy, PartialEq, Eq)]
 pub enum Cause {
     /// The customer sends lines faster than its rate allows.
     Fast = 1,
@@ -30,7 +30,7 @@ impl Cause {
 }
 
 /// A refusal: why, and how many moments its answer is to wait, so that who is refused too often learns it slowly.
-#[derive(Clone, Copy, Debug)]
+#[derive(Clone, Copy)]
 pub struct Refusal {
     /// Why.
     pub cause: Cause,

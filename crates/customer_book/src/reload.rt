@@ -9,7 +9,7 @@ use crate::who::Who;
 use thiserror::Error;
 
 /// Why a book doesn't go on by another plan.
-#[derive(Clone, Copy, Debug, PartialEq, Eq, Error)]
+#[derive(Clone, Copy, Debug, Error)]
 pub enum ReplanFault {
     /// There is no memory for it.
     #[error("no memory for the new plan")]

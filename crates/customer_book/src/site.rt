@@ -32,7 +32,7 @@ impl Class {
 }
 
 /// A server: its class, and what it has for all sessions.
-#[derive(Clone, Copy, Debug, PartialEq, Eq)]
+#[derive(Clone, Copy)]
 pub struct Server {
     /// The place of its class in the file, from 0.
     pub class: u8,
@@ -45,7 +45,7 @@ pub struct Server {
 }
 
 /// What a customer may have at once in each class, and how often it may say something.
-#[derive(Clone, Copy, Debug, PartialEq, Eq)]
+#[derive(Clone, Copy)]
 pub struct Customer {
     /// Its budget in each class.
     pub budgets: [Amount; CLASSES],

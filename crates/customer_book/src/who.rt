@@ -2,7 +2,7 @@ ghost use Rattle.std.specs.Prelude.{◌≡◌};
 ghost use Rattle.customer_book.specs.Names.{same_who, is_guest};
 
 /// Who an event is of: a named customer by its place in the file, or a guest by its address.
-#[derive(Clone, Copy, Debug, PartialEq, Eq)]
+#[derive(Clone, Copy, PartialEq, Eq)]
 pub enum Who {
     /// The customer that the file names at this place, from 0.
     Named(u32),

@@ -18,7 +18,7 @@ use line_relay::{Peer, RelayEnd, RelayFault, RelayText, ServerFault, ask_server,
 use std::sync::Wait;
 
 /// How a session ended.
-#[derive(Clone, Copy, Debug, PartialEq, Eq)]
+#[derive(Clone, Copy, Debug)]
 pub enum SessionEnd {
     /// By BYE.
     Bye,

@@ -11,7 +11,7 @@ pub const BOUNDS: [u64; 11] = [
 pub const BUCKETS: usize = 12;
 
 /// How many durations fell into each bucket, and their sum in microseconds.
-#[derive(Clone, Copy, Debug, PartialEq, Eq)]
+#[derive(Clone, Copy)]
 pub struct Buckets {
     /// The number in each bucket alone.
     pub counts: [u64; BUCKETS],

@@ -10,7 +10,7 @@ pub const REASONS: [&str; 8] = [
 ];
 
 /// What has come of one customer in one class of servers since the start.
-#[derive(Clone, Copy, Debug, PartialEq, Eq)]
+#[derive(Clone, Copy)]
 pub struct Counts {
     /// Sessions that were opened.
     pub granted: u64,
@@ -54,7 +54,7 @@ impl Counts {
 }
 
 /// A customer, or all guests together, in one class.
-#[derive(Clone, Copy, Debug)]
+#[derive(Clone, Copy)]
 pub struct Row<'a> {
     /// The customer's name.
     pub customer: &'a str,
@@ -69,7 +69,7 @@ pub struct Row<'a> {
 }
 
 /// A customer, or all guests together.
-#[derive(Clone, Copy, Debug)]
+#[derive(Clone, Copy)]
 pub struct AccountRow<'a> {
     /// The customer's name.
     pub customer: &'a str,

@@ -1,43 +1,46 @@
-//! Labels and numbers of the text format of Prometheus.
+//! Names, labels and numbers as the texts write them.
 use std::alloc::AllocError;
+use std::fmt;
 use std::fmt::Write;
 
-/// Appends a label's value: `\`, `"` and a line's end are written as escapes.
-pub(crate) fn push_value(out: &mut String, text: &str) -> Result<(), AllocError> {
-    for sign in text.chars() {
-        match sign {
-            '\\' => out.push_str("\\\\")?,
-            '"' => out.push_str("\\\"")?,
-            '\n' => out.push_str("\\n")?,
-            _ => out.push(sign)?,
+/// A label's value in the text format of Prometheus: `\`, `"` and a line's end are written as escapes.
+#[derive(Clone, Copy)]
+pub(crate) struct Label<'a>(pub(crate) &'a str);
+
+impl fmt::Display for Label<'_> {
+    fn fmt<W: fmt::Write>(&self, f: &mut fmt::Formatter<W>) -> fmt::Result {
+        for sign in self.0.chars() {
+            if sign == '\\' || sign == '"' || sign == '\n' {
+                f.write_char('\\')?;
+            }
+            f.write_char(if sign == '\n' { 'n' } else { sign })?;
         }
+        Ok(())
     }
-    Ok(())
 }
 
-/// Appends a label behind the one before it.
-pub(crate) fn push_label(
-    out: &mut String,
-    is_first: bool,
-    name: &str,
-    value: &str,
-) -> Result<(), AllocError> {
-    out.push_str(if is_first { "{" } else { "," })?;
-    out.push_str(name)?;
-    out.push_str("=\"")?;
-    push_value(out, value)?;
-    out.push_str("\"")
+/// A text in which signs that don't show, such as a line's end, are written as `?`.
+#[derive(Clone, Copy)]
+pub(crate) struct Shown<'a>(pub(crate) &'a str);
+
+impl fmt::Display for Shown<'_> {
+    fn fmt<W: fmt::Write>(&self, f: &mut fmt::Formatter<W>) -> fmt::Result {
+        for sign in self.0.chars() {
+            f.write_char(if sign.is_control() { '?' } else { sign })?;
+        }
+        Ok(())
+    }
 }
 
-/// Ends a line: the labels, and a number.
-pub(crate) fn end_line(out: &mut String, number: u64) -> Result<(), AllocError> {
-    writeln!(out, "}} {number}")
-}
+/// So many microseconds, written as seconds with six digits.
+#[derive(Clone, Copy)]
+pub(crate) struct Seconds(pub(crate) u64);
 
-/// Appends so many microseconds as seconds.
-pub(crate) fn push_seconds(out: &mut String, micros: u64) -> Result<(), AllocError> {
-    let (seconds, rest) = (micros / 1_000_000, micros % 1_000_000);
-    write!(out, "{seconds}.{rest:06}")
+impl fmt::Display for Seconds {
+    fn fmt<W: fmt::Write>(&self, f: &mut fmt::Formatter<W>) -> fmt::Result {
+        let (seconds, rest) = (self.0 / 1_000_000, self.0 % 1_000_000);
+        write!(f, "{seconds}.{rest:06}")
+    }
 }
 
 /// Appends what stands in front of a metric's lines.
@@ -47,6 +50,8 @@ pub(crate) fn push_head(
     help: &str,
     kind: &str,
 ) -> Result<(), AllocError> {
-    writeln!(out, "# HELP othello_gate_{name} {help}")?;
-    writeln!(out, "# TYPE othello_gate_{name} {kind}")
+    writeln!(
+        out,
+        "# HELP othello_gate_{name} {help}\n# TYPE othello_gate_{name} {kind}"
+    )
 }

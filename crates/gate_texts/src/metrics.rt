@@ -1,7 +1,7 @@
 //! The metrics, in the text format of Prometheus (version 0.0.4).
 use crate::buckets::{BOUNDS, Buckets};
 use crate::counts::{AccountRow, REASONS, Row, ServerRow};
-use crate::labels::{end_line, push_head, push_label, push_seconds};
+use crate::labels::{Label, Seconds, push_head};
 use customer_book::Amount;
 use std::alloc::AllocError;
 use std::fmt::Write;
@@ -78,33 +78,31 @@ pub fn push_metrics(
     accounts: &[AccountRow<'_>],
     servers: &[ServerRow<'_>],
 ) -> Result<(), AllocError> {
-    for (number, name, help, kind) in NUMBERS {
-        push_head(out, name, help, kind)?;
-        push_numbers(out, number, name, rows)?;
-    }
+    push_all_numbers(out, &NUMBERS, rows)?;
     push_refusals(out, rows)?;
-    push_head(
+    push_histograms(
         out,
         "hello_seconds",
         "From HELLO to its answer.",
-        "histogram",
+        rows,
+        true,
     )?;
-    for row in rows {
-        push_histogram(out, "hello_seconds", row, &row.counts.hello)?;
-    }
-    push_head(out, "wait_seconds", "From WAIT to its answer.", "histogram")?;
-    for row in rows {
-        push_histogram(out, "wait_seconds", row, &row.counts.wait)?;
-    }
+    push_histograms(out, "wait_seconds", "From WAIT to its answer.", rows, false)?;
     push_connections(out, accounts)?;
     push_servers(out, servers)
 }
 
-/// Appends a line's name, and the labels of a row.
-fn push_row(out: &mut String, name: &str, more: &str, row: &Row<'_>) -> Result<(), AllocError> {
-    write!(out, "othello_gate_{name}{more}")?;
-    push_label(out, true, "customer", row.customer)?;
-    push_label(out, false, "class", row.class)
+/// Appends these numbers of all rows. (They are its argument, as a proof that sees each word of such a constant takes long.)
+fn push_all_numbers(
+    out: &mut String,
+    numbers: &[(Number, &str, &str, &str)],
+    rows: &[Row<'_>],
+) -> Result<(), AllocError> {
+    for (number, name, help, kind) in numbers {
+        push_head(out, name, help, kind)?;
+        push_numbers(out, *number, name, rows)?;
+    }
+    Ok(())
 }
 
 fn push_numbers(
@@ -120,6 +118,20 @@ fn push_numbers(
     Ok(())
 }
 
+/// Appends a line's name, and the labels of a row, behind which more may stand.
+fn push_row(out: &mut String, name: &str, more: &str, row: &Row<'_>) -> Result<(), AllocError> {
+    let (customer, class) = (Label(row.customer), Label(row.class));
+    write!(
+        out,
+        "othello_gate_{name}{more}{{customer=\"{customer}\",class=\"{class}\""
+    )
+}
+
+/// Ends a line: the labels, and a number.
+fn end_line(out: &mut String, number: u64) -> Result<(), AllocError> {
+    writeln!(out, "}} {number}")
+}
+
 fn push_refusals(out: &mut String, rows: &[Row<'_>]) -> Result<(), AllocError> {
     push_head(out, "refused_total", "Refusals by their reason.", "counter")?;
     for row in rows {
@@ -131,19 +143,53 @@ fn push_refusals(out: &mut String, rows: &[Row<'_>]) -> Result<(), AllocError> {
 fn push_refused(out: &mut String, row: &Row<'_>) -> Result<(), AllocError> {
     for (reason, count) in REASONS.iter().zip(row.counts.refused.iter()) {
         push_row(out, "refused_total", "", row)?;
-        push_label(out, false, "reason", reason)?;
-        end_line(out, *count)?;
+        writeln!(out, ",reason=\"{reason}\"}} {count}")?;
     }
     Ok(())
 }
 
-/// Appends a histogram of a row. Each bucket also has those of the buckets before.
+/// Appends the histogram of HELLO, or else that of WAIT, of all rows.
+fn push_histograms(
+    out: &mut String,
+    name: &str,
+    help: &str,
+    rows: &[Row<'_>],
+    is_hello: bool,
+) -> Result<(), AllocError> {
+    push_head(out, name, help, "histogram")?;
+    for row in rows {
+        let buckets = if is_hello {
+            &row.counts.hello
+        } else {
+            &row.counts.wait
+        };
+        push_histogram(out, name, row, buckets)?;
+    }
+    Ok(())
+}
+
+/// Appends a histogram of a row.
 fn push_histogram(
     out: &mut String,
     name: &str,
     row: &Row<'_>,
     buckets: &Buckets,
 ) -> Result<(), AllocError> {
+    let sum = push_buckets(out, name, row, buckets)?;
+    let seconds = Seconds(buckets.sum);
+    push_row(out, name, "_sum", row)?;
+    writeln!(out, "}} {seconds}")?;
+    push_row(out, name, "_count", row)?;
+    end_line(out, sum)
+}
+
+/// Appends the buckets of a histogram, and returns the sum of their counts. Each bucket also has those of the buckets before.
+fn push_buckets(
+    out: &mut String,
+    name: &str,
+    row: &Row<'_>,
+    buckets: &Buckets,
+) -> Result<u64, AllocError> {
     let mut sum: u64 = 0;
     for (place, count) in buckets.counts.iter().enumerate() {
         sum = sum.saturating_add(*count);
@@ -151,30 +197,28 @@ fn push_histogram(
         push_bound(out, BOUNDS.get(place).copied())?;
         end_line(out, sum)?;
     }
-    push_row(out, name, "_sum", row)?;
-    out.push_str("} ")?;
-    push_seconds(out, buckets.sum)?;
-    out.push_str("\n")?;
-    push_row(out, name, "_count", row)?;
-    end_line(out, sum)
+    Ok(sum)
 }
 
 /// Appends the label of a bucket's bound.
 fn push_bound(out: &mut String, bound: Option<u64>) -> Result<(), AllocError> {
-    out.push_str(",le=\"")?;
     match bound {
-        Some(micros) => push_seconds(out, micros)?,
-        None => out.push_str("+Inf")?,
+        Some(micros) => {
+            let seconds = Seconds(micros);
+            write!(out, ",le=\"{seconds}\"")
+        }
+        None => out.push_str(",le=\"+Inf\""),
     }
-    out.push_str("\"")
 }
 
 fn push_connections(out: &mut String, accounts: &[AccountRow<'_>]) -> Result<(), AllocError> {
     push_head(out, "connections", "Connections now.", "gauge")?;
     for account in accounts {
-        out.push_str("othello_gate_connections")?;
-        push_label(out, true, "customer", account.customer)?;
-        end_line(out, account.connections)?;
+        let (customer, connections) = (Label(account.customer), account.connections);
+        writeln!(
+            out,
+            "othello_gate_connections{{customer=\"{customer}\"}} {connections}"
+        )?;
     }
     Ok(())
 }
@@ -202,9 +246,9 @@ fn push_server(
     server: &ServerRow<'_>,
     amount: Amount,
 ) -> Result<(), AllocError> {
-    let address = server.address;
-    write!(out, "othello_gate_{name}")?;
-    push_label(out, true, "class", server.class)?;
-    write!(out, ",server=\"{address}\"")?;
-    end_line(out, u64::from(amount.sessions))
+    let (class, address, sessions) = (Label(server.class), server.address, amount.sessions);
+    writeln!(
+        out,
+        "othello_gate_{name}{{class=\"{class}\",server=\"{address}\"}} {sessions}"
+    )
 }

@@ -1,5 +1,5 @@
 //! A session's line of the log.
-use crate::labels::push_seconds;
+use crate::labels::{Seconds, Shown};
 use std::alloc::AllocError;
 use std::fmt::Write;
 use std::net::SocketAddr;
@@ -35,28 +35,13 @@ pub struct SessionRow<'a> {
 
 /// Appends the line. A name's line ends and other signs that don't show are written as `?`, so that it stays one line.
 pub fn push_session(out: &mut String, session: &SessionRow<'_>) -> Result<(), AllocError> {
-    let number = session.number;
-    write!(out, "session {number} of ")?;
-    push_shown(out, session.customer)?;
-    out.push_str(": ")?;
-    push_shown(out, session.class)?;
-    let (server, segments, nodes) = (session.server, session.segments, session.nodes);
-    write!(out, " at {server}, {segments} segments, {nodes} nodes, ")?;
-    push_seconds(out, session.micros)?;
+    let (number, server) = (session.number, session.server);
+    let (customer, class) = (Shown(session.customer), Shown(session.class));
+    let (segments, nodes, seconds) = (session.segments, session.nodes, Seconds(session.micros));
     let (lines, bytes) = (session.lines, session.bytes);
-    let (done, spent) = (session.done, session.spent);
-    write!(
+    let (done, spent, end) = (session.done, session.spent, Shown(session.end));
+    writeln!(
         out,
-        " s, {lines} lines, {bytes} bytes, {done} jobs done, {spent} spent; ended by "
-    )?;
-    push_shown(out, session.end)?;
-    out.push_str("\n")
-}
-
-/// Appends a text whose signs all show.
-fn push_shown(out: &mut String, text: &str) -> Result<(), AllocError> {
-    for sign in text.chars() {
-        out.push(if sign.is_control() { '?' } else { sign })?;
-    }
-    Ok(())
+        "session {number} of {customer}: {class} at {server}, {segments} segments, {nodes} nodes, {seconds} s, {lines} lines, {bytes} bytes, {done} jobs done, {spent} spent; ended by {end}"
+    )
 }

@@ -104,12 +104,21 @@ fn take_in<'a, R: Clock + Wait>(
     shared: &Shared,
     stream: TcpStream,
 ) -> Option<Greeted<'a, R>> {
-    let start = Instant::now(rt).ok()?;
-    let peer = Address::of_ip(stream.peer_addr().ok()?.ip());
+    let Ok(start) = Instant::now(rt) else {
+        return None;
+    };
+    let Ok(peer) = stream.peer_addr() else {
+        return None;
+    };
+    let peer = Address::of_ip(peer.ip());
     let until = start.checked_add(Duration::from_secs(FIRST_LINE));
-    let (mut source, mut sink) = ends_of(rt, alloc, stream, until, true).ok()?;
+    let Ok((mut source, mut sink)) = ends_of(rt, alloc, stream, until, true) else {
+        return None;
+    };
     let mut received = Received::new();
-    let known = greet_proxy(rt, shared, &mut source, &mut received, peer)?;
+    let Some(known) = greet_proxy(rt, shared, &mut source, &mut received, peer) else {
+        return None;
+    };
     let rest = rest_of(received.bytes(), known.used);
     source.settle(rest);
     if !is_welcome(rt, shared, known.who) {

@@ -38,29 +38,52 @@ fn reload<R: Texts + AllocGlobal + Wait>(
     }
 }
 
-/// The answer to a request; None where it isn't whole yet.
+/// What a request asks for.
+#[derive(Clone, Copy)]
+enum Asked {
+    Reload,
+    Stats,
+    Metrics,
+    /// Another path, by HTTP.
+    Missing,
+    /// Nothing that is known.
+    Unknown,
+}
+
+/// What a request asks for; None where it isn't whole yet.
+fn asked_by(request: &[u8]) -> Option<Asked> {
+    let end = request.iter().position(|byte| *byte == b'\n')?;
+    let line = request.get(..end)?.trim_ascii();
+    let asked = if line == b"RELOAD".as_slice() {
+        Asked::Reload
+    } else if line == b"STATS".as_slice() {
+        Asked::Stats
+    } else if line.starts_with(b"GET /metrics ".as_slice()) {
+        Asked::Metrics
+    } else if line.starts_with(b"GET ".as_slice()) {
+        Asked::Missing
+    } else {
+        Asked::Unknown
+    };
+    Some(asked)
+}
+
+/// The answer to what a request asks for.
 fn answer<R: Texts + AllocGlobal + Wait>(
     rt: &R,
     shared: &Shared,
     path: &str,
-    request: &[u8],
-) -> Option<Result<String, AllocError>> {
+    asked: Asked,
+) -> Result<String, AllocError> {
     let alloc = rt.alloc();
-    let end = request.iter().position(|byte| *byte == b'\n')?;
-    let line = request.get(..end)?.trim_ascii();
-    if line == b"RELOAD".as_slice() {
-        return Some(reload(rt, shared, path));
-    }
-    if line == b"STATS".as_slice() {
-        return Some(stats_of(rt, alloc, shared));
-    }
-    if line.starts_with(b"GET /metrics ".as_slice()) {
-        return Some(metrics_of(rt, alloc, shared));
-    }
-    if line.starts_with(b"GET ".as_slice()) {
-        return Some(format!(in alloc; "HTTP/1.0 404 Not Found\r\nContent-Length: 0\r\n\r\n"));
-    }
-    Some(format!(in alloc; "ERR RELOAD, STATS or GET /metrics\n"))
+    let text = match asked {
+        Asked::Reload => return reload(rt, shared, path),
+        Asked::Stats => return stats_of(rt, alloc, shared),
+        Asked::Metrics => return metrics_of(rt, alloc, shared),
+        Asked::Missing => "HTTP/1.0 404 Not Found\r\nContent-Length: 0\r\n\r\n",
+        Asked::Unknown => "ERR RELOAD, STATS or GET /metrics\n",
+    };
+    String::from_str(alloc, text)
 }
 
 /// Answers one connection.
@@ -84,9 +107,9 @@ fn converse<R: Texts + AllocGlobal + Wait>(
             return None;
         }
         received.grow(count);
-        if let Some(text) = answer(rt, shared, path, received.bytes()) {
-            stream.write_all(text.ok()?.as_bytes()).ok()?;
-            return Some(());
+        if let Some(asked) = asked_by(received.bytes()) {
+            let text = answer(rt, shared, path, asked).ok()?;
+            return stream.write_all(text.as_bytes()).ok();
         }
     }
     None

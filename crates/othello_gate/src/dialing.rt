@@ -114,16 +114,22 @@ impl<'a, R: Net<Listener = TcpListener, Stream = TcpStream> + Clock + Wait> Dial
     /// The ends of a connection to this place.
     fn reach(&self, place: Place) -> Option<Peer<Incoming<'a, R>, Outgoing>> {
         let limit = Duration::from_millis(A_CONNECT);
-        let stream = TcpStream::connect_timeout(self.rt, &place.address, limit).ok()?;
+        let Ok(stream) = TcpStream::connect_timeout(self.rt, &place.address, limit) else {
+            return None;
+        };
         let most = if place.servers > 1 {
             A_SHORT_ANSWER
         } else {
             AN_ANSWER
         };
-        let now = Instant::now(self.rt).ok()?;
+        let Ok(now) = Instant::now(self.rt) else {
+            return None;
+        };
         let until = now.checked_add(Duration::from_millis(most));
-        let (source, sink) = ends_of(self.rt, self.alloc, stream, until, false).ok()?;
-        Some(Peer::new(source, sink))
+        match ends_of(self.rt, self.alloc, stream, until, false) {
+            Ok((source, sink)) => Some(Peer::new(source, sink)),
+            Err(_) => None,
+        }
     }
 }
 

@@ -91,12 +91,13 @@ impl<R: Clock> Incoming<'_, R> {
         ensures { IfSome result (λ n. n ≤ length block.new) }
     {
         if let Some(until) = self.until {
-            let now = Instant::now(self.rt).ok()?;
+            let Ok(now) = Instant::now(self.rt) else {
+                return None;
+            };
             let left = until.duration_since(now);
-            if left == Duration::from_secs(0) {
+            if left == Duration::from_secs(0) || self.stream.set_read_timeout(Some(left)).is_err() {
                 return None;
             }
-            self.stream.set_read_timeout(Some(left)).ok()?;
         }
         for _ in 0..READ_TRIES {
             match (&*self.stream).read(block) {

@@ -26,7 +26,7 @@ impl Amounts {
     /// Those of a plan.
     fn of(alloc: Global, site: &Site) -> Result<Amounts, AllocError> {
         let named = budgets_in(alloc, site.customers.as_slice())?;
-        let servers = copies_of(alloc, site.servers.as_slice())?;
+        let servers = site.servers.clone()?;
         Ok(Amounts {
             named,
             pool: site.pool,
@@ -42,15 +42,6 @@ fn budgets_in(alloc: Global, customers: &[Customer]) -> Result<Vec<[Amount; CLAS
         budgets.push(customer.budgets)?;
     }
     Ok(budgets)
-}
-
-/// The same servers.
-fn copies_of(alloc: Global, servers: &[Server]) -> Result<Vec<Server>, AllocError> {
-    let mut copies = Vec::new(alloc);
-    for server in servers {
-        copies.push(*server)?;
-    }
-    Ok(copies)
 }
 
 /// What all sessions share.

@@ -46,6 +46,38 @@ pub(crate) fn refuse_words(rt: &impl Eprint) -> u8 {
     EXIT_REFUSED
 }
 
+/// What words ask for.
+#[derive(Clone, Copy)]
+enum Asked<'w> {
+    Help,
+    Version,
+    /// What the file of this path gives away.
+    Check(&'w str),
+    /// That the gate serves by the file of this path.
+    Serve(&'w str),
+    /// Nothing that the program does.
+    Nothing,
+}
+
+/// What these words ask for.
+fn asked_by(words: &[String]) -> Asked<'_> {
+    match words {
+        [word] => asked_by_one(word.as_str()),
+        [word, path] if word.as_str() == "--check" => Asked::Check(path.as_str()),
+        _ => Asked::Nothing,
+    }
+}
+
+/// What one word asks for.
+fn asked_by_one(word: &str) -> Asked<'_> {
+    match word {
+        "--help" | "-h" => Asked::Help,
+        "--version" | "-V" => Asked::Version,
+        path if path.starts_with("-") => Asked::Nothing,
+        path => Asked::Serve(path),
+    }
+}
+
 /// Does what the words ask for, and returns the exit status.
 pub(crate) fn run<R>(rt: &R, words: &[String]) -> u8
 where
@@ -62,15 +94,12 @@ where
         + Sync
         + 'static,
 {
-    match words {
-        [word] if word.as_str() == "--help" || word.as_str() == "-h" => say(rt, HELP),
-        [word] if word.as_str() == "--version" || word.as_str() == "-V" => say(
-            rt,
-            "othello_gate 1.0.0\n",
-        ),
-        [word, path] if word.as_str() == "--check" => check(rt, path.as_str()),
-        [path] if !path.as_str().starts_with("-") => serve(rt, path.as_str()),
-        _ => refuse_words(rt),
+    match asked_by(words) {
+        Asked::Help => say(rt, HELP),
+        Asked::Version => say(rt, "othello_gate 1.0.0\n"),
+        Asked::Check(path) => check(rt, path),
+        Asked::Serve(path) => serve(rt, path),
+        Asked::Nothing => refuse_words(rt),
     }
 }
 

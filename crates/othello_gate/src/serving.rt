@@ -14,6 +14,7 @@ use crate::register::Register;
 use crate::shared::Shared;
 use crate::texts::Texts;
 use site_plan::SitePlan;
+use std::alloc::{AllocError, Global};
 use std::io;
 use std::net::{Net, SocketAddr, TcpListener, TcpStream};
 use std::sync::atomic::AtomicU64;
@@ -21,10 +22,9 @@ use std::sync::{Arc, Condvar, Mutex, Wait};
 use std::thread::{self, Builder, Threads};
 use std::time::{Clock, Instant};
 
-/// What a gate serves with.
+/// Where a gate listens.
 #[derive(Drop)]
-struct Gate {
-    shared: Shared,
+struct Ends {
     /// The file.
     path: String,
     listener: TcpListener,
@@ -33,19 +33,39 @@ struct Gate {
     control: Option<TcpListener>,
 }
 
+/// What a gate serves with.
+#[derive(Drop)]
+struct Gate {
+    shared: Shared,
+    ends: Ends,
+}
+
 /// Listens as a plan says.
 fn gate_of<R>(rt: &R, path: &str, plan: SitePlan) -> io::Result<Gate>
 where
     R: Net<Listener = TcpListener, Stream = TcpStream> + Clock + AllocGlobal,
     requires { IsTrue (sums_fit (plan_of plan.site)) }
 {
-    let path = String::from_str(rt.alloc(), path)?;
-    let listener = TcpListener::bind(rt, plan.directory.listen)?;
-    let address = listener.local_addr()?;
-    let control = control_of(rt, plan.directory.control)?;
+    let ends = ends_of(rt, path, plan.directory.listen, plan.directory.control)?;
     let shared = shared_of(rt, plan)?;
-    Ok(Gate {
-        shared,
+    Ok(Gate { shared, ends })
+}
+
+/// Listens at these addresses.
+fn ends_of<R>(
+    rt: &R,
+    path: &str,
+    listen: SocketAddr,
+    control: Option<SocketAddr>,
+) -> io::Result<Ends>
+where
+    R: Net<Listener = TcpListener, Stream = TcpStream> + AllocGlobal,
+{
+    let path = String::from_str(rt.alloc(), path)?;
+    let listener = TcpListener::bind(rt, listen)?;
+    let address = listener.local_addr()?;
+    let control = control_of(rt, control)?;
+    Ok(Ends {
         path,
         listener,
         address,
@@ -96,11 +116,17 @@ where
     requires { IsTrue (sums_fit (plan_of plan.site)) }
 {
     let gate = gate_of(rt, path, plan)?;
-    let ending = Arc::new(rt.alloc(), Ending::new())?;
-    let theirs = Arc::try_clone(&ending)?;
+    let (ending, theirs) = endings(rt.alloc())?;
     let host = *rt;
     let _ = Builder::new().spawn(rt, move || serve_gate(&host, gate, &theirs))?;
     Ok(ending.wait(rt))
+}
+
+/// What is told why the gate ends, and what waits for it.
+fn endings(alloc: Global) -> Result<(Arc<Ending, Global>, Arc<Ending, Global>), AllocError> {
+    let ending = Arc::new(alloc, Ending::new())?;
+    let theirs = Arc::try_clone(&ending)?;
+    Ok((ending, theirs))
 }
 
 /// Serves, and tells when no more connections can be taken.
@@ -116,13 +142,13 @@ where
         + AllocGlobal
         + Sync,
 {
-    let Gate {
-        shared,
+    let Gate { shared, ends } = gate;
+    let Ends {
         path,
         listener,
         address,
         control,
-    } = gate;
+    } = ends;
     let commanders = AtomicU64::new(0);
     let (shared, path, commanders) = (&shared, path.as_str(), &commanders);
     thread::scope(thread::scope_env(), rt, |scope| {

@@ -1,4 +1,5 @@
 //! How many connections each customer has, and sessions that are ending.
+use crate::counts::row_of;
 use customer_book::Who;
 use std::alloc::Global;
 
@@ -133,20 +134,11 @@ impl Tallies {
     pub(crate) fn connections_in(&self, row: usize) -> u64 {
         let mut sum: u64 = 0;
         for tally in &self.all {
-            if is_in(tally.who, row) {
+            if row_of(tally.who) == row {
                 sum = sum.saturating_add(u64::from(tally.connections));
             }
         }
         sum
-    }
-}
-
-/// Whether a customer is the one of this row, or a guest where it is that of all guests.
-fn is_in(who: Who, row: usize) -> bool {
-    match who {
-        Who::Named(number) => (number as usize).saturating_add(1) == row,
-        Who::V4(_) => row == 0,
-        Who::V6(_) => row == 0,
     }
 }
 

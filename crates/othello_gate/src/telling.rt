@@ -20,17 +20,9 @@ pub(crate) fn stats_of<R: Wait>(
     alloc: Global,
     shared: &Shared,
 ) -> Result<String, AllocError> {
-    let mut out = String::new(alloc);
-    let register = shared.lock.lock(rt);
-    let all = rows_of(alloc, &*register)?;
-    push_stats(
-        &mut out,
-        all.rows.as_slice(),
-        all.accounts.as_slice(),
-        all.servers.as_slice(),
-    )?;
-    out.push_str("\n")?;
-    Ok(out)
+    let mut text = text_of(alloc, &*shared.lock.lock(rt), false)?;
+    text.push_str("\n")?;
+    Ok(text)
 }
 
 /// The answer to GET /metrics.
@@ -39,43 +31,53 @@ pub(crate) fn metrics_of<R: Wait>(
     alloc: Global,
     shared: &Shared,
 ) -> Result<String, AllocError> {
-    let mut body = String::new(alloc);
-    let register = shared.lock.lock(rt);
-    let all = rows_of(alloc, &*register)?;
-    push_metrics(
-        &mut body,
-        all.rows.as_slice(),
-        all.accounts.as_slice(),
-        all.servers.as_slice(),
-    )?;
-    drop(all);
-    drop(register);
+    let body = text_of(alloc, &*shared.lock.lock(rt), true)?;
     let size = body.len();
     format!(in alloc;
         "HTTP/1.0 200 OK\r\nContent-Type: text/plain; version=0.0.4\r\nContent-Length: {size}\r\n\r\n{body}"
     )
 }
 
-/// All that the register knows.
+/// All that the register knows: as metrics, or else as STATS.
+fn text_of(alloc: Global, register: &Register, is_metrics: bool) -> Result<String, AllocError> {
+    let all = rows_of(alloc, register)?;
+    let mut out = String::new(alloc);
+    match all.push(&mut out, is_metrics) {
+        Ok(()) => Ok(out),
+        Err(fault) => Err(fault),
+    }
+}
+
+impl Rows<'_> {
+    /// Appends them: as metrics, or else as STATS.
+    fn push(&self, out: &mut String, is_metrics: bool) -> Result<(), AllocError> {
+        if is_metrics {
+            push_metrics(out, &self.rows, &self.accounts, &self.servers)
+        } else {
+            push_stats(out, &self.rows, &self.accounts, &self.servers)
+        }
+    }
+}
+
 fn rows_of<'a>(alloc: Global, register: &'a Register) -> Result<Rows<'a>, AllocError> {
     let mut all = Rows {
         rows: Vec::new(alloc),
         accounts: Vec::new(alloc),
         servers: Vec::new(alloc),
     };
-    push_customer(&mut all, register, 0, "guests")?;
+    push_all(&mut all, register)?;
+    Ok(all)
+}
+
+fn push_all<'a>(all: &mut Rows<'a>, register: &'a Register) -> Result<(), AllocError> {
+    push_customer(all, register, 0, "guests")?;
     for (number, terms) in register.directory.customers.iter().enumerate() {
-        push_customer(
-            &mut all,
-            register,
-            number.saturating_add(1),
-            terms.name.as_str(),
-        )?;
+        push_customer(all, register, number.saturating_add(1), terms.name.as_str())?;
     }
     for number in 0..register.directory.servers.len() {
-        push_server(&mut all, register, number)?;
+        push_server(all, register, number)?;
     }
-    Ok(all)
+    Ok(())
 }
 
 /// The name of a class.
@@ -123,15 +125,14 @@ fn push_customer<'a>(
         return Ok(());
     };
     let budgets = budgets_of(register, row);
-    for (place, both) in counts.iter().zip(budgets.iter()).enumerate() {
+    for (place, counts) in counts.iter().enumerate() {
         if place < register.directory.classes.len() {
             let class = u8::try_from(place).unwrap_or(0);
-            let (counts, budget) = both;
             all.rows.push(Row {
                 customer,
                 class: class_name(register, class),
                 used: register.book.used(part_of(row, class)),
-                budget: *budget,
+                budget: budgets.get(place).copied().unwrap_or(Amount::NOTHING),
                 counts,
             })?;
         }

@@ -1,62 +1,54 @@
 //! A file that is read again: who and what was there before keeps its number.
 use crate::faults::FileFault;
-use customer_book::{Amount, CLASSES, Class, Customer, Server, Site};
+use customer_book::{Amount, CLASSES, Class, Customer, Server};
 use site_plan::{CertificateKey, Directory, Keys, NetworkKey, SitePlan, Terms, TokenKey};
 use std::alloc::{AllocError, Global};
 use std::net::SocketAddr;
 
-/// The numbers that the classes, the servers and the customers of a new plan get.
-#[derive(Drop)]
-struct Numbers {
-    classes: [usize; CLASSES],
-    servers: Vec<usize>,
-    customers: Vec<usize>,
-}
-
-/// The plan with the numbers of the one that a gate goes by now: classes and customers of the same name, and servers of the
+/// Gives a plan the numbers of the one that a gate goes by now: classes and customers of the same name, and servers of the
 /// same class and address. What is gone keeps its number: a class takes no session then, a server has no place, and a customer
-/// no budget and no key. What is new comes behind.
-pub(crate) fn numbered(
+/// no budget and no key. What is new comes behind. At an error the plan is of no use.
+pub(crate) fn renumber(
     alloc: Global,
-    plan: &SitePlan,
+    plan: &mut SitePlan,
     now: &Directory,
     was: &[Server],
-) -> Result<SitePlan, FileFault> {
-    match class_numbers(&plan.directory, now) {
-        Some(classes) => Ok(with_classes(alloc, plan, now, was, classes)?),
-        None => Err(FileFault::at(
+) -> Result<(), FileFault> {
+    let Some(classes) = class_numbers(&plan.directory.classes, &now.classes) else {
+        return Err(FileFault::at(
             alloc,
             1,
             "there were more than 8 classes since the start: start anew",
-        )),
+        ));
+    };
+    move_classes(plan, &classes);
+    match renumber_lists(alloc, plan, now, was, &classes) {
+        Ok(()) => Ok(()),
+        Err(fault) => Err(FileFault::Memory(fault)),
     }
 }
 
-/// The same, the classes having these numbers.
-fn with_classes(
+/// The same of the lists, where what is said of classes stands at their new numbers.
+fn renumber_lists(
     alloc: Global,
-    plan: &SitePlan,
+    plan: &mut SitePlan,
     now: &Directory,
     was: &[Server],
-    classes: [usize; CLASSES],
-) -> Result<SitePlan, AllocError> {
-    let servers = server_numbers(alloc, plan, &classes, now, was)?;
-    let customers = customer_numbers(alloc, &plan.directory, now)?;
-    let numbers = Numbers {
-        classes,
-        servers,
-        customers,
-    };
-    rebuilt(alloc, plan, now, was, &numbers)
+    classes: &[usize; CLASSES],
+) -> Result<(), AllocError> {
+    let names = new_names(&plan.directory.classes, &now.classes, classes)?;
+    plan.directory.classes = names;
+    renumber_servers(alloc, plan, now, was)?;
+    renumber_customers(alloc, plan, now)
 }
 
 /// The number of each class; None where there are too many.
-fn class_numbers(new: &Directory, now: &Directory) -> Option<[usize; CLASSES]> {
+fn class_numbers(new: &[String], now: &[String]) -> Option<[usize; CLASSES]> {
     let mut numbers = [CLASSES; CLASSES];
-    let mut next = now.classes.len();
-    for (place, name) in new.classes.iter().enumerate() {
+    let mut next = now.len();
+    for (place, name) in new.iter().enumerate() {
         if place < CLASSES {
-            let same = place_of(&now.classes, name.as_str());
+            let same = place_of(now, name.as_str());
             numbers[place] = same_or_next(same, &mut next);
         }
     }
@@ -64,36 +56,13 @@ fn class_numbers(new: &Directory, now: &Directory) -> Option<[usize; CLASSES]> {
 }
 
 /// The place of a name in a list.
-fn place_of(names: &[String], name: &str) -> Option<usize> {
+pub(crate) fn place_of(names: &[String], name: &str) -> Option<usize> {
     for (place, other) in names.iter().enumerate() {
         if other.as_str() == name {
             return Some(place);
         }
     }
     None
-}
-
-/// The number of a class.
-fn class_number(numbers: &[usize; CLASSES], class: usize) -> usize {
-    numbers.get(class).copied().unwrap_or(CLASSES)
-}
-
-/// The number of each server: that of a server of the same class and address, which none before has.
-fn server_numbers(
-    alloc: Global,
-    plan: &SitePlan,
-    classes: &[usize; CLASSES],
-    now: &Directory,
-    was: &[Server],
-) -> Result<Vec<usize>, AllocError> {
-    let mut numbers: Vec<usize> = Vec::new(alloc);
-    let mut next = was.len();
-    for (server, address) in plan.site.servers.iter().zip(plan.directory.servers.iter()) {
-        let class = class_number(classes, server.class as usize);
-        let same = first_server(&now.servers, was, class, *address, &numbers);
-        numbers.push(same_or_next(same, &mut next))?;
-    }
-    Ok(numbers)
 }
 
 /// This number, or else the next one that nobody has.
@@ -108,53 +77,82 @@ fn same_or_next(same: Option<usize>, next: &mut usize) -> usize {
     }
 }
 
-/// The first server of this class and address that isn't taken.
-fn first_server(
-    now: &[SocketAddr],
-    was: &[Server],
-    class: usize,
-    address: SocketAddr,
-    taken: &[usize],
-) -> Option<usize> {
-    for (number, server) in was.iter().enumerate() {
-        if server.class as usize == class
-            && is_at(now, number, address)
-            && !taken.contains(&number)
-        {
-            return Some(number);
+/// The number of a class of the new file.
+fn new_class(numbers: &[usize; CLASSES], class: u8) -> u8 {
+    let number = numbers.get(class as usize).copied().unwrap_or(CLASSES);
+    u8::try_from(number).unwrap_or(u8::MAX)
+}
+
+/// Puts each value at its number, where there is one.
+fn put<T: Copy + Drop>(all: &mut [T], values: &[T], numbers: &[usize]) {
+    for (place, number) in numbers.iter().enumerate() {
+        if *number < all.len() && place < values.len() {
+            all[*number] = values[place];
         }
     }
-    None
 }
 
-/// Whether the server of this number has this address.
-fn is_at(servers: &[SocketAddr], number: usize, address: SocketAddr) -> bool {
-    number < servers.len() && servers[number..number + 1].contains(&address)
+/// A list of one value for each class, each at its class's new number.
+fn moved<T: Copy + Drop>(
+    values: &[T; CLASSES],
+    numbers: &[usize; CLASSES],
+    rest: T,
+) -> [T; CLASSES] {
+    let mut result = [rest; CLASSES];
+    put(&mut result, values, numbers);
+    result
 }
 
-/// The number of each customer.
-fn customer_numbers(
-    alloc: Global,
-    new: &Directory,
-    now: &Directory,
-) -> Result<Vec<usize>, AllocError> {
-    let mut numbers = Vec::new(alloc);
-    let mut next = now.customers.len();
-    for terms in &new.customers {
-        let same = customer_of_name(&now.customers, terms.name.as_str());
-        numbers.push(same_or_next(same, &mut next))?;
+/// Has all that is said of classes stand at their new numbers.
+fn move_classes(plan: &mut SitePlan, classes: &[usize; CLASSES]) {
+    plan.site.classes = moved(&plan.site.classes, classes, Class::NONE);
+    plan.site.pool = moved(&plan.site.pool, classes, Amount::NOTHING);
+    plan.site.share.budgets = moved(&plan.site.share.budgets, classes, Amount::NOTHING);
+    plan.directory.most = plan.site.classes;
+    plan.directory.guest.classes = moved(&plan.directory.guest.classes, classes, false);
+    move_order(&mut plan.directory.order, classes);
+    move_servers(&mut plan.site.servers, classes);
+    move_budgets(&mut plan.site.customers, classes);
+    move_terms(&mut plan.directory.customers, classes);
+}
+
+fn move_order(order: &mut [u8], classes: &[usize; CLASSES]) {
+    for class in order {
+        *class = new_class(classes, *class);
     }
-    Ok(numbers)
 }
 
-/// The place of a customer of this name.
-fn customer_of_name(customers: &[Terms], name: &str) -> Option<usize> {
-    for (place, terms) in customers.iter().enumerate() {
-        if terms.name.as_str() == name {
-            return Some(place);
+fn move_servers(servers: &mut [Server], classes: &[usize; CLASSES]) {
+    for server in servers {
+        server.class = new_class(classes, server.class);
+    }
+}
+
+fn move_budgets(customers: &mut [Customer], classes: &[usize; CLASSES]) {
+    for customer in customers {
+        customer.budgets = moved(&customer.budgets, classes, Amount::NOTHING);
+    }
+}
+
+fn move_terms(customers: &mut [Terms], classes: &[usize; CLASSES]) {
+    for terms in customers {
+        terms.classes = moved(&terms.classes, classes, false);
+    }
+}
+
+/// The names of the classes that were there before, and of those that are new.
+fn new_names(
+    new: &[String],
+    now: &Vec<String>,
+    numbers: &[usize; CLASSES],
+) -> Result<Vec<String>, AllocError> {
+    let mut names = now.clone()?;
+    for (place, name) in new.iter().enumerate() {
+        if place < CLASSES && numbers[place] >= names.len() {
+            names.push(name.clone()?)?;
         }
     }
-    None
+    Ok(names)
 }
 
 /// The number behind all of these and behind `least`.
@@ -166,192 +164,150 @@ fn count_of(numbers: &[usize], least: usize) -> usize {
     count
 }
 
-/// A list of one value for each class, each at its class's new number.
-fn moved<T: Copy + Drop>(
-    values: &[T; CLASSES],
-    numbers: &[usize; CLASSES],
-    rest: T,
-) -> [T; CLASSES] {
-    let mut result = [rest; CLASSES];
-    for (place, number) in numbers.iter().enumerate() {
-        if *number < CLASSES && place < CLASSES {
-            result[*number] = values[place];
-        }
-    }
-    result
-}
-
-/// The plan with these numbers.
-fn rebuilt(
+/// Has the servers stand at their numbers. Those that were there before have no place, if the new file hasn't them.
+fn renumber_servers(
     alloc: Global,
-    plan: &SitePlan,
+    plan: &mut SitePlan,
     now: &Directory,
     was: &[Server],
-    numbers: &Numbers,
-) -> Result<SitePlan, AllocError> {
-    let site = new_site(alloc, plan, now, was, numbers)?;
-    let directory = new_directory(alloc, plan, now, numbers)?;
-    Ok(SitePlan { site, directory })
-}
-
-fn new_site(
-    alloc: Global,
-    plan: &SitePlan,
-    now: &Directory,
-    was: &[Server],
-    numbers: &Numbers,
-) -> Result<Site, AllocError> {
-    let servers = new_servers(alloc, plan, was, numbers)?;
-    let customers = new_customers(alloc, plan, now, numbers)?;
-    Ok(Site {
-        classes: moved(&plan.site.classes, &numbers.classes, Class::NONE),
-        servers,
-        customers,
-        share: new_customer(&plan.site.share, &numbers.classes),
-        pool: moved(&plan.site.pool, &numbers.classes, Amount::NOTHING),
-        addresses: plan.site.addresses,
-    })
-}
-
-fn new_directory(
-    alloc: Global,
-    plan: &SitePlan,
-    now: &Directory,
-    numbers: &Numbers,
-) -> Result<Directory, AllocError> {
-    let new = &plan.directory;
-    let servers = new_addresses(alloc, new, now, &numbers.servers)?;
-    let customers = new_terms(alloc, new, now, numbers)?;
-    let guest = new_guest(alloc, &new.guest, &numbers.classes)?;
-    let classes = new_names(alloc, new, now, &numbers.classes)?;
-    let order = new_order(alloc, &new.order, &numbers.classes)?;
-    let keys = new_keys(alloc, &new.keys, &numbers.customers)?;
-    Ok(Directory {
-        listen: new.listen,
-        control: new.control,
-        connections: new.connections,
-        classes,
-        most: moved(&plan.site.classes, &numbers.classes, Class::NONE),
-        order,
-        servers,
-        customers,
-        guest,
-        keys,
-    })
-}
-
-/// What is said of each guest, with the classes' new numbers.
-fn new_guest(
-    alloc: Global,
-    guest: &Terms,
-    classes: &[usize; CLASSES],
-) -> Result<Terms, AllocError> {
-    let name = guest.name.clone()?;
-    Ok(Terms {
-        name,
-        connections: guest.connections,
-        classes: moved(&guest.classes, classes, false),
-    })
-}
-
-/// A customer whose budgets stand at the classes' new numbers.
-fn new_customer(customer: &Customer, classes: &[usize; CLASSES]) -> Customer {
-    Customer {
-        budgets: moved(&customer.budgets, classes, Amount::NOTHING),
-        lines: customer.lines,
-        refusals: customer.refusals,
-    }
-}
-
-/// The servers: those that were there before have no place, if the new file hasn't them.
-fn new_servers(
-    alloc: Global,
-    plan: &SitePlan,
-    was: &[Server],
-    numbers: &Numbers,
-) -> Result<Vec<Server>, AllocError> {
-    let mut servers = old_servers(alloc, was)?;
-    for (server, number) in plan.site.servers.iter().zip(numbers.servers.iter()) {
-        let class = class_number(&numbers.classes, server.class as usize);
-        let class = u8::try_from(class).unwrap_or(u8::MAX);
-        set_server(&mut servers, *number, Server { class, ..*server })?;
-    }
-    Ok(servers)
-}
-
-/// The servers that were there before, without a place.
-fn old_servers(alloc: Global, was: &[Server]) -> Result<Vec<Server>, AllocError> {
-    let mut servers = Vec::new(alloc);
-    for server in was {
-        servers.push(Server {
-            class: server.class,
-            places: 0,
-            segments: 0,
-            nodes: 0,
-        })?;
-    }
-    Ok(servers)
-}
-
-/// Puts a server at its number, or behind all.
-fn set_server(servers: &mut Vec<Server>, number: usize, server: Server) -> Result<(), AllocError> {
-    if number < servers.len() {
-        servers[number] = server;
-    } else {
-        servers.push(server)?;
-    }
+) -> Result<(), AllocError> {
+    let numbers = server_numbers(alloc, plan, now, was)?;
+    let servers = new_servers(alloc, &plan.site.servers, was, &numbers)?;
+    plan.site.servers = servers;
+    let addresses = new_addresses(&plan.directory, &now.servers, &numbers)?;
+    plan.directory.servers = addresses;
     Ok(())
 }
 
-fn new_addresses(
-    alloc: Global,
-    new: &Directory,
-    now: &Directory,
-    numbers: &[usize],
-) -> Result<Vec<SocketAddr>, AllocError> {
-    let mut addresses = old_addresses(alloc, &now.servers)?;
-    for (address, number) in new.servers.iter().zip(numbers.iter()) {
-        if *number >= addresses.len() {
-            addresses.push(*address)?;
-        }
-    }
-    Ok(addresses)
-}
-
-fn old_addresses(alloc: Global, now: &[SocketAddr]) -> Result<Vec<SocketAddr>, AllocError> {
-    let mut addresses = Vec::new(alloc);
-    for address in now {
-        addresses.push(*address)?;
-    }
-    Ok(addresses)
-}
-
-fn new_customers(
+/// The number of each server: that of a server of the same class and address, which none before has.
+fn server_numbers(
     alloc: Global,
     plan: &SitePlan,
     now: &Directory,
-    numbers: &Numbers,
-) -> Result<Vec<Customer>, AllocError> {
-    let count = count_of(&numbers.customers, now.customers.len());
-    let mut customers = vec![in alloc; Customer::NOBODY; count]?;
-    for (customer, number) in plan.site.customers.iter().zip(numbers.customers.iter()) {
-        if *number < customers.len() {
-            customers[*number] = new_customer(customer, &numbers.classes);
+    was: &[Server],
+) -> Result<Vec<usize>, AllocError> {
+    let mut numbers: Vec<usize> = Vec::new(alloc);
+    let mut next = was.len();
+    for (place, address) in plan.directory.servers.iter().enumerate() {
+        if place < plan.site.servers.len() {
+            let class = plan.site.servers[place].class;
+            let same = first_server(&now.servers, was, class, *address, &numbers);
+            numbers.push(same_or_next(same, &mut next))?;
         }
     }
-    Ok(customers)
+    Ok(numbers)
+}
+
+/// The first server of this class and address that isn't taken.
+fn first_server(
+    now: &[SocketAddr],
+    was: &[Server],
+    class: u8,
+    address: SocketAddr,
+    taken: &[usize],
+) -> Option<usize> {
+    for (number, server) in was.iter().enumerate() {
+        if server.class == class && is_at(now, number, address) && !taken.contains(&number) {
+            return Some(number);
+        }
+    }
+    None
+}
+
+/// Whether the server of this number has this address.
+fn is_at(servers: &[SocketAddr], number: usize, address: SocketAddr) -> bool {
+    number < servers.len() && servers[number..number + 1].contains(&address)
+}
+
+/// No server of any class.
+const NOTHING: Server = Server {
+    class: 0,
+    places: 0,
+    segments: 0,
+    nodes: 0,
+};
+
+fn new_servers(
+    alloc: Global,
+    new: &[Server],
+    was: &[Server],
+    numbers: &[usize],
+) -> Result<Vec<Server>, AllocError> {
+    let mut servers = vec![in alloc; NOTHING; count_of(numbers, was.len())]?;
+    keep_classes(&mut servers, was);
+    put(&mut servers, new, numbers);
+    Ok(servers)
+}
+
+/// Has the servers that were there before stay in their classes.
+fn keep_classes(servers: &mut [Server], was: &[Server]) {
+    for (place, server) in was.iter().enumerate() {
+        if place < servers.len() {
+            servers[place].class = server.class;
+        }
+    }
+}
+
+fn new_addresses(
+    new: &Directory,
+    now: &Vec<SocketAddr>,
+    numbers: &[usize],
+) -> Result<Vec<SocketAddr>, AllocError> {
+    let mut addresses = now.clone()?;
+    // (each place behind those that were there before gets the address of a new server)
+    addresses.resize(count_of(numbers, now.len()), new.listen)?;
+    put(&mut addresses, &new.servers, numbers);
+    Ok(addresses)
+}
+
+/// Has the customers stand at their numbers. Those that were there before have nothing, if the new file hasn't them.
+fn renumber_customers(
+    alloc: Global,
+    plan: &mut SitePlan,
+    now: &Directory,
+) -> Result<(), AllocError> {
+    let numbers = customer_numbers(alloc, &plan.directory.customers, &now.customers)?;
+    renumber_keys(&mut plan.directory.keys, &numbers);
+    let mut customers = vec![in alloc; Customer::NOBODY; count_of(&numbers, now.customers.len())]?;
+    put(&mut customers, &plan.site.customers, &numbers);
+    plan.site.customers = customers;
+    let terms = new_terms(alloc, &plan.directory.customers, &now.customers, &numbers)?;
+    plan.directory.customers = terms;
+    Ok(())
+}
+
+/// The number of each customer.
+fn customer_numbers(alloc: Global, new: &[Terms], now: &[Terms]) -> Result<Vec<usize>, AllocError> {
+    let mut numbers = Vec::new(alloc);
+    let mut next = now.len();
+    for terms in new {
+        let same = customer_of_name(now, terms.name.as_str());
+        numbers.push(same_or_next(same, &mut next))?;
+    }
+    Ok(numbers)
+}
+
+/// The place of a customer of this name.
+pub(crate) fn customer_of_name(customers: &[Terms], name: &str) -> Option<usize> {
+    for (place, terms) in customers.iter().enumerate() {
+        if terms.name.as_str() == name {
+            return Some(place);
+        }
+    }
+    None
 }
 
 fn new_terms(
     alloc: Global,
-    new: &Directory,
-    now: &Directory,
-    numbers: &Numbers,
+    new: &[Terms],
+    now: &[Terms],
+    numbers: &[usize],
 ) -> Result<Vec<Terms>, AllocError> {
-    let mut customers = old_terms(alloc, &now.customers)?;
-    for (terms, number) in new.customers.iter().zip(numbers.customers.iter()) {
-        let classes = moved(&terms.classes, &numbers.classes, false);
-        set_terms(&mut customers, *number, terms, classes)?;
+    let mut customers = old_terms(alloc, now)?;
+    for (place, terms) in new.iter().enumerate() {
+        if place < numbers.len() {
+            set_terms(&mut customers, numbers[place], terms)?;
+        }
     }
     Ok(customers)
 }
@@ -360,73 +316,34 @@ fn new_terms(
 fn old_terms(alloc: Global, now: &[Terms]) -> Result<Vec<Terms>, AllocError> {
     let mut customers = Vec::new(alloc);
     for terms in now {
-        let name = terms.name.clone()?;
-        customers.push(Terms {
-            name,
-            connections: 0,
-            classes: [false; CLASSES],
-        })?;
+        push_terms(&mut customers, &terms.name, 0, [false; CLASSES])?;
     }
     Ok(customers)
 }
 
 /// Puts what is said of a customer at its number, or behind all.
-fn set_terms(
-    customers: &mut Vec<Terms>,
-    number: usize,
-    terms: &Terms,
-    classes: [bool; CLASSES],
-) -> Result<(), AllocError> {
+fn set_terms(customers: &mut Vec<Terms>, number: usize, terms: &Terms) -> Result<(), AllocError> {
     if number < customers.len() {
         customers[number].connections = terms.connections;
-        customers[number].classes = classes;
-    } else {
-        let name = terms.name.clone()?;
-        customers.push(Terms {
-            name,
-            connections: terms.connections,
-            classes,
-        })?;
+        customers[number].classes = terms.classes;
+        return Ok(());
     }
+    push_terms(customers, &terms.name, terms.connections, terms.classes)
+}
+
+fn push_terms(
+    customers: &mut Vec<Terms>,
+    name: &String,
+    connections: u32,
+    classes: [bool; CLASSES],
+) -> Result<(), AllocError> {
+    let name = name.clone()?;
+    customers.push(Terms {
+        name,
+        connections,
+        classes,
+    })?;
     Ok(())
-}
-
-fn new_names(
-    alloc: Global,
-    new: &Directory,
-    now: &Directory,
-    numbers: &[usize; CLASSES],
-) -> Result<Vec<String>, AllocError> {
-    let mut names = old_names(alloc, &now.classes)?;
-    for (name, number) in new.classes.iter().zip(numbers.iter()) {
-        if *number >= names.len() {
-            let name = name.clone()?;
-            names.push(name)?;
-        }
-    }
-    Ok(names)
-}
-
-fn old_names(alloc: Global, now: &[String]) -> Result<Vec<String>, AllocError> {
-    let mut names = Vec::new(alloc);
-    for name in now {
-        let name = name.clone()?;
-        names.push(name)?;
-    }
-    Ok(names)
-}
-
-fn new_order(
-    alloc: Global,
-    order: &[u8],
-    numbers: &[usize; CLASSES],
-) -> Result<Vec<u8>, AllocError> {
-    let mut result = Vec::new(alloc);
-    for class in order {
-        let number = class_number(numbers, *class as usize);
-        result.push(u8::try_from(number).unwrap_or(u8::MAX))?;
-    }
-    Ok(result)
 }
 
 /// The number of a customer.
@@ -437,53 +354,27 @@ fn new_number(numbers: &[usize], customer: u32) -> u32 {
     }
 }
 
-fn new_keys(alloc: Global, keys: &Keys, numbers: &[usize]) -> Result<Keys, AllocError> {
-    let tokens = new_tokens(alloc, &keys.tokens, numbers)?;
-    let networks = new_networks(alloc, &keys.networks, numbers)?;
-    let certificates = new_certificates(alloc, &keys.certificates, numbers)?;
-    Ok(Keys {
-        tokens,
-        certificates,
-        networks,
-    })
+/// Has the keys name their customers by their new numbers.
+fn renumber_keys(keys: &mut Keys, numbers: &[usize]) {
+    renumber_tokens(&mut keys.tokens, numbers);
+    renumber_certificates(&mut keys.certificates, numbers);
+    renumber_networks(&mut keys.networks, numbers);
 }
 
-fn new_tokens(
-    alloc: Global,
-    keys: &[TokenKey],
-    numbers: &[usize],
-) -> Result<Vec<TokenKey>, AllocError> {
-    let mut tokens = Vec::new(alloc);
-    for key in keys {
-        let customer = new_number(numbers, key.customer);
-        tokens.push(TokenKey { customer, ..*key })?;
+fn renumber_tokens(tokens: &mut [TokenKey], numbers: &[usize]) {
+    for key in tokens {
+        key.customer = new_number(numbers, key.customer);
     }
-    Ok(tokens)
 }
 
-fn new_networks(
-    alloc: Global,
-    keys: &[NetworkKey],
-    numbers: &[usize],
-) -> Result<Vec<NetworkKey>, AllocError> {
-    let mut networks = Vec::new(alloc);
-    for key in keys {
-        let customer = new_number(numbers, key.customer);
-        networks.push(NetworkKey { customer, ..*key })?;
+fn renumber_certificates(certificates: &mut [CertificateKey], numbers: &[usize]) {
+    for key in certificates {
+        key.customer = new_number(numbers, key.customer);
     }
-    Ok(networks)
 }
 
-fn new_certificates(
-    alloc: Global,
-    keys: &[CertificateKey],
-    numbers: &[usize],
-) -> Result<Vec<CertificateKey>, AllocError> {
-    let mut certificates = Vec::new(alloc);
-    for key in keys {
-        let customer = new_number(numbers, key.customer);
-        let name = key.name.clone()?;
-        certificates.push(CertificateKey { name, customer })?;
+fn renumber_networks(networks: &mut [NetworkKey], numbers: &[usize]) {
+    for key in networks {
+        key.customer = new_number(numbers, key.customer);
     }
-    Ok(certificates)
 }

@@ -3,7 +3,7 @@ ghost use Rattle.std.specs.Prelude.{◌≡◌, IfOk, None, true};
 ghost use Rattle.customer_book.specs.Plans.{plan_of, sums_fit};
 ghost use Rattle.site_plan.specs.Checks.{fault_of};
 
-use crate::again::numbered;
+use crate::again::renumber;
 use crate::faults::{FileFault, line_of};
 use crate::reading::plan_in;
 use crate::section::Section;
@@ -48,8 +48,8 @@ pub fn read_site_again(
 ) -> Result<SitePlan, FileFault>
     ensures { IfOk result (λ plan. sums_fit (plan_of plan.site) ≡ true) }
 {
-    let plan = read_site(alloc, text)?;
-    let plan = numbered(alloc, &plan, now, servers)?;
+    let mut plan = read_site(alloc, text)?;
+    renumber(alloc, &mut plan, now, servers)?;
     if plan.site.sums_fit() {
         Ok(plan)
     } else {

@@ -1,6 +1,8 @@
 //! The text of a file as a plan.
+use crate::again::{customer_of_name, place_of};
 use crate::faults::FileFault;
-use crate::section::{Section, has_name, is_among};
+use crate::parsing::{digest_of, network_of};
+use crate::section::{Section, is_among};
 use customer_book::{Amount, CLASSES, Class, Customer, Rate, Server, Site};
 use site_plan::{CertificateKey, Directory, Keys, NetworkKey, SitePlan, Terms, TokenKey};
 use std::alloc::{AllocError, Global};
@@ -28,13 +30,27 @@ const CONNECTIONS: u32 = 8192;
 /// How many guests are known at once.
 const ADDRESSES: u32 = 8192;
 
-/// The classes that a file names, with their servers.
+/// The lists of a file.
 #[derive(Drop)]
-struct Classes {
+struct Lists {
+    /// The classes' names, and their numbers, the least class first.
     names: Vec<String>,
     most: [Class; CLASSES],
+    order: Vec<u8>,
     servers: Vec<Server>,
     addresses: Vec<SocketAddr>,
+    customers: Vec<Customer>,
+    terms: Vec<Terms>,
+    keys: Keys,
+    /// The name of each guest.
+    guest: String,
+}
+
+/// What a file says beside its lists.
+#[derive(Clone, Copy)]
+struct Rest {
+    guests: Guests,
+    entrance: Entrance,
 }
 
 /// What a file says of a customer, of each guest or of all guests together.
@@ -62,52 +78,43 @@ struct Entrance {
 
 /// The plan of a file whose tables were read. Nothing is compared yet.
 pub(crate) fn plan_in(file: Section<'_>) -> Result<SitePlan, FileFault> {
-    let classes = classes_in(&file)?;
-    let guests = guests_in(&file, &classes.names)?;
-    let named = customers_in(&file, &classes.names)?;
-    let entrance = entrance_in(&file)?;
-    let order = numbers(file.alloc, classes.names.len())?;
-    let name = String::from_str(file.alloc, "guest")?;
-    Ok(plan_of(classes, guests, named, entrance, order, name))
+    let mut lists = Lists::new(file.alloc);
+    match lists.read(&file) {
+        Ok(rest) => Ok(plan_of(lists, rest)),
+        Err(fault) => Err(fault),
+    }
 }
 
 /// The plan of all that a file says.
-fn plan_of(
-    classes: Classes,
-    guests: Guests,
-    named: Named,
-    entrance: Entrance,
-    order: Vec<u8>,
-    name: String,
-) -> SitePlan {
-    let most = classes.most;
-    let each = guests.each;
-    let together = guests.together;
+fn plan_of(lists: Lists, rest: Rest) -> SitePlan {
+    let most = lists.most;
+    let each = rest.guests.each;
+    let together = rest.guests.together;
     let allowed = each.classes;
     SitePlan {
         site: Site {
             classes: most,
-            servers: classes.servers,
-            customers: named.customers,
+            servers: lists.servers,
+            customers: lists.customers,
             share: each.customer,
             pool: together,
             addresses: ADDRESSES,
         },
         directory: Directory {
-            listen: entrance.listen,
-            control: entrance.control,
-            connections: entrance.connections,
-            classes: classes.names,
+            listen: rest.entrance.listen,
+            control: rest.entrance.control,
+            connections: rest.entrance.connections,
+            classes: lists.names,
             most,
-            order,
-            servers: classes.addresses,
-            customers: named.terms,
+            order: lists.order,
+            servers: lists.addresses,
+            customers: lists.terms,
             guest: Terms {
-                name,
+                name: lists.guest,
                 connections: each.connections,
                 classes: allowed,
             },
-            keys: named.keys,
+            keys: lists.keys,
         },
     }
 }
@@ -119,15 +126,6 @@ fn guests_in(file: &Section<'_>, names: &[String]) -> Result<Guests, FileFault> 
     let together = pool_in(&guests.table("together", "guests.together")?, names)?;
     guests.end(&["each", "together"], &[])?;
     Ok(Guests { each, together })
-}
-
-/// The customers that a file names.
-fn customers_in(file: &Section<'_>, names: &[String]) -> Result<Named, FileFault> {
-    let mut named = Named::new(file.alloc);
-    for section in &file.tables("customer")? {
-        named.read(section, names)?;
-    }
-    Ok(named)
 }
 
 /// What a file says beside its tables; it has no other words.
@@ -168,15 +166,6 @@ const CUSTOMER: [&str; 8] = [
 /// Those of each guest's.
 const SHARE: [&str; 4] = ["classes", "rate", "burst", "connections"];
 
-/// The numbers below this one.
-fn numbers(alloc: Global, count: usize) -> Result<Vec<u8>, AllocError> {
-    let mut numbers = Vec::new(alloc);
-    for number in 0..count.min(CLASSES) as u8 {
-        numbers.push(number)?;
-    }
-    Ok(numbers)
-}
-
 /// Where the operator asks: nobody else is to reach it.
 fn control_in(file: &Section<'_>) -> Result<Option<SocketAddr>, FileFault> {
     match file.place("control")? {
@@ -188,23 +177,6 @@ fn control_in(file: &Section<'_>) -> Result<Option<SocketAddr>, FileFault> {
         }
         place => Ok(place),
     }
-}
-
-fn classes_in(file: &Section<'_>) -> Result<Classes, FileFault> {
-    let alloc = file.alloc;
-    let mut classes = Classes {
-        names: Vec::new(alloc),
-        most: [Class::NONE; CLASSES],
-        servers: Vec::new(alloc),
-        addresses: Vec::new(alloc),
-    };
-    for section in &file.tables("class")? {
-        classes.read(section)?;
-    }
-    if classes.names.is_empty() {
-        return Err(file.fault("class", "there is no class of servers"));
-    }
-    Ok(classes)
 }
 
 /// The words of a class's table.
@@ -233,7 +205,7 @@ fn class_in(section: &Section<'_>) -> Result<Class, FileFault> {
 /// The name of the class of a table, which none of these has.
 fn class_name_in<'t>(section: &Section<'t>, names: &[String]) -> Result<&'t str, FileFault> {
     let name = section.name(b"_-")?;
-    if has_name(names, name) {
+    if place_of(names, name).is_some() {
         return Err(section.fault("name", "a second class of this name"));
     }
     if is_among(&CUSTOMER, name) {
@@ -245,18 +217,63 @@ fn class_name_in<'t>(section: &Section<'t>, names: &[String]) -> Result<&'t str,
     Ok(name)
 }
 
-impl Classes {
-    fn read(&mut self, section: &Section<'_>) -> Result<(), FileFault> {
+impl Lists {
+    /// No class, no server and no customer.
+    fn new(alloc: Global) -> Lists {
+        Lists {
+            names: Vec::new(alloc),
+            most: [Class::NONE; CLASSES],
+            order: Vec::new(alloc),
+            servers: Vec::new(alloc),
+            addresses: Vec::new(alloc),
+            customers: Vec::new(alloc),
+            terms: Vec::new(alloc),
+            keys: Keys {
+                tokens: Vec::new(alloc),
+                certificates: Vec::new(alloc),
+                networks: Vec::new(alloc),
+            },
+            guest: String::new(alloc),
+        }
+    }
+
+    /// Takes the lists of a file, and returns what else it says.
+    fn read(&mut self, file: &Section<'_>) -> Result<Rest, FileFault> {
+        self.read_classes(file)?;
+        let guests = guests_in(file, &self.names)?;
+        self.read_customers(file)?;
+        let entrance = entrance_in(file)?;
+        self.guest.push_str("guest")?;
+        Ok(Rest { guests, entrance })
+    }
+
+    fn read_classes(&mut self, file: &Section<'_>) -> Result<(), FileFault> {
+        for section in &file.tables("class")? {
+            self.read_class(section)?;
+        }
+        if self.names.is_empty() {
+            return Err(file.fault("class", "there is no class of servers"));
+        }
+        Ok(())
+    }
+
+    fn read_class(&mut self, section: &Section<'_>) -> Result<(), FileFault> {
         let number = self.names.len();
         if number >= CLASSES {
             return Err(section.fault("name", "there are more than 8 classes"));
         }
         let name = class_name_in(section, &self.names)?;
-        let name = String::from_str(section.alloc, name)?;
-        self.names.push(name)?;
+        self.push_class(section.alloc, name, number as u8)?;
         self.most[number] = class_in(section)?;
         self.read_servers(section, number as u8)?;
         section.end(&CLASS, &[])
+    }
+
+    fn push_class(&mut self, alloc: Global, name: &str, number: u8) -> Result<(), AllocError> {
+        let name = String::from_str(alloc, name)?;
+        self.names.push(name)?;
+        self.order.push(number)?;
+        Ok(())
     }
 
     fn read_servers(&mut self, section: &Section<'_>, class: u8) -> Result<(), FileFault> {
@@ -274,6 +291,41 @@ impl Classes {
     fn push_server(&mut self, server: Server, address: SocketAddr) -> Result<(), AllocError> {
         self.servers.push(server)?;
         self.addresses.push(address)?;
+        Ok(())
+    }
+
+    fn read_customers(&mut self, file: &Section<'_>) -> Result<(), FileFault> {
+        for section in &file.tables("customer")? {
+            self.read_customer(section)?;
+        }
+        Ok(())
+    }
+
+    fn read_customer(&mut self, section: &Section<'_>) -> Result<(), FileFault> {
+        let name = section.name(b"_.@-")?;
+        if customer_of_name(&self.terms, name).is_some() {
+            return Err(section.fault("name", "a second customer of this name"));
+        }
+        let share = share_in(section, &self.names, &CUSTOMER)?;
+        let Ok(customer) = u32::try_from(self.customers.len()) else {
+            return Err(section.fault("name", "there are too many customers"));
+        };
+        read_tokens(&mut self.keys.tokens, section, customer)?;
+        read_certificates(&mut self.keys.certificates, section, customer)?;
+        read_networks(&mut self.keys.networks, section, customer)?;
+        self.push_customer(section.alloc, name, share)?;
+        Ok(())
+    }
+
+    fn push_customer(&mut self, alloc: Global, name: &str, share: Share) -> Result<(), AllocError> {
+        let name = String::from_str(alloc, name)?;
+        let classes = share.classes;
+        self.customers.push(share.customer)?;
+        self.terms.push(Terms {
+            name,
+            connections: share.connections,
+            classes,
+        })?;
         Ok(())
     }
 }
@@ -345,7 +397,7 @@ fn has_twice(hosts: &[SocketAddr]) -> bool {
 
 /// Which classes a customer may use: all that are there, where it names none.
 fn allowed_in(section: &Section<'_>, names: &[String]) -> Result<[bool; CLASSES], FileFault> {
-    let texts = section.texts("classes", "a list of classes")?;
+    let texts = section.texts("classes", "is to be a list of classes")?;
     if are_names(&texts, names) {
         Ok(allowed_of(&texts, names))
     } else {
@@ -356,7 +408,7 @@ fn allowed_in(section: &Section<'_>, names: &[String]) -> Result<[bool; CLASSES]
 /// Whether each text is one of the names.
 fn are_names(texts: &[&str], names: &[String]) -> bool {
     for text in texts {
-        if !has_name(names, *text) {
+        if place_of(names, *text).is_none() {
             return false;
         }
     }
@@ -460,77 +512,18 @@ fn share_in(section: &Section<'_>, names: &[String], known: &[&str]) -> Result<S
     })
 }
 
-/// The customers that a file names.
-#[derive(Drop)]
-struct Named {
-    customers: Vec<Customer>,
-    terms: Vec<Terms>,
-    keys: Keys,
-}
-
-impl Named {
-    fn new(alloc: Global) -> Named {
-        Named {
-            customers: Vec::new(alloc),
-            terms: Vec::new(alloc),
-            keys: Keys {
-                tokens: Vec::new(alloc),
-                certificates: Vec::new(alloc),
-                networks: Vec::new(alloc),
-            },
-        }
-    }
-
-    fn read(&mut self, section: &Section<'_>, names: &[String]) -> Result<(), FileFault> {
-        let name = section.name(b"_.@-")?;
-        if has_customer(&self.terms, name) {
-            return Err(section.fault("name", "a second customer of this name"));
-        }
-        let share = share_in(section, names, &CUSTOMER)?;
-        let Ok(customer) = u32::try_from(self.customers.len()) else {
-            return Err(section.fault("name", "there are too many customers"));
-        };
-        read_tokens(&mut self.keys.tokens, section, customer)?;
-        read_certificates(&mut self.keys.certificates, section, customer)?;
-        read_networks(&mut self.keys.networks, section, customer)?;
-        let name = String::from_str(section.alloc, name)?;
-        self.push(name, share)?;
-        Ok(())
-    }
-
-    fn push(&mut self, name: String, share: Share) -> Result<(), AllocError> {
-        let classes = share.classes;
-        self.customers.push(share.customer)?;
-        self.terms.push(Terms {
-            name,
-            connections: share.connections,
-            classes,
-        })?;
-        Ok(())
-    }
-}
-
-/// Whether a customer has this name.
-fn has_customer(customers: &[Terms], name: &str) -> bool {
-    for terms in customers {
-        if terms.name.as_str() == name {
-            return true;
-        }
-    }
-    false
-}
-
 /// Adds the digests of a customer's tokens.
 fn read_tokens(
     keys: &mut Vec<TokenKey>,
     section: &Section<'_>,
     customer: u32,
 ) -> Result<(), FileFault> {
-    for digest in &section.digests("token_sha256")? {
-        keys.push(TokenKey {
-            digest: *digest,
-            customer,
-        })?;
+    let what = "is to be a list of digests of 64 hexadecimal digits";
+    for text in &section.texts("token_sha256", what)? {
+        match digest_of(text.as_bytes()) {
+            Some(digest) => keys.push(TokenKey { digest, customer })?,
+            None => return Err(section.told("token_sha256", what)),
+        }
     }
     Ok(())
 }
@@ -541,7 +534,7 @@ fn read_certificates(
     section: &Section<'_>,
     customer: u32,
 ) -> Result<(), FileFault> {
-    for name in &section.texts("certificate", "a list of names")? {
+    for name in &section.texts("certificate", "is to be a list of names")? {
         if name.trim().is_empty() {
             return Err(section.fault("certificate", "`certificate` is to be a list of names"));
         }
@@ -557,11 +550,12 @@ fn read_networks(
     section: &Section<'_>,
     customer: u32,
 ) -> Result<(), FileFault> {
-    for network in &section.networks("address")? {
-        keys.push(NetworkKey {
-            network: *network,
-            customer,
-        })?;
+    let what = "is to be a list of addresses or networks, as \"203.0.113.0/24\"";
+    for text in &section.texts("address", what)? {
+        match network_of(text) {
+            Some(network) => keys.push(NetworkKey { network, customer })?,
+            None => return Err(section.told("address", what)),
+        }
     }
     Ok(())
 }

@@ -2,9 +2,8 @@
 ghost use Rattle.std.specs.Prelude.{◌≡◌, ◌≤◌, IfOk, IfSome};
 ghost use Rattle.site_file.specs.Counts.{count_of};
 
+use crate::again::place_of;
 use crate::faults::{FileFault, line_of};
-use crate::parsing::{digest_of, network_of};
-use site_plan::Network;
 use std::alloc::{AllocError, Global};
 use std::net::SocketAddr;
 use toml::{Table, Value};
@@ -55,16 +54,9 @@ impl<'t> Section<'t> {
         FileFault::at(self.alloc, line, what)
     }
 
-    /// That a word isn't what it is to be.
-    fn unfit(&self, key: &str, what: &str) -> FileFault {
-        match format!(in self.alloc; "`{key}` is to be {what}") {
-            Ok(words) => self.fault(key, words.as_str()),
-            Err(fault) => FileFault::Memory(fault),
-        }
-    }
-
-    fn missing(&self, key: &str) -> FileFault {
-        match format!(in self.alloc; "`{key}` is missing") {
+    /// What is wrong with a word.
+    pub(crate) fn told(&self, key: &str, what: &str) -> FileFault {
+        match format!(in self.alloc; "`{key}` {what}") {
             Ok(words) => self.fault(key, words.as_str()),
             Err(fault) => FileFault::Memory(fault),
         }
@@ -94,8 +86,8 @@ impl<'t> Section<'t> {
 
     /// That a word is no whole number within these limits.
     fn no_count(&self, key: &str, least: u32, most: u32) -> FileFault {
-        match format!(in self.alloc; "a whole number from {least} to {most}") {
-            Ok(what) => self.unfit(key, what.as_str()),
+        match format!(in self.alloc; "is to be a whole number from {least} to {most}") {
+            Ok(what) => self.told(key, what.as_str()),
             Err(fault) => FileFault::Memory(fault),
         }
     }
@@ -106,7 +98,7 @@ impl<'t> Section<'t> {
     {
         match self.count(key, least, most)? {
             Some(count) => Ok(count),
-            None => Err(self.missing(key)),
+            None => Err(self.told(key, "is missing")),
         }
     }
 
@@ -115,19 +107,19 @@ impl<'t> Section<'t> {
         match self.table.get(key) {
             None => Ok(None),
             Some(Value::String(text)) => Ok(Some(text.as_str())),
-            Some(_) => Err(self.unfit(key, what)),
+            Some(_) => Err(self.told(key, what)),
         }
     }
 
     /// An address and a port, if the word is there.
     pub(crate) fn place(&self, key: &str) -> Result<Option<SocketAddr>, FileFault> {
-        let what = "an address and a port, as \"127.0.0.1:4711\"";
+        let what = "is to be an address and a port, as \"127.0.0.1:4711\"";
         let Some(text) = self.word(key, what)? else {
             return Ok(None);
         };
         match SocketAddr::parse_ascii(text.as_bytes()) {
             Ok(place) if place.port() > 0 => Ok(Some(place)),
-            _ => Err(self.unfit(key, what)),
+            _ => Err(self.told(key, what)),
         }
     }
 
@@ -135,17 +127,17 @@ impl<'t> Section<'t> {
     pub(crate) fn needed_place(&self, key: &str) -> Result<SocketAddr, FileFault> {
         match self.place(key)? {
             Some(place) => Ok(place),
-            None => Err(self.missing(key)),
+            None => Err(self.told(key, "is missing")),
         }
     }
 
     /// A name that must be there: letters, digits and these signs.
     pub(crate) fn name(&self, signs: &[u8]) -> Result<&'t str, FileFault> {
-        let what = "one word";
+        let what = "is to be one word";
         match self.word("name", what)? {
-            None => Err(self.missing("name")),
+            None => Err(self.told("name", "is missing")),
             Some(name) if is_name(name, signs) => Ok(name),
-            Some(_) => Err(self.unfit("name", what)),
+            Some(_) => Err(self.told("name", what)),
         }
     }
 
@@ -155,12 +147,12 @@ impl<'t> Section<'t> {
         let list = match self.table.get(key) {
             None => return Ok(texts),
             Some(Value::Array(list)) => list,
-            Some(_) => return Err(self.unfit(key, what)),
+            Some(_) => return Err(self.told(key, what)),
         };
         for value in list {
             match value {
                 Value::String(text) => texts.push(text.as_str())?,
-                _ => return Err(self.unfit(key, what)),
+                _ => return Err(self.told(key, what)),
             }
         }
         Ok(texts)
@@ -168,53 +160,27 @@ impl<'t> Section<'t> {
 
     /// The addresses and ports of a list.
     pub(crate) fn places(&self, key: &str) -> Result<Vec<SocketAddr>, FileFault> {
-        let what = "a list of addresses and ports";
+        let what = "is to be a list of addresses and ports";
         let mut places = Vec::new(self.alloc);
         for text in &self.texts(key, what)? {
             match SocketAddr::parse_ascii(text.as_bytes()) {
                 Ok(place) if place.port() > 0 => places.push(place)?,
-                _ => return Err(self.unfit(key, what)),
+                _ => return Err(self.told(key, what)),
             }
         }
         Ok(places)
     }
 
-    /// The digests of a list.
-    pub(crate) fn digests(&self, key: &str) -> Result<Vec<[u8; 32]>, FileFault> {
-        let what = "a list of digests of 64 hexadecimal digits";
-        let mut digests = Vec::new(self.alloc);
-        for text in &self.texts(key, what)? {
-            match digest_of(text.as_bytes()) {
-                Some(digest) => digests.push(digest)?,
-                None => return Err(self.unfit(key, what)),
-            }
-        }
-        Ok(digests)
-    }
-
-    /// The networks of a list.
-    pub(crate) fn networks(&self, key: &str) -> Result<Vec<Network>, FileFault> {
-        let what = "a list of addresses or networks, as \"203.0.113.0/24\"";
-        let mut networks = Vec::new(self.alloc);
-        for text in &self.texts(key, what)? {
-            match network_of(text) {
-                Some(network) => networks.push(network)?,
-                None => return Err(self.unfit(key, what)),
-            }
-        }
-        Ok(networks)
-    }
-
     /// The table of this name, whose head has this word.
     pub(crate) fn table(&self, key: &str, head: &'t str) -> Result<Section<'t>, FileFault> {
         match self.table.get(key) {
-            None => Err(self.missing(key)),
+            None => Err(self.told(key, "is missing")),
             Some(Value::Table(table)) => Ok(Section {
                 table,
                 head,
                 ..*self
             }),
-            Some(_) => Err(self.unfit(key, "a table")),
+            Some(_) => Err(self.told(key, "is to be a table")),
         }
     }
 
@@ -227,18 +193,18 @@ impl<'t> Section<'t> {
                 inside: key,
                 ..*self
             })),
-            Some(_) => Err(self.unfit(key, "a table")),
+            Some(_) => Err(self.told(key, "is to be a table")),
         }
     }
 
     /// The tables of this name, each with a head of two brackets.
     pub(crate) fn tables(&self, key: &'t str) -> Result<Vec<Section<'t>>, FileFault> {
-        let what = "tables, each with a head of two brackets";
+        let what = "is to be tables, each with a head of two brackets";
         let mut tables = Vec::new(self.alloc);
         let list = match self.table.get(key) {
             None => return Ok(tables),
             Some(Value::Array(list)) => list,
-            Some(_) => return Err(self.unfit(key, what)),
+            Some(_) => return Err(self.told(key, what)),
         };
         for (number, value) in list.iter().enumerate() {
             match value {
@@ -248,7 +214,7 @@ impl<'t> Section<'t> {
                     number,
                     ..*self
                 })?,
-                _ => return Err(self.unfit(key, what)),
+                _ => return Err(self.told(key, what)),
             }
         }
         Ok(tables)
@@ -258,18 +224,11 @@ impl<'t> Section<'t> {
     pub(crate) fn end(&self, known: &[&str], more: &[String]) -> Result<(), FileFault> {
         for key in self.table.keys() {
             let key = key.as_str();
-            if !is_among(known, key) && !has_name(more, key) {
-                return Err(self.unknown(key));
+            if !is_among(known, key) && place_of(more, key).is_none() {
+                return Err(self.told(key, "is an unknown word"));
             }
         }
         Ok(())
-    }
-
-    fn unknown(&self, key: &str) -> FileFault {
-        match format!(in self.alloc; "`{key}` is an unknown word") {
-            Ok(words) => self.fault(key, words.as_str()),
-            Err(fault) => FileFault::Memory(fault),
-        }
     }
 }
 
@@ -277,16 +236,6 @@ impl<'t> Section<'t> {
 pub(crate) fn is_among(words: &[&str], word: &str) -> bool {
     for other in words {
         if *other == word {
-            return true;
-        }
-    }
-    false
-}
-
-/// Whether a word is one of these names.
-pub(crate) fn has_name(names: &[String], word: &str) -> bool {
-    for name in names {
-        if name.as_str() == word {
             return true;
         }
     }
