@@ -7,11 +7,11 @@
 ghost use Rattle.std.specs.Prelude.{◌≡◌, ◌≢◌, ℕ, ◌+◌, ◌<◌, ◌≤◌, ◌↔◌, ◌++◌, [], ◌∷◌, true, false, length, IsTrue, IsNone, IfOk, IfSome, IfNone, OnOk, OnErr};
 ghost use Rattle.std.specs.Borrow.{sem};
 ghost use Rattle.frame_tree.specs.Frames.{owner_of_tree, frame_at, has_frame, path_in, root_of, children_of, frames_under, frames_without, values_of, with_state, ready_frames, AllBelow, entry_of_frame, newest_ready_of, names_of, new_frame, one_if_ready, HasValue, IsTree, IsReadyAt};
-ghost use Rattle.frame_table.specs.Tables.{frames_of, places_of, tenant_count, KeepsOtherFrames, KeepsOtherTenants, serial_of, IsParentIn, has_tenant, IsTreeAt, IsTreeOf, HasNoTree, AreApartTrees, first_ready_of};
 ghost use Rattle.number_index.specs.Places.{AreRising};
+ghost use Rattle.frame_table.specs.Tables.{frames_of, places_of, tenant_count, KeepsOtherFrames, KeepsOtherTenants, serial_of, IsParentIn, IsTreeOf, HasNoTree, first_ready_of};
 
 use frame_tree::{Children, Entry, FrameId, Frames, State, TenantFrames};
-use number_index::TenantIndex;
+use number_index::NumberedList;
 use std::alloc::{AllocError, Allocator, Global};
 use std::marker::Model;
 
@@ -22,27 +22,26 @@ pub const TENANTS: usize = 64;
 pub const PLACES: usize = 4096;
 
 /// The frames of up to 64 tenants, each frame with a value. `trees` has a tree for each tenant with places, by rising
-/// number; `index` guesses where a tenant's tree stands there; `removed` is the buffer for the values that
-/// `remove_under` and `remove_all` return; `ready` is the number of ready frames of all tenants.
+/// number; `removed` is the buffer for the values that `remove_under` and `remove_all` return; `ready` is the number
+/// of ready frames of all tenants.
 #[derive(Drop)]
 pub struct FrameTable<T, A: Allocator = Global> {
     alloc: A,
-    trees: Vec<TenantFrames<T, A>, A>,
-    index: TenantIndex,
+    trees: NumberedList<TenantFrames<T, A>, A>,
     removed: Vec<T, A>,
     ready: usize,
 }
 
 impl<T, A: Allocator> Model for FrameTable<T, A> {
-    ghost use Rattle.std.specs.Prelude.{◌≤◌, List, vec_capacity};
+    ghost use Rattle.std.specs.Prelude.{List, vec_capacity};
     ghost use Rattle.frame_tree.specs.Frames.{TenantTree};
     ghost use Rattle.frame_table.specs.Tables.{IsSoundTable};
 
     ghost Value = { List (TenantTree T) };
 
-    ghost view = { λ t. t.trees.items };
+    ghost view = { λ t. t.trees };
 
-    ghost invariant = { λ t. IsSoundTable t.trees.items (vec_capacity t.removed) t.ready × (64 ≤ vec_capacity t.trees) };
+    ghost invariant = { λ t. IsSoundTable t.trees (vec_capacity t.removed) t.ready };
 }
 
 impl<T: Copy, A: Allocator> FrameTable<T, A> {
@@ -56,12 +55,11 @@ impl<T: Copy, A: Allocator> FrameTable<T, A> {
         ensures frames { IfOk result (λ table. (tenant : ℕ) → frames_of table tenant ≡ []) }
         ensures places { IfOk result (λ table. (tenant : ℕ) → places_of table tenant ≡ 0) }
     {
-        let trees = Vec::with_capacity(alloc.clone()?, TENANTS)?;
+        let trees = NumberedList::new(alloc.clone()?)?;
         let removed = Vec::new(alloc.clone()?);
         Ok(FrameTable {
             alloc,
             trees,
-            index: TenantIndex::new(),
             removed,
             ready: 0,
         })
@@ -79,7 +77,7 @@ impl<T: Copy, A: Allocator> FrameTable<T, A> {
         ensures places { result ≡ places_of self.now tenant }
         ensures none { result ≡ 0 → frames_of self.now tenant ≡ [] }
     {
-        match find_tree(self.trees.as_slice(), &self.index, tenant) {
+        match self.tree(tenant) {
             Some(tree) => tree.places(),
             None => 0,
         }
@@ -89,7 +87,7 @@ impl<T: Copy, A: Allocator> FrameTable<T, A> {
     pub fn frame_count(&self, tenant: u64) -> usize
         ensures { result ≡ length (frames_of self.now tenant) }
     {
-        match find_tree(self.trees.as_slice(), &self.index, tenant) {
+        match self.tree(tenant) {
             Some(tree) => tree.len(),
             None => 0,
         }
@@ -107,7 +105,7 @@ impl<T: Copy, A: Allocator> FrameTable<T, A> {
     pub fn ready_count(&self, tenant: u64) -> usize
         ensures { result ≡ length (ready_frames (frames_of self.now tenant)) }
     {
-        match find_tree(self.trees.as_slice(), &self.index, tenant) {
+        match self.tree(tenant) {
             Some(tree) => tree.ready(),
             None => 0,
         }
@@ -129,7 +127,7 @@ impl<T: Copy, A: Allocator> FrameTable<T, A> {
     pub fn contains(&self, f: FrameId) -> bool
         ensures { IsTrue result ↔ IsTrue (has_frame (frames_of self.now f.tenant) f.serial) }
     {
-        match find_tree(self.trees.as_slice(), &self.index, f.tenant) {
+        match self.tree(f.tenant) {
             Some(tree) => tree.contains(f.serial),
             None => false,
         }
@@ -144,7 +142,7 @@ impl<T: Copy, A: Allocator> FrameTable<T, A> {
         ensures otherwise { AllBelow f.serial (frames_of self.now f.tenant) → IsParentIn (frames_of self.now f.tenant) f.tenant parent
             → length (frames_of self.now f.tenant) < places_of self.now f.tenant → IsTrue result }
     {
-        match find_tree(self.trees.as_slice(), &self.index, f.tenant) {
+        match self.tree(f.tenant) {
             Some(tree) => {
                 may_follow(tree, f.tenant, parent)
                     && tree.len() < tree.places()
@@ -159,11 +157,12 @@ impl<T: Copy, A: Allocator> FrameTable<T, A> {
         requires { IsTrue (has_frame (frames_of self.now f.tenant) f.serial) }
         ensures { result ≡ record { tenant = f.tenant; serial = root_of (path_in (frames_of self.now f.tenant) f.serial) } }
     {
-        let at = known_tenant(self.trees.as_slice(), &self.index, f.tenant);
-        let tree = &self.trees[at];
-        FrameId {
-            tenant: f.tenant,
-            serial: tree.root(f.serial),
+        match self.tree(f.tenant) {
+            Some(tree) => FrameId {
+                tenant: f.tenant,
+                serial: tree.root(f.serial),
+            },
+            None => unreachable!(),
         }
     }
 
@@ -182,18 +181,23 @@ impl<T: Copy, A: Allocator> FrameTable<T, A> {
         }
     }
 
-    /// A tenant's tree, if it stands where the index guesses; None says nothing, as the tree may stand elsewhere.
+    /// A tenant's tree; None where the tenant has no places.
+    fn tree(&self, tenant: u64) -> Option<&TenantFrames<T, A>>
+        ensures found { IfSome result (λ tree. IsTreeOf self.now tenant tree.now) }
+        ensures none { IfNone result (HasNoTree self.now tenant) }
+        ensures some { IfSome result (λ tree. 1 ≤ tree.now.places) }
+    {
+        self.trees.get(tenant)
+    }
+
+    /// A tenant's tree, if it stands where the list guesses; None says nothing, as the tree may stand elsewhere.
     /// `find` and `has_child` inline this and call `search_tree` after None: were the search inlined too, what it
     /// finds would be tested twice.
     #[inline(always)]
     fn guessed_tree(&self, tenant: u64) -> Option<&TenantFrames<T, A>>
         ensures { IfSome result (λ tree. IsTreeOf self.now tenant tree.now) }
     {
-        let trees = self.trees.as_slice();
-        match self.index.guessed(trees, tenant) {
-            Some(at) => Some(&trees[at]),
-            None => None,
-        }
+        self.trees.guessed(tenant)
     }
 
     /// A tenant's tree, searched for where the guess is wrong; None where the tenant has no places.
@@ -203,14 +207,14 @@ impl<T: Copy, A: Allocator> FrameTable<T, A> {
         ensures found { IfSome result (λ tree. IsTreeOf self.now tenant tree.now) }
         ensures none { IfNone result (HasNoTree self.now tenant) }
     {
-        find_tree(self.trees.as_slice(), &self.index, tenant)
+        self.tree(tenant)
     }
 
     /// The names of a frame's children, by rising serial; none where there is no such frame.
     pub fn children(&self, f: FrameId) -> Children<'_, T, A>
         ensures { result ≡ names_of f.tenant (children_of (frames_of self.now f.tenant) f.serial) }
     {
-        Children::of_parent(f, find_tree(self.trees.as_slice(), &self.index, f.tenant))
+        Children::of_parent(f, self.tree(f.tenant))
     }
 
     /// The names of a tenant's frames, by rising serial; none where it has no places.
@@ -218,17 +222,14 @@ impl<T: Copy, A: Allocator> FrameTable<T, A> {
         ensures names { result ≡ names_of tenant (frames_of self.now tenant) }
         ensures tree { IsTree (frames_of self.now tenant) }
     {
-        Frames::of(
-            tenant,
-            find_tree(self.trees.as_slice(), &self.index, tenant),
-        )
+        Frames::of(tenant, self.tree(tenant))
     }
 
     /// A tenant's ready frame of the greatest serial, with its home; `None` where none is ready.
     pub fn newest_ready(&self, tenant: u64) -> Option<(FrameId, u8)>
         ensures { result ≡ newest_ready_of tenant (frames_of self.now tenant) }
     {
-        match find_tree(self.trees.as_slice(), &self.index, tenant) {
+        match self.tree(tenant) {
             Some(tree) => tree.newest_ready(),
             None => None,
         }
@@ -290,11 +291,7 @@ impl<T: Copy, A: Allocator> FrameTable<T, A> {
         self.removed.clear();
         self.removed.reserve(segments)?;
         let tree = TenantFrames::new(alloc, tenant, segments)?;
-        let at = self.index.place_of(self.trees.as_slice(), tenant);
-        if self.trees.insert(at, tree).is_err() {
-            unreachable!()
-        }
-        self.index.guess_anew(self.trees.as_slice());
+        self.trees.insert(tree);
         Ok(())
     }
 
@@ -314,8 +311,7 @@ impl<T: Copy, A: Allocator> FrameTable<T, A> {
         let alloc = self.alloc.clone()?;
         self.removed.clear();
         self.removed.reserve(segments)?;
-        let at = known_tenant(self.trees.as_slice(), &self.index, tenant);
-        let tree = &mut self.trees[at];
+        let tree = self.trees.get_mut(tenant);
         tree.raise(alloc, segments)?;
         Ok(())
     }
@@ -329,9 +325,7 @@ impl<T: Copy, A: Allocator> FrameTable<T, A> {
         ensures kept { KeepsOtherTenants self.old self.new tenant }
         ensures count { tenant_count self.new + 1 ≡ tenant_count self.old }
     {
-        let at = known_tenant(self.trees.as_slice(), &self.index, tenant);
-        self.trees.remove(at);
-        self.index.guess_anew(self.trees.as_slice());
+        self.trees.remove(tenant);
     }
 
     /// Adds a frame under this parent, or as a root, ready at this home (a worker, or 0 for the hall). What `can_add`
@@ -347,9 +341,8 @@ impl<T: Copy, A: Allocator> FrameTable<T, A> {
         ensures others { (serial : ℕ) → serial ≢ f.serial → has_frame (frames_of self.new f.tenant) serial ≡ has_frame (frames_of self.old f.tenant) serial }
         ensures kept { KeepsOtherFrames self.old self.new f.tenant }
     {
-        let at = known_tenant(self.trees.as_slice(), &self.index, f.tenant);
         let above = parent_serial(parent);
-        let tree = &mut self.trees[at];
+        let tree = self.trees.get_mut(f.tenant);
         tree.add(f.serial, above, home, value);
         self.ready += 1;
     }
@@ -361,8 +354,7 @@ impl<T: Copy, A: Allocator> FrameTable<T, A> {
         ensures frames { frames_of self.new f.tenant ≡ with_state f.serial state (frames_of self.old f.tenant) }
         ensures kept { KeepsOtherFrames self.old self.new f.tenant }
     {
-        let at = known_tenant(self.trees.as_slice(), &self.index, f.tenant);
-        let tree = &mut self.trees[at];
+        let tree = self.trees.get_mut(f.tenant);
         let was = tree.set_state(f.serial, state);
         self.ready = recount(self.ready, was, state);
     }
@@ -374,8 +366,7 @@ impl<T: Copy, A: Allocator> FrameTable<T, A> {
         ensures* ends { sem 𝓛 (EndsAborted T.row A.row A.Allocator self.entry f) }
         ensures values { result.now ≡ values_of (frames_under f.serial (frames_of self.old f.tenant)) }
     {
-        let at = known_tenant(self.trees.as_slice(), &self.index, f.tenant);
-        let tree = &mut self.trees[at];
+        let tree = self.trees.get_mut(f.tenant);
         let before = tree.ready();
         self.removed.clear();
         tree.remove_under(f.serial, &mut self.removed);
@@ -390,8 +381,7 @@ impl<T: Copy, A: Allocator> FrameTable<T, A> {
         ensures* ends { sem 𝓛 (EndsEmptied T.row A.row A.Allocator self.entry tenant) }
         ensures values { result.now ≡ values_of (frames_of self.old tenant) }
     {
-        let at = known_tenant(self.trees.as_slice(), &self.index, tenant);
-        let tree = &mut self.trees[at];
+        let tree = self.trees.get_mut(tenant);
         let before = tree.ready();
         self.removed.clear();
         tree.remove_all(&mut self.removed);
@@ -408,8 +398,7 @@ impl<T: Copy, A: Allocator> FrameTable<T, A> {
         ensures value { HasValue (frame_at (frames_of self.old f.tenant) f.serial) result }
         ensures kept { KeepsOtherFrames self.old self.new f.tenant }
     {
-        let at = known_tenant(self.trees.as_slice(), &self.index, f.tenant);
-        let tree = &mut self.trees[at];
+        let tree = self.trees.get_mut(f.tenant);
         let (was, value) = tree.remove(f.serial);
         self.ready = recount(self.ready, was, State::Returned);
         value
@@ -459,38 +448,10 @@ fn recount(ready: usize, was: State, now: State) -> usize
     count
 }
 
-/// A tenant's tree; None where the tenant has no places.
-fn find_tree<'a, T: Copy, A: Allocator>(
-    trees: &'a [TenantFrames<T, A>],
-    index: &TenantIndex,
-    tenant: u64,
-) -> Option<&'a TenantFrames<T, A>>
-    requires { AreRising owner_of_tree trees.now }
-    ensures found { IfSome result (λ tree. IsTreeOf trees.now tenant tree.now) }
-    ensures none { IfNone result (HasNoTree trees.now tenant) }
-{
-    index.find(trees, tenant)
-}
-
-/// The place, among these trees, of the tree of a tenant that has one.
-#[inline(always)]
-fn known_tenant<T: Copy, A: Allocator>(
-    trees: &[TenantFrames<T, A>],
-    index: &TenantIndex,
-    tenant: u64,
-) -> usize
-    requires rise { AreRising owner_of_tree trees.now }
-    requires there { has_tenant trees.now tenant ≡ true }
-    ensures within { result < length trees.now }
-    ensures found { IsTreeAt trees.now tenant result }
-{
-    index.place_of(trees, tenant)
-}
-
 /// Of the first tenant that has a ready frame, the one of the greatest serial, with its home; None where none is
 /// ready.
 fn first_ready<T: Copy, A: Allocator>(trees: &[TenantFrames<T, A>]) -> Option<(FrameId, u8)>
-    requires { AreApartTrees trees.now }
+    requires { AreRising owner_of_tree trees.now }
     ensures value { result ≡ first_ready_of trees.now }
     ensures found { IfSome result (λ ready. IsReadyAt (frame_at (frames_of trees.now ready.0.tenant) ready.0.serial) ready.1) }
 {

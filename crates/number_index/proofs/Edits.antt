@@ -17,9 +17,6 @@ all-at P [] i d all lt = absurd (omega arith)
 all-at P (x ∷ xs) zero d all lt = all.0
 all-at P (x ∷ xs) (suc i) d all lt = all-at P xs i d all.1 (omega arith)
 
-pub all-read : {X : Type 0} (P : X → Type 0) (xs : List X) (i : ℕ) (x : X) → AllByRecursion P xs → i < length xs → x ≡ get_or xs i x → P x
-all-read P xs i x all lt is = subst P (sym is) (all-at P xs i x all lt)
-
 pub all-map : {X : Type 0} (P Q : X → Type 0) → ((x : X) → P x → Q x) → (xs : List X) → AllByRecursion P xs → AllByRecursion Q xs
 all-map P Q more [] all = tt
 all-map P Q more (x ∷ xs) all = (more x all.0, all-map P Q more xs all.1)
@@ -30,11 +27,6 @@ all-of P number_of n x (y ∷ ys) is all = elim (cases_Bool (eqb (number_of y) n
   | inl same ↦ (let here : Some y ≡ Some x = rw same at is in let own : y ≡ x = cc in subst P own all.0)
   | inr other ↦ all-of P number_of n x ys (rw other at is) all.1
 ]
-
-pub all-set : {X : Type 0} (P : X → Type 0) (xs : List X) (i : ℕ) (y : X) → AllByRecursion P xs → P y → AllByRecursion P (set xs i y)
-all-set P [] i y all p = tt
-all-set P (x ∷ xs) zero y all p = (p, all.1)
-all-set P (x ∷ xs) (suc i) y all p = (all.0, all-set P xs i y all.1 p)
 
 pub all-insert : {X : Type 0} (P : X → Type 0) (xs : List X) (i : ℕ) (new : X) → AllByRecursion P xs → P new → AllByRecursion P (insert xs i new)
 all-insert P [] zero new all p = (p, tt)
@@ -125,6 +117,10 @@ place-there number_of n (x ∷ xs) rising there = elim (cases_Bool (eqb (number_
 pub place-found : {X : Type 0} (number_of : X → ℕ) (n : ℕ) (xs : List X) (at : ℕ) → AreRising number_of xs → has_by_number number_of n xs ≡ true → at ≡ count_below number_of n xs → IsAt number_of n xs at
 place-found number_of n xs at rising there is = rw is (place-there number_of n xs rising there)
 
+-- `read` is what was searched
+pub place-read : {X : Type 0} (number_of : X → ℕ) (n : ℕ) (xs read : List X) (at : ℕ) → AreRising number_of xs → has_by_number number_of n xs ≡ true → read ≡ xs → at ≡ count_below number_of n read → IsAt number_of n xs at
+place-read number_of n xs read at rising there same is = place-found number_of n xs at rising there (is ∙ ap (count_below number_of n) same)
+
 pub at-within : {X : Type 0} (number_of : X → ℕ) (n : ℕ) (xs : List X) (i : ℕ) → IsAt number_of n xs i → i < length xs
 at-within number_of n [] i at = absurd at
 at-within number_of n (x ∷ xs) zero at = omega arith
@@ -150,14 +146,25 @@ at-set number_of n change [] i x y at is new = absurd at
 at-set number_of n change (z ∷ zs) zero x y at is new = rw (eq-eqb (number_of z) n at) (ap (λ (w : _). w ∷ zs) (new ∙ ap change is))
 at-set number_of n change (z ∷ zs) (suc i) x y at is new = rw (ne_eqb (number_of z) n at.0) (ap (λ (rest : List _). z ∷ rest) (at-set number_of n change zs i x y at.1 is new))
 
+-- what was found, written anew
+pub put-changed : {X : Type 0} (number_of : X → ℕ) (n : ℕ) (change : X → X) (xs : List X) (x y : X) → find_by_number number_of n xs ≡ Some x → y ≡ change x → change_by_number number_of n (λ was. y) xs ≡ change_by_number number_of n change xs
+put-changed number_of n change [] x y is new = refl
+put-changed number_of n change (z ∷ zs) x y is new = elim (cases_Bool (eqb (number_of z) n)) [
+  | inl same ↦ (let here : Some z ≡ Some x = rw same at is in let own : z ≡ x = cc in rw same (ap (λ (w : _). w ∷ zs) (new ∙ ap change (sym own))))
+  | inr other ↦ rw other (ap (λ (rest : List _). z ∷ rest) (put-changed number_of n change zs x y (rw other at is) new))
+]
+
+-- put back as it was
+pub with-same : {X : Type 0} (number_of : X → ℕ) (n : ℕ) (xs : List X) → change_by_number number_of n (λ x. x) xs ≡ xs
+with-same number_of n [] = refl
+with-same number_of n (x ∷ xs) =
+    elim (cases_Bool (eqb (number_of x) n)) [ inl same ↦ rw same refl | inr other ↦ rw other (ap (λ (rest : List _). x ∷ rest) (with-same number_of n xs)) ]
+
+pub put-same : {X : Type 0} (number_of : X → ℕ) (n : ℕ) (xs : List X) (x : X) → find_by_number number_of n xs ≡ Some x → change_by_number number_of n (λ was. x) xs ≡ xs
+put-same number_of n xs x is = put-changed number_of n (λ y. y) xs x x is refl ∙ with-same number_of n xs
+
 pub at-put : {X : Type 0} (number_of : X → ℕ) (n : ℕ) (xs : List X) (i : ℕ) (y : X) → IsAt number_of n xs i → set xs i y ≡ change_by_number number_of n (λ x. y) xs
 at-put number_of n xs i y at = at-set number_of n (λ x. y) xs i (get_or xs i y) y at (get_or_default xs i y (get_or xs i y) (at-within number_of n xs i at)) refl
-
--- and another of the same number stands there then
-pub at-still : {X : Type 0} (number_of : X → ℕ) (n : ℕ) (xs : List X) (i : ℕ) (y : X) → IsAt number_of n xs i → number_of y ≡ n → IsAt number_of n (set xs i y) i
-at-still number_of n [] i y at own = absurd at
-at-still number_of n (x ∷ xs) zero y at own = own
-at-still number_of n (x ∷ xs) (suc i) y at own = (at.0, at-still number_of n xs i y at.1 own)
 
 pub at-removed : {X : Type 0} (number_of : X → ℕ) (n : ℕ) (xs : List X) (i : ℕ) → IsAt number_of n xs i → remove xs i ≡ remove_by_number number_of n xs
 at-removed number_of n [] i at = absurd at
@@ -171,6 +178,10 @@ place-inserted number_of new (x ∷ xs) =
       | true ↦ ap (λ (rest : List _). x ∷ rest) (place-inserted number_of new xs)
       | false ↦ refl
     ]
+
+pub inserted-read : {X : Type 0} (number_of : X → ℕ) (n : ℕ) (new : X) (xs read : List X) (at : ℕ) → read ≡ xs → n ≡ number_of new → at ≡ count_below number_of n read → (at ≤ length xs) × (insert xs at new ≡ inserted number_of new xs)
+inserted-read number_of n new xs read at same own is =
+    rw (is, own, same) (count_below-le-length number_of (number_of new) xs, place-inserted number_of new xs)
 
 -- one thing changed, to one of the same number
 

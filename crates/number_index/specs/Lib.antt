@@ -1,3 +1,4 @@
 pub mod Guesses
 pub mod Places
 pub mod Rows
+pub mod Lends

@@ -1,10 +1,14 @@
-//! Where things stand in lists that are kept elsewhere, each thing under a number: found by a guess.
+//! Lists of things that each have a number, and where a thing stands there: found by a guess.
 //!
-//! A list of tenants' accounts, ledgers, trees or journals rises by the tenants' numbers. Where tenant n
-//! stands in it, or would stand, is how many of them have a number below n (`count_below` of
-//! `specs/Places.antt`). A [`TenantIndex`] answers that for any such list, whose elements have a number
-//! ([`Numbered`]): it looks first where the number is guessed to stand, and searches by halves where
-//! another's thing stands there. [`TenantIndex::place_of`] answers just that count and
+//! A list of tenants' accounts, ledgers or trees is a [`NumberedList`]: up to 64 things ([`Numbered`]) by rising
+//! number. It stands for the list of its things, and each call that changes it is one equation on that list: the
+//! thing of a number is lent for writing ([`NumberedList::get_mut`]), is put in at its place or taken out. Only
+//! [`NumberedList::new`] takes memory.
+//!
+//! Where the thing of number n stands, or would stand, is how many of them have a number below n
+//! (`count_below` of `specs/Places.antt`). A [`TenantIndex`] answers that for any list that rises by number,
+//! as one of journals, which is kept elsewhere: it looks first where the number is guessed to stand, and
+//! searches by halves where another's thing stands there. [`TenantIndex::place_of`] answers just that count and
 //! [`TenantIndex::find`] just the thing of the number, whatever was guessed. So nothing has to be known
 //! of the guesses, and who changes the list puts them down anew ([`TenantIndex::guess_anew`]), or
 //! leaves it: then more is searched for.
@@ -17,11 +21,12 @@
 //! [`Guesses`] alone is the table of guesses for who compares for himself: where the slots of frames
 //! stand, for one.
 //!
-//! A [`TenantIndex`] stands for a list of 256 guesses, each a byte within it, and takes no memory. A
-//! [`Guesses`] stands for a list of numbers below 2^32, as many as a power of two; only
-//! [`Guesses::new`] takes memory. The guess of a number is what stands at the number's remainder by the
-//! length (`specs/Guesses.antt`), which is its lowest bits: that there are so many guesses is the
-//! invariant of both. Numbers that follow one another, no more than there are guesses, never share one.
+//! That a [`NumberedList`] has memory for 64 things is its invariant. A [`TenantIndex`] stands for a list of
+//! 256 guesses, each a byte within it, and takes no memory. A [`Guesses`] stands for a list of numbers below
+//! 2^32, as many as a power of two; only [`Guesses::new`] takes memory. The guess of a number is what stands
+//! at the number's remainder by the length (`specs/Guesses.antt`), which is its lowest bits: that there are so
+//! many guesses is the invariant of both. Numbers that follow one another, no more than there are guesses,
+//! never share one.
 //!
 //! Why it is so:
 //!
@@ -36,14 +41,22 @@
 //! index.place_of(&tenants, 7) == 1                   // searched for
 //! index.place_of(&tenants, 8) == 2                   // where it would stand
 //! index.find(&tenants, 3) == Some(&(3, 30))
+//!
+//! let mut list = NumberedList::new(alloc)?;
+//! list.insert((7, 70));
+//! list.insert((3, 30));
+//! list.get_mut(7).1 += 1;
+//! list.as_slice() == &[(3, 30), (7, 71)]
 //! ```
 #![tactic(auto)]
 
 mod index;
+mod list;
 mod numbered;
 pub mod rows;
 mod table;
 
 pub use index::TenantIndex;
+pub use list::NumberedList;
 pub use numbered::Numbered;
 pub use table::{Guesses, MOST};

@@ -1,10 +1,10 @@
 -- A tenant is admitted: an account, places and a ledger of its own, after all others, and nothing else.
-use Rattle.std.proofs.Common.{◌≡◌, ◌≢◌, ℕ, suc, ◌+◌, ◌^◌, ◌<◌, ◌≤◌, inl, inr, Bool, false, ◌||◌, eqb, List, [], ◌∷◌, ◌++◌, length, Some, None, refl, ap, sym, ◌∙◌, subst, arith}
+use Rattle.std.proofs.Common.{◌≡◌, ◌≢◌, ℕ, ◌+◌, ◌^◌, ◌<◌, ◌≤◌, inl, inr, Bool, false, ◌||◌, List, [], ◌∷◌, ◌++◌, length, Some, None, refl, ap, sym, ◌∙◌, subst, arith}
 use Rattle.std.proofs.Math.Dec.{ltb, leb}
-use Rattle.std.proofs.lemmas.Bool.{cases_Bool, cases_eq, ne_eqb, eq-eqb, leb-false, ltb-false, or_parts, lt-ltb}
+use Rattle.std.proofs.lemmas.Bool.{cases_eq, ne_eqb, leb-false, ltb-false, or_parts, lt-ltb}
 use Rattle.cactus_stack.specs.Nodes.{Nodes}
 use Rattle.tenant_quota.specs.Quota.{Quota}
-use Rattle.tenant_quota.specs.Accounts.{account_of, fresh, with_new, reserved_segments, reserved_nodes}
+use Rattle.tenant_quota.specs.Accounts.{owner_of_account, account_of, fresh, with_new, reserved_segments, reserved_nodes}
 use Rattle.tenant_quota.specs.Reservations.{Reservations, IsSoundBook, HasRoom, Admits, KeepsOtherAccounts}
 use Rattle.tenant_quota.specs.declared.account.Account.{Account}
 use Rattle.frame_tree.specs.Frames.{Frame, frame_at, AllBelow, TenantTree}
@@ -12,10 +12,13 @@ use Rattle.frame_table.specs.Tables.{frames_of, places_of, tenant_count, KeepsOt
 use Rattle.sched_rules.specs.Trees.{Tenant, admitted_with, charged_for}
 use Rattle.sched_rules.specs.Cores.{CoreState, is_full, reservations_in}
 use Rattle.sched_store.specs.Changes.{with_admitted}
-use Rattle.sched_store.specs.Ledgers.{JobLedger, jobs_of, numbers_of, AreBelow}
+use Rattle.sched_store.specs.Ledgers.{JobLedger, owner_of_ledger, jobs_of, numbers_of, is_there}
 use Rattle.sched_store.specs.Parts.{Parts, with_words_of_nodes, tenant_from, tenants_from, shared_of}
 use Rattle.sched_store.specs.Stored.{IsStored, IsAccountFor, AreFramesNodes, IsFrameNode, numbers_in, AreAtMost, frame_in_trees, node_of}
+use Rattle.number_index.specs.Places.{inserted}
+use Rattle.number_index.proofs.Edits.{said-inserted_own, said-inserted_other}
 use Rattle.sched_store.proofs.Lookups.{reservations-found}
+use Rattle.sched_store.proofs.Numbers.{length-numbers, numbers-inserted, no-ledger}
 
 abbrev Entries : Type 0
 Entries = List (ℕ × Account)
@@ -28,20 +31,8 @@ newer-missing newest number (entry ∷ entries) most newer =
     let differs : entry.0 ≢ number = λ e. omega (arith, e, low, newer) in
     rw (ne_eqb entry.0 number differs) (newer-missing newest number entries most.1 newer)
 
-below-newer : (newest number : ℕ) (entries : Entries) → AreAtMost newest entries → newest < number → AreBelow number (numbers_in entries)
-below-newer newest number [] most newer = tt
-below-newer newest number (entry ∷ entries) most newer = (let low : entry.0 ≤ newest = most.0 in omega (arith, low, newer), below-newer newest number entries most.1 newer)
-
-length-numbers : (entries : Entries) → length (numbers_in entries) ≡ length entries
-length-numbers [] = refl
-length-numbers (entry ∷ entries) = ap suc (length-numbers entries)
-
-length-ledgers : (ledgers : List JobLedger) → length (numbers_of ledgers) ≡ length ledgers
-length-ledgers [] = refl
-length-ledgers (ledger ∷ ledgers) = ap suc (length-ledgers ledgers)
-
 pub many-ledgers : (parts : Parts) → IsStored parts → length parts.ledgers ≡ length parts.book.accounts
-many-ledgers parts stored = sym (length-ledgers parts.ledgers) ∙ ap length stored.ledgers ∙ length-numbers parts.book.accounts
+many-ledgers parts stored = sym (length-numbers owner_of_ledger parts.ledgers) ∙ ap length stored.ledgers ∙ length-numbers owner_of_account parts.book.accounts
 
 -- what a core that isn't full has room for
 pub room-found : (parts : Parts) → IsStored parts → (quota : Quota) → is_full (reservations_in (shared_of parts)) quota ≡ false → HasRoom parts.book quota
@@ -65,7 +56,7 @@ pub record CanBeAdmitted (parts : Parts) (number : ℕ) (quota : Quota) : Type 0
   pub no_places : places_of parts.trees number ≡ 0
   pub few_trees : tenant_count parts.trees < 64
   pub few_ledgers : length parts.ledgers < 64
-  pub below : AreBelow number (numbers_of parts.ledgers)
+  pub no_ledger : is_there number parts.ledgers ≡ false
   pub room : HasRoom parts.book quota
 
 pub can-be-admitted : (parts : Parts) (number : ℕ) (quota : Quota) {core : CoreState} → IsStored parts → shared_of parts ≡ core → core.newest < number → is_full (reservations_in core) quota ≡ false → CanBeAdmitted parts number quota
@@ -82,7 +73,7 @@ can-be-admitted parts number quota stored is above not_full =
       no_places = stored.nobody number none;
       few_trees = omega (arith, few, trees);
       few_ledgers = omega (arith, few, ledgers);
-      below = subst (λ (ns : List ℕ). AreBelow number ns) (sym stored.ledgers) (below-newer parts.newest number parts.book.accounts stored.taken newer);
+      no_ledger = no-ledger number parts.ledgers parts.book.accounts stored.ledgers none;
       room = room;
     }
 
@@ -101,7 +92,7 @@ pub record IsAdmitted (parts : Parts) (trees : List (TenantTree ℕ)) (ledger : 
 
 -- the parts after it
 abbrev pub with_one_more : Parts → List (TenantTree ℕ) → JobLedger → Reservations → ℕ → Parts
-with_one_more parts trees ledger book number = record parts { trees = trees; ledgers = parts.ledgers ++ ledger ∷ []; book = book; newest = number }
+with_one_more parts trees ledger book number = record parts { trees = trees; ledgers = inserted owner_of_ledger ledger parts.ledgers; book = book; newest = number }
 
 -- a new account that is above all stands last
 new-last : (newest number : ℕ) (account : Account) (entries : Entries) → AreAtMost newest entries → newest < number → with_new number account entries ≡ entries ++ (number, account) ∷ []
@@ -132,14 +123,6 @@ same-belongs nodes trees after same belong = record {
   where
     found : (owner serial : ℕ) → frame_in_trees after owner serial ≡ frame_in_trees trees owner serial
     found owner serial = ap (λ (xs : List (Frame ℕ)). frame_at xs serial) (same owner)
-
-numbers-pushed : (entries : Entries) (entry : ℕ × Account) → numbers_in (entries ++ entry ∷ []) ≡ numbers_in entries ++ entry.0 ∷ []
-numbers-pushed [] entry = refl
-numbers-pushed (first ∷ entries) entry = ap (λ (ns : List ℕ). first.0 ∷ ns) (numbers-pushed entries entry)
-
-ledgers-pushed : (ledgers : List JobLedger) (ledger : JobLedger) → numbers_of (ledgers ++ ledger ∷ []) ≡ numbers_of ledgers ++ ledger.0 ∷ []
-ledgers-pushed [] ledger = refl
-ledgers-pushed (first ∷ ledgers) ledger = ap (λ (ns : List ℕ). first.0 ∷ ns) (ledgers-pushed ledgers ledger)
 
 most-pushed : (newest number : ℕ) (entries : Entries) (account : Account) → AreAtMost newest entries → newest < number → AreAtMost number (entries ++ (number, account) ∷ [])
 most-pushed newest number [] account most newer = (omega arith, tt)
@@ -174,7 +157,7 @@ admit-stored parts trees ledger book number quota stored is =
       tenants = omega (arith, tenants, more, longer);
       charges = stored.charges ∙ sym is.admits.charged;
       segments = stored.segments ∙ sym is.others.segments;
-      ledgers = ledgers-pushed parts.ledgers ledger ∙ ap (λ (n : ℕ). numbers_of parts.ledgers ++ n ∷ []) (ap (λ (l : JobLedger). l.0) is.ledger_is) ∙ ap (λ (ns : List ℕ). ns ++ number ∷ []) stored.ledgers ∙ sym (ap numbers_in accounts ∙ numbers-pushed parts.book.accounts (number, fresh quota));
+      ledgers = numbers-inserted owner_of_ledger ledger parts.ledgers ∙ ap (λ (l : JobLedger). inserted (λ k. k) l.0 (numbers_of parts.ledgers)) is.ledger_is ∙ ap (inserted (λ k. k) number) stored.ledgers ∙ sym (ap (λ (b : Reservations). numbers_in b.accounts) is.admits.whole ∙ numbers-inserted owner_of_account (number, fresh quota) parts.book.accounts);
       workers = stored.workers;
       places = λ worker owner serial frame at held. stored.places worker owner serial frame (sym (ap (λ (xs : List (Frame ℕ)). frame_at xs serial) (frames owner)) ∙ at) held;
       taken = rw accounts (most-pushed parts.newest number parts.book.accounts (fresh quota) stored.taken is.newer);
@@ -198,21 +181,6 @@ admit-stored parts trees ledger book number quota stored is =
           serials = subst (λ (xs : List (Frame ℕ)). AllBelow (a.opened + 1) xs) (sym frames) was.serials;
         }
 
-jobs-other : (ledgers : List JobLedger) (ledger : JobLedger) (other : ℕ) → ledger.0 ≢ other → jobs_of (ledgers ++ ledger ∷ []) other ≡ jobs_of ledgers other
-jobs-other [] ledger other differs = rw (ne_eqb ledger.0 other differs) refl
-jobs-other (first ∷ ledgers) ledger other differs =
-    elim (cases_Bool (eqb first.0 other)) [
-      | inl same ↦ rw same refl
-      | inr further ↦ rw further (jobs-other ledgers ledger other differs)
-    ]
-
-jobs-own : (ledgers : List JobLedger) (ledger : JobLedger) → AreBelow ledger.0 (numbers_of ledgers) → jobs_of (ledgers ++ ledger ∷ []) ledger.0 ≡ ledger.1
-jobs-own [] ledger below = rw (eq-eqb ledger.0 ledger.0 refl) refl
-jobs-own (first ∷ ledgers) ledger below =
-    let low : first.0 < ledger.0 = below.0 in
-    let differs : first.0 ≢ ledger.0 = λ e. omega (arith, e, low) in
-    rw (ne_eqb first.0 ledger.0 differs) (jobs-own ledgers ledger below.1)
-
 tenants-pushed : (parts after : Parts) (newest number : ℕ) (account : Account) (entries : Entries) → AreAtMost newest entries → newest < number →
     ((other : ℕ) (a : Account) → other ≢ number → tenant_from after other a ≡ tenant_from parts other a) →
     tenants_from after (entries ++ (number, account) ∷ []) ≡ tenants_from parts entries ++ (number, tenant_from after number account) ∷ []
@@ -231,9 +199,9 @@ admit-shared parts trees ledger book number quota stored is =
     let first : ledger.0 ≡ number = ap (λ (l : JobLedger). l.0) is.ledger_is in
     let none : ledger.1 ≡ [] = ap (λ (l : JobLedger). l.1) is.ledger_is in
     let others : (other : ℕ) (a : Account) → other ≢ number → tenant_from after other a ≡ tenant_from parts other a =
-    λ other a differs. rw (jobs-other parts.ledgers ledger other (λ e. differs (sym e ∙ first)), frames other) refl in
-    let below : AreBelow ledger.0 (numbers_of parts.ledgers) = subst (λ (n : ℕ). AreBelow n (numbers_of parts.ledgers)) (sym first) (subst (λ (ns : List ℕ). AreBelow number ns) (sym stored.ledgers) (below-newer parts.newest number parts.book.accounts stored.taken is.newer)) in
-    let jobs : jobs_of (parts.ledgers ++ ledger ∷ []) number ≡ [] = ap (jobs_of (parts.ledgers ++ ledger ∷ [])) (sym first) ∙ jobs-own parts.ledgers ledger below ∙ none in
+    λ other a differs. rw (said-inserted_other owner_of_ledger (λ (l : JobLedger). l.1) [] other ledger parts.ledgers (λ e. differs (sym e ∙ first)), frames other) refl in
+    let missing = no-ledger number parts.ledgers parts.book.accounts stored.ledgers (newer-missing parts.newest number parts.book.accounts stored.taken is.newer) in
+    let jobs : jobs_of (inserted owner_of_ledger ledger parts.ledgers) number ≡ [] = ap (jobs_of (inserted owner_of_ledger ledger parts.ledgers)) (sym first) ∙ said-inserted_own owner_of_ledger (λ (l : JobLedger). l.1) [] ledger parts.ledgers (ap (λ (n : ℕ). is_there n parts.ledgers) first ∙ missing) ∙ none in
     let mine : tenant_from after number (fresh quota) ≡ admitted_with quota = rw (jobs, is.frames) refl in
     let tenants = tenants-pushed parts after parts.newest number (fresh quota) parts.book.accounts stored.taken is.newer others ∙ ap (λ (t : Tenant). tenants_from parts parts.book.accounts ++ (number, t) ∷ []) mine in
     let whole = ap (tenants_from after) (accounts-after parts trees ledger book number quota stored is) ∙ tenants in

@@ -1,5 +1,5 @@
 -- A tenant leaves: its frames go with their nodes, its places, its jobs and its account, and nothing of any other tenant.
-use Rattle.std.proofs.Common.{◌≡◌, ◌≢◌, ℕ, ◌+◌, ◌<◌, ◌≤◌, inl, inr, Bool, true, false, eqb, List, [], ◌∷◌, length, Some, refl, ap, sym, ◌∙◌, subst, arith}
+use Rattle.std.proofs.Common.{◌≡◌, ◌≢◌, ℕ, ◌+◌, ◌<◌, ◌≤◌, inl, inr, Bool, false, eqb, List, [], ◌∷◌, length, Some, refl, ap, sym, ◌∙◌, subst, arith}
 use Rattle.std.specs.List.{filter}
 use Rattle.std.proofs.lemmas.Bool.{cases_Bool, cases_eq, ne_eqb, eqb-true, eqb-false}
 use Rattle.cactus_stack.specs.Nodes.{Nodes, without, total_charge}
@@ -16,6 +16,8 @@ use Rattle.number_index.proofs.Edits.{said-without_other, all-without}
 use Rattle.sched_store.specs.Ledgers.{JobLedger, owner_of_ledger, jobs_of, numbers_of, without_ledger}
 use Rattle.sched_store.specs.Parts.{Parts, with_words_of_nodes, tenant_from, tenants_from, shared_of}
 use Rattle.sched_store.specs.Stored.{IsStored, IsAccountFor, numbers_in, AreAtMost}
+use Rattle.number_index.specs.Places.{remove_by_number}
+use Rattle.sched_store.proofs.Numbers.{numbers-without}
 use Rattle.sched_store.proofs.Cut.{IsCut, closed, closing, cut-belongs, cut-sized, cut-places, cut-words, cut-trees}
 use Rattle.sched_store.proofs.Closing.{TakesChildren, closing-open, closing-once, closing-children, cut-frees}
 use Rattle.sched_store.proofs.Removing.{length-without}
@@ -71,18 +73,6 @@ pub record IsDeparture (parts : Parts) (nodes : Nodes) (trees : List (TenantTree
 -- the parts after it
 abbrev pub departed : Parts → Nodes → List (TenantTree ℕ) → List JobLedger → Reservations → Parts
 departed parts nodes trees ledgers book = record parts { nodes = nodes; trees = trees; ledgers = ledgers; book = book }
-
-numbers-without : (number : ℕ) (ledgers : List JobLedger) (entries : List (ℕ × Account)) → numbers_of ledgers ≡ numbers_in entries → numbers_of (without_ledger number ledgers) ≡ numbers_in (without_account number entries)
-numbers-without number [] [] same = refl
-numbers-without number [] (entry ∷ entries) same = absurd cc
-numbers-without number (ledger ∷ ledgers) [] same = absurd cc
-numbers-without number (ledger ∷ ledgers) (entry ∷ entries) same =
-    let first : ledger.0 ≡ entry.0 = cc in
-    let rest : numbers_of ledgers ≡ numbers_in entries = cc in
-    elim (cases_Bool (eqb entry.0 number)) [
-      | inl is ↦ (let this : eqb ledger.0 number ≡ true = ap (λ (n : ℕ). eqb n number) first ∙ is in rw (is, this) rest)
-      | inr other ↦ (let this : eqb ledger.0 number ≡ false = ap (λ (n : ℕ). eqb n number) first ∙ other in rw (other, this) (let more = numbers-without number ledgers entries rest in cc))
-    ]
 
 most-without : (most number : ℕ) (entries : List (ℕ × Account)) → AreAtMost most entries → AreAtMost most (without_account number entries)
 most-without most number entries all = all-without (λ (e : ℕ × Account). e.0 ≤ most) owner_of_account number entries all
@@ -150,7 +140,7 @@ leave-stored parts nodes trees ledgers book number numbers account stored is =
       tenants = omega (arith, tenants, fewer, left);
       charges = leave-charges parts nodes trees ledgers book number numbers account stored is;
       segments = ap length (sym same) ∙ length-without parts.nodes (closing parts.trees number none_stays) ∙ stored.segments ∙ sym is.others.segments;
-      ledgers = ap numbers_of is.jobs ∙ numbers-without number parts.ledgers parts.book.accounts stored.ledgers ∙ sym (ap (λ (b : Reservations). numbers_in b.accounts) is.released.whole);
+      ledgers = ap numbers_of is.jobs ∙ (numbers-without owner_of_ledger number parts.ledgers ∙ ap (remove_by_number (λ k. k) number) stored.ledgers) ∙ sym (ap (λ (b : Reservations). numbers_in b.accounts) is.released.whole ∙ numbers-without owner_of_account number parts.book.accounts);
       workers = stored.workers;
       places = cut-places parts.nodes parts.trees trees parts.places number none_stays stored.frames_nodes cut stored.places;
       taken = subst (λ (b : Reservations). AreAtMost parts.newest b.accounts) (sym is.released.whole) (most-without parts.newest number parts.book.accounts stored.taken);

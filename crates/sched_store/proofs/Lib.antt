@@ -3,6 +3,7 @@ pub mod Lookups
 pub mod Frames
 pub mod Jobs
 pub mod LedgerPlaces
+pub mod Numbers
 pub mod Steps
 pub mod Tenants
 pub mod Holders

@@ -17,11 +17,13 @@ use Rattle.sched_rules.specs.Trees.{Tenant, Tree, charged_for, account_in, job_a
 use Rattle.sched_rules.specs.Cores.{tenant_in, accounts_in, charged_in, reservations_in}
 use Rattle.sched_rules.specs.Headline.{AreNumbersTaken, AreNumbersGiven}
 use Rattle.sched_rules.specs.Views.{left_in_core, job_of, named, free_in}
-use Rattle.sched_store.specs.Ledgers.{JobLedger, jobs_of, numbers_of}
+use Rattle.sched_store.specs.Ledgers.{JobLedger, owner_of_ledger, jobs_of}
 use Rattle.sched_store.specs.Parts.{Parts, with_words_of_nodes, tenant_from, tenants_from, shared_of}
 use Rattle.sched_store.specs.Reads.{tree_of, jobs_kept, frames_in_core, jobs_in, AreAfter, AreTenantsRising}
-use Rattle.sched_store.specs.Stored.{IsStored, frame_in_trees, numbers_in, AreAtMost}
+use Rattle.sched_store.specs.Stored.{IsStored, frame_in_trees, AreAtMost}
+use Rattle.number_index.proofs.Edits.{said-lacks}
 use Rattle.sched_store.proofs.Entries.{each-entry}
+use Rattle.sched_store.proofs.Numbers.{no-ledger}
 
 abbrev Entries : Type 0
 Entries = List (ℕ × Account)
@@ -69,22 +71,11 @@ named-found parts stored name =
 
 -- its jobs are those of its ledger
 
-no-jobs : (number : ℕ) (ledgers : List JobLedger) (entries : Entries) → numbers_of ledgers ≡ numbers_in entries → account_of number entries ≡ None → jobs_of ledgers number ≡ []
-no-jobs number [] entries same none = refl
-no-jobs number (ledger ∷ ledgers) [] same none = absurd (cc same)
-no-jobs number (ledger ∷ ledgers) (entry ∷ entries) same none =
-    let first : ledger.0 ≡ entry.0 = cc same in
-    let rest : numbers_of ledgers ≡ numbers_in entries = cc same in
-    elim (cases_Bool (eqb entry.0 number)) [
-      | inl is ↦ (let there : Some entry.1 ≡ None = rw is at none in absurd (cc there))
-      | inr other ↦ rw (first, other) (no-jobs number ledgers entries rest (rw other at none))
-    ]
-
 pub jobs-found : (parts : Parts) → IsStored parts → (number : ℕ) → jobs_in (shared_of parts) number ≡ jobs_of parts.ledgers number
 jobs-found parts stored number = ap jobs_kept (tenant-found parts number) ∙ by (account_of number parts.book.accounts) refl
   where
     by : (account : Option Account) → account_of number parts.book.accounts ≡ account → jobs_kept (option_map (tenant_from parts number) account) ≡ jobs_of parts.ledgers number
-    by None is = sym (no-jobs number parts.ledgers parts.book.accounts stored.ledgers is)
+    by None is = sym (said-lacks owner_of_ledger (λ (l : JobLedger). l.1) [] number parts.ledgers (no-ledger number parts.ledgers parts.book.accounts stored.ledgers is))
     by (Some account) is = refl
 
 -- its account is the book's

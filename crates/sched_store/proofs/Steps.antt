@@ -2,7 +2,7 @@
 use Rattle.std.proofs.Common.{◌≡◌, ◌≢◌, ℕ, ◌<◌, ◌≤◌, eqb, List, [], ◌∷◌, length, Some, None, option_map, refl, ap, sym, ◌∙◌, arith, inl, inr}
 use Rattle.std.proofs.lemmas.Bool.{cases_Bool, cases_eq, eqb-true, eqb-false}
 use Rattle.cactus_stack.specs.Nodes.{total_charge}
-use Rattle.number_index.proofs.Edits.{said-with_own, said-with_other, length-with, all-with}
+use Rattle.number_index.proofs.Edits.{with-same, said-with_own, said-with_other, length-with, all-with}
 use Rattle.tenant_quota.specs.Accounts.{owner_of_account, account_of, with_changed, charged_segments, AllEntries, IsRising}
 use Rattle.tenant_quota.specs.Reservations.{Reservations, changed, IsSoundBook}
 use Rattle.tenant_quota.specs.declared.account.Account.{Account}
@@ -12,6 +12,7 @@ use Rattle.sched_rules.specs.Trees.{Tenant}
 use Rattle.sched_rules.specs.Cores.{CoreState}
 use Rattle.sched_rules.specs.Changes.{with_change, on_tenant}
 use Rattle.sched_store.specs.Ledgers.{jobs_of, numbers_of}
+use Rattle.sched_store.proofs.Numbers.{numbers-with}
 use Rattle.sched_store.specs.Parts.{Parts, with_words_of_nodes, tenant_from, tenants_from, shared_of}
 use Rattle.sched_store.specs.Stored.{IsStored, IsAccountFor, AreFramesNodes, AreSized, ArePlaces, numbers_in, AreAtMost}
 
@@ -28,14 +29,6 @@ account-changed_other : (m n : ℕ) (f : Account → Account) (entries : Entries
 account-changed_other m n f entries differs =
     said-with_other owner_of_account (λ e. Some e.1) None m n (λ (e : ℕ × Account). (e.0, f e.1)) entries (λ e. differs (sym e)) (λ e own. own)
 
-numbers-changed : (n : ℕ) (f : Account → Account) (entries : Entries) → numbers_in (with_changed n f entries) ≡ numbers_in entries
-numbers-changed n f [] = refl
-numbers-changed n f (entry ∷ entries) =
-    elim (cases_Bool (eqb entry.0 n)) [
-      | inl same ↦ rw same refl
-      | inr other ↦ rw other (ap (λ (rest : List ℕ). entry.0 ∷ rest) (numbers-changed n f entries))
-    ]
-
 length-changed : (n : ℕ) (f : Account → Account) (entries : Entries) → length (with_changed n f entries) ≡ length entries
 length-changed n f entries = length-with owner_of_account n (λ (e : ℕ × Account). (e.0, f e.1)) entries
 
@@ -43,12 +36,7 @@ most-changed : (most n : ℕ) (f : Account → Account) (entries : Entries) → 
 most-changed most n f entries all = all-with (λ (e : ℕ × Account). e.0 ≤ most) owner_of_account n (λ (e : ℕ × Account). (e.0, f e.1)) entries all (λ e le is. le)
 
 pub changed-same : (n : ℕ) (entries : Entries) → with_changed n (λ a. a) entries ≡ entries
-changed-same n [] = refl
-changed-same n (entry ∷ entries) =
-    elim (cases_Bool (eqb entry.0 n)) [
-      | inl same ↦ rw same refl
-      | inr other ↦ rw other (ap (λ (rest : Entries). entry ∷ rest) (changed-same n entries))
-    ]
+changed-same n entries = with-same owner_of_account n entries
 
 -- a table that keeps all places
 pub other-tenants : {old new : List (TenantTree ℕ)} {number : ℕ} → KeepsOtherFrames old new number → KeepsOtherTenants old new number
@@ -120,7 +108,7 @@ step-stored old new number f account stored step =
       tenants = step.count ∙ stored.tenants ∙ sym (ap (λ (book : Reservations). length book.accounts) step.book ∙ length-changed number f old.book.accounts);
       charges = step.charges;
       segments = step.segments ∙ stored.segments ∙ sym (ap (λ (book : Reservations). book.segments) step.book);
-      ledgers = step.ledgers ∙ stored.ledgers ∙ sym (ap (λ (book : Reservations). numbers_in book.accounts) step.book ∙ numbers-changed number f old.book.accounts);
+      ledgers = step.ledgers ∙ stored.ledgers ∙ sym (ap (λ (book : Reservations). numbers_in book.accounts) step.book ∙ numbers-with owner_of_account number (λ (e : ℕ × Account). (e.0, f e.1)) old.book.accounts (λ e. refl));
       workers = step.workers;
       places = step.places;
       taken = rw (step.newest, step.book) (most-changed old.newest number f old.book.accounts stored.taken);

@@ -1,6 +1,6 @@
 -- Steps that are counted, and jobs that begin and end: no frame changes.
-use Rattle.std.proofs.Common.{◌≡◌, ◌≢◌, ℕ, true, false, eqb, List, [], ◌∷◌, Option, Some, None, IsSome, IsSomeAnd, option_map, refl, ap, sym, subst, ◌∙◌, inl, inr}
-use Rattle.std.proofs.lemmas.Bool.{cases_Bool, false≢true}
+use Rattle.std.proofs.Common.{◌≡◌, ◌≢◌, ℕ, true, List, [], Option, Some, None, IsSome, IsSomeAnd, option_map, refl, ap, sym, subst, ◌∙◌}
+use Rattle.std.proofs.lemmas.Bool.{false≢true}
 use Rattle.tenant_quota.specs.Accounts.{account_of, ticked, charged_segments, left_in}
 use Rattle.tenant_quota.specs.declared.account.Account.{Account}
 use Rattle.tenant_quota.specs.declared.account.Left.{Left}
@@ -15,9 +15,9 @@ use Rattle.tenant_quota.proofs.Standing.{some_of}
 use Rattle.number_index.proofs.Edits.{said-with_own, said-with_other}
 use Rattle.sched_store.specs.Ledgers.{JobLedger, owner_of_ledger, jobs_of, numbers_of, is_there, with_jobs}
 use Rattle.sched_store.specs.Parts.{Parts, shared_of}
-use Rattle.sched_store.specs.Stored.{IsStored, IsAccountFor, numbers_in}
+use Rattle.sched_store.specs.Stored.{IsStored, IsAccountFor}
 use Rattle.sched_store.proofs.Lookups.{tenant-there, left-found}
-use Rattle.sched_store.proofs.LedgerPlaces.{numbers-with_jobs}
+use Rattle.sched_store.proofs.Numbers.{numbers-with, ledger-there}
 use Rattle.sched_store.proofs.Steps.{TenantStep, changed-same, step-stored, step-shared}
 
 -- the account of a tenant that is there
@@ -96,18 +96,6 @@ jobs-with_jobs n change ledgers there =
 jobs_other-with_jobs : (n m : ℕ) (change : List Job → List Job) (ledgers : List JobLedger) → m ≢ n → jobs_of (with_jobs n change ledgers) m ≡ jobs_of ledgers m
 jobs_other-with_jobs n m change ledgers differs = said-with_other owner_of_ledger (λ (l : JobLedger). l.1) [] m n (λ (l : JobLedger). (l.0, change l.1)) ledgers (λ e. differs (sym e)) (λ l own. own)
 
-pub ledger-there : (n : ℕ) (ledgers : List JobLedger) (entries : List (ℕ × Account)) (a : Account) → numbers_of ledgers ≡ numbers_in entries → account_of n entries ≡ Some a → is_there n ledgers ≡ true
-ledger-there n [] [] a same there = absurd (cc there)
-ledger-there n [] (entry ∷ entries) a same there = absurd (cc same)
-ledger-there n (ledger ∷ ledgers) [] a same there = absurd (cc there)
-ledger-there n (ledger ∷ ledgers) (entry ∷ entries) a same there =
-    let first : ledger.0 ≡ entry.0 = cc same in
-    let rest : numbers_of ledgers ≡ numbers_in entries = cc same in
-    elim (cases_Bool (eqb entry.0 n)) [
-      | inl is ↦ rw (first, is) refl
-      | inr other ↦ rw (first, other) (ledger-there n ledgers entries a rest (rw other at there))
-    ]
-
 -- the tenant with its jobs changed so
 abbrev pub jobs_changed : (List Job → List Job) → Tenant → Tenant
 jobs_changed change tenant = record tenant { jobs = change tenant.jobs }
@@ -115,7 +103,7 @@ jobs_changed change tenant = record tenant { jobs = change tenant.jobs }
 jobs-step : (old : Parts) (number : ℕ) (account : Account) (change : List Job → List Job) → IsStored old → account_of number old.book.accounts ≡ Some account → TenantStep old (record old { ledgers = with_jobs number change old.ledgers }) number (λ a. a) account
 jobs-step old number account change stored there =
     steady-step old old.book (with_jobs number change old.ledgers) number (λ a. a) account stored there stored.book (ap (λ (entries : List (ℕ × Account)). at_entries entries) (sym (changed-same number old.book.accounts))) refl
-    (stored.accounts number account there) (numbers-with_jobs number change old.ledgers) (λ other differs. jobs_other-with_jobs number other change old.ledgers differs)
+    (stored.accounts number account there) (numbers-with owner_of_ledger number (λ (l : JobLedger). (l.0, change l.1)) old.ledgers (λ l. refl)) (λ other differs. jobs_other-with_jobs number other change old.ledgers differs)
   where
     at_entries : List (ℕ × Account) → Reservations
     at_entries entries = record old.book { accounts = entries }

@@ -1,5 +1,5 @@
 -- Representation: the jobs of each tenant: a list of tenants, each with its jobs, in the order of their numbers.
-use Rattle.std.specs.Prelude.{◌≡◌, ℕ, ◌<◌, Bool, true, false, ◌||◌, List, [], ◌∷◌}
+use Rattle.std.specs.Prelude.{◌≡◌, ℕ, Bool, true, false, ◌||◌, List, [], ◌∷◌}
 use Rattle.number_index.specs.Places.{read_by_number, has_by_number, change_by_number, remove_by_number}
 use Rattle.sched_rules.specs.declared.job.Job.{Job}
 use Rattle.sched_rules.specs.declared.job.Job.TheVariants.{Live, Done, Spent, Cancelled}
@@ -17,19 +17,18 @@ owner_of_ledger ledger = ledger.0
 abbrev pub jobs_of : List JobLedger → ℕ → List Job
 jobs_of ledgers number = read_by_number owner_of_ledger (λ ledger. ledger.1) [] number ledgers
 
+-- the numbers of things, in their order
+abbrev pub numbers_by : {X : Type 0} → (X → ℕ) → List X → List ℕ
+numbers_by number_of [] = []
+numbers_by number_of (x ∷ xs) = number_of x ∷ numbers_by number_of xs
+
 -- the tenants' numbers
 abbrev pub numbers_of : List JobLedger → List ℕ
-numbers_of [] = []
-numbers_of (ledger ∷ ledgers) = ledger.0 ∷ numbers_of ledgers
+numbers_of ledgers = numbers_by owner_of_ledger ledgers
 
 -- whether the tenant of this number is there
 abbrev pub is_there : ℕ → List JobLedger → Bool
 is_there number ledgers = has_by_number owner_of_ledger number ledgers
-
--- each of these numbers is below this one
-abbrev pub AreBelow : ℕ → List ℕ → Type 0
-AreBelow number [] = Unit {0}
-AreBelow number (first ∷ numbers) = (first < number) × AreBelow number numbers
 
 -- whether a job lives
 abbrev pub is_live : Job → Bool

@@ -1,15 +1,15 @@
 -- Representation: what a store keeps true of its parts.
-use Rattle.std.specs.Prelude.{◌≡◌, ℕ, ◌+◌, ◌^◌, ◌≤◌, true, List, [], ◌∷◌, length, Option, Some, None, slice_index_or}
+use Rattle.std.specs.Prelude.{◌≡◌, ℕ, ◌+◌, ◌^◌, ◌≤◌, true, List, [], length, Option, Some, None, slice_index_or}
 use Rattle.std.specs.List.{AllByRecursion}
 use Rattle.cactus_stack.specs.Nodes.{Nodes, IsOpen, node_words, node_parent, total_charge}
-use Rattle.tenant_quota.specs.Accounts.{account_of, charged_segments}
+use Rattle.tenant_quota.specs.Accounts.{owner_of_account, account_of, charged_segments}
 use Rattle.tenant_quota.specs.declared.account.Account.{Account}
 use Rattle.tenant_quota.specs.Reservations.{IsSoundBook}
 use Rattle.frame_tree.specs.declared.names.FrameId.{FrameId}
 use Rattle.frame_tree.specs.Frames.{Frame, frame_at, parent_of, AllBelow, IsTree, TenantTree}
 use Rattle.frame_table.specs.Tables.{frames_of, places_of, tenant_count}
 use Rattle.sched_rules.specs.Trees.{charged_for, is_held_by}
-use Rattle.sched_store.specs.Ledgers.{numbers_of}
+use Rattle.sched_store.specs.Ledgers.{numbers_of, numbers_by}
 use Rattle.sched_store.specs.Parts.{Parts, with_words_of_nodes}
 
 -- the frame of this serial in the tree of the tenant of this number, if there is one
@@ -62,8 +62,7 @@ ArePlaces trees places = (worker number serial : ℕ) (frame : Frame ℕ) → fr
 
 -- the tenants' numbers, in the order of their accounts
 abbrev pub numbers_in : List (ℕ × Account) → List ℕ
-numbers_in [] = []
-numbers_in (entry ∷ entries) = entry.0 ∷ numbers_in entries
+numbers_in entries = numbers_by owner_of_account entries
 
 -- each account's number is at most this
 abbrev pub AreAtMost : ℕ → List (ℕ × Account) → Type 0

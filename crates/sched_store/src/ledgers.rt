@@ -1,10 +1,11 @@
 //! The jobs of all tenants.
 ghost use Rattle.std.specs.Prelude.{◌≡◌, ◌+◌, ◌<◌, ◌≤◌, ℕ, List, [], ◌∷◌, ◌++◌, true, false, length, IfOk, IfSome, IfNone, option_copied};
+ghost use Rattle.number_index.specs.Places.{inserted};
 ghost use Rattle.sched_rules.specs.Trees.{job_at, job_under, with_ended};
-ghost use Rattle.sched_store.specs.Ledgers.{jobs_of, numbers_of, AreBelow, with_jobs, without_ledger, is_there, is_live};
+ghost use Rattle.sched_store.specs.Ledgers.{owner_of_ledger, jobs_of, with_jobs, without_ledger, is_there, is_live};
 
 use crate::ledger::Ledger;
-use number_index::TenantIndex;
+use number_index::NumberedList;
 use sched_rules::Job;
 use std::alloc::{AllocError, Allocator, Global};
 use std::marker::Model;
@@ -15,23 +16,21 @@ const TENANTS: usize = 64;
 /// The ledgers of all tenants, by rising number. Memory for 64 was taken when it was made.
 #[derive(Drop)]
 pub(crate) struct Ledgers<A: Allocator = Global> {
-    all: Vec<Ledger<A>, A>,
-    index: TenantIndex,
+    all: NumberedList<Ledger<A>, A>,
 }
 
 // Clauses see the list of numbers and jobs.
 impl<A: Allocator> Model for Ledgers<A> {
-    ghost use Rattle.std.specs.Prelude.{ℕ, ◌≤◌, List, length};
-    ghost use Rattle.std.specs.Vec.{vec_capacity};
+    ghost use Rattle.std.specs.Prelude.{ℕ, List};
     ghost use Rattle.sched_rules.specs.declared.job.Job.{Job as JobOf};
     ghost use Rattle.number_index.specs.Places.{AreRising};
     ghost use Rattle.sched_store.specs.Ledgers.{owner_of_ledger};
 
     ghost Value = { List (ℕ × List JobOf) };
 
-    ghost view = { λ l. l.all.items };
+    ghost view = { λ l. l.all };
 
-    ghost invariant = { λ l. (64 ≤ vec_capacity l.all) × AreRising owner_of_ledger l.all.items };
+    ghost invariant = { λ l. AreRising owner_of_ledger l.all };
 }
 
 impl<A: Allocator> Ledgers<A> {
@@ -39,21 +38,18 @@ impl<A: Allocator> Ledgers<A> {
     pub(crate) fn new(alloc: A) -> Result<Ledgers<A>, AllocError>
         ensures { IfOk result (λ ledgers. ledgers ≡ []) }
     {
-        let all = Vec::with_capacity(alloc, TENANTS)?;
         Ok(Ledgers {
-            all,
-            index: TenantIndex::new(),
+            all: NumberedList::new(alloc)?,
         })
     }
 
-    /// Adds the ledger of a tenant whose number is above all that are there.
+    /// Adds the ledger of a tenant that isn't there.
     pub(crate) fn add(&mut self, ledger: Ledger<A>)
         requires room { length self.old < TENANTS }
-        requires above { AreBelow ledger.0 (numbers_of self.old) }
-        ensures { self.new ≡ self.old ++ ledger ∷ [] }
+        requires fresh { is_there ledger.0 self.old ≡ false }
+        ensures { self.new ≡ inserted owner_of_ledger ledger self.old }
     {
-        self.all.push_reserved(ledger);
-        self.index.guess_anew(self.all.as_slice());
+        self.all.insert(ledger);
     }
 
     /// Removes the ledger of a tenant that is there.
@@ -61,9 +57,7 @@ impl<A: Allocator> Ledgers<A> {
         requires { is_there number self.old ≡ true }
         ensures { self.new ≡ without_ledger number self.old }
     {
-        let at = self.index.place_of(self.all.as_slice(), number);
-        self.all.remove(at);
-        self.index.guess_anew(self.all.as_slice());
+        self.all.remove(number);
     }
 
     /// How many jobs a tenant has; 0 where it isn't there.
@@ -105,8 +99,7 @@ impl<A: Allocator> Ledgers<A> {
         requires fresh { job_under root (jobs_of self.old number) ≡ 0 }
         ensures { self.new ≡ with_jobs number (λ jobs. jobs ++ Job.Live root ∷ []) self.old }
     {
-        let at = self.index.place_of(self.all.as_slice(), number);
-        let ledger = &mut self.all[at];
+        let ledger = self.all.get_mut(number);
         ledger.begin(root);
     }
 
@@ -117,8 +110,7 @@ impl<A: Allocator> Ledgers<A> {
         requires ended { is_live ended ≡ false }
         ensures { self.new ≡ with_jobs number (with_ended root ended) self.old }
     {
-        let at = self.index.place_of(self.all.as_slice(), number);
-        let ledger = &mut self.all[at];
+        let ledger = self.all.get_mut(number);
         ledger.end(root, ended);
     }
 
@@ -127,6 +119,6 @@ impl<A: Allocator> Ledgers<A> {
         ensures found { IfSome result (λ ledger. jobs_of self.now number ≡ ledger.now.1) }
         ensures none { IfNone result (jobs_of self.now number ≡ []) }
     {
-        self.index.find(self.all.as_slice(), number)
+        self.all.get(number)
     }
 }

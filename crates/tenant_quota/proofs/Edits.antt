@@ -1,17 +1,13 @@
 -- What an entered account leaves, and what the account of a tenant has.
 use Rattle.std.proofs.Common.{◌≡◌, ℕ, ◌+◌, ◌-◌, ◌≤◌, List, Some}
 use Rattle.std.specs.Prelude.{sum_by}
-use Rattle.std.specs.List.{insert}
 use Rattle.number_index.proofs.Edits as edits
-use Rattle.tenant_quota.proofs.Places.{account_place, entry-of}
+use Rattle.tenant_quota.proofs.Places.{entry-of}
 use Rattle.tenant_quota.specs.declared.account.Account.{Account}
-use Rattle.tenant_quota.specs.Accounts.{owner_of_account, account_of, with_new, AllEntries}
+use Rattle.tenant_quota.specs.Accounts.{owner_of_account, account_of, AllEntries}
 
 abbrev Entries : Type 0
 Entries = List (ℕ × Account)
-
-pub insert-account_place : (t : ℕ) (a : Account) (es : Entries) → insert es (account_place t es) (t, a) ≡ with_new t a es
-insert-account_place t a es = edits.place-inserted owner_of_account (t, a) es
 
 pub AllEntries-map : (P Q : ℕ × Account → Type 0) → ((e : ℕ × Account) → P e → Q e) → (es : Entries) → AllEntries P es → AllEntries Q es
 AllEntries-map P Q more es all = edits.all-map P Q more es all

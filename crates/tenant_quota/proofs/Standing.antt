@@ -1,20 +1,17 @@
--- The account that stands at a tenant's place in a sound book, and what a write of it does.
-use Rattle.std.proofs.Common.{◌≡◌, ℕ, ◌+◌, ◌*◌, ◌<◌, ◌≤◌, ◌⊎◌, inl, inr, List, length, get_or, set, Option, Some, None, IsSome, IsSomeAnd, IfSome, refl, ap, sym, ◌∙◌, subst}
+-- The account of a tenant in a sound book, and what a write of it does.
+use Rattle.std.proofs.Common.{◌≡◌, ℕ, ◌+◌, ◌*◌, true, ◌<◌, ◌≤◌, ◌⊎◌, inl, inr, List, Option, Some, None, IsSome, IsSomeAnd, IfSome, refl, ap, sym, subst}
 use Rattle.tenant_quota.specs.declared.account.Account.{Account}
-use Rattle.std.specs.Prelude.{sum_by, option_map}
-use Rattle.std.specs.List.{remove}
-use Rattle.tenant_quota.specs.declared.account.Left.{Left}
+use Rattle.std.specs.Prelude.{sum_by}
 use Rattle.tenant_quota.specs.Quota.{Quota, IsWithinLimits, IsAbove}
-use Rattle.tenant_quota.specs.Accounts.{owner_of_account, account_of, raised_to, left_in, with_changed, without, IsWithinReserve, reserved_segments, reserved_nodes}
-use Rattle.tenant_quota.specs.Reservations.{Reservations, left_in_book, changed, released, HasRoomFor, KeepsOtherAccounts, Raises, ChangesOnly, Releases, IsSoundBook}
-use Rattle.number_index.specs.Places.{IsAt}
-use Rattle.number_index.proofs.Edits.{has-found, place-found, at-within, at-own, at-thing, at-said, at-set, at-removed, all-of, sum_by-with, sum_by-with_same}
-use Rattle.tenant_quota.proofs.Places.{account_place, entry-of}
-use Rattle.tenant_quota.proofs.Effects.{Raises-raised, IsSoundBook-raised, ChangesOnly-changed, KeepsOtherAccounts-changed, IsSoundBook-changed, Releases-released, KeepsOtherAccounts-released, IsSoundBook-released}
+use Rattle.tenant_quota.specs.Accounts.{owner_of_account, account_of, raised_to, IsWithinReserve, reserved_segments, reserved_nodes}
+use Rattle.tenant_quota.specs.Reservations.{Reservations, changed, HasRoomFor, KeepsOtherAccounts, Raises, ChangesOnly, IsSoundBook}
+use Rattle.number_index.specs.Places.{find_by_number, has_by_number, change_by_number}
+use Rattle.number_index.proofs.Edits.{has-found, said-found, put-changed, all-of, sum_by-with, sum_by-with_same}
+use Rattle.tenant_quota.proofs.Places.{entry-of}
+use Rattle.tenant_quota.proofs.Effects.{Raises-raised, IsSoundBook-raised, ChangesOnly-changed, KeepsOtherAccounts-changed, IsSoundBook-changed}
 
--- the entry is that of the tenant, whose account is within its reserve
+-- the entry has the tenant's account, which is within its reserve
 pub record StandsFor (b : Reservations) (t : ℕ) (e : ℕ × Account) : Type 0 where
-  pub tenant : e.0 ≡ t
   pub account : account_of t b.accounts ≡ Some e.1
   pub within : IsWithinReserve e.1
 
@@ -37,31 +34,28 @@ pub within_with : (a : Account) (charged opened ticks : ℕ) → charged ≤ a.r
 within_with a charged opened ticks few some many within =
     record { some_segments = within.some_segments; segments_within = within.segments_within; some_nodes = within.some_nodes; nodes_within = within.nodes_within; charged_within = few; opened_within = some; ticks_within = many }
 
--- what the tenant of an account has left
-pub left_is : (b : Reservations) (t : ℕ) (a : Account) (l : Left) → account_of t b.accounts ≡ Some a → l ≡ left_in a → left_in_book t b ≡ Some l
-left_is b t a l account is = ap (option_map left_in) account ∙ ap Some (sym is)
+-- the tenant of an account has an entry
+pub is_there : (b : Reservations) (t : ℕ) → IsSome (account_of t b.accounts) → has_by_number owner_of_account t b.accounts ≡ true
+is_there b t there = let a = some_of (account_of t b.accounts) there in has-found owner_of_account t b.accounts (t, a.0) (entry-of t a.0 b.accounts a.1)
 
--- `read` is what a function saw of the accounts, and i the place that it found
-found_at : (b : Reservations) (t i : ℕ) (read : List (ℕ × Account)) → IsSoundBook b → IsSome (account_of t b.accounts) → read ≡ b.accounts → i ≡ account_place t read → IsAt owner_of_account t b.accounts i
-found_at b t i read sound there same is =
-    let a = some_of (account_of t b.accounts) there in
-    place-found owner_of_account t b.accounts i sound.rising (has-found owner_of_account t b.accounts (t, a.0) (entry-of t a.0 b.accounts a.1)) (is ∙ ap (account_place t) same)
+-- the entry that was found
+pub stands_for : (b : Reservations) (t : ℕ) (e : ℕ × Account) → IsSoundBook b → find_by_number owner_of_account t b.accounts ≡ Some e → StandsFor b t e
+stands_for b t e sound found = record {
+  account = said-found owner_of_account (λ x. Some x.1) None t b.accounts e found;
+  within = all-of (λ x. IsWithinReserve x.1) owner_of_account t e b.accounts found sound.within;
+}
 
-pub place_within : (b : Reservations) (t i : ℕ) (read : List (ℕ × Account)) → IsSoundBook b → IsSome (account_of t b.accounts) → read ≡ b.accounts → i ≡ account_place t read → i < length b.accounts
-place_within b t i read sound there same is = at-within owner_of_account t b.accounts i (found_at b t i read sound there same is)
+-- the accounts with another in the entry that was found
+abbrev pub written : Reservations → ℕ → ℕ × Account → (Account → Account) → Reservations
+written b t e f = record b { accounts = change_by_number owner_of_account t (λ x. (e.0, f e.1)) b.accounts }
 
-pub stands_for : (b : Reservations) (t i : ℕ) (read : List (ℕ × Account)) (e : ℕ × Account) → IsSoundBook b → IsSome (account_of t b.accounts) → read ≡ b.accounts → i ≡ account_place t read → e ≡ get_or b.accounts i e → StandsFor b t e
-stands_for b t i read e sound there same is at =
-    let found = found_at b t i read sound there same is in
-    record {
-      tenant = at-own owner_of_account t b.accounts i e found at;
-      account = at-said owner_of_account (λ x. Some x.1) None t b.accounts i e found at;
-      within = all-of (λ x. IsWithinReserve x.1) owner_of_account t e b.accounts (at-thing owner_of_account t b.accounts i e found at) sound.within;
-    }
+-- that changes the tenant's account
+written_is : (b : Reservations) (t : ℕ) (e : ℕ × Account) (f : Account → Account) → find_by_number owner_of_account t b.accounts ≡ Some e → changed b t f ≡ written b t e f
+written_is b t e f found = ap (λ (l : List (ℕ × Account)). record b { accounts = l }) (sym (put-changed owner_of_account t (λ x. (x.0, f x.1)) b.accounts e (e.0, f e.1) found refl))
 
--- a write at the place changes the tenant's account
-pub written : (b : Reservations) (t i : ℕ) (read : List (ℕ × Account)) (e : ℕ × Account) (f : Account → Account) → IsSoundBook b → IsSome (account_of t b.accounts) → read ≡ b.accounts → i ≡ account_place t read → e ≡ get_or b.accounts i e → set b.accounts i (e.0, f e.1) ≡ with_changed t f b.accounts
-written b t i read e f sound there same is at = at-set owner_of_account t (λ x. (x.0, f x.1)) b.accounts i e (e.0, f e.1) (found_at b t i read sound there same is) at refl
+-- where nothing has changed
+pub others_same : (b : Reservations) (t : ℕ) → KeepsOtherAccounts b b t
+others_same b t = record { segments = refl; nodes = refl; others = λ other differs. refl }
 
 -- the change of one account, seen in full
 pub record IsChange (old new : Reservations) (t : ℕ) (f : Account → Account) : Type 0 where
@@ -80,16 +74,12 @@ change_facts b t f a is keeps within sound = record {
   nodes = sum_by-with_same (λ e. e.1.reserve.nodes) owner_of_account t (λ x. (x.0, f x.1)) b.accounts (λ e. ap (λ (q : Quota). q.nodes) (keeps e.1));
 }
 
-pub change_by_write : (b : Reservations) (t i : ℕ) (read : List (ℕ × Account)) (e : ℕ × Account) (f : Account → Account) → IsSoundBook b → IsSome (account_of t b.accounts) → read ≡ b.accounts → i ≡ account_place t read → e ≡ get_or b.accounts i e → ((x : Account) → (f x).reserve ≡ x.reserve) → IsWithinReserve (f e.1) → IsChange b (record b { accounts = set b.accounts i (e.0, f e.1) }) t f
-change_by_write b t i read e f sound there same is at keeps within =
-    let stands = stands_for b t i read e sound there same is at in
-    let facts = change_facts b t f e.1 stands.account keeps within sound in
-    subst (λ l. IsChange b (record b { accounts = l }) t f) (sym (written b t i read e f sound there same is at)) facts
+pub change_by_write : (b : Reservations) (t : ℕ) (e : ℕ × Account) (f : Account → Account) → IsSoundBook b → find_by_number owner_of_account t b.accounts ≡ Some e → ((x : Account) → (f x).reserve ≡ x.reserve) → IsWithinReserve (f e.1) → IsChange b (written b t e f) t f
+change_by_write b t e f sound found keeps within =
+    subst (λ new. IsChange b new t f) (written_is b t e f found) (change_facts b t f e.1 (stands_for b t e sound found).account keeps within sound)
 
-pub sum_by_write : (g : ℕ × Account → ℕ) (b : Reservations) (t i : ℕ) (read : List (ℕ × Account)) (e : ℕ × Account) (f : Account → Account) → IsSoundBook b → IsSome (account_of t b.accounts) → read ≡ b.accounts → i ≡ account_place t read → e ≡ get_or b.accounts i e → sum_by g (set b.accounts i (e.0, f e.1)) + g (t, e.1) ≡ sum_by g b.accounts + g (t, f e.1)
-sum_by_write g b t i read e f sound there same is at =
-    let stands = stands_for b t i read e sound there same is at in
-    rw (written b t i read e f sound there same is at) (sum_by-with g owner_of_account t (λ x. (x.0, f x.1)) (t, e.1) b.accounts (entry-of t e.1 b.accounts stands.account))
+pub sum_by_write : (g : ℕ × Account → ℕ) (b : Reservations) (t : ℕ) (e : ℕ × Account) (f : Account → Account) → find_by_number owner_of_account t b.accounts ≡ Some e → sum_by g (written b t e f).accounts + g e ≡ sum_by g b.accounts + g (e.0, f e.1)
+sum_by_write g b t e f found = sum_by-with g owner_of_account t (λ x. (e.0, f e.1)) e b.accounts found
 
 -- the raise of one reservation, seen in full
 pub record IsRaise (old new : Reservations) (t : ℕ) (quota now : Quota) : Type 0 where
@@ -97,33 +87,17 @@ pub record IsRaise (old new : Reservations) (t : ℕ) (quota now : Quota) : Type
   pub others : KeepsOtherAccounts old new t
   pub sound : IsSoundBook new
 
-pub raise_by_write : (b : Reservations) (t i : ℕ) (read : List (ℕ × Account)) (e : ℕ × Account) (quota : Quota) → IsSoundBook b → IsSome (account_of t b.accounts) → read ≡ b.accounts → i ≡ account_place t read → e ≡ get_or b.accounts i e → IsWithinLimits quota → IsAbove e.1.reserve quota → HasRoomFor b e.1.reserve quota → IsRaise b (record b { accounts = set b.accounts i (e.0, raised_to quota e.1) }) t quota e.1.reserve
-raise_by_write b t i read e quota sound there same is at limits above room =
-    let stands = stands_for b t i read e sound there same is at in
-    let facts : IsRaise b (changed b t (raised_to quota)) t quota e.1.reserve =
-    record {
+pub raise_by_write : (b : Reservations) (t : ℕ) (e : ℕ × Account) (quota : Quota) → IsSoundBook b → find_by_number owner_of_account t b.accounts ≡ Some e → IsWithinLimits quota → IsAbove e.1.reserve quota → HasRoomFor b e.1.reserve quota → IsRaise b (written b t e (raised_to quota)) t quota e.1.reserve
+raise_by_write b t e quota sound found limits above room =
+    let stands = stands_for b t e sound found in
+    subst (λ new. IsRaise b new t quota e.1.reserve) (written_is b t e (raised_to quota) found) (record {
       raises = Raises-raised b t quota e.1 stands.account;
       others = KeepsOtherAccounts-changed b t (raised_to quota);
       sound = IsSoundBook-raised b t quota e.1 stands.account limits above room stands.within sound;
-    } in
-    subst (λ l. IsRaise b (record b { accounts = l }) t quota e.1.reserve) (sym (written b t i read e (raised_to quota) sound there same is at)) facts
+    })
 
 pub if_from : {X : Type 0} (o : Option X) (P : X → Type 0) (x : X) → o ≡ Some x → P x → IfSome o P
 if_from o P x at is = subst (λ y. IfSome y P) (sym at) is
-
--- the removal of one account, seen in full
-pub record IsRelease (old new : Reservations) (t : ℕ) (a : Account) : Type 0 where
-  pub releases : Releases old new t a
-  pub others : KeepsOtherAccounts old new t
-  pub sound : IsSoundBook new
-
-pub release_by_remove : (b : Reservations) (t i : ℕ) (read : List (ℕ × Account)) (e : ℕ × Account) (l : List (ℕ × Account)) → IsSoundBook b → IsSome (account_of t b.accounts) → read ≡ b.accounts → i ≡ account_place t read → e ≡ get_or b.accounts i e → l ≡ remove b.accounts i → IsRelease b (record b { accounts = l }) t e.1
-release_by_remove b t i read e l sound there same is at removed =
-    let stands = stands_for b t i read e sound there same is at in
-    let list : l ≡ without t b.accounts = removed ∙ at-removed owner_of_account t b.accounts i (found_at b t i read sound there same is) in
-    let facts : IsRelease b (released b t) t e.1 =
-    record { releases = Releases-released b t e.1 stands.account sound; others = KeepsOtherAccounts-released b t; sound = IsSoundBook-released b t e.1 stands.account sound } in
-    subst (λ k. IsRelease b (record b { accounts = k }) t e.1) (sym list) facts
 
 -- one of two comparisons made in order
 pub one_less : (a b m n : ℕ) → (a < m) ⊎ ((m ≤ a) × (b < n)) → (a < m) ⊎ (b < n)

@@ -4,7 +4,7 @@ ghost use Rattle.tenant_quota.specs.Accounts.{account_of};
 use crate::account::{Account, Left};
 use crate::refusal::Refusal;
 use crate::reserve::Reserve;
-use number_index::TenantIndex;
+use number_index::NumberedList;
 use std::alloc::{AllocError, Allocator, Global};
 use std::marker::Model;
 
@@ -34,8 +34,7 @@ pub struct Book<A: Allocator = Global> {
     // What all tenants together have reserved.
     reserved_segments: u32,
     reserved_nodes: u32,
-    accounts: Vec<(u64, Account), A>,
-    index: TenantIndex,
+    accounts: NumberedList<(u64, Account), A>,
 }
 
 // Clauses see the totals and the accounts in rising order of tenants.
@@ -65,14 +64,13 @@ impl<A: Allocator> Book<A> {
         ensures empty { IfOk result (λ book. book ≡ empty_of segments nodes) }
         ensures sound { IfOk result IsSoundBook }
     {
-        let accounts = Vec::with_capacity(alloc, PLACES)?;
+        let accounts = NumberedList::new(alloc)?;
         Ok(Book {
             segments,
             nodes,
             reserved_segments: 0,
             reserved_nodes: 0,
             accounts,
-            index: TenantIndex::new(),
         })
     }
 
@@ -94,10 +92,7 @@ impl<A: Allocator> Book<A> {
         if rest.tenants == 0 || rest.segments < segments || rest.nodes < nodes {
             return Err(Refusal::Full);
         }
-        let place = self.index.place_of(&self.accounts, tenant);
-        let account = Account::new(reserve);
-        self.accounts.insert(place, (tenant, account)).unwrap();
-        self.index.guess_anew(&self.accounts);
+        self.accounts.insert((tenant, Account::new(reserve)));
         self.reserved_segments += segments;
         self.reserved_nodes += nodes;
         Ok(())
@@ -120,8 +115,7 @@ impl<A: Allocator> Book<A> {
         ensures sound { IsSoundBook self.new }
     {
         let rest = self.rest();
-        let place = self.index.place_of(&self.accounts, tenant);
-        let account = &mut self.accounts[place].1;
+        let account = &mut self.accounts.get_mut(tenant).1;
         let now = account.reserve;
         if !reserve.is_above(&now) {
             return Err(Refusal::Lower);
@@ -182,8 +176,7 @@ impl<A: Allocator> Book<A> {
         ensures others { KeepsOtherAccounts self.old self.new tenant }
         ensures sound { IsSoundBook self.new }
     {
-        let place = self.index.place_of(&self.accounts, tenant);
-        self.accounts[place].1.charged -= segments;
+        self.accounts.get_mut(tenant).1.charged -= segments;
     }
 
     /// Counts one step of the tenant.
@@ -199,8 +192,7 @@ impl<A: Allocator> Book<A> {
         ensures err { OnErr result (self.new ≡ self.old) }
         ensures sound { IsSoundBook self.new }
     {
-        let place = self.index.place_of(&self.accounts, tenant);
-        let account = &mut self.accounts[place].1;
+        let account = &mut self.accounts.get_mut(tenant).1;
         if account.left().steps == 0 {
             return Err(Refusal::Short);
         }
@@ -215,9 +207,7 @@ impl<A: Allocator> Book<A> {
         ensures others { KeepsOtherAccounts self.old self.new tenant }
         ensures sound { IsSoundBook self.new }
     {
-        let place = self.index.place_of(&self.accounts, tenant);
-        let (_, account) = self.accounts.remove(place);
-        self.index.guess_anew(&self.accounts);
+        let (_, account) = self.accounts.remove(tenant);
         self.reserved_segments -= account.reserve.segments();
         self.reserved_nodes -= account.reserve.nodes();
     }
@@ -269,8 +259,7 @@ impl<A: Allocator> Book<A> {
         ensures err { OnErr result (self.new ≡ self.old) }
         ensures sound { IsSoundBook self.new }
     {
-        let place = self.index.place_of(&self.accounts, tenant);
-        let account = &mut self.accounts[place].1;
+        let account = &mut self.accounts.get_mut(tenant).1;
         let left = account.left();
         if left.segments < segments || left.nodes < nodes {
             return Err(Refusal::Short);
@@ -287,7 +276,7 @@ impl<A: Allocator> Book<A> {
         ensures account { option_copied result ≡ account_of tenant self.now.accounts }
         ensures sound { IsSoundBook self.now }
     {
-        match self.index.find(&self.accounts, tenant) {
+        match self.accounts.get(tenant) {
             Some(entry) => Some(&entry.1),
             None => None,
         }

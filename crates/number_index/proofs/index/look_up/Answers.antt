@@ -1,5 +1,5 @@
 -- What stands at the place is the thing of the number, or there is none.
-use Rattle.std.proofs.Common.{ap, sym, ◌∙◌, arith}
+use Rattle.std.proofs.Common.{sym, ◌∙◌, arith}
 use Rattle.number_index.proofs.Places.{find_by_number-read, find_by_number-other, find_by_number-past}
 use Rattle.number_index.proofs.index.look_up.Goals as goal
 use Rattle.number_index.proofs.index.look_up.Goals.{else-at-things-via-then-at-things+else-number, else-at-things-via-else-at-things}

@@ -1,10 +1,6 @@
-use Rattle.std.proofs.Common.{arith}
-use Rattle.sched_store.proofs.LedgerPlaces.{rising-push}
+use Rattle.number_index.proofs.Edits.{rising-inserted}
+use Rattle.sched_store.specs.Ledgers.{owner_of_ledger}
 use Rattle.sched_store.proofs.ledgers.Ledgers.add.Goals as goal
 
 pub invariant_of-self : goal.invariant_of-self
-invariant_of-self g c =
-    let above = rw (← c.self.view_is) at c.requires.above in (
-      omega (arith, c.push_reserved.ensures.capacity, c.self.invariant.0),
-      rw c.push_reserved.ensures.items (rising-push c.self.inside.all.items c.args.ledger above c.self.invariant.1),
-    )
+invariant_of-self g c = rw c.insert.ensures (rising-inserted owner_of_ledger c.args.ledger c.self.inside.all c.self.invariant (rw (← c.self.view_is) at c.requires.fresh))

@@ -1,34 +1,18 @@
-use Rattle.std.proofs.Common.{◌++◌, ◌∷◌, [], length, arith, ap}
+use Rattle.std.proofs.Common.{◌++◌, ◌∷◌, []}
 use Rattle.sched_rules.specs.declared.job.Job.TheVariants.{Live}
-use Rattle.sched_store.proofs.LedgerPlaces.{place-within, place-jobs, place-changed, rising-with_jobs}
+use Rattle.sched_store.proofs.LedgerPlaces.{jobs-found, found-changed, rising-with_jobs}
 use Rattle.sched_store.proofs.ledgers.Ledgers.begin.Goals as goal
 
-pub index_mut-ledger-requires : goal.index_mut-ledger-requires
-index_mut-ledger-requires g c =
-    let there = rw (← c.self.view_is) at c.requires.there in
-    omega (arith, c.as_slice.ensures.len, ap length c.as_slice.ensures.value, place-within c.args.number c.self.inside.all.items c.place_of-at.result c.self.invariant.1 there (rw c.as_slice.ensures.value at c.place_of-at.ensures))
-
 pub begin-requires-clause-room : goal.begin-requires-clause-room
-begin-requires-clause-room g c =
-    let there = rw (← c.self.view_is) at c.requires.there in
-    let room = rw (← c.self.view_is) at c.requires.room in
-    let jobs = place-jobs c.args.number c.self.inside.all.items c.place_of-at.result c.index_mut-ledger.result.now c.self.invariant.1 there (rw c.as_slice.ensures.value at c.place_of-at.ensures) c.index_mut-ledger.ensures.value in
-    rw jobs at room
+begin-requires-clause-room g c = rw (← c.self.view_is, jobs-found c.args.number c.self.inside.all c.get_mut-ledger.result.now c.get_mut-ledger.ensures.value) at c.requires.room
 
 pub begin-requires-clause-fresh : goal.begin-requires-clause-fresh
-begin-requires-clause-fresh g c =
-    let there = rw (← c.self.view_is) at c.requires.there in
-    let fresh = rw (← c.self.view_is) at c.requires.fresh in
-    let jobs = place-jobs c.args.number c.self.inside.all.items c.place_of-at.result c.index_mut-ledger.result.now c.self.invariant.1 there (rw c.as_slice.ensures.value at c.place_of-at.ensures) c.index_mut-ledger.ensures.value in
-    rw jobs at fresh
+begin-requires-clause-fresh g c = rw (← c.self.view_is, jobs-found c.args.number c.self.inside.all c.get_mut-ledger.result.now c.get_mut-ledger.ensures.value) at c.requires.fresh
 
 pub invariant_of-self : goal.invariant_of-self
 invariant_of-self g c =
-    let there = rw (← c.self.view_is) at c.requires.there in
-    let changed = place-changed c.args.number c.self.inside.all.items c.place_of-at.result c.index_mut-ledger.result.now c.begin.new.self (λ jobs. jobs ++ Live c.args.root ∷ []) c.self.invariant.1 there (rw c.as_slice.ensures.value at c.place_of-at.ensures) c.index_mut-ledger.ensures.value c.begin.ensures in
-    (c.self.invariant.0, rw changed (rising-with_jobs c.args.number (λ jobs. jobs ++ Live c.args.root ∷ []) c.self.inside.all.items c.self.invariant.1))
+    rw (found-changed c.args.number c.self.inside.all c.get_mut-ledger.result.now c.begin.new.self (λ jobs. jobs ++ Live c.args.root ∷ []) c.get_mut-ledger.ensures.value c.begin.ensures) (rising-with_jobs c.args.number (λ jobs. jobs ++ Live c.args.root ∷ []) c.self.inside.all c.self.invariant)
 
 pub returns : goal.returns
 returns g c =
-    let there = rw (← c.self.view_is) at c.requires.there in
-    rw (← c.self.view_is) (place-changed c.args.number c.self.inside.all.items c.place_of-at.result c.index_mut-ledger.result.now c.begin.new.self (λ jobs. jobs ++ Live c.args.root ∷ []) c.self.invariant.1 there (rw c.as_slice.ensures.value at c.place_of-at.ensures) c.index_mut-ledger.ensures.value c.begin.ensures)
+    rw (← c.self.view_is) (found-changed c.args.number c.self.inside.all c.get_mut-ledger.result.now c.begin.new.self (λ jobs. jobs ++ Live c.args.root ∷ []) c.get_mut-ledger.ensures.value c.begin.ensures)

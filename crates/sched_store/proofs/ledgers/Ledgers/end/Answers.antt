@@ -1,20 +1,11 @@
-use Rattle.std.proofs.Common.{length, arith, ap}
 use Rattle.sched_rules.specs.Trees.{with_ended}
-use Rattle.sched_store.proofs.LedgerPlaces.{place-within, place-changed, rising-with_jobs}
+use Rattle.sched_store.proofs.LedgerPlaces.{found-changed, rising-with_jobs}
 use Rattle.sched_store.proofs.ledgers.Ledgers.end.Goals as goal
-
-pub index_mut-ledger-requires : goal.index_mut-ledger-requires
-index_mut-ledger-requires g c =
-    let there = rw (← c.self.view_is) at c.requires.there in
-    omega (arith, c.as_slice.ensures.len, ap length c.as_slice.ensures.value, place-within c.args.number c.self.inside.all.items c.place_of-at.result c.self.invariant.1 there (rw c.as_slice.ensures.value at c.place_of-at.ensures))
 
 pub invariant_of-self : goal.invariant_of-self
 invariant_of-self g c =
-    let there = rw (← c.self.view_is) at c.requires.there in
-    let changed = place-changed c.args.number c.self.inside.all.items c.place_of-at.result c.index_mut-ledger.result.now c.end.new.self (with_ended c.args.root c.args.ended) c.self.invariant.1 there (rw c.as_slice.ensures.value at c.place_of-at.ensures) c.index_mut-ledger.ensures.value c.end.ensures in
-    (c.self.invariant.0, rw changed (rising-with_jobs c.args.number (with_ended c.args.root c.args.ended) c.self.inside.all.items c.self.invariant.1))
+    rw (found-changed c.args.number c.self.inside.all c.get_mut-ledger.result.now c.end.new.self (with_ended c.args.root c.args.ended) c.get_mut-ledger.ensures.value c.end.ensures) (rising-with_jobs c.args.number (with_ended c.args.root c.args.ended) c.self.inside.all c.self.invariant)
 
 pub returns : goal.returns
 returns g c =
-    let there = rw (← c.self.view_is) at c.requires.there in
-    rw (← c.self.view_is) (place-changed c.args.number c.self.inside.all.items c.place_of-at.result c.index_mut-ledger.result.now c.end.new.self (with_ended c.args.root c.args.ended) c.self.invariant.1 there (rw c.as_slice.ensures.value at c.place_of-at.ensures) c.index_mut-ledger.ensures.value c.end.ensures)
+    rw (← c.self.view_is) (found-changed c.args.number c.self.inside.all c.get_mut-ledger.result.now c.end.new.self (with_ended c.args.root c.args.ended) c.get_mut-ledger.ensures.value c.end.ensures)

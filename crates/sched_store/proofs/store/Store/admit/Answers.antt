@@ -39,8 +39,8 @@ reserve-requires-clause-free g c = λ none. (can g (goal.at.reserve-requires-cla
 pub add-requires-clause-room : goal.add-requires-clause-room
 add-requires-clause-room g c = (can g (goal.at.add-requires-clause-room g c).After-segments).few_ledgers
 
-pub add-requires-clause-above : goal.add-requires-clause-above
-add-requires-clause-above g c = rw c.in_ok-ledger.ensures (can g (goal.at.add-requires-clause-above g c).After-segments).below
+pub add-requires-clause-fresh : goal.add-requires-clause-fresh
+add-requires-clause-fresh g c = rw c.in_ok-ledger.ensures (can g (goal.at.add-requires-clause-fresh g c).After-segments).no_ledger
 
 pub reserve-requires-2 : goal.reserve-requires-2
 reserve-requires-2 g c = (can g (goal.at.reserve-requires-2 g c).After-segments).nobody

@@ -2,7 +2,8 @@ use Rattle.std.proofs.Common.{◌++◌, ◌∷◌, []}
 use Rattle.sched_rules.specs.declared.job.Job.TheVariants.{Live}
 use Rattle.sched_store.specs.Inside.{parts_of}
 use Rattle.sched_store.proofs.Lookups.{jobs-found}
-use Rattle.sched_store.proofs.Tenants.{there-account-in, ledger-there, jobs-change}
+use Rattle.sched_store.proofs.Tenants.{there-account-in, jobs-change}
+use Rattle.sched_store.proofs.Numbers.{ledger-there}
 use Rattle.sched_store.proofs.store.Store.begin_job.Goals as goal
 
 pub begin-requires-clause-there : goal.begin-requires-clause-there

@@ -1,6 +1,7 @@
 use Rattle.sched_rules.specs.Trees.{with_ended}
 use Rattle.sched_store.specs.Inside.{parts_of}
-use Rattle.sched_store.proofs.Tenants.{there-account-in, ledger-there, jobs-change}
+use Rattle.sched_store.proofs.Tenants.{there-account-in, jobs-change}
+use Rattle.sched_store.proofs.Numbers.{ledger-there}
 use Rattle.sched_store.proofs.store.Store.end_job.Goals as goal
 
 pub end-requires-clause-there : goal.end-requires-clause-there

@@ -3,7 +3,8 @@ use Rattle.tenant_quota.specs.Reservations.{Releases}
 use Rattle.tenant_quota.specs.declared.account.Account.{Account}
 use Rattle.sched_store.specs.Changes.{with_departed}
 use Rattle.sched_store.specs.Inside.{parts_of}
-use Rattle.sched_store.proofs.Tenants.{there-account-in, ledger-there}
+use Rattle.sched_store.proofs.Tenants.{there-account-in}
+use Rattle.sched_store.proofs.Numbers.{ledger-there}
 use Rattle.sched_store.proofs.LeaveTenant.{has-places, leave-closes, IsDeparture, leave-stored, leave-shared}
 use Rattle.sched_store.proofs.store.Store.leave.Given.{Over}
 use Rattle.sched_store.proofs.store.Store.leave.Goals.{After-release-2}

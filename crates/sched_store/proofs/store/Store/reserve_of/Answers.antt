@@ -1,5 +1,4 @@
 use Rattle.std.proofs.Common.{◌≡◌, Option, Some, None, option_map, refl, ap, sym, ◌∙◌}
-use Rattle.tenant_quota.specs.Quota.{Quota}
 use Rattle.tenant_quota.specs.Accounts.{account_of}
 use Rattle.tenant_quota.specs.declared.account.Account.{Account}
 use Rattle.sched_rules.specs.Trees.{Tenant}

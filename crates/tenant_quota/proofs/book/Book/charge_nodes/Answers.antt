@@ -1,13 +1,13 @@
 -- A charge that the tenant has left is written into its account; one that it hasn't is refused.
-use Rattle.std.proofs.Common.{◌≡◌, ℕ, ◌+◌, ◌<◌, ◌≤◌, ◌⊎◌, inl, inr, length, List, get_or, set, IsSome, ap, sym, ◌∙◌, refl, Some, arith}
-use Rattle.std.specs.Prelude.{option_map}
+use Rattle.std.proofs.Common.{◌≡◌, ℕ, ◌+◌, ◌<◌, ◌≤◌, ◌⊎◌, inl, inr, ap, sym, ◌∙◌, subst, refl, arith}
+use Rattle.number_index.proofs.Edits.{put-same}
 use Rattle.tenant_quota.specs.declared.account.Account.{Account}
 use Rattle.tenant_quota.specs.declared.account.Left.{Left}
-use Rattle.tenant_quota.specs.Accounts.{account_of, charged_by, left_in, charged_segments, IsWithinReserve}
-use Rattle.tenant_quota.proofs.Places.{account_place, read-rising}
-use Rattle.tenant_quota.specs.Reservations.{Reservations, HasLeft, IsShort, left_in_book, opened_of, IsSoundBook}
+use Rattle.tenant_quota.specs.Accounts.{owner_of_account, charged_by, left_in, IsWithinReserve}
 use Rattle.tenant_quota.specs.Keeping.{held_by}
-use Rattle.tenant_quota.proofs.Standing.{and_at, and_from, left_is, place_within, stands_for, within_with, IsChange, change_by_write, sum_by_write, one_less}
+use Rattle.tenant_quota.proofs.Standing.{StandsFor, is_there, stands_for, others_same, within_with, IsChange, written, change_by_write, sum_by_write, one_less}
+use Rattle.tenant_quota.proofs.book.Book.charge_nodes.Given.{Over}
+use Rattle.tenant_quota.proofs.book.Book.charge_nodes.Goals.{After-left-left, Joined-then-left-segments, then-left-segments-via-then-left-segments, then-left-segments-via-else-left-segments+then-left-nodes}
 use Rattle.tenant_quota.proofs.book.Book.charge_nodes.Goals as goal
 
 charged_within : (a : Account) (l : Left) (segments nodes : ℕ) → l ≡ left_in a → segments ≤ l.segments → nodes ≤ l.nodes → IsWithinReserve a → IsWithinReserve (charged_by segments nodes a)
@@ -16,90 +16,75 @@ charged_within a l segments nodes is some_left more_left within =
     let nodes_is = ap (λ (x : Left). x.nodes) is in
     within_with a (a.charged + segments) (a.opened + nodes) a.ticks (omega (arith, within.charged_within)) (omega (arith, within.opened_within)) within.ticks_within within
 
--- what the test of what is left tells, and what the write of a greater charge does
-record Charges (b : Reservations) (t i segments nodes : ℕ) (e : ℕ × Account) : Type 0 where
-  fits : IsWithinReserve (charged_by segments nodes e.1)
-  has : HasLeft b t segments nodes
-  enough : IsShort b t segments nodes → ⊥
-  change : IsChange b (record b { accounts = set b.accounts i (e.0, charged_by segments nodes e.1) }) t (charged_by segments nodes)
-  sum : charged_segments (set b.accounts i (e.0, charged_by segments nodes e.1)) ≡ charged_segments b.accounts + segments
+-- the entry that was found, and the write of a greater charge into it
+here : (g : Over) (c : After-left-left g) → StandsFor (held_by c.self.inside) c.args.tenant c.get_mut.result.now
+here g c = stands_for (held_by c.self.inside) c.args.tenant c.get_mut.result.now c.self.invariant.sound c.get_mut.ensures.value
 
-charges : (b : Reservations) (t i segments nodes : ℕ) (read : List (ℕ × Account)) (e : ℕ × Account) (l : Left) → IsSoundBook b → IsSome (account_of t b.accounts) → read ≡ b.accounts → i ≡ account_place t read → e ≡ get_or b.accounts i e → l ≡ left_in e.1 → segments ≤ l.segments → nodes ≤ l.nodes → Charges b t i segments nodes e
-charges b t i segments nodes read e l sound there same is at left some_left more_left =
-    let stands = stands_for b t i read e sound there same is at in
-    let left_here = left_is b t e.1 l stands.account left in
-    let fits = charged_within e.1 l segments nodes left some_left more_left stands.within in
-    record {
-      fits = fits;
-      has = and_from (left_in_book t b) (λ (x : Left). (segments ≤ x.segments) × (nodes ≤ x.nodes)) l left_here (some_left, more_left);
-      enough = λ short. elim (and_at (left_in_book t b) (λ (x : Left). (x.segments < segments) ⊎ (x.nodes < nodes)) l left_here short) [ inl less ↦ omega arith | inr less ↦ omega arith ];
-      change = change_by_write b t i read e (charged_by segments nodes) sound there same is at (λ x. refl) fits;
-      sum = omega (arith, sum_by_write (λ x. x.1.charged) b t i read e (charged_by segments nodes) sound there same is at);
-    }
+fits : (g : Over) (c : After-left-left g) → c.args.segments ≤ c.left-left.result.segments → c.args.nodes ≤ c.left-left.result.nodes → IsWithinReserve (charged_by c.args.segments c.args.nodes c.get_mut.result.now.1)
+fits g c some more = charged_within c.get_mut.result.now.1 c.left-left.result c.args.segments c.args.nodes c.left-left.ensures some more (here g c).within
 
-record Refuses (b : Reservations) (t segments nodes : ℕ) : Type 0 where
-  lacks : HasLeft b t segments nodes → ⊥
-  short : IsShort b t segments nodes
+change : (g : Over) (c : After-left-left g) → c.args.segments ≤ c.left-left.result.segments → c.args.nodes ≤ c.left-left.result.nodes → IsChange (held_by c.self.inside) (written (held_by c.self.inside) c.args.tenant c.get_mut.result.now (charged_by c.args.segments c.args.nodes)) c.args.tenant (charged_by c.args.segments c.args.nodes)
+change g c some more = change_by_write (held_by c.self.inside) c.args.tenant c.get_mut.result.now (charged_by c.args.segments c.args.nodes) c.self.invariant.sound c.get_mut.ensures.value (λ x. refl) (fits g c some more)
 
-refuses : (b : Reservations) (t i segments nodes : ℕ) (read : List (ℕ × Account)) (e : ℕ × Account) (l : Left) → IsSoundBook b → IsSome (account_of t b.accounts) → read ≡ b.accounts → i ≡ account_place t read → e ≡ get_or b.accounts i e → l ≡ left_in e.1 → (l.segments < segments) ⊎ (l.nodes < nodes) → Refuses b t segments nodes
-refuses b t i segments nodes read e l sound there same is at left less =
-    let stands = stands_for b t i read e sound there same is at in
-    let left_here = left_is b t e.1 l stands.account left in
-    record {
-      lacks = λ has. let enough = and_at (left_in_book t b) (λ (x : Left). (segments ≤ x.segments) × (nodes ≤ x.nodes)) l left_here has in elim less [ inl few ↦ omega arith | inr few ↦ omega arith ];
-      short = and_from (left_in_book t b) (λ (x : Left). (x.segments < segments) ⊎ (x.nodes < nodes)) l left_here less;
-    }
+-- nothing is written where it is refused
+same : (g : Over) (c : Joined-then-left-segments g) → c.then-left-segments.self-inside ≡ c.self.inside
+same g c =
+    let back = ap (λ l. record c.self.inside { accounts = l }) (put-same owner_of_account c.args.tenant c.self.inside.accounts c.get_mut.result.now c.get_mut.ensures.value) in
+    elim c.then-left-segments.branch [ then-left-segments-via-then-left-segments w ↦ w.self-inside-is ∙ back | then-left-segments-via-else-left-segments+then-left-nodes w ↦ w.self-inside-is ∙ back ]
 
-opened_is : (b : Reservations) (t i : ℕ) (read : List (ℕ × Account)) (e : ℕ × Account) → IsSoundBook b → IsSome (account_of t b.accounts) → read ≡ b.accounts → i ≡ account_place t read → e ≡ get_or b.accounts i e → opened_of t b ≡ Some e.1.opened
-opened_is b t i read e sound there same is at = ap (option_map (λ (a : Account). a.opened)) (stands_for b t i read e sound there same is at).account
-
-pub place_of-place-requires : goal.place_of-place-requires
-place_of-place-requires g c = read-rising c.self.inside.accounts.items _ c.deref.ensures.value c.self.invariant.sound.rising
-
-pub index_mut-requires : goal.index_mut-requires
-index_mut-requires g c = let within = place_within (held_by c.self.inside) c.args.tenant _ _ c.self.invariant.sound (rw (← c.self.view_is) at c.requires) c.deref.ensures.value c.place_of-place.ensures in omega (arith, c.deref.ensures.len, ap length c.deref.ensures.value)
+pub get_mut-requires-clause-there : goal.get_mut-requires-clause-there
+get_mut-requires-clause-there g c = is_there (held_by c.self.inside) c.args.tenant (rw (← c.self.view_is) at c.requires)
 
 pub left-left-requires : goal.left-left-requires
-left-left-requires g c =
-    (stands_for (held_by c.self.inside) c.args.tenant _ _ c.index_mut.result.now c.self.invariant.sound (rw (← c.self.view_is) at c.requires) c.deref.ensures.value c.place_of-place.ensures c.index_mut.ensures.value).within
+left-left-requires g c = (stands_for (held_by c.self.inside) c.args.tenant c.get_mut.result.now c.self.invariant.sound c.get_mut.ensures.value).within
 
-pub returns-then-left-segments-clause-ok : goal.returns-then-left-segments-clause-ok
-returns-then-left-segments-clause-ok g c =
-    let less = one_less _ _ _ _ c.then-left-segments.either in
-    let no = refuses (held_by c.self.inside) c.args.tenant _ c.args.segments c.args.nodes _ c.index_mut.result.now c.left-left.result c.self.invariant.sound (rw (← c.self.view_is) at c.requires) c.deref.ensures.value c.place_of-place.ensures c.index_mut.ensures.value c.left-left.ensures less in
-    rw (← c.self.view_is) (λ never. absurd cc, λ has. absurd (no.lacks has))
+pub invariant_of-self : goal.invariant_of-self
+invariant_of-self g c = rw (same g c) c.self.invariant
 
-pub returns-then-left-segments-clause-short : goal.returns-then-left-segments-clause-short
-returns-then-left-segments-clause-short g c =
-    let less = one_less _ _ _ _ c.then-left-segments.either in
-    let no = refuses (held_by c.self.inside) c.args.tenant _ c.args.segments c.args.nodes _ c.index_mut.result.now c.left-left.result c.self.invariant.sound (rw (← c.self.view_is) at c.requires) c.deref.ensures.value c.place_of-place.ensures c.index_mut.ensures.value c.left-left.ensures less in
-    rw (← c.self.view_is) (λ _. no.short, λ _. refl)
+pub returns-then-left-segments : goal.returns-then-left-segments
+returns-then-left-segments g c =
+    let account = (here g (goal.at.returns-then-left-segments g c).After-left-left).account in
+    let less = subst (λ (l : Left). (l.segments < c.args.segments) ⊎ (l.nodes < c.args.nodes)) c.left-left.ensures (one_less _ _ _ _ c.then-left-segments.either) in
+    rw (same g c) (record {
+      ok = rw (← c.self.view_is, account) (λ never. absurd cc, λ has. absurd (elim less [ inl few ↦ omega (arith, few, has.0) | inr few ↦ omega (arith, few, has.1) ]));
+      short = rw (← c.self.view_is, account) (λ _. less, λ _. refl);
+      opened = tt;
+      charges = tt;
+      sum = tt;
+      others = rw (← c.self.view_is) (others_same (held_by c.self.inside) c.args.tenant);
+      err = c.self.view_is;
+      sound = c.self.invariant.sound;
+    })
 
 pub overflow_add-account : goal.overflow_add-account
 overflow_add-account g c =
-    let does = charges (held_by c.self.inside) c.args.tenant _ c.args.segments c.args.nodes _ c.index_mut.result.now c.left-left.result c.self.invariant.sound (rw (← c.self.view_is) at c.requires) c.deref.ensures.value c.place_of-place.ensures c.index_mut.ensures.value c.left-left.ensures c.if-left-segments.false c.if-left-nodes.false in
-    omega (arith, does.fits.charged_within, does.fits.segments_within)
+    let fit = fits g (goal.at.overflow_add-account g c).After-left-left c.if-left-segments.false c.if-left-nodes.false in
+    omega (arith, fit.charged_within, fit.segments_within)
 
 pub overflow_add-account-2 : goal.overflow_add-account-2
 overflow_add-account-2 g c =
-    let does = charges (held_by c.self.inside) c.args.tenant _ c.args.segments c.args.nodes _ c.index_mut.result.now c.left-left.result c.self.invariant.sound (rw (← c.self.view_is) at c.requires) c.deref.ensures.value c.place_of-place.ensures c.index_mut.ensures.value c.left-left.ensures c.if-left-segments.false c.if-left-nodes.false in
-    omega (arith, does.fits.opened_within, does.fits.nodes_within)
+    let fit = fits g (goal.at.overflow_add-account-2 g c).After-left-left c.if-left-segments.false c.if-left-nodes.false in
+    omega (arith, fit.opened_within, fit.nodes_within)
 
 pub invariant_of-self-2 : goal.invariant_of-self-2
 invariant_of-self-2 g c =
-    let does = charges (held_by c.self.inside) c.args.tenant _ c.args.segments c.args.nodes _ c.index_mut.result.now c.left-left.result c.self.invariant.sound (rw (← c.self.view_is) at c.requires) c.deref.ensures.value c.place_of-place.ensures c.index_mut.ensures.value c.left-left.ensures c.if-left-segments.false c.if-left-nodes.false in
-    record { sound = does.change.sound; segments = c.self.invariant.segments ∙ sym does.change.segments; nodes = c.self.invariant.nodes ∙ sym does.change.nodes; places = c.self.invariant.places }
+    let is = change g (goal.at.invariant_of-self-2 g c).After-left-left c.if-left-segments.false c.if-left-nodes.false in
+    record { sound = is.sound; segments = c.self.invariant.segments ∙ sym is.segments; nodes = c.self.invariant.nodes ∙ sym is.nodes }
 
 pub returns : goal.returns
 returns g c =
-    let does = charges (held_by c.self.inside) c.args.tenant _ c.args.segments c.args.nodes _ c.index_mut.result.now c.left-left.result c.self.invariant.sound (rw (← c.self.view_is) at c.requires) c.deref.ensures.value c.place_of-place.ensures c.index_mut.ensures.value c.left-left.ensures c.if-left-segments.false c.if-left-nodes.false in
+    let at = (goal.at.returns g c).After-left-left in
+    let account = (here g at).account in
+    let is = change g at c.if-left-segments.false c.if-left-nodes.false in
+    let some = rw c.left-left.ensures at c.if-left-segments.false in
+    let more = rw c.left-left.ensures at c.if-left-nodes.false in
     record {
-      ok = rw (← c.self.view_is) (λ _. does.has, λ _. refl);
-      short = rw (← c.self.view_is) (λ never. absurd cc, λ short. absurd (does.enough short));
-      charges = rw (← c.self.view_is) does.change.changes;
-      opened = rw (← c.self.view_is) (opened_is (held_by c.self.inside) c.args.tenant _ _ c.index_mut.result.now c.self.invariant.sound (rw (← c.self.view_is) at c.requires) c.deref.ensures.value c.place_of-place.ensures c.index_mut.ensures.value);
-      sum = rw (← c.self.view_is) does.sum;
-      others = rw (← c.self.view_is) does.change.others;
+      ok = rw (← c.self.view_is, account) (λ _. (some, more), λ _. refl);
+      short = rw (← c.self.view_is, account) (λ never. absurd cc, λ short. absurd (elim short [ inl less ↦ omega (arith, less, some) | inr less ↦ omega (arith, less, more) ]));
+      charges = rw (← c.self.view_is) is.changes;
+      opened = rw (← c.self.view_is, account) refl;
+      sum = rw (← c.self.view_is) (omega (arith, sum_by_write (λ x. x.1.charged) (held_by c.self.inside) c.args.tenant c.get_mut.result.now (charged_by c.args.segments c.args.nodes) c.get_mut.ensures.value));
+      others = rw (← c.self.view_is) is.others;
       err = tt;
-      sound = does.change.sound;
+      sound = is.sound;
     }

@@ -1,17 +1,18 @@
 -- A reservation above the tenant's own that the totals allow is written into its account; any other is refused.
-use Rattle.std.proofs.Common.{◌≡◌, ℕ, ◌+◌, ◌-◌, ◌<◌, ◌≤◌, ◌⊎◌, inl, inr, List, IsSome, length, ltb, get_or, set, true, false, Some, ap, refl, arith}
+use Rattle.std.proofs.Common.{◌≡◌, ℕ, ◌+◌, ◌-◌, ◌<◌, ◌≤◌, ◌⊎◌, inl, inr, ltb, true, false, Some, ap, ◌∙◌, refl, arith}
 use Rattle.std.specs.Prelude.{option_map}
 use Rattle.std.proofs.lemmas.Bool.{ltb-true, ltb-false}
 use Rattle.tenant_quota.specs.Quota.{Quota, IsAbove, IsNotAbove, IsWithinLimits}
-use Rattle.tenant_quota.specs.Accounts.{account_of, raised_to}
+use Rattle.tenant_quota.specs.Accounts.{owner_of_account, raised_to}
 use Rattle.tenant_quota.specs.declared.account.Account.{Account}
 use Rattle.tenant_quota.specs.declared.book.Rest.{Rest}
 use Rattle.tenant_quota.specs.Reservations.{Reservations, reserve_of, unreserved_of, HasRoomFor, IsBeyond, CanRaise, IsTooMuch, IsLower, IsSoundBook}
 use Rattle.tenant_quota.specs.Keeping.{held_by}
-use Rattle.tenant_quota.proofs.Standing.{and_at, and_from, if_from, place_within, stands_for, IsRaise, raise_by_write, one_less}
-use Rattle.tenant_quota.proofs.Places.{account_place, read-rising}
+use Rattle.number_index.specs.Places.{find_by_number}
+use Rattle.number_index.proofs.Edits.{put-same}
+use Rattle.tenant_quota.proofs.Standing.{and_at, and_from, if_from, is_there, stands_for, others_same, IsRaise, written, raise_by_write, one_less}
 use Rattle.tenant_quota.proofs.book.Book.raise.Given.{Over}
-use Rattle.tenant_quota.proofs.book.Book.raise.Goals.{After-index_mut}
+use Rattle.tenant_quota.proofs.book.Book.raise.Goals.{After-get_mut, Joined-then-rest-segments, then-rest-segments-via-then-rest-segments, then-rest-segments-via-else-rest-segments+then-rest-nodes}
 use Rattle.tenant_quota.proofs.book.Book.raise.Goals as goal
 
 not_above : (now quota : Quota) → (IsAbove now quota → ⊥) → IsNotAbove now quota
@@ -102,21 +103,21 @@ too_much : (b : Reservations) (t : ℕ) (quota now : Quota) (r : Rest) (s s_now 
 too_much b t quota now r s s_now n n_now sound is rest above s_is s_now_is n_is n_now_is less =
     refused b t quota now is above (beyond_rest b quota now r (s - s_now) (n - n_now) sound rest above (difference _ _ _ _ s_is s_now_is) (difference _ _ _ _ n_is n_now_is) (one_less _ _ _ _ less))
 
-allowed : (b : Reservations) (t i : ℕ) (read : List (ℕ × Account)) (e : ℕ × Account) (quota : Quota) (r : Rest) (s s_now n n_now : ℕ) → IsSoundBook b → IsSome (account_of t b.accounts) → read ≡ b.accounts → i ≡ account_place t read → e ≡ get_or b.accounts i e → IsWithinLimits quota →
+allowed : (b : Reservations) (t : ℕ) (e : ℕ × Account) (quota : Quota) (r : Rest) (s s_now n n_now : ℕ) → IsSoundBook b → find_by_number owner_of_account t b.accounts ≡ Some e → IsWithinLimits quota →
     r ≡ unreserved_of b → IsAbove e.1.reserve quota → s ≡ quota.segments → s_now ≡ e.1.reserve.segments → n ≡ quota.nodes → n_now ≡ e.1.reserve.nodes → s - s_now ≤ r.segments → n - n_now ≤ r.nodes →
-    IsRaised b (record b { accounts = set b.accounts i (e.0, raised_to quota e.1) }) t quota e.1.reserve
-allowed b t i read e quota r s s_now n n_now sound there same is at limits rest above s_is s_now_is n_is n_now_is enough many =
-    let own : reserve_of t b ≡ Some e.1.reserve = ap (option_map (λ (a : Account). a.reserve)) (stands_for b t i read e sound there same is at).account in
+    IsRaised b (written b t e (raised_to quota)) t quota e.1.reserve
+allowed b t e quota r s s_now n n_now sound found limits rest above s_is s_now_is n_is n_now_is enough many =
+    let own : reserve_of t b ≡ Some e.1.reserve = ap (option_map (λ (a : Account). a.reserve)) (stands_for b t e sound found).account in
     let room = within_rest b quota e.1.reserve r (s - s_now) (n - n_now) sound rest above (difference _ _ _ _ s_is s_now_is) (difference _ _ _ _ n_is n_now_is) enough many in
-    raised b _ t quota e.1.reserve own above room (raise_by_write b t i read e quota sound there same is at limits above room)
+    raised b _ t quota e.1.reserve own above room (raise_by_write b t e quota sound found limits above room)
 
 -- the account that was read is the tenant's
-own : (g : Over) (c : After-index_mut g) → reserve_of c.args.tenant (held_by c.self.inside) ≡ Some c.index_mut.result.now.1.reserve
+own : (g : Over) (c : After-get_mut g) → reserve_of c.args.tenant (held_by c.self.inside) ≡ Some c.get_mut.result.now.1.reserve
 own g c =
-    ap (option_map (λ (a : Account). a.reserve)) (stands_for (held_by c.self.inside) c.args.tenant _ _ c.index_mut.result.now c.self.invariant.sound (rw (← c.self.view_is) at c.requires) c.deref.ensures.value c.place_of-place.ensures c.index_mut.ensures.value).account
+    ap (option_map (λ (a : Account). a.reserve)) (stands_for (held_by c.self.inside) c.args.tenant c.get_mut.result.now c.self.invariant.sound c.get_mut.ensures.value).account
 
 -- what is asked isn't above what was read of the tenant's account
-few : (g : Over) (c : After-index_mut g) → (IsAbove c.index_mut.result.now.1.reserve c.args.reserve → ⊥) → IsTooLittle (held_by c.self.inside) c.args.tenant c.args.reserve
+few : (g : Over) (c : After-get_mut g) → (IsAbove c.get_mut.result.now.1.reserve c.args.reserve → ⊥) → IsTooLittle (held_by c.self.inside) c.args.tenant c.args.reserve
 few g c never = too_little (held_by c.self.inside) c.args.tenant c.args.reserve _ (own g c) never
 
 pub overflow_sub-segments : goal.overflow_sub-segments
@@ -125,59 +126,68 @@ overflow_sub-segments g c = no_less _ _ _ _ c.segments.ensures.value c.segments-
 pub overflow_sub-nodes : goal.overflow_sub-nodes
 overflow_sub-nodes g c = no_less _ _ _ _ c.nodes.ensures.value c.nodes-2.ensures.value (c.is_above.ensures.0 c.if-not-is_above.false).nodes
 
-pub place_of-place-requires : goal.place_of-place-requires
-place_of-place-requires g c = read-rising c.self.inside.accounts.items _ c.deref.ensures.value c.self.invariant.sound.rising
+-- nothing is written where it is refused
+same : (g : Over) (c : Joined-then-rest-segments g) → c.then-rest-segments.self-inside ≡ c.self.inside
+same g c =
+    let back = ap (λ l. record c.self.inside { accounts = l }) (put-same owner_of_account c.args.tenant c.self.inside.accounts c.get_mut.result.now c.get_mut.ensures.value) in
+    elim c.then-rest-segments.branch [ then-rest-segments-via-then-rest-segments w ↦ w.self-inside-is ∙ back | then-rest-segments-via-else-rest-segments+then-rest-nodes w ↦ w.self-inside-is ∙ back ]
 
-pub index_mut-requires : goal.index_mut-requires
-index_mut-requires g c = let within = place_within (held_by c.self.inside) c.args.tenant _ _ c.self.invariant.sound (rw (← c.self.view_is) at c.requires) c.deref.ensures.value c.place_of-place.ensures in omega (arith, c.deref.ensures.len, ap length c.deref.ensures.value)
+pub get_mut-requires-clause-there : goal.get_mut-requires-clause-there
+get_mut-requires-clause-there g c = is_there (held_by c.self.inside) c.args.tenant (rw (← c.self.view_is) at c.requires)
 
-pub returns-then-not-is_above-clause-ok : goal.returns-then-not-is_above-clause-ok
-returns-then-not-is_above-clause-ok g c =
-    rw (← c.self.view_is) (λ never. absurd cc, λ can. absurd ((few g (goal.at.returns-then-not-is_above-clause-ok g c).After-index_mut (λ above. let yes = c.is_above.ensures.1 above in absurd cc)).taken can))
+pub invariant_of-self : goal.invariant_of-self
+invariant_of-self g c = rw (put-same owner_of_account c.args.tenant c.self.inside.accounts c.get_mut.result.now c.get_mut.ensures.value) c.self.invariant
 
-pub returns-then-not-is_above-clause-lower : goal.returns-then-not-is_above-clause-lower
-returns-then-not-is_above-clause-lower g c =
-    rw (← c.self.view_is) (λ _. (few g (goal.at.returns-then-not-is_above-clause-lower g c).After-index_mut (λ above. let yes = c.is_above.ensures.1 above in absurd cc)).lower, λ _. refl)
+pub invariant_of-self-then-rest-segments : goal.invariant_of-self-then-rest-segments
+invariant_of-self-then-rest-segments g c = rw (same g c) c.self.invariant
 
-pub returns-then-not-is_above-clause-full : goal.returns-then-not-is_above-clause-full
-returns-then-not-is_above-clause-full g c =
-    rw (← c.self.view_is) (λ never. absurd cc, λ much. absurd ((few g (goal.at.returns-then-not-is_above-clause-full g c).After-index_mut (λ above. let yes = c.is_above.ensures.1 above in absurd cc)).much much))
+pub returns-then-not-is_above : goal.returns-then-not-is_above
+returns-then-not-is_above g c =
+    let at = (goal.at.returns-then-not-is_above g c).After-get_mut in
+    let less = few g at (λ above. let yes = c.is_above.ensures.1 above in absurd cc) in
+    rw (put-same owner_of_account c.args.tenant c.self.inside.accounts c.get_mut.result.now c.get_mut.ensures.value) (record {
+      ok = rw (← c.self.view_is) (λ never. absurd cc, λ can. absurd (less.taken can));
+      lower = rw (← c.self.view_is) (λ _. less.lower, λ _. refl);
+      full = rw (← c.self.view_is) (λ never. absurd cc, λ much. absurd (less.much much));
+      raises = tt;
+      others = rw (← c.self.view_is) (others_same (held_by c.self.inside) c.args.tenant);
+      err = c.self.view_is;
+      sound = c.self.invariant.sound;
+    })
 
-pub returns-then-rest-segments-clause-ok : goal.returns-then-rest-segments-clause-ok
-returns-then-rest-segments-clause-ok g c =
-    let many = too_much (held_by c.self.inside) c.args.tenant c.args.reserve _ c.rest-rest.result _ _ _ _ c.self.invariant.sound (own g (goal.at.returns-then-rest-segments-clause-ok g c).After-index_mut) (rw (← c.self.view_is) at c.rest-rest.ensures.rest) (c.is_above.ensures.0 c.if-not-is_above.false) c.segments.ensures.value c.segments-2.ensures.value c.nodes.ensures.value c.nodes-2.ensures.value c.then-rest-segments.either in
-    rw (← c.self.view_is) (λ never. absurd cc, λ can. absurd (many.taken can))
-
-pub returns-then-rest-segments-clause-lower : goal.returns-then-rest-segments-clause-lower
-returns-then-rest-segments-clause-lower g c =
-    let many = too_much (held_by c.self.inside) c.args.tenant c.args.reserve _ c.rest-rest.result _ _ _ _ c.self.invariant.sound (own g (goal.at.returns-then-rest-segments-clause-lower g c).After-index_mut) (rw (← c.self.view_is) at c.rest-rest.ensures.rest) (c.is_above.ensures.0 c.if-not-is_above.false) c.segments.ensures.value c.segments-2.ensures.value c.nodes.ensures.value c.nodes-2.ensures.value c.then-rest-segments.either in
-    rw (← c.self.view_is) (λ never. absurd cc, λ lower. absurd (many.little lower))
-
-pub returns-then-rest-segments-clause-full : goal.returns-then-rest-segments-clause-full
-returns-then-rest-segments-clause-full g c =
-    let many = too_much (held_by c.self.inside) c.args.tenant c.args.reserve _ c.rest-rest.result _ _ _ _ c.self.invariant.sound (own g (goal.at.returns-then-rest-segments-clause-full g c).After-index_mut) (rw (← c.self.view_is) at c.rest-rest.ensures.rest) (c.is_above.ensures.0 c.if-not-is_above.false) c.segments.ensures.value c.segments-2.ensures.value c.nodes.ensures.value c.nodes-2.ensures.value c.then-rest-segments.either in
-    rw (← c.self.view_is) (λ _. many.much, λ _. refl)
+pub returns-then-rest-segments : goal.returns-then-rest-segments
+returns-then-rest-segments g c =
+    let at = (goal.at.returns-then-rest-segments g c).After-get_mut in
+    let many = too_much (held_by c.self.inside) c.args.tenant c.args.reserve _ c.rest-rest.result _ _ _ _ c.self.invariant.sound (own g at) (rw (← c.self.view_is) at c.rest-rest.ensures.rest) (c.is_above.ensures.0 c.if-not-is_above.false) c.segments.ensures.value c.segments-2.ensures.value c.nodes.ensures.value c.nodes-2.ensures.value c.then-rest-segments.either in
+    rw (same g c) (record {
+      ok = rw (← c.self.view_is) (λ never. absurd cc, λ can. absurd (many.taken can));
+      lower = rw (← c.self.view_is) (λ never. absurd cc, λ lower. absurd (many.little lower));
+      full = rw (← c.self.view_is) (λ _. many.much, λ _. refl);
+      raises = tt;
+      others = rw (← c.self.view_is) (others_same (held_by c.self.inside) c.args.tenant);
+      err = c.self.view_is;
+      sound = c.self.invariant.sound;
+    })
 
 pub invariant_of-self-2 : goal.invariant_of-self-2
 invariant_of-self-2 g c =
-    let does = allowed (held_by c.self.inside) c.args.tenant _ _ c.index_mut.result.now c.args.reserve c.rest-rest.result _ _ _ _ c.self.invariant.sound (rw (← c.self.view_is) at c.requires) c.deref.ensures.value c.place_of-place.ensures c.index_mut.ensures.value c.segments.ensures.limits (rw (← c.self.view_is) at c.rest-rest.ensures.rest) (c.is_above.ensures.0 c.if-not-is_above.false) c.segments.ensures.value c.segments-2.ensures.value c.nodes.ensures.value c.nodes-2.ensures.value c.if-rest-segments.false c.if-rest-nodes.false in
+    let does = allowed (held_by c.self.inside) c.args.tenant c.get_mut.result.now c.args.reserve c.rest-rest.result _ _ _ _ c.self.invariant.sound c.get_mut.ensures.value c.segments.ensures.limits (rw (← c.self.view_is) at c.rest-rest.ensures.rest) (c.is_above.ensures.0 c.if-not-is_above.false) c.segments.ensures.value c.segments-2.ensures.value c.nodes.ensures.value c.nodes-2.ensures.value c.if-rest-segments.false c.if-rest-nodes.false in
     let above = c.is_above.ensures.0 c.if-not-is_above.false in
     let now = c.self.invariant in
     record {
       sound = does.raise.sound;
       segments = sum_raised _ _ _ _ _ _ does.raise.raises.segments now.segments (difference _ _ _ _ c.segments.ensures.value c.segments-2.ensures.value) above.segments;
       nodes = sum_raised _ _ _ _ _ _ does.raise.raises.nodes now.nodes (difference _ _ _ _ c.nodes.ensures.value c.nodes-2.ensures.value) above.nodes;
-      places = now.places;
     }
 
 pub returns : goal.returns
 returns g c =
-    let does = allowed (held_by c.self.inside) c.args.tenant _ _ c.index_mut.result.now c.args.reserve c.rest-rest.result _ _ _ _ c.self.invariant.sound (rw (← c.self.view_is) at c.requires) c.deref.ensures.value c.place_of-place.ensures c.index_mut.ensures.value c.segments.ensures.limits (rw (← c.self.view_is) at c.rest-rest.ensures.rest) (c.is_above.ensures.0 c.if-not-is_above.false) c.segments.ensures.value c.segments-2.ensures.value c.nodes.ensures.value c.nodes-2.ensures.value c.if-rest-segments.false c.if-rest-nodes.false in
+    let does = allowed (held_by c.self.inside) c.args.tenant c.get_mut.result.now c.args.reserve c.rest-rest.result _ _ _ _ c.self.invariant.sound c.get_mut.ensures.value c.segments.ensures.limits (rw (← c.self.view_is) at c.rest-rest.ensures.rest) (c.is_above.ensures.0 c.if-not-is_above.false) c.segments.ensures.value c.segments-2.ensures.value c.nodes.ensures.value c.nodes-2.ensures.value c.if-rest-segments.false c.if-rest-nodes.false in
     record {
       ok = rw (← c.self.view_is) (λ _. does.can, λ _. refl);
       lower = rw (← c.self.view_is) (λ never. absurd cc, λ lower. absurd (does.little lower));
       full = rw (← c.self.view_is) (λ never. absurd cc, λ much. absurd (does.much much));
-      raises = rw (← c.self.view_is) (if_from (reserve_of c.args.tenant (held_by c.self.inside)) _ _ (own g (goal.at.returns g c).After-index_mut) does.raise.raises);
+      raises = rw (← c.self.view_is) (if_from (reserve_of c.args.tenant (held_by c.self.inside)) _ _ (own g (goal.at.returns g c).After-get_mut) does.raise.raises);
       others = rw (← c.self.view_is) does.raise.others;
       err = tt;
       sound = does.raise.sound;

@@ -1,92 +1,75 @@
 -- A step that the tenant has left is counted in its account; without one it is refused.
-use Rattle.std.proofs.Common.{◌≡◌, ℕ, ◌+◌, ◌<◌, length, List, get_or, set, IsSome, ap, sym, ◌∙◌, refl, arith}
+use Rattle.std.proofs.Common.{◌≡◌, ◌≢◌, ◌+◌, sym, ◌∙◌, ap, refl, arith}
+use Rattle.number_index.proofs.Edits.{put-same}
 use Rattle.tenant_quota.specs.declared.account.Account.{Account}
 use Rattle.tenant_quota.specs.declared.account.Left.{Left}
-use Rattle.tenant_quota.specs.Accounts.{account_of, ticked, left_in, charged_segments, IsWithinReserve}
-use Rattle.tenant_quota.proofs.Places.{account_place, read-rising}
-use Rattle.tenant_quota.specs.Reservations.{Reservations, HasStepLeft, IsOutOfSteps, left_in_book, IsSoundBook}
+use Rattle.tenant_quota.specs.Accounts.{owner_of_account, ticked, left_in, IsWithinReserve}
 use Rattle.tenant_quota.specs.Keeping.{held_by}
-use Rattle.tenant_quota.proofs.Standing.{and_at, and_from, left_is, place_within, stands_for, within_with, IsChange, change_by_write, sum_by_write}
+use Rattle.tenant_quota.proofs.Standing.{StandsFor, is_there, stands_for, others_same, within_with, IsChange, written, change_by_write, sum_by_write}
+use Rattle.tenant_quota.proofs.book.Book.tick.Given.{Over}
+use Rattle.tenant_quota.proofs.book.Book.tick.Goals.{After-left}
 use Rattle.tenant_quota.proofs.book.Book.tick.Goals as goal
 
-ticked_within : (a : Account) (l : Left) → l ≡ left_in a → 0 < l.steps → IsWithinReserve a → IsWithinReserve (ticked a)
+ticked_within : (a : Account) (l : Left) → l ≡ left_in a → l.steps ≢ 0 → IsWithinReserve a → IsWithinReserve (ticked a)
 ticked_within a l is some_left within =
     let steps_are = ap (λ (x : Left). x.steps) is in
     within_with a a.charged a.opened (a.ticks + 1) within.charged_within within.opened_within (omega (arith, within.ticks_within)) within
 
--- what the test of the steps left tells, and what the write of one more step does
-record Ticks (b : Reservations) (t i : ℕ) (e : ℕ × Account) : Type 0 where
-  fits : IsWithinReserve (ticked e.1)
-  has : HasStepLeft b t
-  enough : IsOutOfSteps b t → ⊥
-  change : IsChange b (record b { accounts = set b.accounts i (e.0, ticked e.1) }) t ticked
-  sum : charged_segments (set b.accounts i (e.0, ticked e.1)) ≡ charged_segments b.accounts
+-- the entry that was found, and the write of one more step into it
+here : (g : Over) (c : After-left g) → StandsFor (held_by c.self.inside) c.args.tenant c.get_mut.result.now
+here g c = stands_for (held_by c.self.inside) c.args.tenant c.get_mut.result.now c.self.invariant.sound c.get_mut.ensures.value
 
-ticks : (b : Reservations) (t i : ℕ) (read : List (ℕ × Account)) (e : ℕ × Account) (l : Left) → IsSoundBook b → IsSome (account_of t b.accounts) → read ≡ b.accounts → i ≡ account_place t read → e ≡ get_or b.accounts i e → l ≡ left_in e.1 → 0 < l.steps → Ticks b t i e
-ticks b t i read e l sound there same is at left some_left =
-    let stands = stands_for b t i read e sound there same is at in
-    let left_here = left_is b t e.1 l stands.account left in
-    let fits = ticked_within e.1 l left some_left stands.within in
-    record {
-      fits = fits;
-      has = and_from (left_in_book t b) (λ (x : Left). 0 < x.steps) l left_here some_left;
-      enough = λ out. let none = and_at (left_in_book t b) (λ (x : Left). x.steps ≡ 0) l left_here out in omega arith;
-      change = change_by_write b t i read e ticked sound there same is at (λ x. refl) fits;
-      sum = omega (arith, sum_by_write (λ x. x.1.charged) b t i read e ticked sound there same is at);
-    }
+fits : (g : Over) (c : After-left g) → c.left.result.steps ≢ 0 → IsWithinReserve (ticked c.get_mut.result.now.1)
+fits g c some = ticked_within c.get_mut.result.now.1 c.left.result c.left.ensures some (here g c).within
 
-record Refuses (b : Reservations) (t : ℕ) : Type 0 where
-  lacks : HasStepLeft b t → ⊥
-  out : IsOutOfSteps b t
+change : (g : Over) (c : After-left g) → c.left.result.steps ≢ 0 → IsChange (held_by c.self.inside) (written (held_by c.self.inside) c.args.tenant c.get_mut.result.now ticked) c.args.tenant ticked
+change g c some = change_by_write (held_by c.self.inside) c.args.tenant c.get_mut.result.now ticked c.self.invariant.sound c.get_mut.ensures.value (λ x. refl) (fits g c some)
 
-refuses : (b : Reservations) (t i : ℕ) (read : List (ℕ × Account)) (e : ℕ × Account) (l : Left) → IsSoundBook b → IsSome (account_of t b.accounts) → read ≡ b.accounts → i ≡ account_place t read → e ≡ get_or b.accounts i e → l ≡ left_in e.1 → l.steps ≡ 0 → Refuses b t
-refuses b t i read e l sound there same is at left none =
-    let stands = stands_for b t i read e sound there same is at in
-    let left_here = left_is b t e.1 l stands.account left in
-    record {
-      lacks = λ has. let some = and_at (left_in_book t b) (λ (x : Left). 0 < x.steps) l left_here has in omega arith;
-      out = and_from (left_in_book t b) (λ (x : Left). x.steps ≡ 0) l left_here none;
-    }
-
-pub place_of-place-requires : goal.place_of-place-requires
-place_of-place-requires g c = read-rising c.self.inside.accounts.items _ c.deref.ensures.value c.self.invariant.sound.rising
-
-pub index_mut-requires : goal.index_mut-requires
-index_mut-requires g c = let within = place_within (held_by c.self.inside) c.args.tenant _ _ c.self.invariant.sound (rw (← c.self.view_is) at c.requires) c.deref.ensures.value c.place_of-place.ensures in omega (arith, c.deref.ensures.len, ap length c.deref.ensures.value)
+pub get_mut-requires-clause-there : goal.get_mut-requires-clause-there
+get_mut-requires-clause-there g c = is_there (held_by c.self.inside) c.args.tenant (rw (← c.self.view_is) at c.requires)
 
 pub left-requires : goal.left-requires
-left-requires g c =
-    (stands_for (held_by c.self.inside) c.args.tenant _ _ c.index_mut.result.now c.self.invariant.sound (rw (← c.self.view_is) at c.requires) c.deref.ensures.value c.place_of-place.ensures c.index_mut.ensures.value).within
+left-requires g c = (stands_for (held_by c.self.inside) c.args.tenant c.get_mut.result.now c.self.invariant.sound c.get_mut.ensures.value).within
 
-pub returns-then-left-eq0-clause-ok : goal.returns-then-left-eq0-clause-ok
-returns-then-left-eq0-clause-ok g c =
-    let no = refuses (held_by c.self.inside) c.args.tenant _ _ c.index_mut.result.now c.left.result c.self.invariant.sound (rw (← c.self.view_is) at c.requires) c.deref.ensures.value c.place_of-place.ensures c.index_mut.ensures.value c.left.ensures c.if-left-eq0.true in
-    rw (← c.self.view_is) (λ never. absurd cc, λ has. absurd (no.lacks has))
+pub invariant_of-self : goal.invariant_of-self
+invariant_of-self g c = rw (put-same owner_of_account c.args.tenant c.self.inside.accounts c.get_mut.result.now c.get_mut.ensures.value) c.self.invariant
 
-pub returns-then-left-eq0-clause-short : goal.returns-then-left-eq0-clause-short
-returns-then-left-eq0-clause-short g c =
-    let no = refuses (held_by c.self.inside) c.args.tenant _ _ c.index_mut.result.now c.left.result c.self.invariant.sound (rw (← c.self.view_is) at c.requires) c.deref.ensures.value c.place_of-place.ensures c.index_mut.ensures.value c.left.ensures c.if-left-eq0.true in
-    rw (← c.self.view_is) (λ _. no.out, λ _. refl)
+pub returns-then-left-eq0 : goal.returns-then-left-eq0
+returns-then-left-eq0 g c =
+    let steps = ap (λ (x : Left). x.steps) c.left.ensures in
+    let at = (goal.at.returns-then-left-eq0 g c).After-left in
+    let account = (here g at).account in
+    rw (put-same owner_of_account c.args.tenant c.self.inside.accounts c.get_mut.result.now c.get_mut.ensures.value) (record {
+      ok = rw (← c.self.view_is, account) (λ never. absurd cc, λ has. absurd (omega (arith, has, steps, c.if-left-eq0.true)));
+      short = rw (← c.self.view_is, account) (λ _. sym steps ∙ c.if-left-eq0.true, λ _. refl);
+      ticks = tt;
+      sum = rw (← c.self.view_is) refl;
+      others = rw (← c.self.view_is) (others_same (held_by c.self.inside) c.args.tenant);
+      err = c.self.view_is;
+      sound = c.self.invariant.sound;
+    })
 
 pub overflow_add-account : goal.overflow_add-account
 overflow_add-account g c =
-    let does = ticks (held_by c.self.inside) c.args.tenant _ _ c.index_mut.result.now c.left.result c.self.invariant.sound (rw (← c.self.view_is) at c.requires) c.deref.ensures.value c.place_of-place.ensures c.index_mut.ensures.value c.left.ensures (omega arith) in
-    omega (arith, does.fits.ticks_within, does.fits.nodes_within)
+    let fit = fits g (goal.at.overflow_add-account g c).After-left c.if-left-eq0.false in
+    omega (arith, fit.ticks_within, fit.nodes_within)
 
 pub invariant_of-self-2 : goal.invariant_of-self-2
 invariant_of-self-2 g c =
-    let does = ticks (held_by c.self.inside) c.args.tenant _ _ c.index_mut.result.now c.left.result c.self.invariant.sound (rw (← c.self.view_is) at c.requires) c.deref.ensures.value c.place_of-place.ensures c.index_mut.ensures.value c.left.ensures (omega arith) in
-    record { sound = does.change.sound; segments = c.self.invariant.segments ∙ sym does.change.segments; nodes = c.self.invariant.nodes ∙ sym does.change.nodes; places = c.self.invariant.places }
+    let is = change g (goal.at.invariant_of-self-2 g c).After-left c.if-left-eq0.false in
+    record { sound = is.sound; segments = c.self.invariant.segments ∙ sym is.segments; nodes = c.self.invariant.nodes ∙ sym is.nodes }
 
 pub returns : goal.returns
 returns g c =
-    let does = ticks (held_by c.self.inside) c.args.tenant _ _ c.index_mut.result.now c.left.result c.self.invariant.sound (rw (← c.self.view_is) at c.requires) c.deref.ensures.value c.place_of-place.ensures c.index_mut.ensures.value c.left.ensures (omega arith) in
+    let at = (goal.at.returns g c).After-left in
+    let is = change g at c.if-left-eq0.false in
+    let steps = ap (λ (x : Left). x.steps) c.left.ensures in
     record {
-      ok = rw (← c.self.view_is) (λ _. does.has, λ _. refl);
-      short = rw (← c.self.view_is) (λ never. absurd cc, λ out. absurd (does.enough out));
-      ticks = rw (← c.self.view_is) does.change.changes;
-      sum = rw (← c.self.view_is) does.sum;
-      others = rw (← c.self.view_is) does.change.others;
+      ok = rw (← c.self.view_is, (here g at).account) (λ _. omega (arith, steps, c.if-left-eq0.false), λ _. refl);
+      short = rw (← c.self.view_is, (here g at).account) (λ never. absurd cc, λ out. absurd (c.if-left-eq0.false (steps ∙ out)));
+      ticks = rw (← c.self.view_is) is.changes;
+      sum = rw (← c.self.view_is) (omega (arith, sum_by_write (λ x. x.1.charged) (held_by c.self.inside) c.args.tenant c.get_mut.result.now ticked c.get_mut.ensures.value));
+      others = rw (← c.self.view_is) is.others;
       err = tt;
-      sound = does.change.sound;
+      sound = is.sound;
     }
