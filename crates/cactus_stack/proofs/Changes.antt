@@ -1,12 +1,12 @@
 -- One place changes, and all others stay.
-use Rattle.std.proofs.Common.{◌≡◌, ◌≢◌, ℕ, zero, suc, ◌+◌, ◌<◌, List, [], ◌∷◌, length, take, sum_by, Option, None, Some, get_or, refl, sym, ap, ◌∙◌, arith, inl, inr, get_or-set_other, get_or-set_same}
+use Rattle.std.proofs.Common.{◌≡◌, ◌≢◌, ℕ, zero, suc, ◌+◌, ◌<◌, List, [], ◌∷◌, length, sum_by, Option, None, Some, get_or, refl, sym, ap, ◌∙◌, arith, inl, inr, get_or-set_other, get_or-set_same}
 use Rattle.std.proofs.Math.ListN.{set}
 use Rattle.std.proofs.lemmas.List.{length-set, ext_get_or}
 use Rattle.std.proofs.lemmas.List.Sums.{sum_by-set, sum_by-cons}
 use Rattle.std.proofs.lemmas.Bool.{cases_eq}
 use Rattle.segment_region.specs.Segments.{Segments, taken_count}
 use Rattle.cactus_stack.specs.Nodes.{Node, Nodes, charge, node_at, total_charge, charge_of}
-use Rattle.cactus_stack.specs.Chains.{content, AreApart, AgreesOn}
+use Rattle.cactus_stack.specs.Chains.{AreApart, AgreesOn}
 use Rattle.cactus_stack.specs.Places.{node_in, nodes_from, nowhere, place_at, len_at, charge_of_place, segments_of, IsSoundList, AreStored}
 use Rattle.cactus_stack.specs.declared.place.Place.{Place}
 use Rattle.cactus_stack.proofs.Numbers.{apart-sym}
@@ -45,27 +45,13 @@ charges-from region n (place ∷ places) sound =
 
 -- all that is charged is taken, and there are as many places as segments
 pub all-taken : (region : Segments) (places : List Place) (nodes : Nodes) → AreStored region places → nodes_from region 0 places ≡ nodes → (total_charge nodes ≡ taken_count region) × (length nodes ≡ length region)
-all-taken region places nodes stored view = rw (← view) (
-  charges-from region 0 places (λ i. (let same : 0 + i ≡ i = omega arith in rw same (stored.sound i))) ∙ sym stored.counted,
-  length-nodes_from region 0 places ∙ stored.same_count,
-)
+all-taken region places nodes stored view = grind (arith, charges-from, length-nodes_from)
 
 node_in-agrees : (old new : Segments) (n len : ℕ) (parent : Option ℕ) → AgreesOn old new (segments_of old n len) → node_in new n len parent ≡ node_in old n len parent
-node_in-agrees old new n zero parent agrees = refl
-node_in-agrees old new n (suc len) parent agrees =
-    let segments : segments_of new n (suc len) ≡ segments_of old n (suc len) = chain-agrees (charge (suc len)) old new (Some n) agrees in
-    let words : content new (segments_of new n (suc len)) ≡ content old (segments_of old n (suc len)) = ap (content new) segments ∙ content-agrees old new (segments_of old n (suc len)) agrees in
-    ap (λ (ws : List ℕ). Some (record { parent = parent; words = take (suc len) ws })) words
+node_in-agrees old new n len parent h6 = grind (arith, chain-agrees, content-agrees)
 
 sound-agrees : (old new : Segments) (n len : ℕ) → AgreesOn old new (segments_of old n len) → IsSoundList old n len → IsSoundList new n len
-sound-agrees old new n len agrees sound =
-    let xs : List ℕ = segments_of old n len in
-    let segments : segments_of new n len ≡ xs = chain-agrees (charge len) old new (Some n) agrees in
-    record {
-      at_most = sound.at_most;
-      is_chain = rw segments (record { blocks = blocks-agrees old new xs agrees sound.is_chain.blocks; whole = sound.is_chain.whole; once = sound.is_chain.once });
-      zeros = rw (segments, content-agrees old new xs agrees) sound.zeros;
-    }
+sound-agrees old new n len agrees sound = grind (arith, chain-agrees, blocks-agrees, content-agrees)
 
 -- what a change of one place owes
 pub record IsChange (old new : Segments) (places : List Place) (n : ℕ) (place : Place) : Type 0 where

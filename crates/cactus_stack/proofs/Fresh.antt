@@ -1,8 +1,7 @@
 -- A chain of new segments, made from its end to its front.
-use Rattle.std.proofs.Common.{◌≡◌, ℕ, zero, suc, ◌-◌, ◌*◌, ◌<◌, ◌≤◌, min, List, [], ◌∷◌, ◌++◌, length, take, drop, replicate, Option, None, Some, IsSome, refl, ap, ◌∙◌, arith, inl, inr, get_or-set_other, get_or-set_same}
+use Rattle.std.proofs.Common.{◌≡◌, ℕ, zero, suc, ◌-◌, ◌*◌, ◌<◌, ◌≤◌, min, List, [], ◌∷◌, ◌++◌, length, take, drop, replicate, Option, None, Some, IsSome, refl, ap, ◌∙◌, arith, get_or-set_other, get_or-set_same}
 use Rattle.std.proofs.Math.ListN.{set}
 use Rattle.std.proofs.lemmas.List.{length-append, append_assoc, length-set, set-set, length-replicate, drop-replicate, replicate-append-replicate, take_all, take-append-drop, length-take-le, length-drop, drop_all, append-nil}
-use Rattle.std.proofs.lemmas.Bool.{cases_lt}
 use Rattle.segment_region.specs.Segments.{Segment, Segments, segment_at, words_at, link_at, link_of, IsTaken, IsFree, blank, with_entry, with_segment_words, with_link}
 use Rattle.segment_region.proofs.Counts.{taken_count-take}
 use Rattle.cactus_stack.specs.Chains.{chain, Lacks, AgreesOn, IsFreshChain, filled}
@@ -18,22 +17,10 @@ fresh_segment_is_filled old n words link free =
     rw (zeros, first, set-set old n (Some blank) entry, second, set-set old n entry (Some (filled words link))) refl
 
 padded-twice : (words : List ℕ) (cut count : ℕ) → cut ≡ min (length words) 16 → length words ≤ 16 * suc count → (take cut words ++ replicate (16 - length (take cut words)) 0) ++ (drop cut words ++ replicate (16 * count - length (drop cut words)) 0) ≡ words ++ replicate (16 * suc count - length words) 0
-padded-twice words cut count is room =
-    elim (cases_lt 16 (length words)) [
-      | inr short ↦
-          let front : take cut words ≡ words = take_all cut words (omega (arith, short, is)) in
-          let back : drop cut words ≡ [] = drop_all cut words (omega (arith, short, is)) in
-          rw (front, back, append_assoc words (replicate (16 - length words) 0) (replicate (16 * count - 0) 0), replicate-append-replicate {A = ℕ} (16 - length words) (16 * count - 0) 0)
-          (ap (λ (n : ℕ). words ++ replicate n 0) (omega (arith, short, room)))
-      | inl long ↦
-          let front : length (take cut words) ≡ 16 = length-take-le cut words (omega (arith, long, is)) ∙ omega (arith, long, is) in
-          let back : 16 * count - length (drop cut words) ≡ 16 * suc count - length words = omega (arith, long, is, length-drop cut words) in
-          rw (front, back, append-nil (take cut words), ← append_assoc (take cut words) (drop cut words) (replicate (16 * suc count - length words) 0), take-append-drop cut words) refl
-    ]
+padded-twice words cut count is room = grind (arith, take_all, drop_all, append_assoc, replicate-append-replicate, length-take-le, length-drop, append-nil, take-append-drop)
 
 still_free : (old mid : Option Segment) → (IsSome old → mid ≡ old) → mid ≡ None → old ≡ None
-still_free None mid kept free = refl
-still_free (Some s) mid kept free = let same : mid ≡ Some s = kept refl in absurd (cc (same, free))
+still_free old mid h3 h4 = grind arith
 
 -- a chain that was made goes on at its front with a segment more
 pub fresh_chain_is_longer : (old mid : Segments) (rest : Option ℕ) (n : ℕ) (words : List ℕ) (cut count : ℕ) → cut ≡ min (length words) 16 → length words ≤ 16 * suc count → IsFreshChain old mid (chain count mid rest) (drop cut words) count → IsFree mid n →

@@ -98,27 +98,14 @@ last_is_taken old mid first last (suc count) more fresh some is at made =
 -- a chain is given back from its front
 pub give-rest : (old : Segments) (n count : ℕ) → IsChain old (n ∷ chain count old (link_at old n)) (suc count) →
     (chain count (set old n None) (link_at old n) ≡ chain count old (link_at old n)) × IsChain (set old n None) (chain count (set old n None) (link_at old n)) count
-give-rest old n count is =
-    let xs : List ℕ = chain count old (link_at old n) in
-    let agrees : AgreesOn old (set old n None) xs = agrees-set old n None xs is.once.0 in
-    let same : chain count (set old n None) (link_at old n) ≡ xs = chain-agrees count old (set old n None) (link_at old n) agrees in
-    (same, rw same (record { blocks = blocks-agrees old (set old n None) xs agrees is.blocks.2; whole = omega (arith, is.whole); once = is.once.1 }))
+give-rest old n count is = grind (arith, agrees-set, chain-agrees, blocks-agrees)
 
 pub given-back : (old new : Segments) (n : ℕ) (xs : List ℕ) → IsTaken old n → IsGivenBack (set old n None) new xs → IsGivenBack old new (n ∷ xs)
-given-back old new n xs taken given =
-    record {
-      same_count = given.same_count ∙ length-set old n None;
-      counted = omega (arith, given.counted, taken_count-give old n taken);
-      kept = λ s lacks. given.kept s lacks.1 ∙ get_or-set_other old n s None None (λ e. lacks.0 (sym e));
-    }
+given-back old new n xs taken given = grind (arith, length-set, taken_count-give, get_or-set_other)
 
 -- both, where the count is given as one number
 pub give-rest-of : (old mid : Segments) (first next : Option ℕ) (n count : ℕ) → 0 < count → first ≡ Some n → IsChain old (chain count old first) count → next ≡ link_at old n → mid ≡ set old n None → IsChain mid (chain (count - 1) mid next) (count - 1)
-give-rest-of old mid first next n zero some is_first is link after = absurd (omega arith)
-give-rest-of old mid first next n (suc count) some is_first is link after =
-    let less : suc count - 1 ≡ count = omega arith in
-    let whole : IsChain old (n ∷ chain count old (link_at old n)) (suc count) = rw is_first at is in
-    rw (less, link, after) (give-rest old n count whole).1
+give-rest-of old mid first next n count h7 h8 h9 h10 h11 = grind (arith, give-rest)
 
 pub given-back-of : (old mid new : Segments) (first next : Option ℕ) (n count : ℕ) → 0 < count → first ≡ Some n → IsChain old (chain count old first) count → next ≡ link_at old n → mid ≡ set old n None → IsGivenBack mid new (chain (count - 1) mid next) → IsGivenBack old new (chain count old first)
 given-back-of old mid new first next n zero some is_first is link after given = absurd (omega arith)

@@ -35,8 +35,3 @@ apart-append (x ∷ xs) ys zs p q = (lacks-append ys zs x p.0 q.0, apart-append 
 pub once-append : (xs ys : List ℕ) → IsOnce xs → IsOnce ys → AreApart xs ys → IsOnce (xs ++ ys)
 once-append [] ys p q apart = q
 once-append (x ∷ xs) ys p q apart = (lacks-append xs ys x p.0 apart.0, once-append xs ys p.1 q apart.1)
-
--- a list that lacks a number shares none with the list of that number alone
-pub apart-one : (xs : List ℕ) (n : ℕ) → Lacks xs n → AreApart xs (n ∷ [])
-apart-one [] n lacks = tt
-apart-one (x ∷ xs) n lacks = ((λ e. lacks.0 (sym e), tt), apart-one xs n lacks.1)

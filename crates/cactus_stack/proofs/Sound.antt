@@ -48,12 +48,10 @@ chain-front-get_or region head i fewer count h k =
     rw (chain-take fewer count region head k) (get_or-take fewer (chain count region head) i 0 h)
 
 pub length-sound : (region : Segments) (n len : ℕ) → IsSoundList region n len → length (content region (segments_of region n len)) ≡ 16 * charge len
-length-sound region n len sound =
-    length-content region (segments_of region n len) sound.is_chain.blocks ∙ ap (λ (k : ℕ). 16 * k) sound.is_chain.whole
+length-sound region n len sound = grind (arith, length-content)
 
 pub length-words_in : (region : Segments) (n len : ℕ) → IsSoundList region n len → length (words_in_chain region n len) ≡ len
-length-words_in region n len sound =
-    length-take-le len (content region (segments_of region n len)) (omega (arith, length-sound region n len sound, charge-room len))
+length-words_in region n len sound = grind (arith, length-take-le, length-sound, charge-room)
 
 -- the segment that holds a place of a sound list
 pub place_is_taken : (region : Segments) (n len at : ℕ) → IsSoundList region n len → at < len →
@@ -82,12 +80,10 @@ word_of_sound region n len at sound below =
 
 -- a node that is there has words
 pub len-of-node : (region : Segments) (n len : ℕ) (parent : Option ℕ) → IsSome (node_in region n len parent) → 0 < len
-len-of-node region n zero parent is = absurd (cc is)
-len-of-node region n (suc len) parent is = omega arith
+len-of-node region n len parent h5 = grind arith
 
 pub node_in-some : (region : Segments) (n len : ℕ) (parent : Option ℕ) → 0 < len → node_in region n len parent ≡ Some (record { parent = parent; words = words_in_chain region n len })
-node_in-some region n zero parent some = absurd (omega arith)
-node_in-some region n (suc len) parent some = refl
+node_in-some region n len parent h5 = grind arith
 
 pub charge_of-node_in : (region : Segments) (n len : ℕ) (parent : Option ℕ) → IsSoundList region n len → charge_of (node_in region n len parent) ≡ charge len
 charge_of-node_in region n zero parent sound = refl

@@ -4,11 +4,11 @@ use Rattle.std.proofs.Math.ListN.{set}
 use Rattle.std.proofs.Math.Seq.{take-append-add, drop-append-add, take-set-lt}
 use Rattle.std.proofs.lemmas.List.{append_assoc, length-set, take-append-drop, take-replicate, drop-replicate, replicate-append-replicate, drop-set-lt, length-replicate, get_or_default, set-get_or}
 use Rattle.std.proofs.lemmas.List.Folds.{sum_by-replicate}
-use Rattle.segment_region.specs.Segments.{Segment, Segments, segment_at, words_at, link_at, IsTaken, IsFree, with_segment_words, taken_count}
+use Rattle.segment_region.specs.Segments.{Segment, Segments, words_at, link_at, IsTaken, IsFree, with_segment_words, taken_count}
 use Rattle.segment_region.proofs.Counts.{taken_count-write, taken_count-replicate}
-use Rattle.cactus_stack.specs.Nodes.{Node, Nodes, charge, padded, node_at, node_words, words_of_node, IsOpen, IsUnused, HasAllChildren, free_segments, with_node, with_node_words, without}
+use Rattle.cactus_stack.specs.Nodes.{Node, Nodes, charge, padded, node_at, node_words, IsOpen, IsUnused, HasAllChildren, free_segments, with_node, with_node_words, without}
 use Rattle.cactus_stack.specs.Chains.{chain, content, AreApart, AllBlocks, AllFree, IsFreshChain, IsGrownChain, IsGivenBack}
-use Rattle.cactus_stack.specs.Places.{nowhere, place_at, len_at, resized, with_len, charge_of_place, segments_of, words_in_chain, node_in, nodes_from, IsSoundList, AreStored, IsUnder, IsForest, IsStack, IsWholeSight}
+use Rattle.cactus_stack.specs.Places.{nowhere, place_at, len_at, resized, with_len, segments_of, words_in_chain, node_in, nodes_from, IsSoundList, AreStored, IsUnder, IsForest, IsStack, IsWholeSight}
 use Rattle.cactus_stack.specs.declared.place.Place.{Place}
 use Rattle.cactus_stack.proofs.Numbers.{apart-sym, apart-append, apart-get_or}
 use Rattle.cactus_stack.proofs.Follow.{agrees-apart, agrees-taken, agrees-set, apart-free}
@@ -32,19 +32,7 @@ pub record IsKept (region : Segments) (places : List Place) (nodes : Nodes) (n :
   pub sound : IsSoundList region n (len_at places n)
 
 pub kept_node : {region : Segments} {places : List Place} {nodes : Nodes} (n : ℕ) → AreStored region places → nodes_from region 0 places ≡ nodes → IsOpen nodes n → IsKept region places nodes n
-kept_node {region = region} {places = places} {nodes = nodes} n stored view is_open =
-    let place : Place = place_at places n in
-    let entry : node_at nodes n ≡ node_in region n place.len place.parent = rw (← view) (node_at-nodes_from region n places) in
-    let some : 0 < place.len = len-of-node region n place.len place.parent (rw entry at is_open) in
-    let is : node_at nodes n ≡ Some (record { parent = place.parent; words = words_in_chain region n place.len }) = entry ∙ node_in-some region n place.len place.parent some in
-    record {
-      some = some;
-      within = lt-of-len places n some;
-      entry = is;
-      words = ap words_of_node is;
-      len = ap (λ (e : Option Node). length (words_of_node e)) is ∙ length-words_in region n place.len (stored.sound n);
-      sound = stored.sound n;
-    }
+kept_node = grind (arith, node_at-nodes_from, len-of-node, node_in-some, lt-of-len, length-words_in)
 
 -- the same where its place was read at the node's first segment
 pub record IsRead (region : Segments) (places : List Place) (nodes : Nodes) (n at : ℕ) (place : Place) : Type 0 where
@@ -170,25 +158,17 @@ grow_change {region = region} {new = new} {places = places} {n = n} more added s
 -- an opening
 
 head-taken : (region : Segments) (n count : ℕ) → 0 < count → AllBlocks region (chain count region (Some n)) → IsTaken region n
-head-taken region n zero some blocks = absurd (omega arith)
-head-taken region n (suc count) some blocks = blocks.0
+head-taken region n count h4 h5 = grind arith
 
 head-free : (old new : Segments) (n count : ℕ) → 0 < count → AllFree old (chain count new (Some n)) → IsFree old n
-head-free old new n zero some free = absurd (omega arith)
-head-free old new n (suc count) some free = free.0
+head-free old new n count h5 h6 = grind arith
 
 unused : (region : Segments) (n len : ℕ) → IsSoundList region n len → IsFree region n → len ≡ 0
-unused region n zero sound free = refl
-unused region n (suc len) sound free =
-    let taken : IsTaken region n = head-taken region n (charge (suc len)) (charge-some (suc len) (omega arith)) sound.is_chain.blocks in
-    let is_none : segment_at region n ≡ None = free.1 in
-    absurd (cc (taken, is_none))
+unused region n len h4 h5 = grind (arith, head-taken, charge-some)
 
 -- the first of the new segments was no node's number
 pub was_unused : {region new : Segments} {places : List Place} {n size : ℕ} {words : List ℕ} → AreStored region places → 0 < size → IsFreshChain region new (segments_of new n size) words (charge size) → (n < length places) × (len_at places n ≡ 0)
-was_unused {region = region} {new = new} {places = places} {n = n} {size = size} stored some fresh =
-    let free : IsFree region n = head-free region new n (charge size) (charge-some size some) fresh.were_free in
-    (rw stored.same_count free.0, unused region n (len_at places n) (stored.sound n) free)
+was_unused = grind (arith, head-free, charge-some, unused)
 
 pub open_change : {region new : Segments} {places : List Place} {n size : ℕ} {words : List ℕ} (parent : Option ℕ) (depth : ℕ) → AreStored region places → 0 < size → size ≤ 128 → length words ≤ size → IsFreshChain region new (segments_of new n size) words (charge size) →
     IsChange region new places n (record { len = size; parent = parent; depth = depth }) × (words_in_chain new n size ≡ padded words size)
@@ -219,8 +199,7 @@ open_change {region = region} {new = new} {places = places} {n = n} {size = size
 
 -- what is free is what no node is charged
 pub free-is : {region : Segments} {places : List Place} {nodes : Nodes} {free : ℕ} → AreStored region places → nodes_from region 0 places ≡ nodes → free + taken_count region ≡ length region → free ≡ free_segments nodes
-free-is {region = region} {places = places} {nodes = nodes} stored view is =
-    let all = all-taken region places nodes stored view in omega (arith, all.0, all.1, is)
+free-is = grind (arith, all-taken)
 
 module _ {old : Segments} {places : List Place} {nodes : Nodes} (stack : IsStack old places) (view : nodes_from old 0 places ≡ nodes) where
   tree : IsForest nodes places
@@ -273,8 +252,7 @@ module _ {old : Segments} {places : List Place} {nodes : Nodes} (stack : IsStack
 
   -- nodes are closed with all their children
   pub closed : {new : Segments} {others : List Place} (numbers : List ℕ) → AreStored new others → nodes_from new 0 others ≡ without nodes numbers → ((m : ℕ) → (place_at others m).depth ≡ (place_at places m).depth) → HasAllChildren nodes numbers → IsStack new others
-  closed {others = others} numbers stored after depths children =
-      record { stored = stored; tree = rw after (tree-without nodes places others numbers depths tree children) }
+  closed = grind (arith, tree, tree-without)
 
   -- a node is longer
   pub grown : {new : Segments} {n at first segments wide : ℕ} {place : Place} (more : ℕ) → IsOpen nodes n → IsRead old places nodes n at place → first ≡ n → segments ≡ charge place.len → wide ≡ charge (place.len + more) → place.len + more ≤ 128 →
@@ -310,15 +288,4 @@ none_open (suc count) zero is = cc is
 none_open (suc count) (suc n) is = none_open count n is
 
 pub stack_at_first : (count : ℕ) → count ≤ 65536 → IsStack (replicate count None) (replicate count nowhere)
-stack_at_first count limit =
-    let region : Segments = replicate count None in
-    record {
-      stored = record {
-        in_limits = rw length-replicate limit;
-        same_count = length-replicate {A = Place} count nowhere ∙ sym (length-replicate {A = Option Segment} count None);
-        counted = taken_count-replicate count ∙ sym (sum_by-replicate charge_of_place count nowhere ∙ omega arith);
-        sound = λ n. rw len_at-nowhere (none_stored region n);
-        apart = λ m n other. rw (len_at-nowhere count m) tt;
-      };
-      tree = λ n is. absurd (none_open count n (rw none_at_first at is));
-    }
+stack_at_first count limit = grind (arith, length-replicate, taken_count-replicate, sum_by-replicate, len_at-nowhere, none_stored, tree, none_open, none_at_first)

@@ -14,23 +14,16 @@ abbrev depth_at : List Place → ℕ → ℕ
 depth_at places n = (place_at places n).depth
 
 under-kept : (nodes new : Nodes) (places others : List Place) (parent : Option ℕ) (depth : ℕ) → ((p : ℕ) → parent ≡ Some p → IsOpen new p × (depth_at others p ≡ depth_at places p)) → IsUnder nodes places parent depth → IsUnder new others parent depth
-under-kept nodes new places others None depth same under = under
-under-kept nodes new places others (Some p) depth same under =
-    let is = same p refl in (is.0, rw is.1 under.1)
+under-kept nodes new places others parent depth h7 h8 = grind arith
 
 -- a parent is open
 parent-open : (nodes : Nodes) (places : List Place) (parent : Option ℕ) (depth p : ℕ) → IsUnder nodes places parent depth → parent ≡ Some p → IsOpen nodes p
-parent-open nodes places None depth p under is = absurd (cc is)
-parent-open nodes places (Some q) depth p under is = let same : q ≡ p = cc is in rw same at under.0
+parent-open nodes places parent depth p h6 h7 = grind arith
 
 -- where each open node is as it was, but for its words, and so is its parent, the tree is one still
 tree-kept : (nodes new : Nodes) (places others : List Place) → IsForest nodes places → ((m : ℕ) → IsOpen new m → IsOpen nodes m × (node_parent new m ≡ node_parent nodes m) × (depth_at others m ≡ depth_at places m)) →
     ((m p : ℕ) → IsOpen new m → node_parent nodes m ≡ Some p → IsOpen nodes p → IsOpen new p) → IsForest new others
-tree-kept nodes new places others tree same parents m is_open =
-    let is = same m is_open in
-    rw (is.1, is.2) (under-kept nodes new places others (node_parent nodes m) (depth_at places m)
-    (λ p e. (let there = parents m p is_open e (parent-open nodes places (node_parent nodes m) (depth_at places m) p (tree m is.0) e) in (there, (same p there).2)))
-    (tree m is.0))
+tree-kept nodes new places others tree same parents m is_open = grind (arith, under-kept, parent-open)
 
 -- words that change
 pub tree-write : (nodes : Nodes) (places others : List Place) (n : ℕ) (words : List ℕ) → ((m : ℕ) → depth_at others m ≡ depth_at places m) → IsForest nodes places → IsOpen nodes n → IsForest (with_node_words nodes n words) others
@@ -63,17 +56,13 @@ without-more nodes (m ∷ numbers) (suc i) n h is =
 
 -- it isn't among those before it
 not-before : (numbers : List ℕ) (i n : ℕ) → AllPairs ◌≢◌ numbers → i < length numbers → n ≡ get_or numbers i n → Contains (take i numbers) n → ⊥
-not-before numbers i n once h is among =
-    let before : among.0 < i = omega (arith, among.1, length-take-le i numbers (omega arith)) in
-    once among.0 i n before h (sym (get_or-take i numbers among.0 n before) ∙ among.2 ∙ is)
+not-before numbers i n once h is among = grind (arith, length-take-le, get_or-take)
 
 pub still_there : (nodes : Nodes) (numbers : List ℕ) (i n : ℕ) → AllPairs ◌≢◌ numbers → i < length numbers → n ≡ get_or numbers i n → IsOpen nodes n → IsOpen (without nodes (take i numbers)) n
-still_there nodes numbers i n once h is there =
-    rw (kept nodes (take i numbers) n (not-before numbers i n once h is)) there
+still_there nodes numbers i n once h is there = grind (arith, kept, not-before)
 
 only : (n k j : ℕ) → j < length (n ∷ []) → get_or (n ∷ []) j k ≡ k → k ≡ n
-only n k zero h is = sym is
-only n k (suc j) h is = absurd (omega arith)
+only n k j h1 h2 = grind arith
 
 -- a node without a child is a list of nodes with all their children
 pub alone : (nodes : Nodes) (n : ℕ) → HasNoChild nodes n → HasAllChildren nodes (n ∷ [])
@@ -102,15 +91,11 @@ tree-open nodes places n words place count below none tree under =
 -- the sight of a parent, if there is one
 sight-above : (nodes : Nodes) (places : List Place) (parent : Option ℕ) (levels : ℕ) → IsUnder nodes places parent (suc levels) → ((p : ℕ) → IsOpen nodes p → depth_at places p ≡ levels → IsWholeSight nodes p levels) →
     IsSight nodes parent (sight_within levels nodes parent) × (length (sight_within levels nodes parent) ≡ levels)
-sight-above nodes places None zero under up = (tt, refl)
-sight-above nodes places None (suc levels) under up = absurd (omega (arith, under))
-sight-above nodes places (Some p) levels under up =
-    let whole = up p under.0 (omega (arith, under.1)) in (whole.is_sight, whole.all_levels)
+sight-above nodes places parent levels h5 h6 = grind arith
 
 -- nothing is under a parent at depth 0
 no-depth : (nodes : Nodes) (places : List Place) (parent : Option ℕ) → IsUnder nodes places parent 0 → ⊥
-no-depth nodes places None under = absurd (omega (arith, under))
-no-depth nodes places (Some p) under = absurd (omega (arith, under.1))
+no-depth nodes places parent h4 = grind arith
 
 pub sight-open : (nodes : Nodes) (places : List Place) (n levels : ℕ) → IsForest nodes places → IsOpen nodes n → depth_at places n ≡ levels → IsWholeSight nodes n levels
 sight-open nodes places n zero tree is deep = absurd (no-depth nodes places (node_parent nodes n) (rw deep at (tree n is)))
@@ -160,8 +145,7 @@ up_to-more depth (place ∷ places) (suc n) h is =
 
 -- the parent, if there is one, is one less deep
 reached-above : (nodes : Nodes) (places : List Place) (parent : Option ℕ) (depth : ℕ) → IsUnder nodes places parent (suc depth) → ((p : ℕ) → IsOpen nodes p → depth_at places p ≡ depth → depth ≤ up_to depth places) → depth ≤ up_to depth places
-reached-above nodes places None depth under up = omega (arith, under)
-reached-above nodes places (Some p) depth under up = up p under.0 (omega (arith, under.1))
+reached-above nodes places parent depth h5 h6 = grind arith
 
 -- one at a depth has one above it at each lesser depth
 reached : (nodes : Nodes) (places : List Place) (n depth : ℕ) → length places ≡ length nodes → IsForest nodes places → IsOpen nodes n → depth_at places n ≡ depth → depth ≤ up_to depth places

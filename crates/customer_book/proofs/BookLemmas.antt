@@ -1,8 +1,7 @@
 -- What a book's calls leave in its fields.
-use Rattle.std.proofs.Common.{◌≡◌, Bool, ℕ, ◌+◌, ◌<◌, ◌≤◌, true, false, List, [], ◌∷◌, ◌++◌, length, get_or, set, Option, Some, None, Result, Ok, is_ok, refl, ap, sym, ◌∙◌, subst, inl, inr, arith}
+use Rattle.std.proofs.Common.{◌≡◌, Bool, ℕ, ◌+◌, ◌<◌, ◌≤◌, true, false, List, [], ◌∷◌, ◌++◌, length, get_or, set, Option, Some, None, Result, Ok, is_ok, refl, ap, sym, ◌∙◌, subst, arith}
 use Rattle.std.specs.Prelude.{if◌then◌else◌}
 use Rattle.std.proofs.lemmas.List.{length_push}
-use Rattle.std.proofs.lemmas.Bool.{cases_lt}
 use Rattle.customer_book.specs.declared.amount.Ask.{Ask}
 use Rattle.customer_book.specs.declared.amount.Amount.{Amount}
 use Rattle.customer_book.specs.declared.held.Held.{Held}
@@ -15,7 +14,7 @@ use Rattle.customer_book.specs.declared.refusal.Cause.TheVariants.{Twice, Great,
 use Rattle.customer_book.specs.declared.who.Who.{Who}
 use Rattle.customer_book.specs.Plans.{Plan, plan_of, sums_fit, all_places, is_too_great}
 use Rattle.customer_book.specs.Grants.{used, grant_of, has_grant, place_of, free_server, without, with_ask, is_lower}
-use Rattle.customer_book.specs.Ledgers.{Ledger, charged, first_of, or_else, why_over, why_no_line, why_no_grant, why_no_raise, why_not_open, why_not_raise, new_grant, after_line, after}
+use Rattle.customer_book.specs.Ledgers.{Ledger, charged, first_of, or_else, why_over, why_no_grant, why_no_raise, why_not_open, why_not_raise, new_grant, after_line, after}
 use Rattle.customer_book.specs.Keeping.{ledger_of, HasClaims, IsKept}
 use Rattle.customer_book.proofs.GrantLemmas.{place-is, place-none}
 use Rattle.customer_book.proofs.Seats.{grants-le_places}
@@ -24,12 +23,7 @@ use Rattle.customer_book.proofs.Claims.{claims-open, claims-raise}
 use Rattle.customer_book.proofs.RunLemmas.{plan-with, grants-with}
 
 pub after-granted : (book : Ledger) (who : Who) (why : Option Cause) (gs : List Held) → why ≡ None → after_line book who why gs ≡ record (charged book who false) { grants = gs }
-after-granted book who None gs is = refl
-after-granted book who (Some cause) gs is = absurd cc
-
-pub after-refused : (book : Ledger) (who : Who) (why : Option Cause) (gs : List Held) (cause : Cause) → why ≡ Some cause → after_line book who why gs ≡ charged book who true
-after-refused book who None gs cause is = absurd cc
-after-refused book who (Some other) gs cause is = refl
+after-granted book who why gs h5 = grind arith
 
 -- a push that succeeded
 pub pushed_is : {E : Type 0} (r : Result (Unit {0}) E) (u : Unit {0}) (l more es : List Held) → r ≡ Ok u → l ≡ (if is_ok r then more else es) → l ≡ more
@@ -81,23 +75,11 @@ pub record IsRaised (book : Ledger) (b : Inside) (who : Who) (session : ℕ) (as
 
 pub raised : (book : Ledger) (b : Inside) (who : Who) (session : ℕ) (ask : Ask) (gs : List Held) → HasClaims book.plan book.grants → why_not_raise book who session ask ≡ None →
     ledger_of b ≡ charged book who false → gs ≡ with_ask who session ask b.grants.items → IsRaised book b who session ask gs
-raised book b who session ask gs has none view is =
-    let plan = charged-plan book b who view in
-    let grants = charged-grants book b who view in
-    let list : gs ≡ with_ask who session ask book.grants = is ∙ ap (with_ask who session ask) grants in
-    record {
-      claims = subst (λ p. HasClaims p gs) (sym plan) (subst (HasClaims book.plan) (sym list) (claims-raise book.plan book.grants who session ask has));
-      after = (ap (λ (l : Ledger). record l { grants = gs }) view ∙ ap (λ (x : List Held). record (charged book who false) { grants = x }) list) ∙ sym (after-granted book who (why_not_raise book who session ask) (with_ask who session ask book.grants) none);
-    }
+raised book b who session ask gs has none view is = grind (arith, charged-plan, charged-grants, claims-raise, after-granted)
 
 -- a session that may be raised is there
 pub place-there : (book : Ledger) (who : Who) (session : ℕ) (ask : Ask) → why_not_raise book who session ask ≡ None → place_of who session book.grants < length book.grants
-place-there book who session ask none =
-    let raise = (none-both (why_no_line book who) (why_no_raise book who session ask (grant_of who session book.grants)) none).1 in
-    elim (cases_lt (place_of who session book.grants) (length book.grants)) [
-      | inl less ↦ less
-      | inr past ↦ (let gone = place-none who session book.grants past in let never : Some Gone ≡ None = subst (λ (o : Option Held). why_no_raise book who session ask o ≡ None) gone raise in absurd cc)
-    ]
+place-there book who session ask none = grind (arith, none-both, place-none)
 
 -- a new grant, by what was read of the fields before the account was charged
 pub seated : (book : Ledger) (old b : Inside) (who : Who) (session class : ℕ) (ask : Ask) (server : ℕ) (servers : List Server) (grants : List Held) → IsKept old → ledger_of old ≡ book → ledger_of b ≡ charged book who false →
@@ -116,15 +98,11 @@ pub twice-why : (book : Ledger) (who : Who) (session class : ℕ) (ask : Ask) �
 twice-why book who session class ask has = rw has refl
 
 pub great-why : (book : Ledger) (who : Who) (session class : ℕ) (ask : Ask) → has_grant who session book.grants ≡ false → is_too_great book.plan.classes class ask ≡ true → Some Great ≡ why_no_grant book who session class ask
-great-why book who session class ask has great = sym (ap (λ b. or_else (first_of ((b, Twice) ∷ (is_too_great book.plan.classes class ask, Great) ∷ [])) (why_over book.plan who class ask (used (Own who class) book.grants) (used (Guests class) book.grants))) has
-    ∙ ap (λ b. or_else (first_of ((false, Twice) ∷ (b, Great) ∷ [])) (why_over book.plan who class ask (used (Own who class) book.grants) (used (Guests class) book.grants))) great)
+great-why book who session class ask has great = grind arith
 
 pub over-why : (book : Ledger) (who : Who) (session class : ℕ) (ask : Ask) (own guests : Amount) (r : Option Cause) → has_grant who session book.grants ≡ false → is_too_great book.plan.classes class ask ≡ false →
     own ≡ used (Own who class) book.grants → guests ≡ used (Guests class) book.grants → r ≡ why_over book.plan who class ask own guests → r ≡ why_no_grant book who session class ask
-over-why book who session class ask own guests r has great mine theirs is =
-    is ∙ (λ i. why_over book.plan who class ask (mine i) (theirs i))
-    ∙ sym (ap (λ b. or_else (first_of ((b, Twice) ∷ (is_too_great book.plan.classes class ask, Great) ∷ [])) (why_over book.plan who class ask (used (Own who class) book.grants) (used (Guests class) book.grants))) has
-    ∙ ap (λ b. or_else (first_of ((false, Twice) ∷ (b, Great) ∷ [])) (why_over book.plan who class ask (used (Own who class) book.grants) (used (Guests class) book.grants))) great)
+over-why book who session class ask own guests r has great mine theirs is = grind arith
 
 -- why a session isn't raised
 
@@ -143,8 +121,7 @@ gone-why book who session ask is = sym (ap (why_no_raise book who session ask) i
 pub over-raise : (book : Ledger) (who : Who) (session : ℕ) (ask : Ask) (held : Held) (own guests : Amount) (r : Option Cause) → grant_of who session book.grants ≡ Some held → is_lower held.ask ask ≡ false → is_too_great book.plan.classes held.class ask ≡ false →
     own ≡ used (Own who held.class) (without who session book.grants) → guests ≡ used (Guests held.class) (without who session book.grants) → r ≡ why_over book.plan who held.class ask own guests →
     r ≡ why_no_raise book who session ask (grant_of who session book.grants)
-over-raise book who session ask held own guests r is low big mine theirs why =
-    why ∙ (λ i. why_over book.plan who held.class ask (mine i) (theirs i)) ∙ raise-is book who session ask held false false is low big
+over-raise book who session ask held own guests r is low big mine theirs why = grind (arith, raise-is)
 
 -- what stands at the place that was found
 pub found-held : (gs read : List Held) (who : Who) (session i : ℕ) (held : Held) → read ≡ gs → i ≡ place_of who session read → i < length gs → held ≡ get_or gs i held → grant_of who session gs ≡ Some held

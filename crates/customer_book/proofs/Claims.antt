@@ -1,6 +1,6 @@
 -- Each call keeps the grants within what everybody may claim, also while some have more than their budgets.
-use Rattle.std.proofs.Common.{◌≡◌, ℕ, zero, suc, ◌+◌, ◌<◌, ◌≤◌, true, false, max, cond, eqb, ltb, List, [], ◌∷◌, ◌++◌, length, get_or, refl, ap, sym, ◌∙◌, subst, inl, inr, zero-add, arith}
-use Rattle.std.proofs.lemmas.Bool.{cases_Bool, cases_lt, eqb-true, leb-true, le-leb, and_parts, ltb-true}
+use Rattle.std.proofs.Common.{◌≡◌, ℕ, zero, suc, ◌+◌, ◌<◌, ◌≤◌, true, false, max, cond, eqb, List, [], ◌∷◌, ◌++◌, length, get_or, refl, ap, sym, ◌∙◌, subst, inl, inr, zero-add, arith}
+use Rattle.std.proofs.lemmas.Bool.{cases_Bool, eqb-true, leb-true, le-leb, and_parts}
 use Rattle.std.specs.List.{AllByRecursion}
 use Rattle.customer_book.specs.declared.amount.Amount.{Amount}
 use Rattle.customer_book.specs.declared.amount.Ask.{Ask}
@@ -10,14 +10,14 @@ use Rattle.customer_book.specs.declared.held.Part.TheVariants.{Own, Guests}
 use Rattle.customer_book.specs.declared.site.Customer.{Customer}
 use Rattle.customer_book.specs.declared.site.Server.{Server}
 use Rattle.customer_book.specs.declared.who.Who.{Who}
-use Rattle.customer_book.specs.declared.who.Who.TheVariants.{Named, V4, V6}
+use Rattle.customer_book.specs.declared.who.Who.TheVariants.{Named}
 use Rattle.customer_book.specs.Names.{same_who, is_guest}
 use Rattle.customer_book.specs.Amounts.{of_one, plus, IsWithin}
 use Rattle.customer_book.specs.Plans.{Plan, sums_fit, places_in, named_sessions, budget_in, budget_of, is_too_great, nobody}
 use Rattle.customer_book.specs.Grants.{is_in, used, is_held_as, without, with_ask, free_server}
 use Rattle.customer_book.specs.Keeping.{no_server, server_at, IsPlaced, IsNamedIn, IsClaimed, HasClaims, limits}
 use Rattle.customer_book.specs.Allowed.{HasBudgetFor}
-use Rattle.customer_book.specs.Reloads.{is_same_server, keeps_servers, named_claims, class_holds, classes_hold}
+use Rattle.customer_book.specs.Reloads.{keeps_servers, named_claims, class_holds, classes_hold}
 use Rattle.customer_book.proofs.NameLemmas.{same-is}
 use Rattle.customer_book.proofs.PlanLemmas.{class_fits-of}
 use Rattle.customer_book.proofs.GrantLemmas.{used-push, used-without_le, sessions-with_ask, all-push, all-without}
@@ -71,34 +71,12 @@ placed-with_ask plan who session ask (g ∷ gs) all = elim (is_held_as who sessi
 ]
 
 pub claims-raise : (plan : Plan) (grants : List Held) (who : Who) (session : ℕ) (ask : Ask) → HasClaims plan grants → HasClaims plan (with_ask who session ask grants)
-claims-raise plan grants who session ask has = record {
-  own = has.own;
-  guests = has.guests;
-  are = record {
-    own = λ n k. omega (arith, sessions-with_ask (Own (Named n) k) who session ask grants, has.are.own n k);
-    guests = λ k. omega (arith, sessions-with_ask (Guests k) who session ask grants, has.are.guests k);
-    own_least = has.are.own_least;
-    guests_least = has.are.guests_least;
-    fit = has.are.fit;
-    placed = placed-with_ask plan who session ask grants has.are.placed;
-  };
-}
+claims-raise plan grants who session ask has = grind (arith, sessions-with_ask, placed-with_ask)
 
 -- an end
 
 pub claims-close : (plan : Plan) (grants : List Held) (who : Who) (session : ℕ) → HasClaims plan grants → HasClaims plan (without who session grants)
-claims-close plan grants who session has = record {
-  own = has.own;
-  guests = has.guests;
-  are = record {
-    own = λ n k. omega (arith, (used-without_le (Own (Named n) k) who session grants).sessions, has.are.own n k);
-    guests = λ k. omega (arith, (used-without_le (Guests k) who session grants).sessions, has.are.guests k);
-    own_least = has.are.own_least;
-    guests_least = has.are.guests_least;
-    fit = has.are.fit;
-    placed = all-without (IsPlaced plan) who session grants has.are.placed;
-  };
-}
+claims-close plan grants who session has = grind (arith, used-without_le, all-without)
 
 -- a new plan: who has more than its budget claims what it has
 
@@ -135,37 +113,21 @@ claims-none class [] number = refl
 claims-none class (c ∷ cs) number = omega (arith, claims-none class cs (number + 1))
 
 pub claims-new : (plan : Plan) → sums_fit plan ≡ true → HasClaims plan []
-claims-new plan fit = claims-of plan []
-    (λ class less. le-leb _ _ (let all = leb-true (named_sessions class plan.customers + (budget_in plan.pool class).sessions) (places_in class plan.servers) (class_fits-of plan.servers plan.customers plan.pool class (length plan.classes) less (fits-parts plan fit).2) in omega (arith, claims-none class plan.customers 0, all)))
-    tt
+claims-new plan fit = grind (arith, claims-of, le-leb, class_fits-of, fits-parts, claims-none)
 
 -- each class of those that all hold does
 holds-of : (servers : List Server) (customers : List Customer) (pool : List Amount) (grants : List Held) (class n : ℕ) → class < n → classes_hold servers customers pool grants n ≡ true → class_holds servers customers pool grants class ≡ true
 holds-of servers customers pool grants class zero less hold = absurd (omega arith)
-holds-of servers customers pool grants class (suc n) less hold =
-    let both = and_parts (classes_hold servers customers pool grants n) (class_holds servers customers pool grants n) hold in
-    elim (cases_lt class n) [
-      | inl below ↦ holds-of servers customers pool grants class n below both.0
-      | inr same ↦ (let is : n ≡ class = omega arith in rw is at both.1)
-    ]
+holds-of servers customers pool grants class (suc n) less hold = grind (arith, holds-of servers customers pool grants class n)
 
 -- a server that is kept
 kept-at : (now : List Server) (number i : ℕ) (later : List Server) → keeps_servers now number later ≡ true → i < length now → (number + i < length later) × ((get_or later (number + i) no_server).class ≡ (get_or now i no_server).class)
 kept-at [] number i later keeps less = absurd (omega arith)
-kept-at (s ∷ now) number zero later keeps less =
-    let both = and_parts (is_same_server later number s) (keeps_servers now (number + 1) later) keeps in
-    let parts = and_parts (ltb number (length later)) (eqb (get_or later number no_server).class s.class) both.0 in
-    let same : number ≡ number + 0 = omega arith in
-    subst (λ n. (n < length later) × ((get_or later n no_server).class ≡ s.class)) same (ltb-true number (length later) parts.0, eqb-true (get_or later number no_server).class s.class parts.1)
-kept-at (s ∷ now) number (suc i) later keeps less =
-    let both = and_parts (is_same_server later number s) (keeps_servers now (number + 1) later) keeps in
-    let same : number + 1 + i ≡ number + suc i = omega arith in
-    subst (λ n. (n < length later) × ((get_or later n no_server).class ≡ (get_or now i no_server).class)) same (kept-at now (number + 1) i later both.1 (omega arith))
+kept-at (s ∷ now) number zero later keeps less = grind arith
+kept-at (s ∷ now) number (suc i) later keeps less = grind (arith, kept-at now (number + 1) i later)
 
 named-later : (now later : Plan) (who : Who) → length now.customers ≤ length later.customers → IsNamedIn now who → IsNamedIn later who
-named-later now later (Named n) more named = omega (arith, more, named)
-named-later now later (V4 a) more named = tt
-named-later now later (V6 a) more named = tt
+named-later now later who h4 h5 = grind arith
 
 placed-later : (now later : Plan) (gs : List Held) → keeps_servers now.servers 0 later.servers ≡ true → length now.customers ≤ length later.customers → length now.classes ≤ length later.classes → AllByRecursion (IsPlaced now) gs → AllByRecursion (IsPlaced later) gs
 placed-later now later [] keeps more classes all = tt
@@ -184,5 +146,4 @@ placed-later now later (g ∷ gs) keeps more classes all =
 
 pub claims-replanned : (now later : Plan) (grants : List Held) → keeps_servers now.servers 0 later.servers ≡ true → length now.customers ≤ length later.customers → length now.classes ≤ length later.classes →
     classes_hold later.servers later.customers later.pool grants (length later.classes) ≡ true → HasClaims now grants → HasClaims later grants
-claims-replanned now later grants keeps more classes hold has =
-    claims-of later grants (λ class less. holds-of later.servers later.customers later.pool grants class (length later.classes) less hold) (placed-later now later grants keeps more classes has.are.placed)
+claims-replanned now later grants keeps more classes hold has = grind (arith, claims-of, holds-of, placed-later)

@@ -10,14 +10,14 @@ use Rattle.customer_book.specs.declared.held.Held.{Held}
 use Rattle.customer_book.specs.declared.held.Part.TheVariants.{Own, Guests}
 use Rattle.customer_book.specs.declared.rates.Account.{Account}
 use Rattle.customer_book.specs.declared.refusal.Cause.{Cause}
-use Rattle.customer_book.specs.declared.refusal.Cause.TheVariants.{Fast, Twice, Great, Pool, Lower}
+use Rattle.customer_book.specs.declared.refusal.Cause.TheVariants.{Twice, Great, Lower}
 use Rattle.customer_book.specs.declared.who.Who.{Who}
 use Rattle.customer_book.specs.declared.who.Who.TheVariants.{Named, V4, V6}
 use Rattle.customer_book.specs.Names.{same_who, is_guest}
-use Rattle.customer_book.specs.Rates.{rested, is_busy, has_one, wait_of, line_taken, owing}
-use Rattle.customer_book.specs.Plans.{Plan, terms_of, is_too_great}
+use Rattle.customer_book.specs.Rates.{rested, is_busy}
+use Rattle.customer_book.specs.Plans.{Plan, is_too_great}
 use Rattle.customer_book.specs.Grants.{used, grant_of, has_grant, without, with_ask, is_lower}
-use Rattle.customer_book.specs.Ledgers.{Ledger, guest_account, with_guest, is_known, account_of, with_account, is_crowded, charged_account, charged, or_else, first_of, why_over, why_no_line, why_no_grant, why_not_open, why_no_raise, why_not_raise, refusal_for, refusal_with, new_grant, after_line, after, answer_to}
+use Rattle.customer_book.specs.Ledgers.{Ledger, with_guest, is_known, account_of, with_account, is_crowded, charged_account, charged, or_else, first_of, why_over, why_no_line, why_no_grant, why_not_open, why_no_raise, why_not_raise, refusal_for, refusal_with, new_grant, after_line, after, answer_to}
 use Rattle.customer_book.specs.declared.event.Event.{Event}
 use Rattle.customer_book.specs.declared.event.Event.TheVariants.{Opens, Raises, Says, Closes, Comes}
 use Rattle.customer_book.specs.Runs.{at_any, grants_of, is_of, is_kept, only_events, run, answers_of}
@@ -44,23 +44,16 @@ pub alike-self : (is_one : Who → Bool) (a : Ledger) → AreAlike is_one a a
 alike-self is_one a = record { plan = refl; moment = refl; named = λ number own. refl; names = refl; guests = λ who own guest. refl; grants = refl }
 
 account-alike : (is_one : Who → Bool) (a b : Ledger) (who : Who) → Alike is_one a b → is_one who ≡ true → account_of a who ≡ account_of b who
-account-alike is_one a b (Named number) alike own = alike.named number own
-account-alike is_one a b (V4 address) alike own = ap (guest_account (V4 address)) (alike.guests (V4 address) own refl)
-account-alike is_one a b (V6 network) alike own = ap (guest_account (V6 network)) (alike.guests (V6 network) own refl)
+account-alike is_one a b who h5 h6 = grind arith
 
 crowded-guest : (a b : Ledger) (who : Who) → a.plan ≡ b.plan → a.guests ≡ b.guests → is_crowded a who ≡ is_crowded b who
 crowded-guest a b who plan guests = λ i. is_guest who && not (is_known who (guests i)) && leb (plan i).addresses (length (guests i))
 
 crowded-alike : (is_one : Who → Bool) (a b : Ledger) (who : Who) → Alike is_one a b → is_one who ≡ true → is_crowded a who ≡ is_crowded b who
-crowded-alike is_one a b (Named number) alike own = refl
-crowded-alike is_one a b (V4 address) alike own = crowded-guest a b (V4 address) alike.plan (alike.guests (V4 address) own refl)
-crowded-alike is_one a b (V6 network) alike own = crowded-guest a b (V6 network) alike.plan (alike.guests (V6 network) own refl)
+crowded-alike is_one a b who h5 h6 = grind (arith, crowded-guest)
 
 line-alike : (is_one : Who → Bool) (a b : Ledger) (who : Who) → Alike is_one a b → is_one who ≡ true → why_no_line a who ≡ why_no_line b who
-line-alike is_one a b who alike own =
-    let crowd = crowded-alike is_one a b who alike own in
-    let account = account-alike is_one a b who alike own in
-    λ i. first_of ((crowd i, Pool) ∷ (not (has_one (terms_of (alike.plan i) who).lines (alike.moment i) (account i).lines), Fast) ∷ [])
+line-alike is_one a b who alike own = grind (arith, crowded-alike, account-alike)
 
 has-alike : (is_one : Who → Bool) (a b : Ledger) (who : Who) (session : ℕ) → Alike is_one a b → is_one who ≡ true → has_grant who session a.grants ≡ has_grant who session b.grants
 has-alike is_one a b who session alike own =
@@ -91,10 +84,7 @@ grant-alike is_one a b who session class ask whole alike own =
     (over-alike b.plan who class ask (used (Own who class) b.grants) _ _ (λ guest. guests-alike is_one a.grants b.grants who class whole alike.grants own guest))
 
 open-alike : (is_one : Who → Bool) (a b : Ledger) (who : Who) (session class : ℕ) (ask : Ask) → IsWhole is_one → Alike is_one a b → is_one who ≡ true → why_not_open a who session class ask ≡ why_not_open b who session class ask
-open-alike is_one a b who session class ask whole alike own =
-    let line = line-alike is_one a b who alike own in
-    let grant = grant-alike is_one a b who session class ask whole alike own in
-    λ i. or_else (line i) (grant i)
+open-alike is_one a b who session class ask whole alike own = grind (arith, line-alike, grant-alike)
 
 without-alike : (is_one : Who → Bool) (a b : Ledger) (who : Who) (session : ℕ) → Alike is_one a b → is_one who ≡ true → grants_of is_one (without who session a.grants) ≡ grants_of is_one (without who session b.grants)
 without-alike is_one a b who session alike own = without-theirs is_one who session a.grants own ∙ ap (without who session) alike.grants ∙ sym (without-theirs is_one who session b.grants own)
@@ -126,29 +116,17 @@ raise-alike is_one a b who session ask whole alike own =
     λ i. or_else (line i) (raise i)
 
 charged-alike : (is_one : Who → Bool) (a b : Ledger) (who : Who) (is_refused : Bool) → Alike is_one a b → is_one who ≡ true → charged_account a who is_refused ≡ charged_account b who is_refused
-charged-alike is_one a b who is_refused alike own =
-    let account = account-alike is_one a b who alike own in
-    λ i. owing (terms_of (alike.plan i) who) (alike.moment i) is_refused (line_taken (terms_of (alike.plan i) who) (alike.moment i) (account i))
+charged-alike is_one a b who is_refused alike own = grind (arith, account-alike)
 
 refusal-alike : (is_one : Who → Bool) (a b : Ledger) (who : Who) (cause : Cause) → Alike is_one a b → is_one who ≡ true → refusal_for a who cause ≡ refusal_for b who cause
-refusal-alike is_one a b who cause alike own =
-    let account = charged-alike is_one a b who true alike own in
-    λ i. record { cause = cause; wait = wait_of (terms_of (alike.plan i) who).refusals (alike.moment i) (account i).refusals }
+refusal-alike is_one a b who cause alike own = grind (arith, charged-alike)
 
 with-alike : (is_one : Who → Bool) (a b : Ledger) (who : Who) (why : Option Cause) → Alike is_one a b → is_one who ≡ true → refusal_with a who why ≡ refusal_with b who why
-with-alike is_one a b who None alike own = refl
-with-alike is_one a b who (Some cause) alike own = ap Some (refusal-alike is_one a b who cause alike own)
+with-alike is_one a b who why h6 h7 = grind (arith, refusal-alike)
 
 -- an event of theirs gets the same answer
 pub answer-alike : (is_one : Who → Bool) (a b : Ledger) (event : Event) → IsWhole is_one → Alike is_one a b → is_of is_one event ≡ true → answer_to a event ≡ answer_to b event
-answer-alike is_one a b (Opens who session class ask) whole alike own =
-    ap (refusal_with a who) (open-alike is_one a b who session class ask whole alike own) ∙ with-alike is_one a b who (why_not_open b who session class ask) alike own
-answer-alike is_one a b (Raises who session ask) whole alike own =
-    ap (refusal_with a who) (raise-alike is_one a b who session ask whole alike own) ∙ with-alike is_one a b who (why_not_raise b who session ask) alike own
-answer-alike is_one a b (Says who) whole alike own =
-    ap (refusal_with a who) (line-alike is_one a b who alike own) ∙ with-alike is_one a b who (why_no_line b who) alike own
-answer-alike is_one a b (Closes who session) whole alike own = refl
-answer-alike is_one a b (Comes moment) whole alike own = refl
+answer-alike is_one a b event h5 h6 h7 = grind (arith, open-alike, with-alike, raise-alike, line-alike)
 
 -- accounts that are written
 
@@ -268,18 +246,10 @@ not_few : (few many : Who → Bool) (who : Who) → ((w : Who) → few w ≡ tru
 not_few few many who among other = elim (cases_Bool (few who)) [ inl own ↦ absurd (false≢true (sym other ∙ among who own)) | inr not ↦ not ]
 
 pub of-kept : (few many : Who → Bool) (event : Event) → ((w : Who) → few w ≡ true → many w ≡ true) → is_kept many event ≡ false → is_of few event ≡ false
-of-kept few many (Opens who session class ask) among other = not_few few many who among other
-of-kept few many (Raises who session ask) among other = not_few few many who among other
-of-kept few many (Says who) among other = not_few few many who among other
-of-kept few many (Closes who session) among other = not_few few many who among other
-of-kept few many (Comes moment) among other = refl
+of-kept few many event h4 h5 = grind (arith, not_few)
 
 pub of-many : (few many : Who → Bool) (event : Event) → ((w : Who) → few w ≡ true → many w ≡ true) → is_of few event ≡ true → is_of many event ≡ true
-of-many few many (Opens who session class ask) among own = among who own
-of-many few many (Raises who session ask) among own = among who own
-of-many few many (Says who) among own = among who own
-of-many few many (Closes who session) among own = among who own
-of-many few many (Comes moment) among own = absurd cc
+of-many few many event h4 h5 = grind arith
 
 -- a whole list
 pub run-alike : (few many : Who → Bool) (a b : Ledger) (events : List Event) → ((w : Who) → few w ≡ true → many w ≡ true) → IsWhole many → Alike many a b →
@@ -299,9 +269,7 @@ run-alike few many a b (event ∷ events) among whole alike = elim (cases_Bool (
 ]
 
 pub named-whole : (number : ℕ) → IsWhole (same_who (Named number))
-named-whole number (Named n) w guest also own = absurd cc
-named-whole number (V4 address) w guest also own = absurd cc
-named-whole number (V6 network) w guest also own = absurd cc
+named-whole number = grind arith
 
 pub guests-whole : IsWhole is_guest
 guests-whole v w guest also own = also

@@ -1,92 +1,54 @@
 -- Nothing is refused exactly where everything that is needed is left.
-use Rattle.std.proofs.Common.{◌≡◌, ℕ, ◌+◌, ◌-◌, ◌<◌, ◌≤◌, Bool, true, false, not, ◌&&◌, ◌||◌, leb, ltb, eqb, List, [], ◌∷◌, length, Option, Some, None, refl, ap, ◌∙◌, subst, inl, inr, ◌⊎◌, arith}
-use Rattle.std.proofs.lemmas.Bool.{cases_lt, cases_eq, leb-true, leb-false, le-leb, lt-leb, ltb-false, le-ltb, eqb-false, eq-eqb, ne_eqb, not-false}
+use Rattle.std.proofs.Common.{◌≡◌, ℕ, ◌<◌, ◌≤◌, Bool, true, false, not, ◌&&◌, ◌||◌, leb, ltb, eqb, List, [], ◌∷◌, length, Option, Some, None, refl, ap, subst, inl, inr, ◌⊎◌, arith}
+use Rattle.std.proofs.lemmas.Bool.{cases_lt, cases_eq, le-leb, lt-leb, ltb-false, le-ltb, eqb-false, eq-eqb, ne_eqb, not-false, or_parts, or_from, and_right}
 use Rattle.customer_book.specs.declared.amount.Amount.{Amount}
 use Rattle.customer_book.specs.declared.amount.Ask.{Ask}
 use Rattle.customer_book.specs.declared.held.Held.{Held}
 use Rattle.customer_book.specs.declared.held.Part.TheVariants.{Own, Guests}
 use Rattle.customer_book.specs.declared.refusal.Cause.{Cause}
-use Rattle.customer_book.specs.declared.refusal.Cause.TheVariants.{Fast, Twice, Great, Budget, Pool, Lower}
+use Rattle.customer_book.specs.declared.refusal.Cause.TheVariants.{Twice, Great, Budget, Pool, Lower}
 use Rattle.customer_book.specs.declared.who.Who.{Who}
 use Rattle.customer_book.specs.Names.{is_guest}
 use Rattle.customer_book.specs.Amounts.{of_one, plus, is_within}
-use Rattle.customer_book.specs.Rates.{has_one, whole_of}
-use Rattle.customer_book.specs.Plans.{Plan, terms_of, budget_of, budget_in, class_at, is_too_great}
+use Rattle.customer_book.specs.Plans.{Plan, budget_of, budget_in, is_too_great}
 use Rattle.customer_book.specs.Grants.{used, grant_of, has_grant, without, is_lower}
-use Rattle.customer_book.specs.Ledgers.{Ledger, account_of, is_known, is_crowded, first_of, or_else, is_over_budget, is_over_pool, why_over, why_no_line, why_no_grant, why_not_open, why_no_raise, why_not_raise}
+use Rattle.customer_book.specs.Ledgers.{Ledger, first_of, or_else, is_over_budget, is_over_pool, why_over, why_no_line, why_no_grant, why_not_open, why_no_raise, why_not_raise}
 use Rattle.customer_book.specs.Allowed.{MaySay, IsSmallEnough, HasBudgetFor, MayBegin, IsMore, MayGrow}
 use Rattle.customer_book.proofs.AmountLemmas.{test-within}
 use Rattle.customer_book.proofs.Soundness.{none-both, none-first, allowed}
 
 both-none : (first next : Option Cause) → first ≡ None → next ≡ None → or_else first next ≡ None
-both-none None next is then = then
-both-none (Some cause) next is then = absurd cc
+both-none first next h3 h4 = grind arith
 
 first-none : (test : Bool) (cause : Cause) (tests : List (Bool × Cause)) → test ≡ false → first_of tests ≡ None → first_of ((test, cause) ∷ tests) ≡ None
-first-none false cause tests nay then = then
-first-none true cause tests nay then = absurd cc
+first-none test cause tests h4 h5 = grind arith
 
 -- a place, and a token
 
 place-from : (guest known : Bool) (length room : ℕ) → (guest && not known && leb room length) ≡ false → guest ≡ true → known ≡ false → length < room
-place-from true false length room nay guest new = leb-false room length nay
-place-from true true length room nay guest new = absurd cc
-place-from false known length room nay guest new = absurd cc
+place-from guest known length room h1 h2 h3 = grind arith
 
 place-to : (guest known : Bool) (length room : ℕ) → (guest ≡ true → known ≡ false → length < room) → (guest && not known && leb room length) ≡ false
-place-to true false length room has = lt-leb room length (has refl refl)
-place-to true true length room has = refl
-place-to false known length room has = refl
+place-to guest known length room h1 = grind arith
 
 pub say-from : (book : Ledger) (who : Who) → why_no_line book who ≡ None → MaySay book who
-say-from book who none =
-    let rate = (terms_of book.plan who).lines in
-    let full = (account_of book who).lines in
-    let crowd = none-first (is_crowded book who) Pool ((not (has_one rate book.moment full), Fast) ∷ []) none in
-    let fast = none-first (not (has_one rate book.moment full)) Fast [] crowd.1 in
-    record {
-      place = λ guest new. place-from (is_guest who) (is_known who book.guests) (length book.guests) book.plan.addresses crowd.0 guest new;
-      token = leb-true (full - book.moment + rate.period) (whole_of rate) (not-false (has_one rate book.moment full) fast.0);
-    }
+say-from book who none = grind (arith, none-first, place-from, not-false)
 
 pub say-to : (book : Ledger) (who : Who) → MaySay book who → why_no_line book who ≡ None
-say-to book who may =
-    let rate = (terms_of book.plan who).lines in
-    let full = (account_of book who).lines in
-    first-none (is_crowded book who) Pool ((not (has_one rate book.moment full), Fast) ∷ []) (place-to (is_guest who) (is_known who book.guests) (length book.guests) book.plan.addresses may.place)
-    (first-none (not (has_one rate book.moment full)) Fast [] (ap not (le-leb (full - book.moment + rate.period) (whole_of rate) may.token)) refl)
+say-to book who may = grind (arith, first-none, place-to, le-leb)
 
 -- small enough
 
-or_false : (x y : Bool) → (x || y) ≡ false → (x ≡ false) × (y ≡ false)
-or_false true y nay = absurd cc
-or_false false y nay = (refl, nay)
-
-false_or : (x y : Bool) → x ≡ false → y ≡ false → (x || y) ≡ false
-false_or false y nay then = then
-false_or true y nay then = absurd cc
-
 small-from : (plan : Plan) (class : ℕ) (ask : Ask) → is_too_great plan.classes class ask ≡ false → IsSmallEnough plan class ask
-small-from plan class ask nay =
-    let outer = or_false (leb (length plan.classes) class || ltb (class_at plan.classes class).most_segments ask.segments) (ltb (class_at plan.classes class).most_nodes ask.nodes) nay in
-    let inner = or_false (leb (length plan.classes) class) (ltb (class_at plan.classes class).most_segments ask.segments) outer.0 in
-    record {
-      there = leb-false (length plan.classes) class inner.0;
-      segments = ltb-false (class_at plan.classes class).most_segments ask.segments inner.1;
-      nodes = ltb-false (class_at plan.classes class).most_nodes ask.nodes outer.1;
-    }
+small-from plan class ask nay = grind arith
 
 small-to : (plan : Plan) (class : ℕ) (ask : Ask) → IsSmallEnough plan class ask → is_too_great plan.classes class ask ≡ false
-small-to plan class ask small =
-    false_or (leb (length plan.classes) class || ltb (class_at plan.classes class).most_segments ask.segments) (ltb (class_at plan.classes class).most_nodes ask.nodes)
-    (false_or (leb (length plan.classes) class) (ltb (class_at plan.classes class).most_segments ask.segments) (lt-leb (length plan.classes) class small.there) (le-ltb (class_at plan.classes class).most_segments ask.segments small.segments))
-    (le-ltb (class_at plan.classes class).most_nodes ask.nodes small.nodes)
+small-to plan class ask small = grind (arith, lt-leb)
 
 -- left
 
 over-none : (guest test : Bool) → (guest ≡ true → test ≡ true) → (guest && not test) ≡ false
-over-none true test has = ap not (has refl)
-over-none false test has = refl
+over-none guest test h1 = grind arith
 
 left-to : (plan : Plan) (who : Who) (class : ℕ) (ask : Ask) (own guests : Amount) → HasBudgetFor plan who class ask own guests → why_over plan who class ask own guests ≡ None
 left-to plan who class ask own guests left =
@@ -107,17 +69,14 @@ begin-from book who session class ask none =
     }
 
 pub begin-to : (book : Ledger) (who : Who) (session class : ℕ) (ask : Ask) → MayBegin book who session class ask → why_not_open book who session class ask ≡ None
-begin-to book who session class ask may =
-    both-none (why_no_line book who) (why_no_grant book who session class ask) (say-to book who may.line)
-    (both-none (first_of ((has_grant who session book.grants, Twice) ∷ (is_too_great book.plan.classes class ask, Great) ∷ [])) (why_over book.plan who class ask (used (Own who class) book.grants) (used (Guests class) book.grants)) (first-none (has_grant who session book.grants) Twice ((is_too_great book.plan.classes class ask, Great) ∷ []) may.new (first-none (is_too_great book.plan.classes class ask) Great [] (small-to book.plan class ask may.small) refl))
-    (left-to book.plan who class ask (used (Own who class) book.grants) (used (Guests class) book.grants) may.left))
+begin-to book who session class ask may = grind (arith, both-none, say-to, first-none, small-to, left-to)
 
 -- more
 
 more-from : (now ask : Ask) → is_lower now ask ≡ false → IsMore now ask
 more-from now ask nay =
-    let outer = or_false (ltb ask.segments now.segments || ltb ask.nodes now.nodes) (eqb ask.segments now.segments && eqb ask.nodes now.nodes) nay in
-    let inner = or_false (ltb ask.segments now.segments) (ltb ask.nodes now.nodes) outer.0 in
+    let outer = or_parts (ltb ask.segments now.segments || ltb ask.nodes now.nodes) (eqb ask.segments now.segments && eqb ask.nodes now.nodes) nay in
+    let inner = or_parts (ltb ask.segments now.segments) (ltb ask.nodes now.nodes) outer.0 in
     let segments = ltb-false ask.segments now.segments inner.0 in
     let nodes = ltb-false ask.nodes now.nodes inner.1 in
     record { segments = segments; nodes = nodes; one = one_more segments nodes outer.1 }
@@ -130,16 +89,12 @@ more-from now ask nay =
 
 more-to : (now ask : Ask) → IsMore now ask → is_lower now ask ≡ false
 more-to now ask more =
-    false_or (ltb ask.segments now.segments || ltb ask.nodes now.nodes) (eqb ask.segments now.segments && eqb ask.nodes now.nodes)
-    (false_or (ltb ask.segments now.segments) (ltb ask.nodes now.nodes) (le-ltb ask.segments now.segments more.segments) (le-ltb ask.nodes now.nodes more.nodes))
+    or_from (ltb ask.segments now.segments || ltb ask.nodes now.nodes) (eqb ask.segments now.segments && eqb ask.nodes now.nodes)
+    (or_from (ltb ask.segments now.segments) (ltb ask.nodes now.nodes) (le-ltb ask.segments now.segments more.segments) (le-ltb ask.nodes now.nodes more.nodes))
     (elim more.one [
       | inl less ↦ (let e : eqb ask.segments now.segments ≡ false = ne_eqb ask.segments now.segments (λ q. omega arith) in rw e refl)
-      | inr less ↦ (let e : eqb ask.nodes now.nodes ≡ false = ne_eqb ask.nodes now.nodes (λ q. omega arith) in rw e (and_false (eqb ask.segments now.segments)))
+      | inr less ↦ (let e : eqb ask.nodes now.nodes ≡ false = ne_eqb ask.nodes now.nodes (λ q. omega arith) in rw e (and_right (eqb ask.segments now.segments) false refl))
     ])
-  where
-    and_false : (x : Bool) → (x && false) ≡ false
-    and_false true = refl
-    and_false false = refl
 
 pub grow-from : (book : Ledger) (who : Who) (session : ℕ) (ask : Ask) (held : Held) → grant_of who session book.grants ≡ Some held → why_not_raise book who session ask ≡ None → MayGrow book who session ask held
 grow-from book who session ask held is none =
@@ -158,10 +113,4 @@ grow-from book who session ask held is none =
     }
 
 pub grow-to : (book : Ledger) (who : Who) (session : ℕ) (ask : Ask) (held : Held) → grant_of who session book.grants ≡ Some held → MayGrow book who session ask held → why_not_raise book who session ask ≡ None
-grow-to book who session ask held is may =
-    let own = used (Own who held.class) (without who session book.grants) in
-    let guests = used (Guests held.class) (without who session book.grants) in
-    let found : why_no_raise book who session ask (Some held) ≡ None =
-    both-none (first_of ((is_lower held.ask ask, Lower) ∷ (is_too_great book.plan.classes held.class ask, Great) ∷ [])) (why_over book.plan who held.class ask own guests) (first-none (is_lower held.ask ask) Lower ((is_too_great book.plan.classes held.class ask, Great) ∷ []) (more-to held.ask ask may.more) (first-none (is_too_great book.plan.classes held.class ask) Great [] (small-to book.plan held.class ask may.small) refl))
-    (left-to book.plan who held.class ask own guests may.left) in
-    both-none (why_no_line book who) (why_no_raise book who session ask (grant_of who session book.grants)) (say-to book who may.line) (ap (why_no_raise book who session ask) is ∙ found)
+grow-to book who session ask held is may = grind (arith, both-none, first-none, more-to, small-to, left-to, say-to)

@@ -1,6 +1,6 @@
 -- What holds after each list of events on a new book.
-use Rattle.std.proofs.Common.{◌≡◌, ℕ, zero, suc, ◌+◌, ◌*◌, ◌<◌, ◌≤◌, Bool, true, false, cond, eqb, ltb, leb, ◌||◌, List, [], ◌∷◌, ◌++◌, length, get_or, Option, Some, None, refl, ap, sym, ◌∙◌, subst, inl, inr, add-mul, one-mul, mul-le-mul_right, le_trans, arith}
-use Rattle.std.proofs.lemmas.Bool.{cases_Bool, cases_lt, eqb-true, leb-true, ltb-false, and_parts}
+use Rattle.std.proofs.Common.{◌≡◌, ℕ, zero, suc, ◌+◌, ◌*◌, ◌<◌, ◌≤◌, true, false, leb, List, [], ◌∷◌, ◌++◌, length, get_or, Option, Some, None, refl, ap, sym, ◌∙◌, subst, inl, inr, add-mul, one-mul, mul-le-mul_right, le_trans, arith}
+use Rattle.std.proofs.lemmas.Bool.{cases_lt, leb-true, and_parts}
 use Rattle.std.proofs.lemmas.List.{get_or_past}
 use Rattle.std.specs.List.{AllByRecursion}
 use Rattle.customer_book.specs.declared.amount.Amount.{Amount}
@@ -12,10 +12,9 @@ use Rattle.customer_book.specs.declared.rates.Account.{Account}
 use Rattle.customer_book.specs.declared.site.Server.{Server}
 use Rattle.customer_book.specs.declared.site.Class.{Class}
 use Rattle.customer_book.specs.declared.who.Who.{Who}
-use Rattle.customer_book.specs.declared.who.Who.TheVariants.{Named, V4, V6}
-use Rattle.customer_book.specs.Amounts.{of_one, plus, IsWithin}
+use Rattle.customer_book.specs.Amounts.{IsWithin}
 use Rattle.customer_book.specs.Plans.{Plan, sums_fit, servers_fit, server_fits, class_at, is_too_great}
-use Rattle.customer_book.specs.Grants.{used, is_held_as, grant_of, without, with_ask}
+use Rattle.customer_book.specs.Grants.{used, grant_of, without, with_ask}
 use Rattle.customer_book.specs.Ledgers.{Ledger, new_ledger, with_account, why_no_line, why_no_raise, why_not_open, why_not_raise, new_grant, after_line, after, answer_to, refusal_with}
 use Rattle.customer_book.specs.declared.event.Event.{Event}
 use Rattle.customer_book.specs.declared.event.Event.TheVariants.{Opens, Raises, Says, Closes, Comes}
@@ -26,25 +25,16 @@ use Rattle.customer_book.proofs.Soundness.{none-both, may-open, may-raise, sound
 -- an account that is written leaves the rest
 
 pub plan-with : (book : Ledger) (who : Who) (x : Account) → (with_account book who x).plan ≡ book.plan
-plan-with book (Named n) x = refl
-plan-with book (V4 address) x = refl
-plan-with book (V6 network) x = refl
+plan-with book who x = grind arith
 
 pub grants-with : (book : Ledger) (who : Who) (x : Account) → (with_account book who x).grants ≡ book.grants
-grants-with book (Named n) x = refl
-grants-with book (V4 address) x = refl
-grants-with book (V6 network) x = refl
+grants-with book who x = grind arith
 
 plan-line : (book : Ledger) (who : Who) (why : Option Cause) (gs : List Held) → (after_line book who why gs).plan ≡ book.plan
-plan-line book who None gs = plan-with book who _
-plan-line book who (Some cause) gs = plan-with book who _
+plan-line book who why gs = grind (arith, plan-with)
 
 pub plan-after : (book : Ledger) (event : Event) → (after book event).plan ≡ book.plan
-plan-after book (Opens who session class ask) = plan-line book who _ _
-plan-after book (Raises who session ask) = plan-line book who _ _
-plan-after book (Says who) = plan-line book who _ _
-plan-after book (Closes who session) = refl
-plan-after book (Comes moment) = refl
+plan-after book event = grind (arith, plan-line)
 
 pub plan-run : (book : Ledger) (events : List Event) → (run book events).plan ≡ book.plan
 plan-run book [] = refl
@@ -74,11 +64,7 @@ sound-after book (Comes moment) fit sound = sound
 
 pub sound-run : (book : Ledger) (events : List Event) → sums_fit book.plan ≡ true → AreSoundGrants book.plan book.grants → AreSoundGrants book.plan (run book events).grants
 sound-run book [] fit sound = sound
-sound-run book (event ∷ events) fit sound =
-    let same = plan-after book event in
-    let next : AreSoundGrants (after book event).plan (after book event).grants = subst (λ p. AreSoundGrants p (after book event).grants) (sym same) (sound-after book event fit sound) in
-    let rest = sound-run (after book event) events (ap sums_fit same ∙ fit) next in
-    subst (λ p. AreSoundGrants p (run (after book event) events).grants) same rest
+sound-run book (event ∷ events) fit sound = grind (arith, sound-run (after book event) events, plan-after, sound-after)
 
 pub sound-new_run : (plan : Plan) (events : List Event) → sums_fit plan ≡ true → AreSoundGrants plan (run (new_ledger plan) events).grants
 sound-new_run plan events fit = sound-run (new_ledger plan) events fit (sound-new plan)
@@ -99,29 +85,11 @@ one_more : (n most more sum : ℕ) → more ≤ most → sum ≤ n * most → mo
 one_more n most more sum one all = let e : (1 + n) * most ≡ 1 * most + n * most = add-mul 1 n most in let f : 1 * most ≡ most = one-mul most in rw e (rw f (omega (arith, one, all)))
 
 not_great : (classes : List Class) (class : ℕ) (ask : Ask) → is_too_great classes class ask ≡ false → (ask.segments ≤ (class_at classes class).most_segments) × (ask.nodes ≤ (class_at classes class).most_nodes)
-not_great classes class ask nay =
-    let outer = or_false (leb (length classes) class || ltb (class_at classes class).most_segments ask.segments) (ltb (class_at classes class).most_nodes ask.nodes) nay in
-    let inner = or_false (leb (length classes) class) (ltb (class_at classes class).most_segments ask.segments) outer.0 in
-    (ltb-false (class_at classes class).most_segments ask.segments inner.1, ltb-false (class_at classes class).most_nodes ask.nodes outer.1)
-  where
-    or_false : (x y : Bool) → (x || y) ≡ false → (x ≡ false) × (y ≡ false)
-    or_false true y nay = absurd cc
-    or_false false y nay = (refl, nay)
+not_great classes class ask nay = grind arith
 
 bounded-at : (plan : Plan) (n : ℕ) (gs : List Held) → AllByRecursion (IsSeated plan) gs → IsBounded (class_at plan.classes (server_at plan n).class) (used (At n) gs)
 bounded-at plan n [] all = record { segments = omega arith; nodes = omega arith }
-bounded-at plan n (g ∷ gs) all =
-    let rest = bounded-at plan n gs all.1 in
-    elim (cases_Bool (eqb g.server n)) [
-      | inl aye ↦ (let class : (server_at plan n).class ≡ g.class = ap (λ k. (server_at plan k).class) (sym (eqb-true g.server n aye)) ∙ all.0.class in
-          let most = class_at plan.classes (server_at plan n).class in
-          let small : (g.ask.segments ≤ most.most_segments) × (g.ask.nodes ≤ most.most_nodes) = not_great plan.classes (server_at plan n).class g.ask (subst (λ k. is_too_great plan.classes k g.ask ≡ false) (sym class) all.0.great) in
-          let goal : IsBounded most (plus (of_one g.ask) (used (At n) gs)) = record {
-            segments = one_more (used (At n) gs).sessions most.most_segments g.ask.segments (used (At n) gs).segments small.0 rest.segments;
-            nodes = one_more (used (At n) gs).sessions most.most_nodes g.ask.nodes (used (At n) gs).nodes small.1 rest.nodes;
-          } in rw aye goal)
-      | inr nay ↦ rw nay rest
-    ]
+bounded-at plan n (g ∷ gs) all = grind (arith, bounded-at plan n gs, not_great, one_more)
 
 within_total : (sum n places most total : ℕ) → sum ≤ n * most → n ≤ places → places * most ≤ total → sum ≤ total
 within_total sum n places most total all few fits = le_trans all (le_trans (mul-le-mul_right most few) fits)
@@ -158,25 +126,17 @@ names-push g (h ∷ gs) = ap (λ (x : List Name). (h.who, h.session) ∷ x) (nam
 
 names-without : (who : Who) (session : ℕ) (gs : List Held) → names_of (without who session gs) ≡ names_without who session (names_of gs)
 names-without who session [] = refl
-names-without who session (g ∷ gs) = elim (is_held_as who session g) as (λ b. names_of (cond b gs (g ∷ without who session gs)) ≡ cond b (names_of gs) ((g.who, g.session) ∷ names_without who session (names_of gs))) [
-  | true ↦ refl
-  | false ↦ ap (λ (x : List Name). (g.who, g.session) ∷ x) (names-without who session gs)
-]
+names-without who session (g ∷ gs) = grind (arith, names-without who session gs)
 
 names-with_ask : (who : Who) (session : ℕ) (ask : Ask) (gs : List Held) → names_of (with_ask who session ask gs) ≡ names_of gs
 names-with_ask who session ask [] = refl
-names-with_ask who session ask (g ∷ gs) = elim (is_held_as who session g) as (λ b. names_of (cond b (record g { ask = ask } ∷ gs) (g ∷ with_ask who session ask gs)) ≡ (g.who, g.session) ∷ names_of gs) [
-  | true ↦ refl
-  | false ↦ ap (λ (x : List Name). (g.who, g.session) ∷ x) (names-with_ask who session ask gs)
-]
+names-with_ask who session ask (g ∷ gs) = grind (arith, names-with_ask who session ask gs)
 
 open-line : (book : Ledger) (who : Who) (session class : ℕ) (ask : Ask) (why : Option Cause) (g : Held) → g.who ≡ who → g.session ≡ session → names_of (after_line book who why (book.grants ++ g ∷ [])).grants ≡ open_after (names_of book.grants) (Opens who session class ask) (refusal_with book who why)
-open-line book who session class ask None g own number = names-push g book.grants ∙ (λ i. names_of book.grants ++ (own i, number i) ∷ [])
-open-line book who session class ask (Some cause) g own number = ap names_of (grants-with book who _)
+open-line book who session class ask why g h8 h9 = grind (arith, names-push, grants-with)
 
 raise-line : (book : Ledger) (who : Who) (why : Option Cause) (gs : List Held) → names_of gs ≡ names_of book.grants → names_of (after_line book who why gs).grants ≡ names_of book.grants
-raise-line book who None gs same = same
-raise-line book who (Some cause) gs same = ap names_of (grants-with book who _)
+raise-line book who why gs h5 = grind (arith, grants-with)
 
 pub names-after : (book : Ledger) (event : Event) → names_of (after book event).grants ≡ open_after (names_of book.grants) event (answer_to book event)
 names-after book (Opens who session class ask) = open-line book who session class ask (why_not_open book who session class ask) (new_grant book who session class ask) refl refl

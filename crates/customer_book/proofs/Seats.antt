@@ -1,7 +1,7 @@
 -- Where a customer's budget allows one session more a server of the class has a free place: the grants are counted by server and
 -- by customer.
-use Rattle.std.proofs.Common.{◌≡◌, ◌≢◌, ℕ, zero, suc, ◌+◌, ◌<◌, ◌≤◌, Bool, true, false, cond, eqb, ltb, List, [], ◌∷◌, ◌++◌, length, get_or, Option, Some, None, ◌⊎◌, refl, ap, sym, ◌∙◌, subst, inl, inr, zero-add, arith}
-use Rattle.std.proofs.lemmas.Bool.{cases_Bool, cases_lt, lt-ltb, le-ltb, false≢true, eq-eqb, ne_eqb, eqb-true, ltb-true, ltb-false, leb-true, and_parts, and_from, and_left, and_right}
+use Rattle.std.proofs.Common.{◌≡◌, ℕ, zero, suc, ◌+◌, ◌<◌, ◌≤◌, Bool, true, false, cond, eqb, ltb, List, [], ◌∷◌, ◌++◌, length, get_or, Option, Some, None, ◌⊎◌, refl, ap, sym, ◌∙◌, subst, inl, inr, zero-add, arith}
+use Rattle.std.proofs.lemmas.Bool.{cases_Bool, cases_lt, lt-ltb, le-ltb, eq-eqb, eqb-true, ltb-true, leb-true, and_parts, and_from, and_left, and_right}
 use Rattle.std.specs.List.{AllByRecursion}
 use Rattle.customer_book.specs.declared.held.Held.{Held}
 use Rattle.customer_book.specs.declared.held.Part.TheVariants.{Own, Guests, At}
@@ -36,10 +36,7 @@ hits is_one [] number n = 0
 hits is_one (s ∷ ss) number n = cond (is_one s) (one (eqb n number)) 0 + hits is_one ss (suc number) n
 
 seats-one : (is_one : Server → Bool) (s : Server) (number : ℕ) (g : Held) (gs : List Held) → cond (is_one s) (used (At number) (g ∷ gs)).sessions 0 ≡ cond (is_one s) (one (eqb g.server number)) 0 + cond (is_one s) (used (At number) gs).sessions 0
-seats-one is_one s number g gs = elim (is_one s) as (λ b. cond b (used (At number) (g ∷ gs)).sessions 0 ≡ cond b (one (eqb g.server number)) 0 + cond b (used (At number) gs).sessions 0) [
-  | true ↦ elim (eqb g.server number) as (λ b. (cond b (plus (of_one g.ask) (used (At number) gs)) (used (At number) gs)).sessions ≡ one b + (used (At number) gs).sessions) [ true ↦ refl | false ↦ (omega arith) ]
-  | false ↦ refl
-]
+seats-one is_one s number g gs = grind arith
 
 pub seats-cons : (is_one : Server → Bool) (ss : List Server) (number : ℕ) (g : Held) (gs : List Held) → seats_at is_one ss number (g ∷ gs) ≡ hits is_one ss number g.server + seats_at is_one ss number gs
 seats-cons is_one [] number g gs = refl
@@ -51,22 +48,12 @@ seats-none is_one (s ∷ ss) number = elim (is_one s) as (λ b. cond b 0 0 + sea
 
 hits-past : (is_one : Server → Bool) (ss : List Server) (number n : ℕ) → n < number → hits is_one ss number n ≡ 0
 hits-past is_one [] number n less = refl
-hits-past is_one (s ∷ ss) number n less =
-    let other : eqb n number ≡ false = ne_eqb n number (λ e. omega arith) in
-    let rest = hits-past is_one ss (suc number) n (omega arith) in
-    rw other (elim (is_one s) as (λ b. cond b 0 0 + hits is_one ss (suc number) n ≡ 0) [ true ↦ omega (arith, rest) | false ↦ omega (arith, rest) ])
+hits-past is_one (s ∷ ss) number n less = grind (arith, hits-past is_one ss (suc number) n)
 
 hits-at : (is_one : Server → Bool) (ss : List Server) (number i : ℕ) → i < length ss → hits is_one ss number (number + i) ≡ one (is_one (get_or ss i no_server))
 hits-at is_one [] number i less = absurd (omega arith)
-hits-at is_one (s ∷ ss) number zero less =
-    let here : eqb (number + 0) number ≡ true = eq-eqb (number + 0) number (omega arith) in
-    let rest : hits is_one ss (suc number) (number + 0) ≡ 0 = hits-past is_one ss (suc number) (number + 0) (omega arith) in
-    rw (here, rest) (elim (is_one s) as (λ b. cond b 1 0 + 0 ≡ one b) [ true ↦ refl | false ↦ refl ])
-hits-at is_one (s ∷ ss) number (suc i) less =
-    let other : eqb (number + suc i) number ≡ false = ne_eqb (number + suc i) number (λ e. omega arith) in
-    let same : suc number + i ≡ number + suc i = omega arith in
-    let rest : hits is_one ss (suc number) (number + suc i) ≡ one (is_one (get_or ss i no_server)) = rw same at (hits-at is_one ss (suc number) i (omega arith)) in
-    rw other (elim (is_one s) as (λ b. cond b 0 0 + hits is_one ss (suc number) (number + suc i) ≡ one (is_one (get_or ss i no_server))) [ true ↦ omega (arith, rest) | false ↦ omega (arith, rest) ])
+hits-at is_one (s ∷ ss) number zero less = grind (arith, hits-past)
+hits-at is_one (s ∷ ss) number (suc i) less = grind (arith, hits-at is_one ss (suc number) i)
 
 -- each grant is counted at its server
 pub seats-number : (is_one : Server → Bool) (passes : Held → Bool) (plan : Plan) (gs : List Held) → ((g : Held) → IsPlaced plan g → is_one (server_at plan g.server) ≡ passes g) → AllByRecursion (IsPlaced plan) gs → seats_at is_one plan.servers 0 gs ≡ number_of passes gs
@@ -85,18 +72,10 @@ pub record IsFreeAt (class : ℕ) (ss : List Server) (number found : ℕ) (gs : 
   pub free : (used (At found) gs).sessions < (get_or ss at no_server).places
 
 lesser-is : (gs : List Held) (a : ℕ) (next : Option ℕ) (m : ℕ) → lesser gs (Some a) next ≡ Some m → (a ≡ m) ⊎ (next ≡ Some m)
-lesser-is gs a None m is = inl cc
-lesser-is gs a (Some b) m is = elim (cases_Bool (ltb (used (At b) gs).sessions (used (At a) gs).sessions)) [
-  | inl aye ↦ inr (let e : Some b ≡ Some m = rw aye at is in e)
-  | inr nay ↦ inl (let e : Some a ≡ Some m = rw nay at is in cc)
-]
+lesser-is gs a next m h5 = grind arith
 
 lesser-some : (gs : List Held) (a : ℕ) (next : Option ℕ) → lesser gs (Some a) next ≡ None → ⊥
-lesser-some gs a None is = cc
-lesser-some gs a (Some b) is = elim (cases_Bool (ltb (used (At b) gs).sessions (used (At a) gs).sessions)) [
-  | inl aye ↦ (let e : Some b ≡ None = rw aye at is in cc)
-  | inr nay ↦ (let e : Some a ≡ None = rw nay at is in cc)
-]
+lesser-some gs a next h4 = grind arith
 
 -- one that is found behind the first
 found-behind : (class : ℕ) (s : Server) (ss : List Server) (number m : ℕ) (gs : List Held) → IsFreeAt class ss (number + 1) m gs → IsFreeAt class (s ∷ ss) number m gs
@@ -123,18 +102,7 @@ least-found class (s ∷ ss) number gs m is = elim (cases_Bool (is_free class nu
 -- where none is free all places are taken
 none-taken : (class : ℕ) (ss : List Server) (number : ℕ) (gs : List Held) → least_free class ss number gs ≡ None → places_of (is_of_class class) ss ≤ seats_at (is_of_class class) ss number gs
 none-taken class [] number gs none = omega arith
-none-taken class (s ∷ ss) number gs none = elim (cases_Bool (is_free class number s gs)) [
-  | inl free ↦ absurd (lesser-some gs number (least_free class ss (number + 1) gs) (let n : lesser gs (Some number) (least_free class ss (number + 1) gs) ≡ None = rw free at none in n))
-  | inr taken ↦ (let n : least_free class ss (number + 1) gs ≡ None = rw taken at none in
-      let next : number + 1 ≡ suc number = omega arith in
-      let m : least_free class ss (suc number) gs ≡ None = rw next at n in
-      let rest = none-taken class ss (suc number) gs m in
-      elim (cases_Bool (is_of_class class s)) [
-        | inl of_class ↦ (let t : ltb (used (At number) gs).sessions s.places ≡ false = rw of_class at taken in
-            let full = ltb-false (used (At number) gs).sessions s.places t in rw of_class (omega (arith, full, rest)))
-        | inr other ↦ rw other (omega (arith, rest))
-      ])
-]
+none-taken class (s ∷ ss) number gs none = grind (arith, none-taken class ss (suc number) gs, lesser-some)
 
 taken-of : (class : ℕ) (ss : List Server) (gs : List Held) (found : Option ℕ) → least_free class ss 0 gs ≡ found → length ss ≤ or_behind (length ss) found → places_of (is_of_class class) ss ≤ seats_at (is_of_class class) ss 0 gs
 taken-of class ss gs None is none = none-taken class ss 0 gs is
@@ -144,8 +112,7 @@ pub places-taken : (class : ℕ) (ss : List Server) (gs : List Held) → length 
 places-taken class ss gs none = taken-of class ss gs (least_free class ss 0 gs) refl none
 
 found-of : (class : ℕ) (ss : List Server) (gs : List Held) (found : Option ℕ) → least_free class ss 0 gs ≡ found → or_behind (length ss) found < length ss → IsFreeAt class ss 0 (or_behind (length ss) found) gs
-found-of class ss gs None is less = absurd (omega arith)
-found-of class ss gs (Some m) is less = least-found class ss 0 gs m is
+found-of class ss gs found h5 h6 = grind (arith, least-found)
 
 pub free-found : (class : ℕ) (ss : List Server) (gs : List Held) → free_server class ss gs < length ss → IsFreeAt class ss 0 (free_server class ss gs) gs
 free-found class ss gs less = found-of class ss gs (least_free class ss 0 gs) refl less
@@ -182,17 +149,8 @@ others-hit (c ∷ cs) number class g not = (let here = not number (omega arith) 
 
 named-hit : (cs : List Customer) (number class i : ℕ) (g : Held) → g.who ≡ Named (number + i) → eqb g.class class ≡ true → i < length cs → name_hits cs number class g ≡ 1
 named-hit [] number class i g is of_class less = absurd (omega arith)
-named-hit (c ∷ cs) number class zero g is of_class less =
-    let who : same_who (Named number) g.who ≡ true = rw is (eq-eqb number (number + 0) (omega arith)) in
-    let here : is_in (Own (Named number) class) g ≡ true = and_from (same_who (Named number) g.who) (eqb g.class class) who of_class in
-    let rest = others-hit cs (suc number) class g (λ n le. and_left (same_who (Named n) g.who) (eqb g.class class) (let o : same_who (Named n) (Named (number + 0)) ≡ false = ne_eqb n (number + 0) (λ e. omega arith) in rw is o)) in
-    rw here (omega (arith, rest))
-named-hit (c ∷ cs) number class (suc i) g is of_class less =
-    let who : same_who (Named number) g.who ≡ false = rw is (ne_eqb number (number + suc i) (λ e. omega arith)) in
-    let here : is_in (Own (Named number) class) g ≡ false = and_left (same_who (Named number) g.who) (eqb g.class class) who in
-    let same : number + suc i ≡ suc number + i = omega arith in
-    let rest = named-hit cs (suc number) class i g (is ∙ ap (λ n. Named n) same) of_class (omega arith) in
-    rw here (omega (arith, rest))
+named-hit (c ∷ cs) number class zero g is of_class less = grind (arith, others-hit, and_left)
+named-hit (c ∷ cs) number class (suc i) g is of_class less = grind (arith, named-hit cs (suc number) class i g, and_left)
 
 abbrev pub is_one_of : ℕ → Held → Bool
 is_one_of class g = eqb g.class class
@@ -218,8 +176,7 @@ hit-once plan class g (V6 a) is named =
 
 pub customers-number : (plan : Plan) (class : ℕ) (gs : List Held) → AllByRecursion (λ g. IsNamedIn plan g.who) gs → number_of (is_one_of class) gs ≡ named_at plan.customers 0 class gs + (used (Guests class) gs).sessions
 customers-number plan class [] all = omega (arith, named-none plan.customers 0 class)
-customers-number plan class (g ∷ gs) all =
-    omega (arith, hit-once plan class g g.who refl all.0, named-cons plan.customers 0 class g gs, guests-one class g gs, customers-number plan class gs all.1)
+customers-number plan class (g ∷ gs) all = grind (arith, customers-number plan class gs, hit-once, named-cons, guests-one)
 
 -- no more than all budgets together
 pub named-le_budgets : (cs : List Customer) (number class : ℕ) (gs : List Held) → ((i : ℕ) → (used (Own (Named (number + i)) class) gs).sessions ≤ (budget_in (get_or cs i nobody).budgets class).sessions) → named_at cs number class gs ≤ named_sessions class cs
@@ -233,10 +190,6 @@ named-le_budgets (c ∷ cs) number class gs within =
 number-push : (passes : Held → Bool) (g : Held) (gs : List Held) → number_of passes (gs ++ g ∷ []) ≡ one (passes g) + number_of passes gs
 number-push passes g [] = refl
 number-push passes g (h ∷ gs) = omega (arith, number-push passes g gs)
-
-pub number-all : (gs : List Held) → number_of (λ g. true) gs ≡ length gs
-number-all [] = refl
-number-all (g ∷ gs) = omega (arith, number-all gs)
 
 -- one session more, which all budgets allow, finds a free server
 pub some-free : (plan : Plan) (g : Held) (gs : List Held) → class_fits plan.servers plan.customers plan.pool g.class ≡ true → AllByRecursion (IsPlaced plan) gs →
@@ -281,14 +234,7 @@ some-free_claimed plan g gs own guests fit placed names mine theirs = elim (case
 -- grants that are claimed are no more than there are places
 
 one-split : (n k : ℕ) → one (ltb n (suc k)) ≡ one (ltb n k) + one (eqb n k)
-one-split n k = elim (cases_lt n k) [
-  | inl less ↦ (let a : ltb n k ≡ true = lt-ltb n k less in let b : ltb n (suc k) ≡ true = lt-ltb n (suc k) (omega arith) in let c : eqb n k ≡ false = ne_eqb n k (λ e. omega arith) in rw (a, b, c) refl)
-  | inr past ↦ (let a : ltb n k ≡ false = le-ltb n k past in
-      elim (cases_Bool (eqb n k)) [
-        | inl aye ↦ (let e = eqb-true n k aye in let b : ltb n (suc k) ≡ true = lt-ltb n (suc k) (omega arith) in rw (a, b, aye) refl)
-        | inr nay ↦ (let b : ltb n (suc k) ≡ false = le-ltb n (suc k) (let ne : n ≢ k = λ e. false≢true (sym nay ∙ eq-eqb n k e) in omega arith) in rw (a, b, nay) refl)
-      ])
-]
+one-split n k = grind arith
 
 number-split : (k : ℕ) (gs : List Held) → number_of (λ g. ltb g.class (suc k)) gs ≡ number_of (λ g. ltb g.class k) gs + number_of (is_one_of k) gs
 number-split k [] = refl
@@ -296,14 +242,7 @@ number-split k (g ∷ gs) = omega (arith, one-split g.class k, number-split k gs
 
 places-split : (k : ℕ) (ss : List Server) → places_of (λ s. ltb s.class (suc k)) ss ≡ places_of (λ s. ltb s.class k) ss + places_of (is_of_class k) ss
 places-split k [] = refl
-places-split k (s ∷ ss) = elim (cases_lt s.class k) [
-  | inl less ↦ (let a : ltb s.class k ≡ true = lt-ltb s.class k less in let b : ltb s.class (suc k) ≡ true = lt-ltb s.class (suc k) (omega arith) in let c : eqb s.class k ≡ false = ne_eqb s.class k (λ e. omega arith) in rw (a, b, c) (omega (arith, places-split k ss)))
-  | inr past ↦ (let a : ltb s.class k ≡ false = le-ltb s.class k past in
-      elim (cases_Bool (eqb s.class k)) [
-        | inl aye ↦ (let e = eqb-true s.class k aye in let b : ltb s.class (suc k) ≡ true = lt-ltb s.class (suc k) (omega arith) in rw (a, b, aye) (omega (arith, places-split k ss)))
-        | inr nay ↦ (let b : ltb s.class (suc k) ≡ false = le-ltb s.class (suc k) (let ne : s.class ≢ k = λ e. false≢true (sym nay ∙ eq-eqb s.class k e) in omega arith) in rw (a, b, nay) (omega (arith, places-split k ss)))
-      ])
-]
+places-split k (s ∷ ss) = grind (arith, places-split k ss)
 
 none-below : (gs : List Held) → number_of (λ g. ltb g.class 0) gs ≡ 0
 none-below [] = refl

@@ -1,6 +1,6 @@
 -- Each event keeps the grants sound.
-use Rattle.std.proofs.Common.{◌≡◌, ℕ, zero, suc, ◌<◌, ◌≤◌, Bool, true, false, not, ◌&&◌, eqb, leb, List, [], ◌∷◌, ◌++◌, length, get_or, Option, Some, None, refl, ap, sym, ◌∙◌, subst, inl, inr, arith}
-use Rattle.std.proofs.lemmas.Bool.{cases_Bool, cases_lt, eqb-true, leb-true, leb-false, and_parts, not-false}
+use Rattle.std.proofs.Common.{◌≡◌, ℕ, zero, suc, ◌<◌, ◌≤◌, Bool, true, false, not, ◌&&◌, eqb, List, [], ◌∷◌, ◌++◌, length, get_or, Option, Some, None, refl, ap, sym, ◌∙◌, subst, inl, inr, arith}
+use Rattle.std.proofs.lemmas.Bool.{cases_Bool, eqb-true, leb-true, and_parts, not-false}
 use Rattle.std.proofs.lemmas.List.{get_or_past}
 use Rattle.std.specs.List.{AllByRecursion}
 use Rattle.customer_book.specs.declared.amount.Amount.{Amount}
@@ -8,15 +8,15 @@ use Rattle.customer_book.specs.declared.amount.Ask.{Ask}
 use Rattle.customer_book.specs.declared.held.Held.{Held}
 use Rattle.customer_book.specs.declared.held.Part.TheVariants.{Own, Guests, At}
 use Rattle.customer_book.specs.declared.refusal.Cause.{Cause}
-use Rattle.customer_book.specs.declared.refusal.Cause.TheVariants.{Twice, Great, Budget, Pool, Lower}
+use Rattle.customer_book.specs.declared.refusal.Cause.TheVariants.{Budget, Pool}
 use Rattle.customer_book.specs.declared.site.Class.{Class}
 use Rattle.customer_book.specs.declared.who.Who.{Who}
-use Rattle.customer_book.specs.declared.who.Who.TheVariants.{Named, V4, V6}
+use Rattle.customer_book.specs.declared.who.Who.TheVariants.{Named}
 use Rattle.customer_book.specs.Names.{same_who, is_guest}
 use Rattle.customer_book.specs.Amounts.{nothing, of_one, plus, IsWithin, is_within}
 use Rattle.customer_book.specs.Plans.{Plan, sums_fit, are_few, all_places, servers_fit, classes_fit, budget_in, budget_of, is_too_great, nobody}
-use Rattle.customer_book.specs.Grants.{is_in, used, grant_of, has_grant, without, with_ask, free_server, is_lower}
-use Rattle.customer_book.specs.Ledgers.{Ledger, first_of, or_else, why_over, why_no_line, why_no_grant, why_not_open, why_no_raise, is_over_budget, is_over_pool}
+use Rattle.customer_book.specs.Grants.{is_in, used, grant_of, without, with_ask, free_server}
+use Rattle.customer_book.specs.Ledgers.{Ledger, first_of, or_else, why_over, why_not_open, why_no_raise, is_over_budget, is_over_pool}
 use Rattle.customer_book.specs.Keeping.{server_at, IsSeated, IsPlaced, IsNamedIn, AreSoundGrants}
 use Rattle.customer_book.specs.Allowed.{HasBudgetFor}
 use Rattle.customer_book.proofs.PlanLemmas.{class_fits-of}
@@ -28,17 +28,13 @@ use Rattle.customer_book.proofs.Seats.{free-found, some-free}
 -- what no refusal says
 
 pub none-both : (first next : Option Cause) → or_else first next ≡ None → (first ≡ None) × (next ≡ None)
-none-both None next is = (refl, is)
-none-both (Some cause) next is = absurd cc
+none-both first next h3 = grind arith
 
 pub none-first : (test : Bool) (cause : Cause) (tests : List (Bool × Cause)) → first_of ((test, cause) ∷ tests) ≡ None → (test ≡ false) × (first_of tests ≡ None)
-none-first true cause tests is = absurd cc
-none-first false cause tests is = (refl, is)
+none-first test cause tests h4 = grind arith
 
 not_over : (guest test : Bool) → (guest && not test) ≡ false → guest ≡ true → test ≡ true
-not_over true true nay is = refl
-not_over true false nay is = absurd cc
-not_over false test nay is = absurd cc
+not_over guest test h1 h2 = grind arith
 
 pub allowed : (plan : Plan) (who : Who) (class : ℕ) (ask : Ask) (own guests : Amount) → why_over plan who class ask own guests ≡ None → HasBudgetFor plan who class ask own guests
 allowed plan who class ask own guests none =
@@ -55,13 +51,7 @@ pub record MayOpen (book : Ledger) (who : Who) (class : ℕ) (ask : Ask) : Type 
   pub allowed : HasBudgetFor book.plan who class ask (used (Own who class) book.grants) (used (Guests class) book.grants)
 
 pub may-open : (book : Ledger) (who : Who) (session class : ℕ) (ask : Ask) → why_not_open book who session class ask ≡ None → MayOpen book who class ask
-may-open book who session class ask none =
-    let granted = (none-both (why_no_line book who) (why_no_grant book who session class ask) none).1 in
-    let own = used (Own who class) book.grants in
-    let guests = used (Guests class) book.grants in
-    let parts = none-both (first_of ((has_grant who session book.grants, Twice) ∷ (is_too_great book.plan.classes class ask, Great) ∷ [])) (why_over book.plan who class ask own guests) granted in
-    let second = (none-first (has_grant who session book.grants) Twice ((is_too_great book.plan.classes class ask, Great) ∷ []) parts.0).1 in
-    record { great = (none-first (is_too_great book.plan.classes class ask) Great [] second).0; allowed = allowed book.plan who class ask own guests parts.1 }
+may-open book who session class ask none = grind (arith, none-both, none-first, allowed)
 
 -- what a raise has passed
 pub record MayRaise (book : Ledger) (who : Who) (session : ℕ) (ask : Ask) (held : Held) : Type 0 where
@@ -69,12 +59,7 @@ pub record MayRaise (book : Ledger) (who : Who) (session : ℕ) (ask : Ask) (hel
   pub allowed : HasBudgetFor book.plan who held.class ask (used (Own who held.class) (without who session book.grants)) (used (Guests held.class) (without who session book.grants))
 
 pub may-raise : (book : Ledger) (who : Who) (session : ℕ) (ask : Ask) (held : Held) → why_no_raise book who session ask (Some held) ≡ None → MayRaise book who session ask held
-may-raise book who session ask held none =
-    let own = used (Own who held.class) (without who session book.grants) in
-    let guests = used (Guests held.class) (without who session book.grants) in
-    let parts = none-both (first_of ((is_lower held.ask ask, Lower) ∷ (is_too_great book.plan.classes held.class ask, Great) ∷ [])) (why_over book.plan who held.class ask own guests) none in
-    let second = (none-first (is_lower held.ask ask) Lower ((is_too_great book.plan.classes held.class ask, Great) ∷ []) parts.0).1 in
-    record { great = (none-first (is_too_great book.plan.classes held.class ask) Great [] second).0; allowed = allowed book.plan who held.class ask own guests parts.1 }
+may-raise book who session ask held none = grind (arith, none-both, none-first, allowed)
 
 -- who may have a session is named
 all_nothing : (budgets : List Amount) (class : ℕ) → AllByRecursion (λ a. a.sessions ≡ 0) budgets → (get_or budgets class nothing).sessions ≡ 0
@@ -86,32 +71,18 @@ nobody-nothing : (class : ℕ) → (budget_in nobody.budgets class).sessions ≡
 nobody-nothing class = all_nothing nobody.budgets class (refl, (refl, (refl, (refl, (refl, (refl, (refl, (refl, tt))))))))
 
 pub named-in : (plan : Plan) (who : Who) (class : ℕ) → 1 ≤ (budget_of plan who class).sessions → IsNamedIn plan who
-named-in plan (Named number) class some = elim (cases_lt number (length plan.customers)) [
-  | inl less ↦ less
-  | inr past ↦ (let none = get_or_past plan.customers number nobody past in let s : 1 ≤ (budget_in nobody.budgets class).sessions = rw none at some in absurd (omega (arith, nobody-nothing class)))
-]
-named-in plan (V4 address) class some = tt
-named-in plan (V6 network) class some = tt
+named-in plan who class h4 = grind (arith, get_or_past, nobody-nothing)
 
 -- a class that takes a session is there
 pub class_there : (classes : List Class) (class : ℕ) (ask : Ask) → is_too_great classes class ask ≡ false → class < length classes
-class_there classes class ask nay = elim (cases_Bool (leb (length classes) class)) [
-  | inl aye ↦ absurd (let n : true ≡ false = rw aye at nay in cc)
-  | inr not ↦ leb-false (length classes) class not
-]
+class_there classes class ask nay = grind arith
 
 all-placed : (plan : Plan) (gs : List Held) → AllByRecursion (IsSeated plan) gs → AllByRecursion (IsPlaced plan) gs
 all-placed plan [] all = tt
 all-placed plan (g ∷ gs) all = (record { name = all.0.name; server = all.0.server; class = all.0.class; there = class_there plan.classes g.class g.ask all.0.great }, all-placed plan gs all.1)
 
 pub fits-parts : (plan : Plan) → sums_fit plan ≡ true → (are_few (all_places plan.servers) ≡ true) × (servers_fit plan.classes plan.servers ≡ true) × (classes_fit plan.servers plan.customers plan.pool (length plan.classes) ≡ true)
-fits-parts plan fit =
-    let few = are_few (all_places plan.servers) in
-    let servers = servers_fit plan.classes plan.servers in
-    let classes = classes_fit plan.servers plan.customers plan.pool (length plan.classes) in
-    let outer = and_parts (few && servers) classes fit in
-    let inner = and_parts few servers outer.0 in
-    (inner.0, inner.1, outer.1)
+fits-parts plan fit = grind arith
 
 pub few-parts : (plan : Plan) → sums_fit plan ≡ true → all_places plan.servers ≤ 1048576
 few-parts plan fit = leb-true (all_places plan.servers) 1048576 (fits-parts plan fit).0
@@ -122,12 +93,7 @@ servers-parts plan fit = (fits-parts plan fit).1
 -- a new book
 
 pub sound-new : (plan : Plan) → AreSoundGrants plan []
-sound-new plan = record {
-  own = λ who class. record { sessions = omega arith; segments = omega arith; nodes = omega arith };
-  guests = λ class. record { sessions = omega arith; segments = omega arith; nodes = omega arith };
-  places = λ number. omega arith;
-  seated = tt;
-}
+sound-new plan = grind arith
 
 -- a new grant
 
@@ -210,9 +176,4 @@ sound-raise plan grants who session ask held sound is great may =
 -- an end
 
 pub sound-close : (plan : Plan) (grants : List Held) (who : Who) (session : ℕ) → AreSoundGrants plan grants → AreSoundGrants plan (without who session grants)
-sound-close plan grants who session sound = record {
-  own = λ w k. within_trans _ _ _ (used-without_le (Own w k) who session grants) (sound.own w k);
-  guests = λ k. within_trans _ _ _ (used-without_le (Guests k) who session grants) (sound.guests k);
-  places = λ n. omega (arith, (used-without_le (At n) who session grants).sessions, sound.places n);
-  seated = all-without (IsSeated plan) who session grants sound.seated;
-}
+sound-close plan grants who session sound = grind (arith, within_trans, used-without_le, all-without)

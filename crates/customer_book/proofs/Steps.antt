@@ -44,15 +44,11 @@ IsNoMore after limit before = IsWithin after limit ⊎ IsWithin after before
 
 -- a part of the grants after a line, which was granted or not
 part-line : (part : Part) (limit : Amount) (book : Ledger) (who : Who) (why : Option Cause) (gs : List Held) → (why ≡ None → IsNoMore (used part gs) limit (used part book.grants)) → IsNoMore (used part (after_line book who why gs).grants) limit (used part book.grants)
-part-line part limit book who None gs more = more refl
-part-line part limit book who (Some cause) gs more = inr (subst (λ (x : List Held). IsWithin (used part x) (used part book.grants)) (sym (grants-with book who _)) (within_same (used part book.grants)))
+part-line part limit book who why gs h7 = grind (arith, grants-with, within_same)
 
 -- a new grant that is within the limit where it is one of the part
 part-push : (part : Part) (limit : Amount) (gs : List Held) (g : Held) → (is_in part g ≡ true → IsWithin (plus (of_one g.ask) (used part gs)) limit) → IsNoMore (used part (gs ++ g ∷ [])) limit (used part gs)
-part-push part limit gs g more = elim (cases_Bool (is_in part g)) [
-  | inl aye ↦ (let e : used part (gs ++ g ∷ []) ≡ plus (of_one g.ask) (used part gs) = rw aye at (used-push part gs g) in inl (subst (λ (a : Amount). IsWithin a limit) (sym e) (more aye)))
-  | inr nay ↦ (let e : used part (gs ++ g ∷ []) ≡ used part gs = rw nay at (used-push part gs g) in inr (subst (λ (a : Amount). IsWithin a (used part gs)) (sym e) (within_same (used part gs))))
-]
+part-push part limit gs g more = grind (arith, used-push, within_same)
 
 -- a raise that is within the limit where the grant is one of the part
 part-raise : (part : Part) (limit : Amount) (gs : List Held) (who : Who) (session : ℕ) (ask : Ask) (held : Held) → grant_of who session gs ≡ Some held → (is_in part held ≡ true → IsWithin (plus (of_one ask) (used part (without who session gs))) limit) → IsNoMore (used part (with_ask who session ask gs)) limit (used part gs)
@@ -125,8 +121,7 @@ guests-step book (happens (Comes moment)) k = inr (within_same (used (Guests k) 
 
 server-line : (n limit : ℕ) (book : Ledger) (who : Who) (why : Option Cause) (gs : List Held) → (((used (At n) gs).sessions ≤ limit) ⊎ ((used (At n) gs).sessions ≤ (used (At n) book.grants).sessions)) →
     ((used (At n) (after_line book who why gs).grants).sessions ≤ limit) ⊎ ((used (At n) (after_line book who why gs).grants).sessions ≤ (used (At n) book.grants).sessions)
-server-line n limit book who None gs more = more
-server-line n limit book who (Some cause) gs more = inr (subst (λ (x : List Held). (used (At n) x).sessions ≤ (used (At n) book.grants).sessions) (sym (grants-with book who _)) (omega arith))
+server-line n limit book who why gs h7 = grind (arith, grants-with)
 
 server-push : (book : Ledger) (class n : ℕ) (g : Held) → g.server ≡ free_server class book.plan.servers book.grants → n < length book.plan.servers →
     ((used (At n) (book.grants ++ g ∷ [])).sessions ≤ (server_at book.plan n).places) ⊎ ((used (At n) (book.grants ++ g ∷ [])).sessions ≤ (used (At n) book.grants).sessions)
@@ -209,20 +204,14 @@ more-alike [] (y ∷ ys) count number long same = absurd (omega arith)
 more-alike (x ∷ xs) [] count number long same = absurd (omega arith)
 more-alike (x ∷ xs) (y ∷ ys) zero number long same = ap (λ n. get_or (replicate (0 - n) rested) number rested) long
 more-alike (x ∷ xs) (y ∷ ys) (suc count) zero long same = same
-more-alike (x ∷ xs) (y ∷ ys) (suc count) (suc number) long same =
-    let a : suc count - suc (length xs) ≡ count - length xs = omega arith in
-    let b : suc count - suc (length ys) ≡ count - length ys = omega arith in
-    rw (a, b) (more-alike xs ys count number (omega arith) same)
+more-alike (x ∷ xs) (y ∷ ys) (suc count) (suc number) long same = grind (arith, more-alike xs ys count number)
 
 more-length : (xs ys : List Account) (count : ℕ) → length xs ≡ length ys → length (with_more xs count) ≡ length (with_more ys count)
 more-length [] [] count long = refl
 more-length [] (y ∷ ys) count long = absurd (omega arith)
 more-length (x ∷ xs) [] count long = absurd (omega arith)
 more-length (x ∷ xs) (y ∷ ys) zero long = ap (λ n. length (replicate (0 - n) rested)) long
-more-length (x ∷ xs) (y ∷ ys) (suc count) long =
-    let a : suc count - suc (length xs) ≡ count - length xs = omega arith in
-    let b : suc count - suc (length ys) ≡ count - length ys = omega arith in
-    rw (a, b) (ap suc (more-length xs ys count (omega arith)))
+more-length (x ∷ xs) (y ∷ ys) (suc count) long = grind (arith, more-length xs ys count)
 
 replan-alike : (is_one : Who → Bool) (a b : Ledger) (plan : Plan) → AreAlike is_one a b → AreAlike is_one (replanned a plan) (replanned b plan)
 replan-alike is_one a b plan alike = record {
@@ -243,16 +232,13 @@ step-other is_one a b (happens event) whole alike other = after-other is_one a b
 step-other is_one a b (replans plan) whole alike other = absurd cc
 
 step_answer-alike : (is_one : Who → Bool) (a b : Ledger) (one : Step) → IsWhole is_one → AreAlike is_one a b → is_their_step is_one one ≡ true → step_answer a one ≡ step_answer b one
-step_answer-alike is_one a b (happens event) whole alike own = answer-alike is_one a b event whole alike own
-step_answer-alike is_one a b (replans plan) whole alike own = refl
+step_answer-alike is_one a b one h5 h6 h7 = grind (arith, answer-alike)
 
 step-kept : (few many : Who → Bool) (one : Step) → ((w : Who) → few w ≡ true → many w ≡ true) → stays many one ≡ false → is_their_step few one ≡ false
-step-kept few many (happens event) among other = of-kept few many event among other
-step-kept few many (replans plan) among other = refl
+step-kept few many one h4 h5 = grind (arith, of-kept)
 
 step-many : (few many : Who → Bool) (one : Step) → ((w : Who) → few w ≡ true → many w ≡ true) → is_their_step few one ≡ true → is_their_step many one ≡ true
-step-many few many (happens event) among own = of-many few many event among own
-step-many few many (replans plan) among own = absurd cc
+step-many few many one h4 h5 = grind (arith, of-many)
 
 pub go-alike : (few many : Who → Bool) (a b : Ledger) (steps : List Step) → ((w : Who) → few w ≡ true → many w ≡ true) → IsWhole many → AreAlike many a b →
     AreAlike many (go a steps) (go b (only_steps many steps)) × (step_answers_of few a steps ≡ step_answers_of few b (only_steps many steps))
@@ -273,8 +259,7 @@ go-alike few many a b (one ∷ steps) among whole alike = elim (cases_Bool (stay
 -- sessions that are open
 
 names-step : (book : Ledger) (one : Step) → names_of (step book one).grants ≡ open_after_step (names_of book.grants) one (step_answer book one)
-names-step book (happens event) = names-after book event
-names-step book (replans plan) = refl
+names-step book one = grind (arith, names-after)
 
 pub names-go : (book : Ledger) (steps : List Step) → names_of (go book steps).grants ≡ still_open_after (names_of book.grants) steps (go_answers book steps)
 names-go book [] = refl

@@ -137,14 +137,6 @@ abbrev pub new_grant : Ledger → Who → ℕ → ℕ → Ask → Held
 new_grant book who session class ask =
     record { who = who; session = session; class = class; ask = ask; server = free_server class book.plan.servers book.grants }
 
--- why an event is refused; None where it isn't
-abbrev pub why_not : Ledger → Event → Option Cause
-why_not book (Opens who session class ask) = why_not_open book who session class ask
-why_not book (Raises who session ask) = why_not_raise book who session ask
-why_not book (Says who) = why_no_line book who
-why_not book (Closes who session) = None
-why_not book (Comes moment) = None
-
 -- the book after a line, with these grants if it wasn't refused
 abbrev pub after_line : Ledger → Who → Option Cause → List Held → Ledger
 after_line book who None grants = record (charged book who false) { grants = grants }

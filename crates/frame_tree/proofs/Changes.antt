@@ -1,5 +1,5 @@
 -- What each change of the slots does to the frames, and that the slots stay sound.
-use Rattle.std.proofs.Common.{◌≡◌, ℕ, zero, suc, ◌+◌, ◌-◌, ◌<◌, Bool, true, false, not, ◌||◌, eqb, List, [], ◌∷◌, ◌++◌, Option, Some, None, length, get_or, set, slice_index, cond, refl, ap, sym, ◌∙◌, inl, inr, arith, subst}
+use Rattle.std.proofs.Common.{◌≡◌, ℕ, zero, suc, ◌+◌, ◌<◌, Bool, true, false, not, ◌||◌, eqb, List, [], ◌∷◌, ◌++◌, Option, Some, None, length, get_or, set, slice_index, cond, refl, ap, sym, ◌∙◌, inl, inr, arith, subst}
 use Rattle.std.specs.List.{filter, remove}
 use Rattle.std.proofs.lemmas.Bool.{cases_eq, cases_Bool, false≢true, eq-eqb, ne_eqb}
 use Rattle.frame_tree.specs.declared.names.State.{State}
@@ -24,11 +24,7 @@ frames_from-with_slot {T} p change frames (x ∷ xs) e =
     same p change frames x e false = refl
 
 pub IsNextSlot-with : {T : Type 0} (frames : List (Frame T)) (x y : Slot T) → y.serial ≡ x.serial → y.parent ≡ x.parent → y.root ≡ x.root → IsNextSlot frames x → IsNextSlot frames y
-IsNextSlot-with frames x y serial parent root n = record {
-  above = (let P : ℕ → Type 0 = λ s. AllBelow s frames in subst P (sym serial) n.above);
-  parent = rw parent n.parent;
-  root = rw (root, parent, serial) n.root;
-}
+IsNextSlot-with frames x y serial parent root n = grind arith
 
 -- slots are linked as before
 pub IsLinked-with_slot : {T : Type 0} (p : ℕ) (change : Slot T → Slot T) (frames : List (Frame T)) (xs : List (Slot T)) → ((fs : List (Frame T)) (x : Slot T) → frame_of_slot fs (change x) ≡ frame_of_slot fs x) → ((x : Slot T) → (change x).parent ≡ x.parent) → ((x : Slot T) → (change x).root ≡ x.root) → IsLinked frames xs → IsLinked frames (with_slot p change xs)
@@ -47,33 +43,26 @@ frames_from-with_child None xs = refl
 frames_from-with_child (Some p) xs = frames_from-with_slot p (λ s. record s { children = s.children + 1 }) [] xs (λ fs x. refl)
 
 pub IsLinked-with_child : {T : Type 0} (parent : Option ℕ) (xs : List (Slot T)) → IsLinked [] xs → IsLinked [] (with_child parent xs)
-IsLinked-with_child None xs l = l
-IsLinked-with_child (Some p) xs l = IsLinked-with_slot p (λ s. record s { children = s.children + 1 }) [] xs (λ fs x. refl) (λ x. refl) (λ x. refl) l
+IsLinked-with_child parent xs h3 = grind (arith, IsLinked-with_slot)
 
 pub count-with_child : {T : Type 0} (parent : Option ℕ) (xs : List (Slot T)) (n : ℕ) → count_in (with_child parent xs) n ≡ count_in xs n
-count-with_child None xs n = refl
-count-with_child (Some p) xs n = length-filter_with_slot (λ s. is_serial n s.parent) p (λ s. record s { children = s.children + 1 }) xs (λ x. refl)
+count-with_child parent xs n = grind (arith, length-filter_with_slot)
 
 pub ready-with_child : {T : Type 0} (parent : Option ℕ) (xs : List (Slot T)) → length (ready_slots (with_child parent xs)) ≡ length (ready_slots xs)
-ready-with_child None xs = refl
-ready-with_child (Some p) xs = length-filter_with_slot (λ s. is_ready s.state) p (λ s. record s { children = s.children + 1 }) xs (λ x. refl)
+ready-with_child parent xs = grind (arith, length-filter_with_slot)
 
 -- one child less of a parent
 pub frames_from-without_child : {T : Type 0} (parent : Option ℕ) (xs : List (Slot T)) → frames_from [] (without_child parent xs) ≡ frames_from [] xs
-frames_from-without_child None xs = refl
-frames_from-without_child (Some p) xs = frames_from-with_slot p (λ s. record s { children = s.children - 1 }) [] xs (λ fs x. refl)
+frames_from-without_child parent xs = grind (arith, frames_from-with_slot)
 
 pub IsLinked-without_child : {T : Type 0} (parent : Option ℕ) (xs : List (Slot T)) → IsLinked [] xs → IsLinked [] (without_child parent xs)
-IsLinked-without_child None xs l = l
-IsLinked-without_child (Some p) xs l = IsLinked-with_slot p (λ s. record s { children = s.children - 1 }) [] xs (λ fs x. refl) (λ x. refl) (λ x. refl) l
+IsLinked-without_child parent xs h3 = grind (arith, IsLinked-with_slot)
 
 pub count-without_child : {T : Type 0} (parent : Option ℕ) (xs : List (Slot T)) (n : ℕ) → count_in (without_child parent xs) n ≡ count_in xs n
-count-without_child None xs n = refl
-count-without_child (Some p) xs n = length-filter_with_slot (λ s. is_serial n s.parent) p (λ s. record s { children = s.children - 1 }) xs (λ x. refl)
+count-without_child parent xs n = grind (arith, length-filter_with_slot)
 
 pub ready-without_child : {T : Type 0} (parent : Option ℕ) (xs : List (Slot T)) → length (ready_slots (without_child parent xs)) ≡ length (ready_slots xs)
-ready-without_child None xs = refl
-ready-without_child (Some p) xs = length-filter_with_slot (λ s. is_ready s.state) p (λ s. record s { children = s.children - 1 }) xs (λ x. refl)
+ready-without_child parent xs = grind (arith, length-filter_with_slot)
 
 -- a new slot at the end
 pub sound_add : {T : Type 0} (xs : List (Slot T)) (ready : ℕ) (slot : Slot T) → AreSoundSlots xs ready → IsNextSlot (frames_from [] xs) slot → slot.children ≡ 0 → is_ready slot.state ≡ true → AreSoundSlots (with_child slot.parent xs ++ slot ∷ []) (ready + 1)
@@ -91,9 +80,7 @@ sound_add {T} xs ready slot s next none is =
     }
 
 pub frames_add : {T : Type 0} (xs : List (Slot T)) (slot : Slot T) → frames_from [] (with_child slot.parent xs ++ slot ∷ []) ≡ frames_from [] xs ++ frame_of_slot (frames_from [] xs) slot ∷ []
-frames_add xs slot =
-    let frames = frames_from-with_child slot.parent xs in
-    frames_from-append [] (with_child slot.parent xs) (slot ∷ []) ∙ (rw frames refl)
+frames_add xs slot = grind (arith, frames_from-with_child, frames_from-append)
 
 -- frames that are as before to those under them
 pub record Same {T : Type 0} (frames others : List (Frame T)) : Type 0 where
@@ -105,26 +92,13 @@ pub Same-none : {T : Type 0} → Same {T = T} [] []
 Same-none = record { paths = λ p. refl; has = λ p. refl; below = λ m b. b }
 
 pub Same-next : {T : Type 0} (frames others : List (Frame T)) (x y : Frame T) → x.serial ≡ y.serial → x.path ≡ y.path → Same frames others → Same (frames ++ x ∷ []) (others ++ y ∷ [])
-Same-next frames others x y serial path s = record {
-  paths = λ p. path_both frames others x y p serial path (s.paths p) (s.has p);
-  has = λ p. has_frame-append others (y ∷ []) p ∙ (rw (s.has p, ← serial) (sym (has_frame-append frames (x ∷ []) p)));
-  below = λ m b. AllBelow-append m others (y ∷ []) (s.below m (AllBelow-left m frames (x ∷ []) b)) (let P : ℕ → Type 0 = λ n. n < m in subst P serial (AllBelow-right m frames (x ∷ []) b).0, tt);
-}
-  where
-    path_both : {T : Type 0} (frames others : List (Frame T)) (x y : Frame T) (p : ℕ) → x.serial ≡ y.serial → x.path ≡ y.path → path_in others p ≡ path_in frames p → has_frame others p ≡ has_frame frames p → path_in (others ++ y ∷ []) p ≡ path_in (frames ++ x ∷ []) p
-    path_both frames others x y p serial path paths has =
-        elim (cases_Bool (has_frame frames p)) [
-          | inl there ↦ path_in-left others (y ∷ []) p (has ∙ there) ∙ (paths ∙ sym (path_in-left frames (x ∷ []) p there))
-          | inr gone ↦ path_in-right others (y ∷ []) p (has ∙ gone) ∙ (rw (← serial, ← path) (sym (path_in-right frames (x ∷ []) p gone)))
-        ]
+Same-next frames others x y serial path s = grind (arith, has_frame-append, AllBelow-append, AllBelow-left, AllBelow-right, path_in-left, path_in-right)
 
 pub path_under-same : {T : Type 0} (frames others : List (Frame T)) (parent : Option ℕ) (serial : ℕ) → Same frames others → path_under others parent serial ≡ path_under frames parent serial
-path_under-same frames others None serial s = refl
-path_under-same frames others (Some p) serial s = ap (λ path. path ++ serial ∷ []) (s.paths p)
+path_under-same frames others parent serial h5 = grind arith
 
 pub has_parent-same : {T : Type 0} (frames others : List (Frame T)) (parent : Option ℕ) → Same frames others → has_parent others parent ≡ has_parent frames parent
-has_parent-same frames others None s = refl
-has_parent-same frames others (Some p) s = s.has p
+has_parent-same frames others parent h4 = grind arith
 
 -- the slot of a frame in another state
 abbrev pub in_state : {T : Type 0} → State → Slot T → Slot T
@@ -220,14 +194,7 @@ remove-filter (x ∷ xs) (suc i) n r lt at =
 -- a leaf lets all others stay
 pub leaf-closed : {T : Type 0} (n : ℕ) (xs : List (Slot T)) → child_slots n xs ≡ [] → IsClosed (λ s. not (eqb s n)) xs
 leaf-closed n [] none = tt
-leaf-closed n (x ∷ xs) none =
-    elim (cases_Bool (is_serial n x.parent)) [
-      | inl child ↦ absurd (cons_nil (rw child at none))
-      | inr other ↦ (λ p is kept. rw (ne_eqb p n (λ e. false≢true (sym other ∙ (rw (is, e) (eq-eqb n n refl))))) refl, leaf-closed n xs (rw other at none))
-    ]
-  where
-    cons_nil : {X : Type 0} {x : X} {xs : List X} → x ∷ xs ≡ [] → ⊥
-    cons_nil h = cc
+leaf-closed n (x ∷ xs) none = grind (arith, leaf-closed n xs)
 
 -- slots without a leaf
 pub record HasLost {T : Type 0} (xs ys : List (Slot T)) (slot : Slot T) : Type 0 where
@@ -241,15 +208,12 @@ pub record HasLost {T : Type 0} (xs ys : List (Slot T)) (slot : Slot T) : Type 0
 -- what is below all of a list's bound
 pub below_bound : {T : Type 0} (frames : List (Frame T)) (m p : ℕ) → AllBelow m frames → has_frame frames p ≡ true → p < m
 below_bound [] m p b h = absurd (false≢true h)
-below_bound (f ∷ fs) m p b h =
-    elim (cases_eq f.serial p) [ inl e ↦ omega (arith, b.0, e) | inr ne ↦ below_bound fs m p b.1 (rw (ne_eqb f.serial p ne) at h) ]
+below_bound (f ∷ fs) m p b h = grind (arith, below_bound fs m p)
 
 -- the parent of a slot that was read has a lower serial, and a slot
 pub parent_below : {T : Type 0} (frames : List (Frame T)) (xs : List (Slot T)) (i : ℕ) (slot : Slot T) (p : ℕ) → IsLinked frames xs → i < length xs → slot ≡ get_or xs i slot → slot.parent ≡ Some p → (p < slot.serial) × ((has_frame frames p || has_slot xs p) ≡ true)
 parent_below frames [] i slot p l lt is parent = absurd (omega arith)
-parent_below frames (x ∷ xs) zero slot p l lt is parent =
-    let there : has_frame frames p ≡ true = (let h = l.0.parent in rw (sym (ap (λ s. s.parent) is) ∙ parent) at h) in
-    (let b = below_bound frames x.serial p l.0.above there in let e = ap (λ s. s.serial) is in omega (arith, b, e), rw there refl)
+parent_below frames (x ∷ xs) zero slot p l lt is parent = grind (arith, below_bound)
 parent_below frames (x ∷ xs) (suc i) slot p l lt is parent =
     let rest = parent_below (frames ++ frame_of_slot frames x ∷ []) xs i slot p l.1 (omega arith) is parent in
     (rest.0, regroup frames (frame_of_slot frames x) p (has_slot xs p) (sym (ap (λ b. b || has_slot xs p) (has_frame-append frames (frame_of_slot frames x ∷ []) p)) ∙ rest.1))
@@ -287,22 +251,11 @@ has_lost {T} xs ready i slot s lt is at none =
 -- the count of children in a slot that is there
 pub children_at-counts : {T : Type 0} (count : ℕ → ℕ) (xs : List (Slot T)) (p : ℕ) → CountsAre count xs → has_slot xs p ≡ true → children_at xs p ≡ count p
 children_at-counts count [] p c h = absurd (false≢true h)
-children_at-counts count (x ∷ xs) p c h =
-    elim (cases_eq x.serial p) [
-      | inl e ↦ rw (eq-eqb x.serial p e) (c.0 ∙ ap count e)
-      | inr ne ↦ rw (ne_eqb x.serial p ne) (children_at-counts count xs p c.1 (rw (ne_eqb x.serial p ne) at h))
-    ]
+children_at-counts count (x ∷ xs) p c h = grind (arith, children_at-counts count xs p)
 
 -- a parent has the lost child counted still
 pub lost_counted : {T : Type 0} (xs ys : List (Slot T)) (slot : Slot T) → HasLost xs ys slot → CountsAtParent ys slot.parent
-lost_counted xs ys slot h = by_parent xs ys slot.parent h.counted h.counts h.parent
-  where
-    by_parent : {T : Type 0} (xs ys : List (Slot T)) (parent : Option ℕ) → CountsAre (λ m. count_in xs m) ys → ((m : ℕ) → count_in ys m + cond (is_serial m parent) 1 0 ≡ count_in xs m) → has_parent_slot ys parent ≡ true → CountsAtParent ys parent
-    by_parent xs ys None c e there = tt
-    by_parent xs ys (Some p) c e there =
-        let k = children_at-counts (λ m. count_in xs m) ys p c there in
-        let h = rw (eq-eqb p p refl) at (e p) in
-        omega (arith, k, h)
+lost_counted xs ys slot h = grind (arith, children_at-counts)
 
 pub sound_lost : {T : Type 0} (xs ys zs : List (Slot T)) (ready now : ℕ) (slot : Slot T) → HasLost xs ys slot → zs ≡ without_child slot.parent ys → now ≡ length (ready_slots ys) → AreSoundSlots zs now
 sound_lost {T} xs ys zs ready now slot h is count =

@@ -1,7 +1,7 @@
 -- The counts of children and of ready frames, through each change.
 use Rattle.std.proofs.Common.{◌≡◌, ◌≢◌, ℕ, zero, suc, ◌+◌, ◌-◌, ◌<◌, Bool, true, false, not, eqb, List, [], ◌∷◌, ◌++◌, Option, Some, None, length, get_or, set, slice_index, cond, refl, ap, sym, ◌∙◌, inl, inr, arith}
 use Rattle.std.specs.List.{filter, remove}
-use Rattle.std.proofs.lemmas.Bool.{cases_eq, cases_Bool, false≢true, eq-eqb, ne_eqb, eqb-true, and_parts, not-true}
+use Rattle.std.proofs.lemmas.Bool.{cases_Bool, false≢true, eq-eqb, ne_eqb, eqb-true, and_parts, not-true}
 use Rattle.frame_tree.specs.declared.slot.Slot.{Slot}
 use Rattle.frame_tree.specs.Frames.{Frame, has_frame, AllBelow, has_parent}
 use Rattle.frame_tree.specs.Slots.{frames_from, IsLinked, serials_of, is_serial, child_slots, CountsAre, AllCountsBelow, with_slot, with_child, without_child}
@@ -36,20 +36,12 @@ CountsAre-append f (x ∷ xs) ys p q = (p.0, CountsAre-append f xs ys p.1 q)
 -- with one slot changed
 pub CountsAre-with_slot : {T : Type 0} (f g : ℕ → ℕ) (p : ℕ) (change : Slot T → Slot T) (xs : List (Slot T)) → ((x : Slot T) → (change x).serial ≡ x.serial) → ((x : Slot T) → x.serial ≡ p → x.children ≡ f p → (change x).children ≡ g p) → ((n : ℕ) → n ≢ p → f n ≡ g n) → CountsAre f xs → CountsAre g (with_slot p change xs)
 CountsAre-with_slot f g p change [] serial here other c = tt
-CountsAre-with_slot f g p change (x ∷ xs) serial here other c =
-    elim (cases_eq x.serial p) [
-      | inl eq ↦ rw (eq-eqb x.serial p eq) (here x eq (c.0 ∙ ap f eq) ∙ ap g (sym (serial x ∙ eq)), CountsAre-with_slot f g p change xs serial here other c.1)
-      | inr ne ↦ rw (ne_eqb x.serial p ne) (c.0 ∙ other x.serial ne, CountsAre-with_slot f g p change xs serial here other c.1)
-    ]
+CountsAre-with_slot f g p change (x ∷ xs) serial here other c = grind (arith, CountsAre-with_slot f g p change xs serial here other)
 
 -- of those that stay
 pub CountsAre-filter : {T : Type 0} (f g : ℕ → ℕ) (keep : ℕ → Bool) (xs : List (Slot T)) → ((n : ℕ) → keep n ≡ true → f n ≡ g n) → CountsAre f xs → CountsAre g (filter (λ x. keep x.serial) xs)
 CountsAre-filter f g keep [] e c = tt
-CountsAre-filter f g keep (x ∷ xs) e c =
-    elim (cases_Bool (keep x.serial)) [
-      | inl same ↦ rw same (c.0 ∙ e x.serial same, CountsAre-filter f g keep xs e c.1)
-      | inr goes ↦ rw goes (CountsAre-filter f g keep xs e c.1)
-    ]
+CountsAre-filter f g keep (x ∷ xs) e c = grind (arith, CountsAre-filter f g keep xs e)
 
 -- a change that keeps what a test sees
 pub length-filter_with_slot : {T : Type 0} (test : Slot T → Bool) (p : ℕ) (change : Slot T → Slot T) (xs : List (Slot T)) → ((x : Slot T) → test (change x) ≡ test x) → length (filter test (with_slot p change xs)) ≡ length (filter test xs)
@@ -65,23 +57,14 @@ length-filter_with_slot test p change (x ∷ xs) e =
 -- a write changes a count of those that pass by the old one and the new one
 pub length-filter_set : {X : Type 0} (test : X → Bool) (xs : List X) (i : ℕ) (old new : X) → i < length xs → old ≡ get_or xs i old → length (filter test (set xs i new)) + cond (test old) 1 0 ≡ length (filter test xs) + cond (test new) 1 0
 length-filter_set test [] i old new lt is = absurd (omega arith)
-length-filter_set test (x ∷ xs) zero old new lt is =
-    rw is (elim (cases_Bool (test x)) [
-      | inl a ↦ rw a (elim (cases_Bool (test new)) [ inl b ↦ rw b refl | inr b ↦ rw b (omega arith) ])
-      | inr a ↦ rw a (elim (cases_Bool (test new)) [ inl b ↦ rw b (omega arith) | inr b ↦ rw b refl ])
-    ])
-length-filter_set test (x ∷ xs) (suc i) old new lt is =
-    let rest = length-filter_set test xs i old new (omega arith) is in
-    elim (cases_Bool (test x)) [ inl a ↦ rw a (omega (arith, rest)) | inr a ↦ rw a rest ]
+length-filter_set test (x ∷ xs) zero old new lt is = grind arith
+length-filter_set test (x ∷ xs) (suc i) old new lt is = grind (arith, length-filter_set test xs i old new)
 
 -- and a removal by the old one
 pub length-filter_remove : {X : Type 0} (test : X → Bool) (xs : List X) (i : ℕ) (old : X) → i < length xs → old ≡ get_or xs i old → length (filter test (remove xs i)) + cond (test old) 1 0 ≡ length (filter test xs)
 length-filter_remove test [] i old lt is = absurd (omega arith)
-length-filter_remove test (x ∷ xs) zero old lt is =
-    rw is (elim (cases_Bool (test x)) [ inl a ↦ rw a (omega arith) | inr a ↦ rw a (omega arith) ])
-length-filter_remove test (x ∷ xs) (suc i) old lt is =
-    let rest = length-filter_remove test xs i old (omega arith) is in
-    elim (cases_Bool (test x)) [ inl a ↦ rw a (omega (arith, rest)) | inr a ↦ rw a rest ]
+length-filter_remove test (x ∷ xs) zero old lt is = grind arith
+length-filter_remove test (x ∷ xs) (suc i) old lt is = grind (arith, length-filter_remove test xs i old)
 
 -- one more child of a parent
 pub CountsAre-with_child : {T : Type 0} (f : ℕ → ℕ) (parent : Option ℕ) (xs : List (Slot T)) → CountsAre f xs → CountsAre (λ n. f n + cond (is_serial n parent) 1 0) (with_child parent xs)

@@ -1,10 +1,10 @@
 -- Slots of which some go: those that stay are linked as before, and stand for the frames that stay.
-use Rattle.std.proofs.Common.{◌≡◌, ℕ, zero, suc, ◌<◌, Bool, true, false, not, ◌||◌, ◌&&◌, eqb, List, [], ◌∷◌, ◌++◌, Option, Some, None, length, get_or, map, cond, refl, ap, sym, ◌∙◌, inl, inr, arith, append_assoc, subst}
+use Rattle.std.proofs.Common.{◌≡◌, ℕ, zero, suc, ◌<◌, Bool, true, false, not, ◌||◌, ◌&&◌, eqb, List, [], ◌∷◌, ◌++◌, Option, Some, None, length, get_or, map, cond, refl, ap, sym, ◌∙◌, inl, inr, arith, append_assoc}
 use Rattle.std.specs.List.{filter}
-use Rattle.std.proofs.lemmas.Bool.{cases_Bool, false≢true, eq-eqb, ne_eqb, eqb-true, and_parts}
+use Rattle.std.proofs.lemmas.Bool.{cases_Bool, false≢true, ne_eqb, eqb-true}
 use Rattle.frame_tree.specs.declared.slot.Slot.{Slot}
-use Rattle.frame_tree.specs.Frames.{Frame, has_frame, path_in, path_under, root_of, goes_under, AllBelow, aborted, frames_under, values_of, has_parent}
-use Rattle.frame_tree.specs.Slots.{frame_of_slot, frames_from, IsNextSlot, IsLinked, has_slot, is_kept, kept_slots, gone_values, slot_values}
+use Rattle.frame_tree.specs.Frames.{Frame, has_frame, path_in, path_under, goes_under, AllBelow, aborted, frames_under, values_of, has_parent}
+use Rattle.frame_tree.specs.Slots.{frame_of_slot, frames_from, IsLinked, has_slot, is_kept, kept_slots, gone_values, slot_values}
 use Rattle.frame_tree.proofs.Forest.{AllBelow-append, AllBelow-left, AllBelow-right, has_frame-above, has_frame-append, path_in-left, path_in-right, EndsIn-path_in, goes_under-append, AllEnd, AllEnd-next}
 
 -- whether a frame under this parent stays, by what stays
@@ -25,19 +25,11 @@ pub record Keeps {T : Type 0} (keep : ℕ → Bool) (frames left : List (Frame T
 
 -- the path of a frame among one more
 pub path_next : {T : Type 0} (frames left : List (Frame T)) (x : Frame T) (p : ℕ) → path_in left p ≡ path_in frames p → has_frame left p ≡ has_frame frames p → path_in (left ++ x ∷ []) p ≡ path_in (frames ++ x ∷ []) p
-path_next frames left x p paths has =
-    elim (cases_Bool (has_frame frames p)) [
-      | inl there ↦ path_in-left left (x ∷ []) p (has ∙ there) ∙ (paths ∙ sym (path_in-left frames (x ∷ []) p there))
-      | inr gone ↦ path_in-right left (x ∷ []) p (has ∙ gone) ∙ sym (path_in-right frames (x ∷ []) p gone)
-    ]
+path_next frames left x p paths has = grind (arith, path_in-left, path_in-right)
 
 -- one more frame that stays
 pub Keeps-next : {T : Type 0} (keep : ℕ → Bool) (frames left : List (Frame T)) (x : Frame T) → Keeps keep frames left → Keeps keep (frames ++ x ∷ []) (left ++ x ∷ [])
-Keeps-next keep frames left x k = record {
-  paths = λ p kp. path_next frames left x p (k.paths p kp) (k.has p kp);
-  has = λ p kp. has_frame-append left (x ∷ []) p ∙ (rw (k.has p kp) (sym (has_frame-append frames (x ∷ []) p)));
-  below = λ m b. AllBelow-append m left (x ∷ []) (k.below m (AllBelow-left m frames (x ∷ []) b)) (AllBelow-right m frames (x ∷ []) b);
-}
+Keeps-next keep frames left x k = grind (arith, path_next, has_frame-append, AllBelow-append, AllBelow-left, AllBelow-right)
 
 -- one more frame that goes
 pub Keeps-gone : {T : Type 0} (keep : ℕ → Bool) (frames left : List (Frame T)) (x : Frame T) → keep x.serial ≡ false → Keeps keep frames left → Keeps keep (frames ++ x ∷ []) left
@@ -60,37 +52,20 @@ Keeps-gone keep frames left x goes k = record {
 
 -- the path under a parent that stays
 pub path_under-kept : {T : Type 0} (keep : ℕ → Bool) (frames left : List (Frame T)) (parent : Option ℕ) (serial : ℕ) → Keeps keep frames left → ((p : ℕ) → parent ≡ Some p → keep p ≡ true) → path_under left parent serial ≡ path_under frames parent serial
-path_under-kept keep frames left None serial k c = refl
-path_under-kept keep frames left (Some p) serial k c = ap (λ path. path ++ serial ∷ []) (k.paths p (c p refl))
+path_under-kept keep frames left parent serial h6 h7 = grind arith
 
 pub has_parent-kept : {T : Type 0} (keep : ℕ → Bool) (frames left : List (Frame T)) (parent : Option ℕ) → Keeps keep frames left → ((p : ℕ) → parent ≡ Some p → keep p ≡ true) → has_parent left parent ≡ has_parent frames parent
-has_parent-kept keep frames left None k c = refl
-has_parent-kept keep frames left (Some p) k c = k.has p (c p refl)
+has_parent-kept keep frames left parent h5 h6 = grind arith
 
 -- the frames of the slots that stay are those that stay of the frames
 pub frames_from-kept : {T : Type 0} (keep : ℕ → Bool) (frames left : List (Frame T)) (xs : List (Slot T)) → Keeps keep frames left → IsClosed keep xs → frames_from left (filter (λ x. keep x.serial) xs) ≡ filter (λ x. keep x.serial) (frames_from frames xs)
 frames_from-kept keep frames left [] k c = refl
-frames_from-kept {T} keep frames left (x ∷ xs) k c =
-    elim (cases_Bool (keep x.serial)) [
-      | inl same ↦ (let e = path_under-kept keep frames left x.parent x.serial k (λ p is. c.0 p is same) in
-          let P : List ℕ → Type 0 = λ path. (let y : Frame T = record { serial = x.serial; path = path; state = x.state; value = x.value } in y ∷ frames_from (left ++ y ∷ []) (filter (λ x. keep x.serial) xs) ≡ frame_of_slot frames x ∷ filter (λ x. keep x.serial) (frames_from (frames ++ frame_of_slot frames x ∷ []) xs)) in
-          rw same (subst P (sym e) (ap (λ fs. frame_of_slot frames x ∷ fs) (frames_from-kept keep (frames ++ frame_of_slot frames x ∷ []) (left ++ frame_of_slot frames x ∷ []) xs (Keeps-next keep frames left (frame_of_slot frames x) k) c.1))))
-      | inr goes ↦ rw goes (frames_from-kept keep (frames ++ frame_of_slot frames x ∷ []) left xs (Keeps-gone keep frames left (frame_of_slot frames x) goes k) c.1)
-    ]
+frames_from-kept {T} keep frames left (x ∷ xs) k c = grind (arith, frames_from-kept keep (frames ++ frame_of_slot frames x ∷ []) (left ++ frame_of_slot frames x ∷ []) xs (Keeps-next keep frames left (frame_of_slot frames x) k), frames_from-kept keep (frames ++ frame_of_slot frames x ∷ []) left xs, path_under-kept, Keeps-next, Keeps-gone)
 
 -- and they are linked
 pub IsLinked-kept : {T : Type 0} (keep : ℕ → Bool) (frames left : List (Frame T)) (xs : List (Slot T)) → Keeps keep frames left → IsClosed keep xs → IsLinked frames xs → IsLinked left (filter (λ x. keep x.serial) xs)
 IsLinked-kept keep frames left [] k c l = tt
-IsLinked-kept {T} keep frames left (x ∷ xs) k c l =
-    elim (cases_Bool (keep x.serial)) [
-      | inl same ↦ (let closed : (p : ℕ) → x.parent ≡ Some p → keep p ≡ true = λ p is. c.0 p is same in
-          let e = path_under-kept keep frames left x.parent x.serial k closed in
-          let P : List ℕ → Type 0 = λ path. IsLinked (left ++ record { serial = x.serial; path = path; state = x.state; value = x.value } ∷ []) (filter (λ x. keep x.serial) xs) in
-          let here : IsNextSlot left x = record { above = k.below x.serial l.0.above; parent = has_parent-kept keep frames left x.parent k closed ∙ l.0.parent; root = l.0.root ∙ ap root_of (sym e) } in
-          let rest = IsLinked-kept keep (frames ++ frame_of_slot frames x ∷ []) (left ++ frame_of_slot frames x ∷ []) xs (Keeps-next keep frames left (frame_of_slot frames x) k) c.1 l.1 in
-          rw same (here, subst P (sym e) rest))
-      | inr goes ↦ rw goes (IsLinked-kept keep (frames ++ frame_of_slot frames x ∷ []) left xs (Keeps-gone keep frames left (frame_of_slot frames x) goes k) c.1 l.1)
-    ]
+IsLinked-kept {T} keep frames left (x ∷ xs) k c l = grind (arith, IsLinked-kept keep (frames ++ frame_of_slot frames x ∷ []) (left ++ frame_of_slot frames x ∷ []) xs (Keeps-next keep frames left (frame_of_slot frames x) k), IsLinked-kept keep (frames ++ frame_of_slot frames x ∷ []) left xs, path_under-kept, has_parent-kept, Keeps-next, Keeps-gone)
 
 -- nothing is before the first slot
 pub Keeps-none : {T : Type 0} (keep : ℕ → Bool) → Keeps {T = T} keep [] []
@@ -103,13 +78,11 @@ FollowsBy keep under (x ∷ xs) = (keep x.serial ≡ stays_by keep under x.paren
 
 pub IsClosed-from_follows : {T : Type 0} (keep : ℕ → Bool) (under : ℕ) (xs : List (Slot T)) → FollowsBy keep under xs → IsClosed keep xs
 IsClosed-from_follows keep under [] f = tt
-IsClosed-from_follows keep under (x ∷ xs) f =
-    (λ p is kx. (and_parts (not (eqb p under)) (keep p) (sym (f.0 ∙ (rw is refl)) ∙ kx)).1, IsClosed-from_follows keep under xs f.1)
+IsClosed-from_follows keep under (x ∷ xs) f = grind (arith, IsClosed-from_follows keep under xs)
 
 -- the path of the frame that comes next
 pub path_in-next : {T : Type 0} (all frames rest : List (Frame T)) (x : Frame T) → all ≡ frames ++ x ∷ rest → AllBelow x.serial frames → path_in all x.serial ≡ x.path
-path_in-next all frames rest x is below =
-    rw is (path_in-right frames (x ∷ rest) x.serial (has_frame-above frames x.serial below) ∙ (rw (eq-eqb x.serial x.serial refl) refl))
+path_in-next all frames rest x is below = grind (arith, path_in-right, has_frame-above)
 
 -- frames that come next, and the rest after them
 pub all_next : {T : Type 0} (all frames : List (Frame T)) (x : Slot T) (xs : List (Slot T)) → all ≡ frames ++ frames_from frames (x ∷ xs) → all ≡ (frames ++ frame_of_slot frames x ∷ []) ++ frames_from (frames ++ frame_of_slot frames x ∷ []) xs
@@ -123,8 +96,7 @@ kept_next under all frames (Some p) serial is there ends same =
     rw (is, goes, same p there) (not_or (eqb p under) (goes_under under (path_in frames p)))
   where
     not_or : (a b : Bool) → not (a || b) ≡ (not a && not b)
-    not_or true b = refl
-    not_or false b = refl
+    not_or a b = grind arith
 
 pub kept_follows : {T : Type 0} (under : ℕ) (all frames : List (Frame T)) (xs : List (Slot T)) → all ≡ frames ++ frames_from frames xs → IsLinked frames xs → AllEnd frames → FollowsBy (is_kept under all) under xs
 kept_follows under all frames [] is l ends = tt
@@ -148,8 +120,7 @@ has_paths all frames (x ∷ xs) is l =
 
 pub aborted-is_kept : {T : Type 0} (under : ℕ) (all xs : List (Frame T)) → HasPaths all xs → filter (λ x. is_kept under all x.serial) xs ≡ aborted under xs
 aborted-is_kept under all [] h = refl
-aborted-is_kept under all (x ∷ xs) h =
-    rw (h.0, aborted-is_kept under all xs h.1) refl
+aborted-is_kept under all (x ∷ xs) h = grind (arith, aborted-is_kept under all xs)
 
 pub frames_under-is_kept : {T : Type 0} (under : ℕ) (all xs : List (Frame T)) → HasPaths all xs → filter (λ x. not (is_kept under all x.serial)) xs ≡ frames_under under xs
 frames_under-is_kept under all [] h = refl
@@ -157,8 +128,7 @@ frames_under-is_kept under all (x ∷ xs) h =
     rw (h.0, frames_under-is_kept under all xs h.1) (not_not (goes_under under x.path) (x ∷ frames_under under xs) (frames_under under xs))
   where
     not_not : {X : Type 0} (b : Bool) (y z : X) → cond (not (not b)) y z ≡ cond b y z
-    not_not true y z = refl
-    not_not false y z = refl
+    not_not b y z = grind arith
 
 -- the values of slots are those of the frames
 pub slot_values-frames : {T : Type 0} (frames : List (Frame T)) (xs : List (Slot T)) → slot_values xs ≡ values_of (frames_from frames xs)
@@ -168,11 +138,7 @@ slot_values-frames frames (x ∷ xs) = ap (λ vs. x.value ∷ vs) (slot_values-f
 -- the values of chosen slots are those of the chosen frames
 pub values-frames_from : {T : Type 0} (choose : ℕ → Bool) (frames : List (Frame T)) (xs : List (Slot T)) → map (λ x. x.value) (filter (λ x. choose x.serial) xs) ≡ values_of (filter (λ x. choose x.serial) (frames_from frames xs))
 values-frames_from choose frames [] = refl
-values-frames_from choose frames (x ∷ xs) =
-    elim (cases_Bool (choose x.serial)) [
-      | inl same ↦ rw same (ap (λ vs. x.value ∷ vs) (values-frames_from choose (frames ++ frame_of_slot frames x ∷ []) xs))
-      | inr goes ↦ rw goes (values-frames_from choose (frames ++ frame_of_slot frames x ∷ []) xs)
-    ]
+values-frames_from choose frames (x ∷ xs) = grind (arith, values-frames_from choose (frames ++ frame_of_slot frames x ∷ []) xs)
 
 -- what an abort leaves of linked slots
 pub kept_slots-frames : {T : Type 0} (under : ℕ) (xs : List (Slot T)) → IsLinked [] xs → frames_from [] (kept_slots under xs) ≡ aborted under (frames_from [] xs)

@@ -1,25 +1,21 @@
 -- A slot store of which some slots went.
 use Rattle.std.proofs.Common.{◌≡◌, ◌≢◌, ℕ, zero, suc, ◌+◌, ◌<◌, ◌≤◌, Bool, true, false, not, ◌||◌, eqb, List, [], ◌∷◌, ◌++◌, Option, Some, None, IsSome, get_or, slice_index, take, length, append-nil, map, refl, ap, sym, ◌∙◌, inl, inr, arith, subst}
 use Rattle.std.specs.List.{filter, remove}
-use Rattle.std.proofs.lemmas.Bool.{cases_eq, cases_Bool, false≢true, eq-eqb, ne_eqb, not-true}
+use Rattle.std.proofs.lemmas.Bool.{cases_eq, cases_Bool, false≢true, eq-eqb, ne_eqb, not-true, or_right}
+use Rattle.std.proofs.lemmas.List.Elements.{filter-append}
 use Rattle.slab.specs.Slab.{Slab, get, slab_len}
 use Rattle.frame_tree.specs.declared.slot.Slot.{Slot as TenantSlot}
 use Rattle.frame_tree.specs.declared.slot_store.StoredSlot.{StoredSlot}
-use Rattle.frame_tree.specs.Slots.{frames_from, is_kept, IsLinked, kept_slots, gone_values, child_slots, is_serial, AllAbove, Rises, serials_of}
+use Rattle.frame_tree.specs.Slots.{frames_from, is_kept, IsLinked, kept_slots, gone_values, child_slots, AllAbove, Rises, serials_of}
 use Rattle.frame_tree.specs.Places.{has_number}
 use Rattle.frame_tree.specs.SlotStores.{with_found, slots_in, AreApartKeys, HasSerial, KnowsParent, IsHere, AllHere, IsSlotStore, AreThere, is_marked, marked_in, swept_in, values_in}
 use Rattle.frame_tree.proofs.Cuts.{IsClosed, IsClosed-from_follows, kept_follows}
 use Rattle.frame_tree.proofs.Lengths.{length-filter-le}
 use Rattle.frame_tree.specs.SlotStores.{Marks, AreKeys, IsKeyAt}
 use Rattle.frame_tree.proofs.Search.{serial_read}
-use Rattle.frame_tree.proofs.SlotStores.{has_number-append, has_number-at, here_read, slots_in-length, slot_read}
+use Rattle.frame_tree.proofs.SlotStores.{has_number-append, has_number-at, here_read, slots_in-length, slot_read, here_found, here_contains}
 use Rattle.frame_tree.proofs.Keys.{key_found, knows_key}
-use Rattle.frame_tree.proofs.Changes.{parent_below, remove-filter}
-
--- the slot that is here
-pub here_found : {T : Type 0} (slab : Slab (StoredSlot T)) (before : List ℕ) (o : Option (StoredSlot T)) → IsHere slab before o → (kept : StoredSlot T) × (o ≡ Some kept)
-here_found slab before None h = absurd h
-here_found slab before (Some x) h = (x, refl)
+use Rattle.frame_tree.proofs.Changes.{parent_below, remove-filter, leaf-closed}
 
 -- the slot of a serial
 pub named_slot : {T : Type 0} (p : ℕ) (o : Option (StoredSlot T)) → HasSerial p o → (y : StoredSlot T) × (o ≡ Some y) × (y.slot.serial ≡ p)
@@ -28,59 +24,25 @@ named_slot p (Some y) h = (y, refl, h)
 
 pub all_there : {T : Type 0} (slab : Slab (StoredSlot T)) (before keys : List ℕ) → AllHere slab before keys → AreThere slab keys
 all_there slab before [] h = tt
-all_there slab before (k ∷ keys) h = (some slab before (get slab k) h.0, all_there slab (before ++ k ∷ []) keys h.1)
-  where
-    some : {T : Type 0} (slab : Slab (StoredSlot T)) (before : List ℕ) (o : Option (StoredSlot T)) → IsHere slab before o → IsSome o
-    some slab before None h = absurd h
-    some slab before (Some x) h = refl
+all_there slab before (k ∷ keys) h = (here_contains slab before k h.0, all_there slab (before ++ k ∷ []) keys h.1)
 
 has_number-filter : (keep : ℕ → Bool) (keys : List ℕ) (a : ℕ) → has_number keys a ≡ true → keep a ≡ true → has_number (filter keep keys) a ≡ true
 has_number-filter keep [] a has kept = absurd (false≢true has)
-has_number-filter keep (k ∷ keys) a has kept =
-    elim (cases_eq k a) [
-      | inl same ↦ rw (ap keep same ∙ kept, eq-eqb k a same) refl
-      | inr differs ↦ (let rest : has_number keys a ≡ true = rw (ne_eqb k a differs) at has in
-          elim (cases_Bool (keep k)) [
-            | inl stays ↦ rw (stays, ne_eqb k a differs) (has_number-filter keep keys a rest kept)
-            | inr goes ↦ rw goes (has_number-filter keep keys a rest kept)
-          ])
-    ]
+has_number-filter keep (k ∷ keys) a has kept = grind (arith, has_number-filter keep keys a)
 
 no_key-filter : (keep : ℕ → Bool) (keys : List ℕ) (a : ℕ) → has_number keys a ≡ false → has_number (filter keep keys) a ≡ false
 no_key-filter keep [] a none = refl
-no_key-filter keep (k ∷ keys) a none =
-    let parts = or_false (eqb k a) (has_number keys a) none in
-    elim (cases_Bool (keep k)) [
-      | inl stays ↦ rw (stays, parts.0) (no_key-filter keep keys a parts.1)
-      | inr goes ↦ rw goes (no_key-filter keep keys a parts.1)
-    ]
-  where
-    or_false : (a b : Bool) → (a || b) ≡ false → (a ≡ false) × (b ≡ false)
-    or_false true b h = absurd (false≢true (sym h))
-    or_false false b h = (refl, h)
+no_key-filter keep (k ∷ keys) a none = grind (arith, no_key-filter keep keys a)
 
 pub apart-filter : (keep : ℕ → Bool) (keys : List ℕ) → AreApartKeys keys → AreApartKeys (filter keep keys)
 apart-filter keep [] a = tt
-apart-filter keep (k ∷ keys) a =
-    elim (cases_Bool (keep k)) [
-      | inl stays ↦ rw stays (no_key-filter keep keys k a.0, apart-filter keep keys a.1)
-      | inr goes ↦ rw goes (apart-filter keep keys a.1)
-    ]
-
-filter-append : (keep : ℕ → Bool) (xs ys : List ℕ) → filter keep (xs ++ ys) ≡ filter keep xs ++ filter keep ys
-filter-append keep [] ys = refl
-filter-append keep (x ∷ xs) ys =
-    elim (cases_Bool (keep x)) [ inl stays ↦ rw stays (ap (λ zs. x ∷ zs) (filter-append keep xs ys)) | inr goes ↦ rw goes (filter-append keep xs ys) ]
+apart-filter keep (k ∷ keys) a = grind (arith, apart-filter keep keys, no_key-filter)
 
 head_key : (k : ℕ) (keys : List ℕ) → has_number (k ∷ keys) k ≡ true
 head_key k keys = rw (eq-eqb k k refl) refl
 
-tail_key : (k j : ℕ) (keys : List ℕ) → has_number keys j ≡ true → has_number (k ∷ keys) j ≡ true
+pub tail_key : (k j : ℕ) (keys : List ℕ) → has_number keys j ≡ true → has_number (k ∷ keys) j ≡ true
 tail_key k j keys h = or_right (eqb k j) (has_number keys j) h
-  where
-    or_right : (a b : Bool) → b ≡ true → (a || b) ≡ true
-    or_right true b h = refl
-    or_right false b h = h
 
 -- which slots stay, by key and by serial, and how those are kept
 pub record Stays {T : Type 0} (old new : Slab (StoredSlot T)) (by_key by_serial : ℕ → Bool) (keys : List ℕ) : Type 0 where
@@ -149,25 +111,14 @@ pub record HasCut {T : Type 0} (under : ℕ) (old marked new : Slab (StoredSlot 
   pub kept : left ≡ filter (λ key. not (is_marked (get marked key))) order
   pub swept : (key : ℕ) → get new key ≡ swept_in marked order key
 
-pub has_cut : {T : Type 0} (under : ℕ) (old marked new : Slab (StoredSlot T)) (order left : List ℕ) → Marks under (slots_in old order) order old marked → left ≡ filter (λ key. not (is_marked (get marked key))) order → ((key : ℕ) → get new key ≡ swept_in marked order key) → HasCut under old marked new order left
-has_cut under old marked new order left marks kept swept = record { marks = marks; kept = kept; swept = swept }
-
 pub cut_marks : {T : Type 0} (under : ℕ) (old marked new : Slab (StoredSlot T)) (order left : List ℕ) → HasCut under old marked new order left → (k : ℕ) (x : StoredSlot T) → has_number order k ≡ true → get old k ≡ Some x → get marked k ≡ Some (record x { marked = not (is_kept under (frames_from [] (slots_in old order)) x.slot.serial) })
 cut_marks under old marked new order left c k x has is = c.marks k ∙ (rw (is, has) refl)
 
 not_not : (b : Bool) → not (not b) ≡ b
-not_not true = refl
-not_not false = refl
+not_not b = grind arith
 
 pub cut_stays : {T : Type 0} (under : ℕ) (old marked new : Slab (StoredSlot T)) (order left : List ℕ) → HasCut under old marked new order left → Stays old new (λ key. not (is_marked (get marked key))) (is_kept under (frames_from [] (slots_in old order))) order
-cut_stays under old marked new order left c = record {
-  agree = λ k x has is. rw (cut_marks under old marked new order left c k x has is) (not_not _);
-  renew = λ k x has is stays.
-      let m = cut_marks under old marked new order left c k x has is in
-      let off : is_marked (get marked k) ≡ false = not-true (is_marked (get marked k)) stays in
-      let mark : not (is_kept under (frames_from [] (slots_in old order)) x.slot.serial) ≡ false = sym (ap is_marked m) ∙ off in
-      c.swept k ∙ (rw (has, off) (m ∙ ap (λ b. Some (record x { marked = b })) mark));
-}
+cut_stays under old marked new order left c = grind (arith, cut_marks, not_not, not-true)
 
 -- the slots that stay
 pub cut_slots : {T : Type 0} (under : ℕ) (old marked new : Slab (StoredSlot T)) (order left : List ℕ) → HasCut under old marked new order left → AllHere old [] order → slots_in new left ≡ kept_slots under (slots_in old order)
@@ -208,11 +159,7 @@ marked_there under slots all old marked (k ∷ keys) m t = (subst (λ o. IsSome 
 
 -- what is there is one slot
 by_one : {T : Type 0} (o : Option (StoredSlot T)) (x y : StoredSlot T) → o ≡ Some x → o ≡ Some y → x.slot.serial ≡ y.slot.serial
-by_one {T} o x y a b = ap (λ (o : Option (StoredSlot T)). serial_or o) (sym a ∙ b)
-  where
-    serial_or : {T : Type 0} → Option (StoredSlot T) → ℕ
-    serial_or None = 0
-    serial_or (Some k) = k.slot.serial
+by_one o x y a b = grind arith
 
 -- a slot was taken away under its key, which was no slot's parent
 pub record HasTaken {T : Type 0} (old new : Slab (StoredSlot T)) (order : List ℕ) (at key : ℕ) (kept : StoredSlot T) : Type 0 where
@@ -228,19 +175,7 @@ NoParent n (x ∷ xs) = (x.parent ≢ Some n) × NoParent n xs
 
 pub no_parent : {T : Type 0} (n : ℕ) (xs : List (TenantSlot T)) → child_slots n xs ≡ [] → NoParent n xs
 no_parent n [] none = tt
-no_parent n (x ∷ xs) none =
-    elim (cases_Bool (is_serial n x.parent)) [
-      | inl child ↦ absurd (cons_nil x (child_slots n xs) (rw child at none))
-      | inr other ↦ (λ e. false≢true (sym other ∙ (rw e (eq-eqb n n refl))), no_parent n xs (rw other at none))
-    ]
-  where
-    cons_nil : {X : Type 0} (x : X) (xs : List X) → x ∷ xs ≡ [] → ⊥
-    cons_nil x xs e = absurd (cc)
-
--- nothing stays behind under it
-pub leaf_closed : {T : Type 0} (n : ℕ) (xs : List (TenantSlot T)) → NoParent n xs → IsClosed (λ serial. not (eqb serial n)) xs
-leaf_closed n [] none = tt
-leaf_closed n (x ∷ xs) none = ((λ p is stays. rw (ne_eqb p n (λ e. none.0 (is ∙ ap Some e))) refl), leaf_closed n xs none.1)
+no_parent n (x ∷ xs) none = grind (arith, no_parent n xs)
 
 -- the list without the key at a place
 pub remove_key : (keys : List ℕ) (i d : ℕ) → AreApartKeys keys → i < length keys → remove keys i ≡ filter (λ k. not (eqb k (get_or keys i d))) keys
@@ -261,23 +196,12 @@ remove_key (k ∷ keys) (suc i) d a lt =
 -- no slot is marked
 pub unmarked : {T : Type 0} (slab : Slab (StoredSlot T)) (before keys : List ℕ) (k : ℕ) (x : StoredSlot T) → AllHere slab before keys → has_number keys k ≡ true → get slab k ≡ Some x → x.marked ≡ false
 unmarked slab before [] k x h has is = absurd (false≢true has)
-unmarked slab before (j ∷ keys) k x h has is =
-    elim (cases_eq j k) [
-      | inl same ↦ (let here : IsHere slab before (Some x) = subst (λ o. IsHere slab before o) (ap (get slab) same ∙ is) h.0 in here.0)
-      | inr differs ↦ unmarked slab (before ++ j ∷ []) keys k x h.1 (rw (ne_eqb j k differs) at has) is
-    ]
+unmarked slab before (j ∷ keys) k x h has is = grind (arith, unmarked slab (before ++ j ∷ []) keys k x)
 
 -- a serial above another, by its key
 above_key : {T : Type 0} (slab : Slab (StoredSlot T)) (before keys : List ℕ) (n k : ℕ) (x : StoredSlot T) → AllHere slab before keys → AllAbove n (slots_in slab keys) → has_number keys k ≡ true → get slab k ≡ Some x → n < x.slot.serial
 above_key slab before [] n k x h above has is = absurd (false≢true has)
-above_key {T} slab before (j ∷ keys) n k x h above has is =
-    let found = here_found slab before (get slab j) h.0 in
-    let both : AllAbove n (found.0.slot ∷ slots_in slab keys) = subst (λ o. AllAbove n (with_found o (slots_in slab keys))) found.1 above in
-    elim (cases_eq j k) [
-      | inl same ↦ (let P : Option (StoredSlot T) → Type 0 = λ o. AllAbove n (with_found o []) in
-          let one : AllAbove n (x.slot ∷ []) = subst P (sym found.1 ∙ (ap (get slab) same ∙ is)) (both.0, tt) in one.0)
-      | inr differs ↦ above_key slab (before ++ j ∷ []) keys n k x h.1 both.1 (rw (ne_eqb j k differs) at has) is
-    ]
+above_key {T} slab before (j ∷ keys) n k x h above has is = grind (arith, above_key slab (before ++ j ∷ []) keys n k x, here_found)
 
 -- slots of one serial stand under one key
 pub same_key : {T : Type 0} (slab : Slab (StoredSlot T)) (before keys : List ℕ) (k j : ℕ) (x y : StoredSlot T) → AllHere slab before keys → Rises (slots_in slab keys) → has_number keys k ≡ true → has_number keys j ≡ true → get slab k ≡ Some x → get slab j ≡ Some y → x.slot.serial ≡ y.slot.serial → k ≡ j
@@ -298,15 +222,8 @@ same_key {T} slab before (i ∷ keys) k j x y h rise has_k has_j is_k is_j same 
       ]
     ]
   where
-    some_slot : {T : Type 0} (a b : StoredSlot T) → Some a ≡ Some b → a.slot.serial ≡ b.slot.serial
-    some_slot {T} a b e = ap (λ (o : Option (StoredSlot T)). serial_or o) e
-      where
-        serial_or : {T : Type 0} → Option (StoredSlot T) → ℕ
-        serial_or None = 0
-        serial_or (Some k) = k.slot.serial
-
     serial_at : {T : Type 0} (slab : Slab (StoredSlot T)) (i k : ℕ) (a x : StoredSlot T) → get slab i ≡ Some a → i ≡ k → get slab k ≡ Some x → a.slot.serial ≡ x.slot.serial
-    serial_at slab i k a x is_i same is_k = some_slot a x (sym is_i ∙ (ap (get slab) same ∙ is_k))
+    serial_at slab i k a x is_i same is_k = by_one (get slab i) a x is_i (ap (get slab) same ∙ is_k)
 
 -- those that stay when a leaf is taken away
 pub taken_stays : {T : Type 0} (old new : Slab (StoredSlot T)) (order : List ℕ) (at key : ℕ) (kept : StoredSlot T) → HasTaken old new order at key kept → AllHere old [] order → Rises (slots_in old order) → Stays old new (λ k. not (eqb k key)) (λ serial. not (eqb serial kept.slot.serial)) order
@@ -335,7 +252,7 @@ taken_store old new order left room places at key kept t s rise leaf is long len
     let within : at < length (slots_in old order) = rw (slots_in-length old [] order s.here) t.within in
     let here_is = serial_read (slots_in old order) at kept.slot within (sym (slot_read old order at key kept kept.slot s.here t.within t.read t.was)) in
     let none : child_slots kept.slot.serial (slots_in old order) ≡ [] = ap (λ n. child_slots n (slots_in old order)) (sym here_is) ∙ leaf in
-    let closed = leaf_closed kept.slot.serial (slots_in old order) (no_parent kept.slot.serial (slots_in old order) none) in
+    let closed = leaf-closed kept.slot.serial (slots_in old order) none in
     let here = here-filter old new (λ k. not (eqb k key)) (λ serial. not (eqb serial kept.slot.serial)) order [] order (taken_stays old new order at key kept t s.here rise) (λ k has. absurd (false≢true has)) (λ k has. has) closed s.here in
     let kept_is : left ≡ filter (λ k. not (eqb k key)) order = is ∙ (remove_key order at key s.apart t.within ∙ ap (λ j. filter (λ k. not (eqb k j)) order) (sym t.read)) in
     record {
@@ -387,8 +304,7 @@ parent_key {T} slab keys parent above key is are k = of slab keys parent key are
 
 -- no key is a root's
 pub no_parent_key : {T : Type 0} (slab : Slab (StoredSlot T)) (keys : List ℕ) (parent above : Option ℕ) → above ≡ None → KnowsParent slab keys parent above → parent ≡ None
-no_parent_key slab keys None above is k = refl
-no_parent_key slab keys (Some p) above is k = absurd (rw is at k)
+no_parent_key slab keys parent above h5 h6 = grind arith
 
 -- slots rise without the one at a place
 pub rises_remove : {T : Type 0} (xs : List (TenantSlot T)) (i : ℕ) → Rises xs → Rises (remove xs i)

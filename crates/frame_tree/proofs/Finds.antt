@@ -1,15 +1,17 @@
 -- What a slot tells of the frame that it stands for.
-use Rattle.std.proofs.Common.{◌≡◌, ℕ, zero, suc, ◌<◌, Bool, true, false, ◌&&◌, eqb, List, [], ◌∷◌, ◌++◌, Option, Some, None, length, get_or, slice_index, refl, ap, sym, ◌∙◌, inl, inr, arith, subst, IfSome}
+use Rattle.std.proofs.Common.{◌≡◌, ℕ, zero, suc, ◌<◌, true, false, eqb, List, [], ◌∷◌, ◌++◌, Option, Some, None, length, get_or, slice_index, refl, ap, sym, ◌∙◌, inl, inr, arith, subst, IfSome}
 use Rattle.std.specs.List.{filter}
-use Rattle.std.proofs.lemmas.Bool.{cases_eq, cases_Bool, false≢true, eq-eqb, ne_eqb, eqb-true, and_parts, or_parts}
+use Rattle.std.proofs.lemmas.Bool.{cases_eq, cases_Bool, false≢true, eq-eqb, ne_eqb, and_parts, or_parts, and_right}
+use Rattle.std.proofs.lemmas.Option.{none-some}
+use Rattle.std.proofs.lemmas.Grind.{common_steps}
 use Rattle.frame_tree.specs.declared.names.FrameId.{FrameId}
 use Rattle.frame_tree.specs.declared.names.State.{State}
 use Rattle.frame_tree.specs.declared.names.State.TheVariants.{Ready, Running, Computing, Waiting, Returned}
 use Rattle.frame_tree.specs.declared.names.Entry.{Entry}
 use Rattle.frame_tree.specs.declared.slot.Slot.{Slot}
-use Rattle.frame_tree.specs.Frames.{Frame, frame_at, has_frame, path_in, path_under, root_of, parent_of, is_one_more, children_under, children_of, entry_of_frame, name_of, names_of, ready_frames, is_ready, newest_ready_of, first_of_two, ready_name, has_parent, IsReadyAt, IsTreeAfter}
+use Rattle.frame_tree.specs.Frames.{Frame, frame_at, has_frame, path_in, path_under, root_of, parent_of, is_one_more, children_under, children_of, entry_of_frame, name_of, names_of, ready_frames, newest_ready_of, first_of_two, ready_name, has_parent, IsReadyAt, IsTreeAfter}
 use Rattle.frame_tree.specs.Slots.{frame_of_slot, frames_from, IsLinked, has_slot, serials_of, AllAbove, is_serial, child_slots, slots_of, names_in, ready_slots, newest_in, has_parent_slot, root_at, root_under}
-use Rattle.frame_tree.proofs.Forest.{path_in-left, EndsIn, EndsIn-path_in, EndsIn-path_under, parent_of-append, AllEnd, AllEnd-next, AllEnd-frames_from, has_frame-frames_from, linked_rises}
+use Rattle.frame_tree.proofs.Forest.{path_in-left, EndsIn, EndsIn-path_in, parent_of-append, AllEnd, AllEnd-next, AllEnd-frames_from, has_frame-frames_from, linked_rises}
 use Rattle.frame_tree.proofs.Search.{above_at}
 use Rattle.frame_tree.proofs.Cuts.{all_next}
 
@@ -27,16 +29,7 @@ parent_of-path_under frames (Some p) serial ends h = parent_of-append (path_in f
 
 pub found : {T : Type 0} (frames : List (Frame T)) (xs : List (Slot T)) (i serial : ℕ) (slot : Slot T) → IsLinked frames xs → AllEnd frames → i < length xs → slice_index (serials_of xs) i ≡ serial → slot ≡ get_or xs i slot → (path : List ℕ) × IsFound (frames_from frames xs) slot serial path
 found frames [] i serial slot l ends lt at is = absurd (omega arith)
-found frames (x ∷ xs) zero serial slot l ends lt at is =
-    let same : eqb x.serial serial ≡ true = eq-eqb x.serial serial at in (
-      path_under frames x.parent x.serial,
-      record {
-        at = rw (same, is) refl;
-        parent = parent_of-path_under frames x.parent x.serial ends l.0.parent ∙ sym (ap (λ s. s.parent) is);
-        root = ap (λ s. s.root) is ∙ l.0.root;
-        same = rw same refl;
-      },
-    )
+found frames (x ∷ xs) zero serial slot l ends lt at is = grind (arith, parent_of-path_under)
 found frames (x ∷ xs) (suc i) serial slot l ends lt at is =
     let rise = linked_rises frames (x ∷ xs) l in
     let differs : eqb x.serial serial ≡ false = ne_eqb x.serial serial (λ e. omega (arith, above_at xs x.serial i rise.0 (omega arith), at, e)) in
@@ -46,9 +39,11 @@ found frames (x ∷ xs) (suc i) serial slot l ends lt at is =
 -- what is not there is not found
 pub frame_at-none : {T : Type 0} (frames : List (Frame T)) (serial : ℕ) → has_frame frames serial ≡ false → frame_at frames serial ≡ None
 frame_at-none [] serial h = refl
-frame_at-none (x ∷ xs) serial h =
-    let parts = or_parts (eqb x.serial serial) (has_frame xs serial) h in
-    rw parts.0 (frame_at-none xs serial parts.1)
+frame_at-none (x ∷ xs) serial h = grind (arith, frame_at-none xs serial)
+
+pub found-path : {T : Type 0} (frames : List (Frame T)) (serial : ℕ) (frame : Frame T) → frame_at frames serial ≡ Some frame → path_in frames serial ≡ frame.path
+found-path [] serial frame at = absurd cc
+found-path {T} (x ∷ xs) serial frame at = grind (arith, found-path xs serial frame)
 
 -- an entry of a frame that was found
 pub entry_of_frame-found : {T : Type 0} (tenant serial : ℕ) (frames : List (Frame T)) (slot : Slot T) (path : List ℕ) (entry : Entry T) → IsFound frames slot serial path → entry ≡ record { parent = name_of tenant slot.parent; state = slot.state; value = slot.value } → Some entry ≡ entry_of_frame tenant (frame_at frames serial)
@@ -68,10 +63,7 @@ one_more_is [] [] serial e = refl
 one_more_is [] (y ∷ []) serial e = absurd (false≢true e)
 one_more_is [] (y ∷ z ∷ path) serial e = absurd (false≢true e)
 one_more_is (x ∷ above) [] serial e = absurd (false≢true (sym (one_more_none above) ∙ (and_parts (eqb x serial) (is_one_more above []) e).1))
-one_more_is (x ∷ above) (y ∷ path) serial e =
-    let both = and_parts (eqb x y) (is_one_more above (path ++ serial ∷ [])) e in
-    let head = eqb-true x y both.0 in
-    let tail = one_more_is above path serial both.1 in cc
+one_more_is (x ∷ above) (y ∷ path) serial e = grind (arith, one_more_is above path serial)
 
 pub EndsIn-unique : (path : List ℕ) (a b : ℕ) → EndsIn path a → EndsIn path b → a ≡ b
 EndsIn-unique [] a b p q = absurd p
@@ -81,16 +73,8 @@ EndsIn-unique (x ∷ y ∷ path) a b p q = EndsIn-unique (y ∷ path) a b p q
 -- a root is nobody's child
 pub one_more_root : (above : List ℕ) (end serial : ℕ) → EndsIn above end → is_one_more above (serial ∷ []) ≡ false
 one_more_root [] end serial e = absurd e
-one_more_root (x ∷ []) end serial e = and_right_false (eqb x serial)
-  where
-    and_right_false : (b : Bool) → (b && false) ≡ false
-    and_right_false true = refl
-    and_right_false false = refl
-one_more_root (x ∷ y ∷ above) end serial e = and_right_false (eqb x serial)
-  where
-    and_right_false : (b : Bool) → (b && false) ≡ false
-    and_right_false true = refl
-    and_right_false false = refl
+one_more_root (x ∷ []) end serial e = and_right (eqb x serial) false refl
+one_more_root (x ∷ y ∷ above) end serial e = and_right (eqb x serial) false refl
 
 -- whether a frame is a child, by its parent's serial
 pub is_child : {T : Type 0} (all frames : List (Frame T)) (above : List ℕ) (end : ℕ) (parent : Option ℕ) (serial : ℕ) → EndsIn above end → path_in all end ≡ above → AllEnd frames → has_parent frames parent ≡ true → ((p : ℕ) → has_frame frames p ≡ true → path_in all p ≡ path_in frames p) → is_one_more above (path_under frames parent serial) ≡ is_serial end parent
@@ -142,45 +126,25 @@ children_of-names tenant xs serial l =
       | inr gone ↦ rw (frame_at-none (frames_from [] xs) serial gone, no_children [] xs serial refl (sym (has_frame-frames_from [] xs serial) ∙ gone) l) refl
     ]
   where
-    some_same : {X : Type 0} {a b : X} → Some a ≡ Some b → a ≡ b
-    some_same h = cc
-
-    some_none : {X : Type 0} {a : X} → Some a ≡ None → ⊥
-    some_none h = cc
-
-    frame_path : {T : Type 0} (frames : List (Frame T)) (serial : ℕ) (frame : Frame T) → frame_at frames serial ≡ Some frame → path_in frames serial ≡ frame.path
-    frame_path [] serial frame h = cc
-    frame_path (f ∷ fs) serial frame h =
-        elim (cases_Bool (eqb f.serial serial)) [
-          | inl same ↦ rw same (ap (λ e. e.path) (some_same (rw same at h)))
-          | inr differs ↦ rw differs (frame_path fs serial frame (rw differs at h))
-        ]
-
     there_none : {T : Type 0} (frames : List (Frame T)) (serial : ℕ) → frame_at frames serial ≡ None → has_frame frames serial ≡ false
     there_none [] serial h = refl
     there_none (f ∷ fs) serial h =
         elim (cases_Bool (eqb f.serial serial)) [
-          | inl same ↦ absurd (some_none (rw same at h))
+          | inl same ↦ (let e : Some f ≡ None = rw same at h in absurd cc)
           | inr differs ↦ rw differs (there_none fs serial (rw differs at h))
         ]
-
-    ends_all : {T : Type 0} (frames : List (Frame T)) (xs : List (Slot T)) → Unit {0} → AllEnd (frames_from frames xs)
-    ends_all frames [] u = tt
-    ends_all frames (x ∷ xs) u = (EndsIn-path_under frames x.parent x.serial, ends_all (frames ++ frame_of_slot frames x ∷ []) xs u)
 
     children_there : {T : Type 0} (tenant : ℕ) (xs : List (Slot T)) (serial : ℕ) (at : Option (Frame T)) → frame_at (frames_from [] xs) serial ≡ at → IsLinked [] xs → has_frame (frames_from [] xs) serial ≡ true → names_of tenant (children_under at (frames_from [] xs)) ≡ names_in tenant (child_slots serial xs)
     children_there tenant xs serial None is l there = absurd (false≢true (sym (there_none (frames_from [] xs) serial is) ∙ there))
     children_there tenant xs serial (Some f) is l there =
-        let path = frame_path (frames_from [] xs) serial f is in
-        let ends : EndsIn f.path serial = (let P : List ℕ → Type 0 = λ q. EndsIn q serial in subst P path (EndsIn-path_in (frames_from [] xs) serial (ends_all [] xs tt) there)) in
+        let path = found-path (frames_from [] xs) serial f is in
+        let ends : EndsIn f.path serial = (let P : List ℕ → Type 0 = λ q. EndsIn q serial in subst P path (EndsIn-path_in (frames_from [] xs) serial (AllEnd-frames_from [] xs) there)) in
         child_names tenant (frames_from [] xs) [] xs f.path serial ends path refl l tt
 
 -- as many frames are ready as slots
 pub ready_frames-length : {T : Type 0} (frames : List (Frame T)) (xs : List (Slot T)) → length (ready_frames (frames_from frames xs)) ≡ length (ready_slots xs)
 ready_frames-length frames [] = refl
-ready_frames-length frames (x ∷ xs) =
-    let rest = ready_frames-length (frames ++ frame_of_slot frames x ∷ []) xs in
-    elim (cases_Bool (is_ready x.state)) [ inl ready ↦ rw ready (omega (arith, rest)) | inr other ↦ rw other rest ]
+ready_frames-length frames (x ∷ xs) = grind (arith, ready_frames-length (frames ++ frame_of_slot frames x ∷ []) xs)
 
 pub frames_from-length : {T : Type 0} (frames : List (Frame T)) (xs : List (Slot T)) → length (frames_from frames xs) ≡ length xs
 frames_from-length frames [] = refl
@@ -205,19 +169,16 @@ children_of-length xs serial l =
 
 -- a list with no element
 pub none_of_length : {X : Type 0} (xs : List X) → length xs ≡ 0 → xs ≡ []
-none_of_length [] e = refl
-none_of_length (x ∷ xs) e = absurd (omega (arith, e))
+none_of_length xs h1 = grind (arith, common_steps)
 
 -- a parent is among the frames where it is among the slots
 pub has_parent-slots : {T : Type 0} (xs : List (Slot T)) (parent : Option ℕ) → has_parent (frames_from [] xs) parent ≡ has_parent_slot xs parent
-has_parent-slots xs None = refl
-has_parent-slots xs (Some p) = has_frame-frames_from [] xs p
+has_parent-slots xs parent = grind (arith, has_frame-frames_from)
 
 -- the root that a slot names is the first of its path
 pub root_at-path : {T : Type 0} (frames : List (Frame T)) (xs : List (Slot T)) (p : ℕ) → IsLinked frames xs → root_at xs p ≡ root_of (path_in (frames_from frames xs) p)
 root_at-path frames [] p l = refl
-root_at-path frames (x ∷ xs) p l =
-    elim (cases_Bool (eqb x.serial p)) [ inl same ↦ rw same l.0.root | inr differs ↦ rw differs (root_at-path (frames ++ frame_of_slot frames x ∷ []) xs p l.1) ]
+root_at-path frames (x ∷ xs) p l = grind (arith, root_at-path (frames ++ frame_of_slot frames x ∷ []) xs p)
 
 pub root_under-path : {T : Type 0} (xs : List (Slot T)) (parent : Option ℕ) (serial : ℕ) → IsLinked [] xs → has_parent (frames_from [] xs) parent ≡ true → root_under xs parent serial ≡ root_of (path_under (frames_from [] xs) parent serial)
 root_under-path xs None serial l h = refl
@@ -230,21 +191,15 @@ root_under-path xs (Some p) serial l h =
 
 -- what is above all serials is not the newest ready
 pub newest_above : {T : Type 0} (tenant serial : ℕ) (xs : List (Slot T)) (ready : FrameId × ℕ) → AllAbove serial xs → newest_in tenant xs ≡ Some ready → serial < ready.0.serial
-newest_above tenant serial [] ready above is = absurd (none_some is)
-  where
-    none_some : {X : Type 0} {x : X} → None ≡ Some x → ⊥
-    none_some h = cc
+newest_above tenant serial [] ready above is = absurd (none-some ready is)
 newest_above tenant serial (x ∷ xs) ready above is = by_tail tenant serial x.serial x.state (newest_in tenant xs) ready above.0 (λ r e. newest_above tenant serial xs r above.1 e) is
   where
-    none_some : {X : Type 0} {x : X} → None ≡ Some x → ⊥
-    none_some h = cc
-
     by_head : (tenant serial n : ℕ) (state : State) (ready : FrameId × ℕ) → serial < n → ready_name tenant n state ≡ Some ready → serial < ready.0.serial
     by_head tenant serial n (Ready home) ready lt is = let e : ready ≡ (record { tenant = tenant; serial = n }, home) = cc in rw e lt
-    by_head tenant serial n (Running worker) ready lt is = absurd (none_some is)
-    by_head tenant serial n (Computing worker) ready lt is = absurd (none_some is)
-    by_head tenant serial n Waiting ready lt is = absurd (none_some is)
-    by_head tenant serial n Returned ready lt is = absurd (none_some is)
+    by_head tenant serial n (Running worker) ready lt is = absurd (none-some ready is)
+    by_head tenant serial n (Computing worker) ready lt is = absurd (none-some ready is)
+    by_head tenant serial n Waiting ready lt is = absurd (none-some ready is)
+    by_head tenant serial n Returned ready lt is = absurd (none-some ready is)
 
     by_tail : (tenant serial n : ℕ) (state : State) (tail : Option (FrameId × ℕ)) (ready : FrameId × ℕ) → serial < n → ((r : FrameId × ℕ) → tail ≡ Some r → serial < r.0.serial) → first_of_two tail (ready_name tenant n state) ≡ Some ready → serial < ready.0.serial
     by_tail tenant serial n state None ready lt rest is = by_head tenant serial n state ready lt is
@@ -252,22 +207,16 @@ newest_above tenant serial (x ∷ xs) ready above is = by_tail tenant serial x.s
 
 -- the newest ready frame is there, ready at its home
 pub newest_is_ready : {T : Type 0} (tenant : ℕ) (frames : List (Frame T)) (xs : List (Slot T)) (ready : FrameId × ℕ) → IsLinked frames xs → newest_in tenant xs ≡ Some ready → (ready.0.tenant ≡ tenant) × IsReadyAt (frame_at (frames_from frames xs) ready.0.serial) ready.1
-newest_is_ready tenant frames [] ready l is = absurd (none_some is)
-  where
-    none_some : {X : Type 0} {x : X} → None ≡ Some x → ⊥
-    none_some h = cc
+newest_is_ready tenant frames [] ready l is = absurd (none-some ready is)
 newest_is_ready {T} tenant frames (x ∷ xs) ready l is =
     by_tail tenant frames x xs (newest_in tenant xs) ready refl (linked_rises frames (x ∷ xs) l).0 (λ r e. newest_is_ready tenant (frames ++ frame_of_slot frames x ∷ []) xs r l.1 e) is
   where
-    none_some : {X : Type 0} {x : X} → None ≡ Some x → ⊥
-    none_some h = cc
-
     by_head : {T : Type 0} (tenant : ℕ) (frame : Frame T) (frames : List (Frame T)) (state : State) (ready : FrameId × ℕ) → frame.state ≡ state → ready_name tenant frame.serial state ≡ Some ready → (ready.0.tenant ≡ tenant) × IsReadyAt (frame_at (frame ∷ frames) ready.0.serial) ready.1
     by_head tenant frame frames (Ready home) ready at is = let e : ready ≡ (record { tenant = tenant; serial = frame.serial }, home) = cc in rw (e, eq-eqb frame.serial frame.serial refl) (refl, at)
-    by_head tenant frame frames (Running worker) ready at is = absurd (none_some is)
-    by_head tenant frame frames (Computing worker) ready at is = absurd (none_some is)
-    by_head tenant frame frames Waiting ready at is = absurd (none_some is)
-    by_head tenant frame frames Returned ready at is = absurd (none_some is)
+    by_head tenant frame frames (Running worker) ready at is = absurd (none-some ready is)
+    by_head tenant frame frames (Computing worker) ready at is = absurd (none-some ready is)
+    by_head tenant frame frames Waiting ready at is = absurd (none-some ready is)
+    by_head tenant frame frames Returned ready at is = absurd (none-some ready is)
 
     by_tail : {T : Type 0} (tenant : ℕ) (frames : List (Frame T)) (x : Slot T) (xs : List (Slot T)) (tail : Option (FrameId × ℕ)) (ready : FrameId × ℕ) → newest_in tenant xs ≡ tail → AllAbove x.serial xs → ((r : FrameId × ℕ) → newest_in tenant xs ≡ Some r → (r.0.tenant ≡ tenant) × IsReadyAt (frame_at (frames_from (frames ++ frame_of_slot frames x ∷ []) xs) r.0.serial) r.1) → first_of_two tail (ready_name tenant x.serial x.state) ≡ Some ready → (ready.0.tenant ≡ tenant) × IsReadyAt (frame_at (frames_from frames (x ∷ xs)) ready.0.serial) ready.1
     by_tail tenant frames x xs None ready tail_is above rest is = by_head tenant (frame_of_slot frames x) (frames_from (frames ++ frame_of_slot frames x ∷ []) xs) x.state ready refl is
@@ -278,8 +227,7 @@ newest_is_ready {T} tenant frames (x ∷ xs) ready l is =
 
 -- a fact of each value that there may be
 pub if_some : {X : Type 0} (o : Option X) (P : X → Type 0) → ((x : X) → o ≡ Some x → P x) → IfSome o P
-if_some None P h = tt
-if_some (Some x) P h = h x refl
+if_some o P h3 = grind arith
 
 pub newest_found_ready : {T : Type 0} (tenant : ℕ) (xs : List (Slot T)) (result : Option (FrameId × ℕ)) → IsLinked [] xs → result ≡ newest_in tenant xs → IfSome result (λ ready. (ready.0.tenant ≡ tenant) × IsReadyAt (frame_at (frames_from [] xs) ready.0.serial) ready.1)
 newest_found_ready tenant xs result l is = if_some result _ (λ ready e. newest_is_ready tenant [] xs ready l (sym is ∙ e))
@@ -287,9 +235,7 @@ newest_found_ready tenant xs result l is = if_some result _ (λ ready e. newest_
 -- linked slots stand for a tree
 pub IsTree-linked : {T : Type 0} (frames : List (Frame T)) (xs : List (Slot T)) → AllEnd frames → IsLinked frames xs → IsTreeAfter frames (frames_from frames xs)
 IsTree-linked frames [] ends l = tt
-IsTree-linked frames (x ∷ xs) ends l =
-    let parent = parent_of-path_under frames x.parent x.serial ends l.0.parent in
-    (record { above = l.0.above; parent = rw parent l.0.parent; path = rw parent refl }, IsTree-linked (frames ++ frame_of_slot frames x ∷ []) xs (AllEnd-next frames x ends) l.1)
+IsTree-linked frames (x ∷ xs) ends l = grind (arith, IsTree-linked (frames ++ frame_of_slot frames x ∷ []) xs (AllEnd-next frames x ends), parent_of-path_under, AllEnd-next)
 
 -- the names of frames are those of their slots
 pub names_of-slots : {T : Type 0} (tenant : ℕ) (frames : List (Frame T)) (xs : List (Slot T)) → names_of tenant (frames_from frames xs) ≡ names_in tenant (slots_of None xs)

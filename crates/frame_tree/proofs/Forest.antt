@@ -1,6 +1,6 @@
 -- The frames that slots stand for: paths, and what a change of the slots does to the frames.
-use Rattle.std.proofs.Common.{◌≡◌, ℕ, ◌<◌, Bool, true, false, ◌||◌, eqb, List, [], ◌∷◌, ◌++◌, Option, Some, None, refl, ap, sym, ◌∙◌, inl, inr, arith, append_assoc, append-nil, subst}
-use Rattle.std.proofs.lemmas.Bool.{cases_Bool, false≢true, ne_eqb, eqb-true}
+use Rattle.std.proofs.Common.{◌≡◌, ℕ, ◌<◌, Bool, true, false, ◌||◌, eqb, List, [], ◌∷◌, ◌++◌, Option, Some, refl, ap, sym, ◌∙◌, arith, append_assoc, append-nil, subst}
+use Rattle.std.proofs.lemmas.Bool.{false≢true}
 use Rattle.frame_tree.specs.declared.slot.Slot.{Slot}
 use Rattle.frame_tree.specs.Frames.{Frame, has_frame, path_in, path_under, parent_of, goes_under, AllBelow}
 use Rattle.frame_tree.specs.Slots.{frame_of_slot, frames_from, IsLinked, has_slot, AllAbove, Rises}
@@ -21,26 +21,21 @@ AllBelow-right serial (x ∷ xs) ys p = AllBelow-right serial xs ys p.1
 -- a serial above all is not there
 pub has_frame-above : {T : Type 0} (xs : List (Frame T)) (serial : ℕ) → AllBelow serial xs → has_frame xs serial ≡ false
 has_frame-above [] serial p = refl
-has_frame-above (x ∷ xs) serial p =
-    let differs : eqb x.serial serial ≡ false = ne_eqb x.serial serial (λ e. omega (arith, p.0, e)) in
-    rw differs (has_frame-above xs serial p.1)
+has_frame-above (x ∷ xs) serial p = grind (arith, has_frame-above xs serial)
 
 pub has_frame-append : {T : Type 0} (xs ys : List (Frame T)) (serial : ℕ) → has_frame (xs ++ ys) serial ≡ (has_frame xs serial || has_frame ys serial)
 has_frame-append [] ys serial = refl
-has_frame-append (x ∷ xs) ys serial =
-    elim (cases_Bool (eqb x.serial serial)) [ inl same ↦ rw same refl | inr differs ↦ rw differs (has_frame-append xs ys serial) ]
+has_frame-append (x ∷ xs) ys serial = grind (arith, has_frame-append xs ys serial)
 
 -- the path of a frame that stands in the first part
 pub path_in-left : {T : Type 0} (xs ys : List (Frame T)) (serial : ℕ) → has_frame xs serial ≡ true → path_in (xs ++ ys) serial ≡ path_in xs serial
 path_in-left [] ys serial h = absurd (false≢true h)
-path_in-left (x ∷ xs) ys serial h =
-    elim (cases_Bool (eqb x.serial serial)) [ inl same ↦ rw same refl | inr differs ↦ rw differs (path_in-left xs ys serial (rw differs at h)) ]
+path_in-left (x ∷ xs) ys serial h = grind (arith, path_in-left xs ys serial)
 
 -- the path of one that does not
 pub path_in-right : {T : Type 0} (xs ys : List (Frame T)) (serial : ℕ) → has_frame xs serial ≡ false → path_in (xs ++ ys) serial ≡ path_in ys serial
 path_in-right [] ys serial h = refl
-path_in-right (x ∷ xs) ys serial h =
-    elim (cases_Bool (eqb x.serial serial)) [ inl same ↦ absurd (false≢true (sym h ∙ (rw same refl))) | inr differs ↦ rw differs (path_in-right xs ys serial (rw differs at h)) ]
+path_in-right (x ∷ xs) ys serial h = grind (arith, path_in-right xs ys serial)
 
 -- the frames of slots, and one more
 pub frames_from-append : {T : Type 0} (frames : List (Frame T)) (xs ys : List (Slot T)) → frames_from frames (xs ++ ys) ≡ frames_from frames xs ++ frames_from (frames ++ frames_from frames xs) ys
@@ -86,8 +81,7 @@ EndsIn-append (x ∷ []) serial = refl
 EndsIn-append (x ∷ y ∷ path) serial = EndsIn-append (y ∷ path) serial
 
 pub EndsIn-path_under : {T : Type 0} (frames : List (Frame T)) (parent : Option ℕ) (serial : ℕ) → EndsIn (path_under frames parent serial) serial
-EndsIn-path_under frames None serial = refl
-EndsIn-path_under frames (Some p) serial = EndsIn-append (path_in frames p) serial
+EndsIn-path_under frames parent serial = grind (arith, EndsIn-append)
 
 -- the parent of a path with one more serial is what the path ended in
 pub parent_of-append : (path : List ℕ) (last serial : ℕ) → EndsIn path last → parent_of (path ++ serial ∷ []) ≡ Some last
@@ -104,10 +98,7 @@ goes_under-append under (x ∷ y ∷ path) last serial e =
     rw (goes_under-append under (y ∷ path) last serial e) (or_swap (eqb x under) (eqb last under) (goes_under under (y ∷ path)))
   where
     or_swap : (a b c : Bool) → (a || (b || c)) ≡ (b || (a || c))
-    or_swap true true c = refl
-    or_swap true false c = refl
-    or_swap false true c = refl
-    or_swap false false c = refl
+    or_swap a b c = grind arith
 
 -- each path ends in its frame's serial
 abbrev pub AllEnd : {T : Type 0} → List (Frame T) → Type 0
@@ -127,8 +118,4 @@ AllEnd-frames_from frames (x ∷ xs) = (EndsIn-path_under frames x.parent x.seri
 
 pub EndsIn-path_in : {T : Type 0} (frames : List (Frame T)) (serial : ℕ) → AllEnd frames → has_frame frames serial ≡ true → EndsIn (path_in frames serial) serial
 EndsIn-path_in [] serial p h = absurd (false≢true h)
-EndsIn-path_in (x ∷ xs) serial p h =
-    elim (cases_Bool (eqb x.serial serial)) [
-      | inl same ↦ rw same (let e = eqb-true x.serial serial same in rw (← e) p.0)
-      | inr differs ↦ rw differs (EndsIn-path_in xs serial p.1 (rw differs at h))
-    ]
+EndsIn-path_in (x ∷ xs) serial p h = grind (arith, EndsIn-path_in xs serial)

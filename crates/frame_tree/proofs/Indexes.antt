@@ -1,5 +1,5 @@
 -- The serials of slots as their index.
-use Rattle.std.proofs.Common.{◌≡◌, ℕ, zero, suc, ◌+◌, ◌<◌, Bool, true, false, ◌||◌, eqb, List, [], ◌∷◌, ◌++◌, length, take, drop, set, get_or, slice_index, cond, Option, Some, None, is_some, IfSome, IfNone, ◌-◌, refl, ap, sym, ◌∙◌, arith}
+use Rattle.std.proofs.Common.{◌≡◌, ℕ, zero, suc, ◌<◌, Bool, true, false, ◌||◌, eqb, List, [], ◌∷◌, ◌++◌, length, take, drop, set, get_or, slice_index, cond, Option, is_some, IfSome, IfNone, refl, ap, sym, ◌∙◌, arith}
 use Rattle.std.specs.List.{remove}
 use Rattle.frame_tree.specs.declared.slot.Slot.{Slot}
 use Rattle.frame_tree.specs.Slots.{AllAbove, Rises, serials_of, has_slot, IsLinked, with_slot, with_child, without_child}
@@ -43,8 +43,7 @@ index_rises xs serials is l = rw is (serials_of-rises xs (linked_rises [] xs l))
 
 -- whether a search has found a slot
 pub found_there : {T : Type 0} (xs : List (Slot T)) (serials : List ℕ) (n : ℕ) (place : Option ℕ) → serials ≡ serials_of xs → IfSome place (λ at. (at < length serials) × (slice_index serials at ≡ n)) → IfNone place (has_number serials n ≡ false) → is_some place ≡ has_slot xs n
-found_there xs serials n None is found none = sym (none_at xs serials n is none)
-found_there xs serials n (Some at) is found none = let h = found_at xs serials at n is found.0 found.1 in sym (has_slot-found xs at n h.within h.found)
+found_there xs serials n place h5 h6 h7 = grind (arith, none_at, found_at, has_slot-found)
 
 -- the serials through each change
 pub serials_of-append : {T : Type 0} (xs ys : List (Slot T)) → serials_of (xs ++ ys) ≡ serials_of xs ++ serials_of ys
@@ -65,12 +64,10 @@ serials_of-with_slot p change (x ∷ xs) same = one p change x xs same (eqb x.se
     one p change x xs same false rest = rw rest refl
 
 pub serials_of-with_child : {T : Type 0} (parent : Option ℕ) (xs : List (Slot T)) → serials_of (with_child parent xs) ≡ serials_of xs
-serials_of-with_child None xs = refl
-serials_of-with_child (Some p) xs = serials_of-with_slot p (λ s. record s { children = s.children + 1 }) xs (λ x. refl)
+serials_of-with_child parent xs = grind (arith, serials_of-with_slot)
 
 pub serials_of-without_child : {T : Type 0} (parent : Option ℕ) (xs : List (Slot T)) → serials_of (without_child parent xs) ≡ serials_of xs
-serials_of-without_child None xs = refl
-serials_of-without_child (Some p) xs = serials_of-with_slot p (λ s. record s { children = s.children - 1 }) xs (λ x. refl)
+serials_of-without_child parent xs = grind (arith, serials_of-with_slot)
 
 pub serials_of-remove : {T : Type 0} (xs : List (Slot T)) (i : ℕ) → serials_of (remove xs i) ≡ remove (serials_of xs) i
 serials_of-remove [] zero = refl
@@ -94,8 +91,7 @@ pub added_index : {T : Type 0} (xs : List (Slot T)) (parent : Option ℕ) (slot 
 added_index xs parent slot serials is = rw (serials_of-append (with_child parent xs) (slot ∷ []), serials_of-with_child parent xs, is) refl
 
 pub index_set : {T : Type 0} (xs : List (Slot T)) (serials : List ℕ) (i n : ℕ) (slot new : Slot T) → serials ≡ serials_of xs → IsFoundAt xs i n → slot ≡ get_or xs i slot → new.serial ≡ slot.serial → serials ≡ serials_of (set xs i new)
-index_set xs serials i n slot new is place read same =
-    is ∙ sym (serials_of-set xs i n new place.found (same ∙ (sym (serial_read xs i slot place.within read) ∙ place.found)) place.within)
+index_set xs serials i n slot new is place read same = grind (arith, serials_of-set, serial_read)
 
 pub removed_index : {T : Type 0} (xs : List (Slot T)) (serials : List ℕ) (i : ℕ) → serials ≡ serials_of xs → remove serials i ≡ serials_of (remove xs i)
 removed_index xs serials i is = ap (λ ns. remove ns i) is ∙ sym (serials_of-remove xs i)

@@ -1,8 +1,9 @@
 -- The keys of an order are all keys of its slab: a key that is found stands in the order.
-use Rattle.std.proofs.Common.{◌≡◌, ◌≢◌, ℕ, zero, suc, ◌<◌, ◌≤◌, Bool, true, false, ◌||◌, eqb, List, [], ◌∷◌, ◌++◌, Option, Some, None, is_some, count_by, cond, length, get_or, set, refl, ap, sym, subst, ◌∙◌, inl, inr, arith, slice_index}
-use Rattle.std.proofs.lemmas.Bool.{cases_eq, false≢true, eq-eqb, ne_eqb}
+use Rattle.std.proofs.Common.{◌≡◌, ◌≢◌, ℕ, zero, suc, ◌<◌, ◌≤◌, true, eqb, List, [], ◌∷◌, ◌++◌, Option, Some, None, is_some, count_by, cond, length, get_or, set, refl, ap, sym, subst, ◌∙◌, inl, inr, arith, slice_index}
+use Rattle.std.proofs.lemmas.Bool.{cases_eq, false≢true, eq-eqb, ne_eqb, or_right}
 use Rattle.std.proofs.lemmas.List.{get_or-set_other}
 use Rattle.std.proofs.lemmas.List.Sums.{sum_by-set}
+use Rattle.std.proofs.lemmas.Grind.{common_steps}
 use Rattle.slab.specs.Slab.{Slab, get, slab_len, ContainsKey, Updates}
 use Rattle.frame_tree.specs.declared.slot.Slot.{Slot as TenantSlot}
 use Rattle.frame_tree.specs.declared.slot_store.StoredSlot.{StoredSlot}
@@ -16,15 +17,10 @@ use Rattle.frame_tree.proofs.SlotStores.{here_contains, AreLike, updated_like, a
 
 -- a slot that is filled is within, and counted
 filled_within : {X : Type 0} (slots : List (Option X)) (key : ℕ) → is_some (get_or slots key None) ≡ true → key < length slots
-filled_within [] key some = absurd (false≢true some)
-filled_within (x ∷ xs) zero some = omega arith
-filled_within (x ∷ xs) (suc key) some = let h = filled_within xs key some in omega (arith, h)
+filled_within slots key h1 = grind (arith, common_steps)
 
 filled_counts : {X : Type 0} (slots : List (Option X)) (key : ℕ) → is_some (get_or slots key None) ≡ true → 1 ≤ count_by is_some slots
-filled_counts slots key some =
-    let e = sum_by-set (λ o. cond (is_some o) 1 0) slots key None None (filled_within slots key some) in
-    let one : cond (is_some (get_or slots key None)) (suc zero) zero ≡ suc zero = rw some refl in
-    omega (arith, e, one)
+filled_counts slots key h1 = grind (arith, common_steps)
 
 -- keys that are apart, each of a filled slot, and as many as the filled slots: each filled slot's is among them
 all_among : {X : Type 0} (slots : List (Option X)) (keys : List ℕ) (key : ℕ) → AreApartKeys keys → ((k : ℕ) → has_number keys k ≡ true → is_some (get_or slots k None) ≡ true) → count_by is_some slots ≡ length keys → is_some (get_or slots key None) ≡ true → has_number keys key ≡ true
@@ -45,10 +41,6 @@ all_among {X} slots (k ∷ keys) key apart filled counted some =
           let left : is_some (get_or rest key None) ≡ true = rw (get_or-set_other slots k key None None other) some in
           or_right (eqb k key) (has_number keys key) (all_among rest keys key apart.1 still fewer left))
     ]
-  where
-    or_right : (a b : Bool) → b ≡ true → (a || b) ≡ true
-    or_right true b h = refl
-    or_right false b h = h
 
 -- a key that is there stands somewhere
 stands : (keys : List ℕ) (key : ℕ) → has_number keys key ≡ true → (at : ℕ) × (at < length keys) × (key ≡ get_or keys at key)
@@ -63,11 +55,7 @@ stands (k ∷ keys) key has =
 
 all_filled : {T : Type 0} (slab : Slab (StoredSlot T)) (before keys : List ℕ) → AllHere slab before keys → (k : ℕ) → has_number keys k ≡ true → ContainsKey slab k
 all_filled slab before [] h k has = absurd (false≢true has)
-all_filled slab before (j ∷ keys) h k has =
-    elim (cases_eq j k) [
-      | inl same ↦ subst (λ n. ContainsKey slab n) same (here_contains slab before j h.0)
-      | inr differs ↦ all_filled slab (before ++ j ∷ []) keys h.1 k (rw (ne_eqb j k differs) at has)
-    ]
+all_filled slab before (j ∷ keys) h k has = grind (arith, all_filled slab (before ++ j ∷ []) keys, here_contains)
 
 -- the key of a slot that was found by its serial
 pub key_found : {T : Type 0} (slab : Slab (StoredSlot T)) (keys : List ℕ) (serial key : ℕ) (kept : StoredSlot T) → AreKeys slab keys → get slab key ≡ Some kept → kept.slot.serial ≡ serial → (at : ℕ) × IsKeyAt slab keys serial at key
@@ -91,12 +79,7 @@ are_keys slab keys room places s = record { here = s.here; apart = s.apart; coun
 
 -- a slot under the key that a serial has
 pub seen_at : {T : Type 0} (slab : Slab (StoredSlot T)) (keys : List ℕ) (serial at key : ℕ) (kept : StoredSlot T) → AreKeys slab keys → IsKeyAt slab keys serial at key → get slab key ≡ Some kept → IsSeenAt (slots_in slab keys) serial at kept.slot
-seen_at slab keys serial at key kept are k found =
-    record {
-      within = rw (slots_in-length slab [] keys are.here) k.within;
-      named = k.named;
-      read = sym (slot_read slab keys at key kept kept.slot are.here k.within k.read found);
-    }
+seen_at slab keys serial at key kept are k found = grind (arith, slots_in-length, slot_read)
 
 -- a change of a slot that keeps its name and its parent
 pub record Keeps {T : Type 0} (change : TenantSlot T → TenantSlot T) : Type 0 where
@@ -113,23 +96,18 @@ changed_like old new key change kept found keeps puts =
     updated_like old new key kept (record kept { slot = change kept.slot }) found (puts kept found) (keeps.serial kept.slot, keeps.parent kept.slot, refl, refl)
 
 pub changed_keys : {T : Type 0} (old new : Slab (StoredSlot T)) (keys : List ℕ) (key : ℕ) (change : TenantSlot T → TenantSlot T) (kept : StoredSlot T) → AreKeys old keys → get old key ≡ Some kept → Keeps change → Puts old new key change → slab_len new ≡ slab_len old → AreKeys new keys
-changed_keys old new keys key change kept are found keeps puts len =
-    record { here = all_here_like old new [] keys (changed_like old new key change kept found keeps puts) are.here; apart = are.apart; counted = len ∙ are.counted }
+changed_keys old new keys key change kept are found keeps puts len = grind (arith, all_here_like, changed_like)
 
 pub changed_slots : {T : Type 0} (old new : Slab (StoredSlot T)) (keys : List ℕ) (serial at key : ℕ) (change : TenantSlot T → TenantSlot T) (kept : StoredSlot T) → AreKeys old keys → IsKeyAt old keys serial at key → get old key ≡ Some kept → Puts old new key change → slots_in new keys ≡ set (slots_in old keys) at (change kept.slot)
 changed_slots old new keys serial at key change kept are k found puts =
     slots_in-put old new [] keys at key (record kept { slot = change kept.slot }) are.here are.apart k.within (subst (λ n. Updates old new n (Some (record kept { slot = change kept.slot }))) k.read (puts kept found))
 
 pub changed_store : {T : Type 0} (old new : Slab (StoredSlot T)) (keys : List ℕ) (room places key : ℕ) (change : TenantSlot T → TenantSlot T) (kept : StoredSlot T) → IsSlotStore old keys room places → get old key ≡ Some kept → Keeps change → Puts old new key change → slab_len new ≡ slab_len old → new.capacity ≡ old.capacity → IsSlotStore new keys room places
-changed_store old new keys room places key change kept s found keeps puts len capacity =
-    let are = changed_keys old new keys key change kept (are_keys old keys room places s) found keeps puts len in
-    record { here = are.here; apart = are.apart; counted = are.counted; within = s.within; slab_room = omega (arith, s.slab_room, capacity); order_room = s.order_room }
+changed_store old new keys room places key change kept s found keeps puts len capacity = grind (arith, changed_keys, are_keys)
 
 -- a parent's key
 pub knows_key : {T : Type 0} (slab : Slab (StoredSlot T)) (keys : List ℕ) (parent : Option ℕ) (name at key : ℕ) → parent ≡ Some name → AreKeys slab keys → IsKeyAt slab keys name at key → KnowsParent slab keys parent (Some key)
-knows_key slab keys parent name at key is are k =
-    let within : at < length (slots_in slab keys) = rw (slots_in-length slab [] keys are.here) k.within in
-    rw is (knows_read slab keys name at key are.here (within, k.named) k.read)
+knows_key slab keys parent name at key is are k = grind (arith, slots_in-length, knows_read)
 
 -- the slot with a serial in another state, told the one that it was in
 pub record HasState {T : Type 0} (old new : Slab (StoredSlot T)) (key : ℕ) (was state : State) : Type 0 where

@@ -1,71 +1,41 @@
 -- The pass of an abort that marks slots.
-use Rattle.std.proofs.Common.{◌≡◌, ◌≢◌, ℕ, zero, suc, ◌+◌, ◌<◌, Bool, true, false, not, ◌||◌, ◌&&◌, eqb, List, [], ◌∷◌, ◌++◌, Option, Some, None, IsSome, length, take, get_or, refl, ap, sym, ◌∙◌, inl, inr, arith, subst}
+use Rattle.std.proofs.Common.{◌≡◌, ◌≢◌, ℕ, zero, suc, ◌+◌, ◌<◌, Bool, true, false, not, ◌||◌, eqb, List, [], ◌∷◌, ◌++◌, Option, Some, length, take, get_or, refl, ap, sym, ◌∙◌, inl, inr, arith, subst}
 use Rattle.std.proofs.lemmas.List.{take_more}
-use Rattle.std.proofs.lemmas.Bool.{cases_eq, false≢true, eq-eqb, ne_eqb}
+use Rattle.std.proofs.lemmas.Bool.{cases_eq}
 use Rattle.slab.specs.Slab.{Slab, get, Updates}
 use Rattle.frame_tree.specs.declared.slot.Slot.{Slot as TenantSlot}
 use Rattle.frame_tree.specs.declared.slot_store.StoredSlot.{StoredSlot}
 use Rattle.frame_tree.specs.Slots.{frames_from, is_kept, IsLinked}
 use Rattle.frame_tree.specs.Places.{has_number}
-use Rattle.frame_tree.specs.SlotStores.{slots_in, AreApartKeys, HasSerial, KnowsParent, IsHere, AllHere, HasAbove, HasLink, is_marked, is_taken_by, is_taken_in, marked_in, Marks}
+use Rattle.frame_tree.specs.SlotStores.{slots_in, AreApartKeys, KnowsParent, IsHere, AllHere, HasLink, is_taken_by, is_taken_in, marked_in, Marks}
 use Rattle.frame_tree.proofs.Cuts.{stays_by, kept_follows, follows_at}
 use Rattle.frame_tree.proofs.SlotStores.{here_read, slot_read, slots_in-length, kept_read, has_number-at, has_number-append}
 
 -- a slot is there, and its parent's too
 pub link_marked : {T : Type 0} (under : ℕ) (slots : List (TenantSlot T)) (keys before : List ℕ) (old now : Slab (StoredSlot T)) (key : ℕ) → Marks under slots keys old now → IsHere old before (get old key) → HasLink now (get now key)
-link_marked under slots keys before old now key m h = rw (m key) (slot under slots keys before old now key (get old key) m h)
-  where
-    found : {T : Type 0} (under : ℕ) (slots : List (TenantSlot T)) (keys before : List ℕ) (old now : Slab (StoredSlot T)) (parent above : Option ℕ) → Marks under slots keys old now → KnowsParent old before parent above → HasAbove now above
-    found under slots keys before old now parent None m k = tt
-    found under slots keys before old now None (Some a) m k = absurd k
-    found under slots keys before old now (Some p) (Some a) m k = rw (m a) (some under slots keys a p (get old a) k.1)
-      where
-        some : {T : Type 0} (under : ℕ) (slots : List (TenantSlot T)) (keys : List ℕ) (a p : ℕ) (o : Option (StoredSlot T)) → HasSerial p o → IsSome (marked_in under slots keys a o)
-        some under slots keys a p None h = absurd h
-        some under slots keys a p (Some y) h = refl
-
-    slot : {T : Type 0} (under : ℕ) (slots : List (TenantSlot T)) (keys before : List ℕ) (old now : Slab (StoredSlot T)) (key : ℕ) (o : Option (StoredSlot T)) → Marks under slots keys old now → IsHere old before o → HasLink now (marked_in under slots keys key o)
-    slot under slots keys before old now key None m h = absurd h
-    slot under slots keys before old now key (Some x) m h = found under slots keys before old now x.slot.parent x.above m h.1
+link_marked under slots keys before old now key m h = grind arith
 
 -- whether an abort takes a slot, by the marks of those before it
 taken_by : {T : Type 0} (under : ℕ) (slots : List (TenantSlot T)) (before : List ℕ) (old now : Slab (StoredSlot T)) (serial : ℕ) (parent above : Option ℕ) → is_kept under (frames_from [] slots) serial ≡ stays_by (is_kept under (frames_from [] slots)) under parent → Marks under slots before old now → KnowsParent old before parent above → is_taken_by now under parent above ≡ not (is_kept under (frames_from [] slots) serial)
-taken_by under slots before old now serial None None f m k = rw f refl
-taken_by under slots before old now serial None (Some a) f m k = absurd k
-taken_by under slots before old now serial (Some p) None f m k = absurd k
-taken_by under slots before old now serial (Some p) (Some a) f m k =
-    rw (f, m a, mark under slots before a p (get old a) k.0 k.1) (de_morgan (eqb p under) (is_kept under (frames_from [] slots) p))
-  where
-    mark : {T : Type 0} (under : ℕ) (slots : List (TenantSlot T)) (before : List ℕ) (a p : ℕ) (o : Option (StoredSlot T)) → has_number before a ≡ true → HasSerial p o → is_marked (marked_in under slots before a o) ≡ not (is_kept under (frames_from [] slots) p)
-    mark under slots before a p None has h = absurd h
-    mark under slots before a p (Some y) has h = rw has (ap (λ s. not (is_kept under (frames_from [] slots) s)) h)
-
-    de_morgan : (a b : Bool) → (a || not b) ≡ not (not a && b)
-    de_morgan true b = refl
-    de_morgan false b = refl
+taken_by under slots before old now serial parent above h9 h10 h11 = grind arith
 
 -- the key at a place is none of those before it
 pub apart_before : (keys : List ℕ) (i d : ℕ) → AreApartKeys keys → i < length keys → has_number (take i keys) (get_or keys i d) ≡ false
 apart_before [] i d a lt = absurd (omega arith)
 apart_before (k ∷ keys) zero d a lt = refl
-apart_before (k ∷ keys) (suc i) d a lt =
-    let other : k ≢ get_or keys i d = λ e. false≢true (sym a.0 ∙ (ap (has_number keys) e ∙ has_number-at keys i d (omega arith))) in
-    rw (ne_eqb k (get_or keys i d) other) (apart_before keys i d a.1 (omega arith))
+apart_before (k ∷ keys) (suc i) d a lt = grind (arith, apart_before keys i d, has_number-at)
 
 -- marks depend on the keys by whether this is one of them
 marked_in-keys : {T : Type 0} (under : ℕ) (slots : List (TenantSlot T)) (some more : List ℕ) (key : ℕ) (o : Option (StoredSlot T)) → has_number more key ≡ has_number some key → marked_in under slots some key o ≡ marked_in under slots more key o
-marked_in-keys under slots some more key None e = refl
-marked_in-keys under slots some more key (Some x) e = rw e refl
+marked_in-keys under slots some more key o h7 = grind arith
 
 -- one key more
 
 pub last_key : (b : Bool) (key k : ℕ) → key ≡ k → (b || (eqb key k || false)) ≡ true
-last_key true key k e = refl
-last_key false key k e = rw (eq-eqb key k e) refl
+last_key b key k h1 = grind arith
 
 pub first_keys : (b : Bool) (key k : ℕ) → key ≢ k → (b || (eqb key k || false)) ≡ b
-first_keys true key k e = refl
-first_keys false key k e = rw (ne_eqb key k e) refl
+first_keys b key k h1 = grind arith
 
 pub marks_next : {T : Type 0} (under : ℕ) (slots : List (TenantSlot T)) (keys : List ℕ) (i key : ℕ) (old now new : Slab (StoredSlot T)) (x : StoredSlot T) → Marks under slots (take i keys) old now → i < length keys → key ≡ get_or keys i key → get old key ≡ Some x → get new key ≡ Some (record x { marked = not (is_kept under (frames_from [] slots) x.slot.serial) }) → ((k : ℕ) → k ≢ key → get new k ≡ get now k) → Marks under slots (take (i + 1) keys) old new
 marks_next under slots keys i key old now new x m lt is was here others k =

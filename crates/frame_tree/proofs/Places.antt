@@ -1,8 +1,9 @@
 -- Places in lists that rise by a number.
-use Rattle.std.proofs.Common.{◌≡◌, ◌≢◌, ℕ, zero, suc, ◌<◌, ◌≤◌, Bool, true, false, not, eqb, List, [], ◌∷◌, length, get_or, take, refl, ap, sym, subst, ◌∙◌, inl, inr, arith, nat_lt}
+use Rattle.std.proofs.Common.{◌≡◌, ◌≢◌, ℕ, zero, suc, ◌<◌, ◌≤◌, Bool, true, false, not, eqb, List, [], ◌∷◌, length, get_or, take, refl, ap, sym, subst, ◌∙◌, arith, nat_lt}
 use Rattle.std.specs.List.{filter, insert, remove}
 use Rattle.std.specs.List.Sorted.{IsNonDecreasingBy, IsPartitionPoint}
-use Rattle.std.proofs.lemmas.Bool.{cases_lt, cases_Bool, eq-eqb, ne_eqb, ltb-true, ltb-false, lt-ltb}
+use Rattle.std.proofs.lemmas.Bool.{ne_eqb, ltb-true, ltb-false, lt-ltb}
+use Rattle.std.proofs.lemmas.Grind.{common_steps}
 use Rattle.number_index.specs.Places.{AreAbove, AreRising, inserted}
 use Rattle.number_index.proofs.Edits.{all-at, all-map}
 use Rattle.frame_tree.specs.Places.{has_number, AllFromBy, IsPlaceFor}
@@ -34,13 +35,8 @@ from_above number n m (x ∷ xs) le above = (omega (arith, le, above.0), from_ab
 -- an element stands at the place of its number
 pub place_of_element : {X : Type 0} (number : X → ℕ) (xs : List X) (n at : ℕ) (x : X) → AreRising number xs → at < length xs → x ≡ get_or xs at x → number x ≡ n → IsPlaceFor number xs n at
 place_of_element number [] n at x rise lt is same = absurd (omega arith)
-place_of_element number (y ∷ ys) n zero x rise lt is same =
-    let here : number y ≡ n = sym (ap number is) ∙ same in
-    (omega (arith, here), from_above number n (number y) ys (omega (arith, here)) rise.0)
-place_of_element number (y ∷ ys) n (suc at) x rise lt is same =
-    let above : number y < number (get_or ys at x) = all-at (λ z. number y < number z) ys at x rise.0 (omega arith) in
-    let here : number (get_or ys at x) ≡ n = sym (ap number is) ∙ same in
-    (omega (arith, above, here), place_of_element number ys n at x rise.1 (omega arith) is same)
+place_of_element number (y ∷ ys) n zero x rise lt is same = grind (arith, from_above)
+place_of_element number (y ∷ ys) n (suc at) x rise lt is same = grind (arith, place_of_element number ys n at x, all-at)
 
 -- the place among none, before all and behind all
 pub place_in_none : {X : Type 0} (number : X → ℕ) (xs : List X) (n : ℕ) → length xs ≡ 0 → IsPlaceFor number xs n 0
@@ -68,18 +64,14 @@ place_behind number xs n at count x rise all e is lt = let P : ℕ → Type 0 = 
 -- an element put at its place
 pub inserted-place : {X : Type 0} (number : X → ℕ) (new : X) (xs : List X) (at : ℕ) → IsPlaceFor number xs (number new) at → insert xs at new ≡ inserted number new xs
 inserted-place number new [] zero p = refl
-inserted-place number new (x ∷ xs) zero p =
-    let no' : nat_lt (number x) (number new) ≡ false = elim (cases_Bool (nat_lt (number x) (number new))) [ inl yes' ↦ absurd (let lt = ltb-true (number x) (number new) yes' in omega (arith, lt, p.0)) | inr h ↦ h ] in
-    rw no' refl
+inserted-place number new (x ∷ xs) zero p = grind arith
 inserted-place number new [] (suc at) p = absurd p
 inserted-place number new (x ∷ xs) (suc at) p = rw (lt-ltb (number x) (number new) p.0) (ap (λ ys. x ∷ ys) (inserted-place number new xs at p.1))
 
 -- those below a number are those before its place
 none_below : {X : Type 0} (number : X → ℕ) (n : ℕ) (xs : List X) → AllFromBy number n xs → filter (λ x. nat_lt (number x) n) xs ≡ []
 none_below number n [] p = refl
-none_below number n (x ∷ xs) p =
-    let no' : nat_lt (number x) n ≡ false = elim (cases_Bool (nat_lt (number x) n)) [ inl yes' ↦ absurd (let lt = ltb-true (number x) n yes' in omega (arith, lt, p.0)) | inr h ↦ h ] in
-    rw no' (none_below number n xs p.1)
+none_below number n (x ∷ xs) p = grind (arith, none_below number n xs)
 
 pub filter_below-place : {X : Type 0} (number : X → ℕ) (xs : List X) (n at : ℕ) → IsPlaceFor number xs n at → take at xs ≡ filter (λ x. nat_lt (number x) n) xs
 filter_below-place number [] n zero p = refl
@@ -98,39 +90,29 @@ filter_not-above number n (x ∷ xs) above = rw (ne_eqb (number x) n (λ e. omeg
 -- the element that stands at the place of its number goes
 pub filter_not-remove : {X : Type 0} (number : X → ℕ) (xs : List X) (n at : ℕ) (x : X) → AreRising number xs → IsPlaceFor number xs n at → at < length xs → x ≡ get_or xs at x → number x ≡ n → remove xs at ≡ filter (λ x. not (eqb (number x) n)) xs
 filter_not-remove number [] n at x rise p lt is same = absurd (omega arith)
-filter_not-remove number (y ∷ ys) n zero x rise p lt is same =
-    let here : number y ≡ n = ap number (sym is) ∙ same in
-    rw (eq-eqb (number y) n here) (sym (filter_not-above number n ys (rw here at rise.0)))
+filter_not-remove number (y ∷ ys) n zero x rise p lt is same = grind (arith, filter_not-above)
 filter_not-remove number (y ∷ ys) n (suc at) x rise p lt is same =
     rw (ne_eqb (number y) n (λ e. omega (arith, p.0, e))) (ap (λ zs. y ∷ zs) (filter_not-remove number ys n at x rise.1 p.1 (omega arith) is same))
 
 -- nothing is left out where another stands at the place, or nothing
 pub filter_not-absent : {X : Type 0} (number : X → ℕ) (xs : List X) (n at : ℕ) → AreRising number xs → IsPlaceFor number xs n at → ((x : X) → at < length xs → x ≡ get_or xs at x → number x ≢ n) → xs ≡ filter (λ x. not (eqb (number x) n)) xs
 filter_not-absent number [] n zero rise p other = refl
-filter_not-absent number (y ∷ ys) n zero rise p other =
-    let differs = other y (omega arith) refl in
-    let above : n < number y = elim (cases_lt n (number y)) [ inl lt ↦ lt | inr le ↦ absurd (differs (omega (arith, le, p.0))) ] in
-    rw (ne_eqb (number y) n differs) (ap (λ zs. y ∷ zs) (sym (filter_not-above number n ys (all-map (λ z. number y < number z) (λ z. n < number z) (λ z lt. omega (arith, lt, above)) ys rise.0))))
+filter_not-absent number (y ∷ ys) n zero rise p other = grind (arith, filter_not-above, all-map)
 filter_not-absent number [] n (suc at) rise p other = absurd p
-filter_not-absent number (y ∷ ys) n (suc at) rise p other =
-    rw (ne_eqb (number y) n (λ e. omega (arith, p.0, e))) (ap (λ zs. y ∷ zs) (filter_not-absent number ys n at rise.1 p.1 (λ x lt is. other x (omega arith) is)))
+filter_not-absent number (y ∷ ys) n (suc at) rise p other = grind (arith, filter_not-absent number ys n at)
 
 -- what is read at a place is one element
 pub alike : {X : Type 0} (xs : List X) (i : ℕ) (x y : X) → i < length xs → x ≡ get_or xs i x → y ≡ get_or xs i y → x ≡ y
-alike [] i x y lt a b = absurd (omega arith)
-alike (z ∷ zs) zero x y lt a b = a ∙ sym b
-alike (z ∷ zs) (suc i) x y lt a b = alike zs i x y (omega arith) a b
+alike xs i x y h1 h2 h3 = grind (arith, common_steps)
 
 -- what rises does so in part
 pub above_by-filter : {X : Type 0} (number : X → ℕ) (keep : X → Bool) (n : ℕ) (xs : List X) → AreAbove number n xs → AreAbove number n (filter keep xs)
 above_by-filter number keep n [] a = tt
-above_by-filter number keep n (x ∷ xs) a =
-    elim (cases_Bool (keep x)) [ inl stays ↦ rw stays (a.0, above_by-filter number keep n xs a.1) | inr goes ↦ rw goes (above_by-filter number keep n xs a.1) ]
+above_by-filter number keep n (x ∷ xs) a = grind (arith, above_by-filter number keep n xs)
 
 pub rises_by-filter : {X : Type 0} (number : X → ℕ) (keep : X → Bool) (xs : List X) → AreRising number xs → AreRising number (filter keep xs)
 rises_by-filter number keep [] r = tt
-rises_by-filter number keep (x ∷ xs) r =
-    elim (cases_Bool (keep x)) [ inl stays ↦ rw stays (above_by-filter number keep (number x) xs r.0, rises_by-filter number keep xs r.1) | inr goes ↦ rw goes (rises_by-filter number keep xs r.1) ]
+rises_by-filter number keep (x ∷ xs) r = grind (arith, rises_by-filter number keep xs, above_by-filter)
 
 -- a number between those below a place and those from it on is not there
 pub absent_between : (xs : List ℕ) (n i : ℕ) → ((k : ℕ) → k < i → get_or xs k 0 < n) → ((k : ℕ) → i ≤ k → k < length xs → n < get_or xs k 0) → has_number xs n ≡ false

@@ -1,7 +1,7 @@
 -- The ready frames among slots, and what each change of the slots does to them.
-use Rattle.std.proofs.Common.{◌≡◌, ℕ, zero, suc, ◌+◌, ◌-◌, ◌<◌, ◌≤◌, true, false, not, eqb, nat_lt, List, [], ◌∷◌, ◌++◌, Option, Some, None, length, take, get_or, set, slice_index, refl, ap, sym, ◌∙◌, inl, inr, arith, slice_get}
+use Rattle.std.proofs.Common.{◌≡◌, ℕ, zero, suc, ◌-◌, ◌<◌, ◌≤◌, true, false, not, eqb, nat_lt, List, [], ◌∷◌, ◌++◌, Option, Some, None, length, take, get_or, set, slice_index, refl, ap, sym, ◌∙◌, inl, inr, arith, slice_get}
 use Rattle.std.specs.List.{filter, remove}
-use Rattle.std.proofs.lemmas.Bool.{cases_Bool, eq-eqb, ne_eqb, lt-ltb, ltb-true}
+use Rattle.std.proofs.lemmas.Bool.{cases_Bool, lt-ltb, ltb-true}
 use Rattle.frame_tree.specs.declared.names.FrameId.{FrameId}
 use Rattle.frame_tree.specs.declared.names.State.{State}
 use Rattle.frame_tree.specs.declared.names.State.TheVariants.{Ready, Running, Computing, Waiting, Returned}
@@ -67,11 +67,7 @@ ready_in-rises (x ∷ xs) r = one x.serial x.state (ready_in xs) (ready_in-above
 
 -- those of more slots
 with_ready-append : (serial : ℕ) (state : State) (xs ys : List ReadyFrame) → with_ready serial state (xs ++ ys) ≡ with_ready serial state xs ++ ys
-with_ready-append serial (Ready home) xs ys = refl
-with_ready-append serial (Running worker) xs ys = refl
-with_ready-append serial (Computing worker) xs ys = refl
-with_ready-append serial Waiting xs ys = refl
-with_ready-append serial Returned xs ys = refl
+with_ready-append serial state xs ys = grind arith
 
 pub ready_in-append : {T : Type 0} (xs ys : List (Slot T)) → ready_in (xs ++ ys) ≡ ready_in xs ++ ready_in ys
 ready_in-append [] ys = refl
@@ -107,17 +103,13 @@ newest_by tenant xs frames newest is ready found e = ap (named tenant) (sym e �
 -- a change that keeps serials and states
 pub ready_in-with_slot : {T : Type 0} (p : ℕ) (change : Slot T → Slot T) (xs : List (Slot T)) → ((x : Slot T) → (change x).serial ≡ x.serial) → ((x : Slot T) → (change x).state ≡ x.state) → ready_in (with_slot p change xs) ≡ ready_in xs
 ready_in-with_slot p change [] serial state = refl
-ready_in-with_slot p change (x ∷ xs) serial state =
-    let rest = ready_in-with_slot p change xs serial state in
-    elim (cases_Bool (eqb x.serial p)) [ inl same ↦ rw (same, serial x, state x, rest) refl | inr differs ↦ rw (differs, rest) refl ]
+ready_in-with_slot p change (x ∷ xs) serial state = grind (arith, ready_in-with_slot p change xs serial state)
 
 pub ready_in-with_child : {T : Type 0} (parent : Option ℕ) (xs : List (Slot T)) → ready_in (with_child parent xs) ≡ ready_in xs
-ready_in-with_child None xs = refl
-ready_in-with_child (Some p) xs = ready_in-with_slot p (λ s. record s { children = s.children + 1 }) xs (λ x. refl) (λ x. refl)
+ready_in-with_child parent xs = grind (arith, ready_in-with_slot)
 
 pub ready_in-without_child : {T : Type 0} (parent : Option ℕ) (xs : List (Slot T)) → ready_in (without_child parent xs) ≡ ready_in xs
-ready_in-without_child None xs = refl
-ready_in-without_child (Some p) xs = ready_in-with_slot p (λ s. record s { children = s.children - 1 }) xs (λ x. refl) (λ x. refl)
+ready_in-without_child parent xs = grind (arith, ready_in-with_slot)
 
 -- ready frames rise without one of them too
 pub without_ready-rises : (serial : ℕ) (was : State) (frames : List ReadyFrame) → AreRising (λ frame. frame.serial) frames → AreRising (λ frame. frame.serial) (without_ready serial was frames)
@@ -125,21 +117,10 @@ without_ready-rises serial was frames r = elim (cases_Bool (is_ready was)) [ inl
 
 -- a frame that leaves its state goes, and comes back where its new state is to be ready
 leave_here : (serial : ℕ) (was : State) (frames : List ReadyFrame) → AreAbove (λ frame. frame.serial) serial frames → without_ready serial was (with_ready serial was frames) ≡ frames
-leave_here serial (Ready home) frames a = rw (eq-eqb serial serial refl) (filter_not-above (λ frame. frame.serial) serial frames a)
-leave_here serial (Running worker) frames a = refl
-leave_here serial (Computing worker) frames a = refl
-leave_here serial Waiting frames a = refl
-leave_here serial Returned frames a = refl
+leave_here serial was frames h4 = grind (arith, filter_not-above)
 
 leave_other : (serial n : ℕ) (state was : State) (frames : List ReadyFrame) → serial < n → without_ready n was (with_ready serial state frames) ≡ with_ready serial state (without_ready n was frames)
-leave_other serial n state was frames lt = elim (cases_Bool (is_ready was)) [ inl ready ↦ rw ready (one serial n state frames (ne_eqb serial n (λ e. omega (arith, lt, e)))) | inr other ↦ rw other refl ]
-  where
-    one : (serial n : ℕ) (state : State) (frames : List ReadyFrame) → eqb serial n ≡ false → filter (λ frame. not (eqb frame.serial n)) (with_ready serial state frames) ≡ with_ready serial state (filter (λ frame. not (eqb frame.serial n)) frames)
-    one serial n (Ready home) frames e = rw e refl
-    one serial n (Running worker) frames e = refl
-    one serial n (Computing worker) frames e = refl
-    one serial n Waiting frames e = refl
-    one serial n Returned frames e = refl
+leave_other serial n state was frames lt = grind arith
 
 put_here : (serial : ℕ) (now : State) (frames : List ReadyFrame) → AreAbove (λ frame. frame.serial) serial frames → put_ready serial now frames ≡ with_ready serial now frames
 put_here serial (Ready home) [] a = refl
@@ -164,21 +145,14 @@ put_other serial n Returned now frames lt = refl
 
 pub ready_in-state : {T : Type 0} (xs : List (Slot T)) (i n : ℕ) (slot : Slot T) (state : State) → Rises xs → i < length xs → slice_index (serials_of xs) i ≡ n → slot ≡ get_or xs i slot → put_ready n state (without_ready n slot.state (ready_in xs)) ≡ ready_in (set xs i (in_state state slot))
 ready_in-state [] i n slot state rise lt at is = absurd (omega arith)
-ready_in-state (x ∷ xs) zero n slot state rise lt at is =
-    let above = ready_in-above x.serial xs rise.0 in
-    rw (is, ← at, leave_here x.serial x.state (ready_in xs) above) (put_here x.serial state (ready_in xs) above)
-ready_in-state (x ∷ xs) (suc i) n slot state rise lt at is =
-    let below : x.serial < n = (let h = above_at xs x.serial i rise.0 (omega arith) in omega (arith, h, at)) in
-    ap (put_ready n state) (leave_other x.serial n x.state slot.state (ready_in xs) below)
-    ∙ (put_other x.serial n x.state state (without_ready n slot.state (ready_in xs)) below ∙ ap (with_ready x.serial x.state) (ready_in-state xs i n slot state rise.1 (omega arith) at is))
+ready_in-state (x ∷ xs) zero n slot state rise lt at is = grind (arith, ready_in-above, leave_here, put_here)
+ready_in-state (x ∷ xs) (suc i) n slot state rise lt at is = grind (arith, ready_in-state xs i n slot state, above_at, leave_other, put_other)
 
 -- a slot that goes
 pub ready_in-remove : {T : Type 0} (xs : List (Slot T)) (i n : ℕ) (slot : Slot T) → Rises xs → i < length xs → slice_index (serials_of xs) i ≡ n → slot ≡ get_or xs i slot → without_ready n slot.state (ready_in xs) ≡ ready_in (remove xs i)
 ready_in-remove [] i n slot rise lt at is = absurd (omega arith)
 ready_in-remove (x ∷ xs) zero n slot rise lt at is = rw (is, ← at) (leave_here x.serial x.state (ready_in xs) (ready_in-above x.serial xs rise.0))
-ready_in-remove (x ∷ xs) (suc i) n slot rise lt at is =
-    let below : x.serial < n = (let h = above_at xs x.serial i rise.0 (omega arith) in omega (arith, h, at)) in
-    leave_other x.serial n x.state slot.state (ready_in xs) below ∙ ap (with_ready x.serial x.state) (ready_in-remove xs i n slot rise.1 (omega arith) at is)
+ready_in-remove (x ∷ xs) (suc i) n slot rise lt at is = grind (arith, ready_in-remove xs i n slot, above_at, leave_other)
 
 -- the ready frames below a serial are those of the slots before it
 pub ready_in-take : {T : Type 0} (xs : List (Slot T)) (i n : ℕ) → Rises xs → i < length xs → slice_index (serials_of xs) i ≡ n → filter (λ frame. nat_lt frame.serial n) (ready_in xs) ≡ ready_in (take i xs)
@@ -206,8 +180,7 @@ ready_in-take (x ∷ xs) (suc i) n rise lt at =
 
 -- one more slot at the end, ready
 pub added_ready : {T : Type 0} (xs : List (Slot T)) (parent : Option ℕ) (slot : Slot T) (home : ℕ) (frames : List ReadyFrame) → frames ≡ ready_in xs → slot.state ≡ Ready home → frames ++ record { serial = slot.serial; home = home } ∷ [] ≡ ready_in (with_child parent xs ++ slot ∷ [])
-added_ready xs parent slot home frames e state =
-    rw (ready_in-append (with_child parent xs) (slot ∷ []), ready_in-with_child parent xs, state, e) refl
+added_ready xs parent slot home frames e state = grind (arith, ready_in-append, ready_in-with_child)
 
 -- a tenant, from slots that are sound by any count, their serials and the ready frames among them
 pub is_tenant : {T : Type 0} (slots : List (Slot T)) (count places : ℕ) (serials : PlacedList ℕ) (ready : PlacedList ReadyFrame) → AreSoundSlots slots count → serials.list ≡ serials_of slots → ready.list ≡ ready_in slots → length slots ≤ places → places ≤ 4096 → places ≤ serials.places → places ≤ ready.places → IsTenant slots places serials ready

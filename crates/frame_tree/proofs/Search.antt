@@ -1,6 +1,6 @@
 -- Looking a slot up by its serial.
-use Rattle.std.proofs.Common.{◌≡◌, ◌≢◌, ℕ, zero, suc, ◌+◌, ◌-◌, ◌<◌, ◌≤◌, true, false, eqb, List, [], ◌∷◌, Option, Some, length, get_or, set, refl, ap, sym, ◌∙◌, inl, inr, arith, slice_index}
-use Rattle.std.proofs.lemmas.Bool.{cases_Bool, false≢true, eq-eqb, ne_eqb}
+use Rattle.std.proofs.Common.{◌≡◌, ℕ, zero, suc, ◌+◌, ◌-◌, ◌<◌, ◌≤◌, true, false, eqb, List, [], ◌∷◌, Option, Some, length, get_or, set, refl, ap, sym, arith, slice_index}
+use Rattle.std.proofs.lemmas.Bool.{eq-eqb, ne_eqb}
 use Rattle.frame_tree.specs.declared.slot.Slot.{Slot}
 use Rattle.frame_tree.specs.Slots.{serials_of, has_slot, AllAbove, Rises, with_slot, with_child, root_at, root_under, AllCountsBelow, CountsAtParent, children_at, without_child}
 
@@ -14,9 +14,7 @@ serial_read (s ∷ slots) (suc i) slot lt is = serial_read slots i slot (omega a
 pub has_slot-found : {T : Type 0} (slots : List (Slot T)) (i serial : ℕ) → i < length slots → slice_index (serials_of slots) i ≡ serial → has_slot slots serial ≡ true
 has_slot-found [] i serial lt is = absurd (omega arith)
 has_slot-found (s ∷ slots) zero serial lt is = grind (arith, is)
-has_slot-found (s ∷ slots) (suc i) serial lt is =
-    let rest : has_slot slots serial ≡ true = has_slot-found slots i serial (omega arith) is in
-    grind (arith, rest)
+has_slot-found (s ∷ slots) (suc i) serial lt is = grind (arith, has_slot-found slots i serial)
 
 -- a serial above another, at a place
 pub above_at : {T : Type 0} (slots : List (Slot T)) (serial k : ℕ) → AllAbove serial slots → k < length slots → serial < slice_index (serials_of slots) k
@@ -27,40 +25,24 @@ above_at (s ∷ slots) serial (suc k) above lt = above_at slots serial k above.1
 -- nothing below all serials is there
 pub has_slot-below : {T : Type 0} (slots : List (Slot T)) (serial : ℕ) → AllAbove serial slots → has_slot slots serial ≡ false
 has_slot-below [] serial above = refl
-has_slot-below (s ∷ slots) serial above =
-    let first : s.serial ≢ serial = λ e. omega (arith, above.0, e) in
-    let rest : has_slot slots serial ≡ false = has_slot-below slots serial above.1 in
-    grind (arith, first, rest)
+has_slot-below (s ∷ slots) serial above = grind (arith, has_slot-below slots serial)
 
 -- a serial that is not there is not changed
 pub with_slot-absent : {T : Type 0} (slots : List (Slot T)) (serial : ℕ) (change : Slot T → Slot T) → has_slot slots serial ≡ false → with_slot serial change slots ≡ slots
 with_slot-absent [] serial change none = refl
-with_slot-absent (s ∷ slots) serial change none =
-    elim (cases_Bool (eqb s.serial serial)) [
-      | inl same ↦ absurd (false≢true (sym none ∙ (rw same refl)))
-      | inr differs ↦ (let rest : has_slot slots serial ≡ false = rw differs at none in rw differs (ap (λ xs. s ∷ xs) (with_slot-absent slots serial change rest)))
-    ]
+with_slot-absent (s ∷ slots) serial change none = grind (arith, with_slot-absent slots serial change)
 
 -- a write at the place of a serial
 pub with_slot-set : {T : Type 0} (slots : List (Slot T)) (i serial : ℕ) (change : Slot T → Slot T) (slot : Slot T) → Rises slots → i < length slots → slice_index (serials_of slots) i ≡ serial → slot ≡ get_or slots i slot → set slots i (change slot) ≡ with_slot serial change slots
 with_slot-set [] i serial change slot rise lt at is = absurd (omega arith)
-with_slot-set (s ∷ slots) zero serial change slot rise lt at is =
-    let none : has_slot slots serial ≡ false = has_slot-below slots serial (rw (← at) rise.0) in
-    let same : eqb s.serial serial ≡ true = eq-eqb s.serial serial at in
-    rw (same, with_slot-absent slots serial change none, is) refl
-with_slot-set (s ∷ slots) (suc i) serial change slot rise lt at is =
-    let differs : eqb s.serial serial ≡ false = ne_eqb s.serial serial (λ e. omega (arith, above_at slots s.serial i rise.0 (omega arith), at, e)) in
-    rw differs (ap (λ xs. s ∷ xs) (with_slot-set slots i serial change slot rise.1 (omega arith) at is))
+with_slot-set (s ∷ slots) zero serial change slot rise lt at is = grind (arith, has_slot-below, with_slot-absent)
+with_slot-set (s ∷ slots) (suc i) serial change slot rise lt at is = grind (arith, with_slot-set slots i serial change slot, above_at)
 
 -- what a slot that was found says of the root
 pub root_at-found : {T : Type 0} (slots : List (Slot T)) (i serial : ℕ) (slot : Slot T) → Rises slots → i < length slots → slice_index (serials_of slots) i ≡ serial → slot ≡ get_or slots i slot → root_at slots serial ≡ slot.root
 root_at-found [] i serial slot rise lt at is = absurd (omega arith)
-root_at-found (s ∷ slots) zero serial slot rise lt at is =
-    let same : eqb s.serial serial ≡ true = eq-eqb s.serial serial at in
-    rw same (ap (λ s. s.root) (sym is))
-root_at-found (s ∷ slots) (suc i) serial slot rise lt at is =
-    let differs : eqb s.serial serial ≡ false = ne_eqb s.serial serial (λ e. omega (arith, above_at slots s.serial i rise.0 (omega arith), at, e)) in
-    rw differs (root_at-found slots i serial slot rise.1 (omega arith) at is)
+root_at-found (s ∷ slots) zero serial slot rise lt at is = grind arith
+root_at-found (s ∷ slots) (suc i) serial slot rise lt at is = grind (arith, root_at-found slots i serial slot, above_at)
 
 -- a bound on all counts, at a place
 pub count_at : {T : Type 0} (slots : List (Slot T)) (limit i : ℕ) (slot : Slot T) → AllCountsBelow limit slots → i < length slots → slot ≡ get_or slots i slot → slot.children < limit

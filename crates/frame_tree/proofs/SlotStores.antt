@@ -1,6 +1,7 @@
 -- Slots under keys: reading, writing and adding them.
-use Rattle.std.proofs.Common.{◌≡◌, ◌≢◌, ℕ, zero, suc, ◌+◌, ◌-◌, ◌<◌, ◌≤◌, Bool, true, false, ◌||◌, eqb, List, [], ◌∷◌, ◌++◌, Option, Some, None, IsSome, length, take, get_or, set, refl, ap, sym, ◌∙◌, inl, inr, arith, append_assoc, append-nil, subst}
-use Rattle.std.proofs.lemmas.Bool.{cases_eq, false≢true, eq-eqb, ne_eqb}
+use Rattle.std.proofs.Common.{◌≡◌, ◌≢◌, ℕ, zero, suc, ◌+◌, ◌<◌, ◌≤◌, Bool, true, false, ◌||◌, eqb, List, [], ◌∷◌, ◌++◌, Option, Some, None, length, take, get_or, set, refl, ap, sym, ◌∙◌, arith, append_assoc, append-nil, subst}
+use Rattle.std.proofs.lemmas.Bool.{false≢true, eq-eqb, or_right}
+use Rattle.std.proofs.lemmas.Option.{none-some}
 use Rattle.slab.specs.Slab.{Slab, get, slab_len, ContainsKey, Updates}
 use Rattle.frame_tree.specs.declared.slot.Slot.{Slot as TenantSlot}
 use Rattle.frame_tree.specs.declared.slot_store.StoredSlot.{StoredSlot}
@@ -10,13 +11,16 @@ use Rattle.frame_tree.specs.SlotStores.{with_found, slots_in, AreApartKeys, HasS
 use Rattle.frame_tree.proofs.Search.{serial_read}
 use Rattle.frame_tree.proofs.Lengths.{length_more}
 
--- a slot that is here is found
+-- what is here is a slot
+here_gone : {T : Type 0} (slab : Slab (StoredSlot T)) (before : List ℕ) (o : Option (StoredSlot T)) → IsHere slab before o → o ≡ None → ⊥
+here_gone slab before o h4 h5 = grind arith
+
+pub here_found : {T : Type 0} (slab : Slab (StoredSlot T)) (before : List ℕ) (o : Option (StoredSlot T)) → IsHere slab before o → (kept : StoredSlot T) × (o ≡ Some kept)
+here_found slab before None h = absurd h
+here_found slab before (Some x) h = (x, refl)
+
 pub here_contains : {T : Type 0} (slab : Slab (StoredSlot T)) (before : List ℕ) (key : ℕ) → IsHere slab before (get slab key) → ContainsKey slab key
-here_contains slab before key h = some slab before (get slab key) h
-  where
-    some : {T : Type 0} (slab : Slab (StoredSlot T)) (before : List ℕ) (o : Option (StoredSlot T)) → IsHere slab before o → IsSome o
-    some slab before None h = absurd h
-    some slab before (Some x) h = refl
+here_contains slab before key h = grind arith
 
 -- the slot under the key at a place
 pub here_at : {T : Type 0} (slab : Slab (StoredSlot T)) (before keys : List ℕ) (i d : ℕ) → AllHere slab before keys → i < length keys → IsHere slab (before ++ take i keys) (get slab (get_or keys i d))
@@ -72,10 +76,7 @@ serial_like p (Some x) None like h = absurd (like x refl)
 serial_like p (Some x) (Some y) like h = (like x refl).0 ∙ h
 
 pub knows_like : {T : Type 0} (old new : Slab (StoredSlot T)) (keys : List ℕ) (parent above : Option ℕ) → AreLike old new → KnowsParent old keys parent above → KnowsParent new keys parent above
-knows_like old new keys None None like h = tt
-knows_like old new keys None (Some a) like h = absurd h
-knows_like old new keys (Some p) None like h = absurd h
-knows_like old new keys (Some p) (Some a) like h = (h.0, serial_like p (get old a) (get new a) (like a) h.1)
+knows_like old new keys parent above h6 h7 = grind (arith, serial_like)
 
 here_like : {T : Type 0} (old new : Slab (StoredSlot T)) (keys : List ℕ) (o n : Option (StoredSlot T)) → AreLike old new → ((x : StoredSlot T) → o ≡ Some x → IsLike x n) → IsHere old keys o → IsHere new keys n
 here_like old new keys None n all like h = absurd h
@@ -91,46 +92,22 @@ all_here_like old new before (k ∷ keys) like h = (here_like old new before (ge
 -- the same slots
 pub slots_in-same : {T : Type 0} (old new : Slab (StoredSlot T)) (keys : List ℕ) → ((k : ℕ) → has_number keys k ≡ true → get new k ≡ get old k) → slots_in new keys ≡ slots_in old keys
 slots_in-same old new [] same = refl
-slots_in-same old new (k ∷ keys) same =
-    rw (same k (rw (eq-eqb k k refl) refl), slots_in-same old new keys (λ j h. same j (or_right (eqb k j) (has_number keys j) h))) refl
-  where
-    or_right : (a b : Bool) → b ≡ true → (a || b) ≡ true
-    or_right true b h = refl
-    or_right false b h = h
+slots_in-same old new (k ∷ keys) same = grind (arith, slots_in-same old new keys, or_right)
 
 -- a key that stands somewhere is there
 pub has_number-at : (keys : List ℕ) (i d : ℕ) → i < length keys → has_number keys (get_or keys i d) ≡ true
 has_number-at [] i d lt = absurd (omega arith)
 has_number-at (k ∷ keys) zero d lt = rw (eq-eqb k k refl) refl
 has_number-at (k ∷ keys) (suc i) d lt = or_right (eqb k (get_or keys i d)) (has_number keys (get_or keys i d)) (has_number-at keys i d (omega arith))
-  where
-    or_right : (a b : Bool) → b ≡ true → (a || b) ≡ true
-    or_right true b h = refl
-    or_right false b h = h
 
 -- a vacant key is not there
 pub vacant_absent : {T : Type 0} (slab : Slab (StoredSlot T)) (before keys : List ℕ) (key : ℕ) → AllHere slab before keys → get slab key ≡ None → has_number keys key ≡ false
 vacant_absent slab before [] key h none = refl
-vacant_absent slab before (k ∷ keys) key h none =
-    let rest = vacant_absent slab (before ++ k ∷ []) keys key h.1 none in
-    elim (cases_eq k key) [
-      | inl same ↦ absurd (gone slab before (get slab k) h.0 (ap (get slab) same ∙ none))
-      | inr differs ↦ rw (ne_eqb k key differs) rest
-    ]
-  where
-    gone : {T : Type 0} (slab : Slab (StoredSlot T)) (before : List ℕ) (o : Option (StoredSlot T)) → IsHere slab before o → o ≡ None → ⊥
-    gone slab before None h none = h
-    gone slab before (Some x) h none = absurd (cc)
+vacant_absent slab before (k ∷ keys) key h none = grind (arith, vacant_absent slab (before ++ k ∷ []) keys key, here_gone)
 
 -- what stands under keys after one was written
 pub updated_like : {T : Type 0} (old new : Slab (StoredSlot T)) (key : ℕ) (kept after : StoredSlot T) → get old key ≡ Some kept → Updates old new key (Some after) → IsLike kept (Some after) → AreLike old new
-updated_like old new key kept after found u like k x is =
-    elim (cases_eq k key) [
-      | inl same ↦ (let e : Some x ≡ Some kept = sym is ∙ (ap (get old) same ∙ found) in
-          let here : get new k ≡ Some after = ap (get new) same ∙ u.changed in
-          rw here (subst (λ o. IsLikeOf o (Some after)) (sym e) like))
-      | inr differs ↦ rw (u.others k differs ∙ is) (refl, refl, refl, refl)
-    ]
+updated_like old new key kept after found u like k x is = grind arith
 
 -- the slots after one was written
 pub slots_in-put : {T : Type 0} (old new : Slab (StoredSlot T)) (before keys : List ℕ) (i d : ℕ) (after : StoredSlot T) → AllHere old before keys → AreApartKeys keys → i < length keys → Updates old new (get_or keys i d) (Some after) → slots_in new keys ≡ set (slots_in old keys) i after.slot
@@ -168,19 +145,11 @@ has_number-append [] more key = refl
 has_number-append (k ∷ keys) more key = rw (has_number-append keys more key) (or_assoc (eqb k key) (has_number keys key) (has_number more key))
   where
     or_assoc : (a b c : Bool) → (a || (b || c)) ≡ ((a || b) || c)
-    or_assoc true b c = refl
-    or_assoc false b c = refl
+    or_assoc a b c = grind arith
 
 pub apart-append : (keys : List ℕ) (key : ℕ) → AreApartKeys keys → has_number keys key ≡ false → AreApartKeys (keys ++ key ∷ [])
 apart-append [] key a none = (refl, tt)
-apart-append (k ∷ keys) key a none =
-    let parts = or_false (eqb k key) (has_number keys key) none in
-    let turned : eqb key k ≡ false = ne_eqb key k (λ e. false≢true (sym parts.0 ∙ eq-eqb k key (sym e))) in
-    (has_number-append keys (key ∷ []) k ∙ (rw (a.0, turned) refl), apart-append keys key a.1 parts.1)
-  where
-    or_false : (a b : Bool) → (a || b) ≡ false → (a ≡ false) × (b ≡ false)
-    or_false true b h = absurd (false≢true (sym h))
-    or_false false b h = (refl, h)
+apart-append (k ∷ keys) key a none = grind (arith, apart-append keys key, has_number-append)
 
 -- the parent's key, by the place that it stands at
 pub knows_read : {T : Type 0} (slab : Slab (StoredSlot T)) (keys : List ℕ) (parent : ℕ) (at key : ℕ) → AllHere slab [] keys → StandsUnder (slots_in slab keys) (Some parent) (Some at) → key ≡ get_or keys at key → KnowsParent slab keys (Some parent) (Some key)
@@ -190,21 +159,13 @@ knows_read slab keys parent at key h s is =
     (has, serial slab keys at key parent (get slab key) h s lt is refl)
   where
     serial : {T : Type 0} (slab : Slab (StoredSlot T)) (keys : List ℕ) (at key parent : ℕ) (o : Option (StoredSlot T)) → AllHere slab [] keys → StandsUnder (slots_in slab keys) (Some parent) (Some at) → at < length keys → key ≡ get_or keys at key → get slab key ≡ o → HasSerial parent o
-    serial slab keys at key parent None h s lt is found = absurd (gone slab (take at keys) (get slab key) (here_read slab keys at key h lt is) found)
-      where
-        gone : {T : Type 0} (slab : Slab (StoredSlot T)) (before : List ℕ) (o : Option (StoredSlot T)) → IsHere slab before o → o ≡ None → ⊥
-        gone slab before None h none = h
-        gone slab before (Some x) h none = absurd (cc)
+    serial slab keys at key parent None h s lt is found = absurd (here_gone slab (take at keys) (get slab key) (here_read slab keys at key h lt is) found)
     serial slab keys at key parent (Some kept) h s lt is found =
         sym (serial_read (slots_in slab keys) at kept.slot s.0 (sym (slot_read slab keys at key kept kept.slot h lt is found))) ∙ s.1
 
 -- the slot under a key that was read
 pub kept_read : {T : Type 0} (slab : Slab (StoredSlot T)) (keys : List ℕ) (i key : ℕ) → AllHere slab [] keys → i < length keys → key ≡ get_or keys i key → (kept : StoredSlot T) × (get slab key ≡ Some kept)
-kept_read slab keys i key h lt is = of slab (take i keys) (get slab key) (here_read slab keys i key h lt is)
-  where
-    of : {T : Type 0} (slab : Slab (StoredSlot T)) (before : List ℕ) (o : Option (StoredSlot T)) → IsHere slab before o → (kept : StoredSlot T) × (o ≡ Some kept)
-    of slab before None h = absurd h
-    of slab before (Some x) h = (x, refl)
+kept_read slab keys i key h lt is = here_found slab (take i keys) (get slab key) (here_read slab keys i key h lt is)
 
 -- a slot store in which a slot was put in the place of another of its name
 pub put_store : {T : Type 0} (old new : Slab (StoredSlot T)) (keys : List ℕ) (room places i key : ℕ) (slot : TenantSlot T) → IsSlotStore old keys room places → i < length keys → key ≡ get_or keys i key → slot.serial ≡ (get_or (slots_in old keys) i slot).serial → slot.parent ≡ (get_or (slots_in old keys) i slot).parent → ((kept : StoredSlot T) → get old key ≡ Some kept → Updates old new key (Some (record kept { slot = slot }))) → slab_len new ≡ slab_len old → new.capacity ≡ old.capacity → IsSlotStore new keys room places
@@ -243,35 +204,23 @@ push_store old new keys room places key slot above s less knows vacant u len cap
   where
     pushed_like : {T : Type 0} (old new : Slab (StoredSlot T)) (key : ℕ) (o : Option (StoredSlot T)) → get old key ≡ None → Updates old new key o → AreLike old new
     pushed_like old new key o vacant u k x is =
-        let differs : k ≢ key = λ e. none_some x (sym vacant ∙ (ap (get old) (sym e) ∙ is)) in
+        let differs : k ≢ key = λ e. none-some x (sym vacant ∙ (ap (get old) (sym e) ∙ is)) in
         rw (u.others k differs ∙ is) (refl, refl, refl, refl)
-      where
-        none_some : {X : Type 0} (x : X) → None ≡ Some x → ⊥
-        none_some x e = absurd (cc)
 
 pub push_slots : {T : Type 0} (old new : Slab (StoredSlot T)) (keys : List ℕ) (key : ℕ) (kept : StoredSlot T) → AllHere old [] keys → get old key ≡ None → Updates old new key (Some kept) → slots_in new (keys ++ key ∷ []) ≡ slots_in old keys ++ kept.slot ∷ []
-push_slots old new keys key kept here vacant u =
-    let absent = vacant_absent old [] keys key here vacant in
-    let same = slots_in-same old new keys (λ k has. u.others k (λ e. false≢true (sym absent ∙ (ap (has_number keys) (sym e) ∙ has)))) in
-    slots_in-append new keys (key ∷ []) ∙ (rw (same, u.changed) refl)
+push_slots old new keys key kept here vacant u = grind (arith, vacant_absent, slots_in-same, slots_in-append)
 
 length-with_slot : {T : Type 0} (p : ℕ) (change : TenantSlot T → TenantSlot T) (slots : List (TenantSlot T)) → length (with_slot p change slots) ≡ length slots
 length-with_slot p change [] = refl
 length-with_slot p change (s ∷ slots) = ap suc (length-with_slot p change slots)
 
 pub length-with_child : {T : Type 0} (parent : Option ℕ) (slots : List (TenantSlot T)) → length (with_child parent slots) ≡ length slots
-length-with_child None slots = refl
-length-with_child (Some p) slots = length-with_slot p (λ s. record s { children = s.children + 1 }) slots
+length-with_child parent slots = grind (arith, length-with_slot)
 
 pub length-without_child : {T : Type 0} (parent : Option ℕ) (slots : List (TenantSlot T)) → length (without_child parent slots) ≡ length slots
-length-without_child None slots = refl
-length-without_child (Some p) slots = length-with_slot p (λ s. record s { children = s.children - 1 }) slots
+length-without_child parent slots = grind (arith, length-with_slot)
 
 -- ---- more room: the slots under keys, whatever the capacity
-
-pub roomy_slots : {T : Type 0} (slab : Slab (StoredSlot T)) (capacity : ℕ) (keys : List ℕ) → slots_in (record slab { capacity = capacity }) keys ≡ slots_in slab keys
-roomy_slots slab capacity [] = refl
-roomy_slots slab capacity (key ∷ keys) = ap (λ slots. with_found (get slab key) slots) (roomy_slots slab capacity keys)
 
 roomy_here : {T : Type 0} (slab : Slab (StoredSlot T)) (capacity : ℕ) (before keys : List ℕ) → AllHere slab before keys → AllHere (record slab { capacity = capacity }) before keys
 roomy_here {T} slab capacity before [] here = tt
@@ -288,15 +237,7 @@ roomy_here {T} slab capacity before (key ∷ keys) here = (knows before (get sla
     knows before (Some kept) here = (here.0, above_known before kept.slot.parent kept.above here.1)
 
 pub roomy_store : {T : Type 0} (old new : Slab (StoredSlot T)) (keys : List ℕ) (room room' places places' : ℕ) → IsSlotStore old keys room places → new ≡ record old { capacity = new.capacity } → places ≤ places' → places' ≤ new.capacity → places' ≤ room' → IsSlotStore new keys room' places'
-roomy_store {T} old new keys room room' places places' s same more wide long =
-    subst (λ (k : Slab (StoredSlot T)). IsSlotStore k keys room' places') (sym same) (record {
-      here = roomy_here old new.capacity [] keys s.here;
-      apart = s.apart;
-      counted = s.counted;
-      within = omega (arith, s.within, more);
-      slab_room = wide;
-      order_room = long;
-    })
+roomy_store old new keys room room' places places' s same more wide long = grind (arith, roomy_here)
 
 pub roomy_len : {T : Type 0} (old new : Slab (StoredSlot T)) → new ≡ record old { capacity = new.capacity } → slab_len new ≡ slab_len old
 roomy_len {T} old new same = ap (λ (k : Slab (StoredSlot T)). slab_len k) same

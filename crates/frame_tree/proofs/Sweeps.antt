@@ -1,10 +1,11 @@
 -- The pass of an abort that removes the marked slots.
-use Rattle.std.proofs.Common.{◌≡◌, ℕ, zero, suc, ◌+◌, ◌<◌, ◌≤◌, Bool, true, false, not, ◌||◌, ◌&&◌, eqb, List, [], ◌∷◌, ◌++◌, Option, Some, None, IsSome, length, take, drop, get_or, set, map, cond, refl, ap, sym, ◌∙◌, inl, inr, arith, append-nil, append_assoc, subst}
+use Rattle.std.proofs.Common.{◌≡◌, ℕ, zero, suc, ◌+◌, ◌<◌, ◌≤◌, true, false, not, ◌||◌, eqb, List, [], ◌∷◌, ◌++◌, Some, None, IsSome, length, take, drop, get_or, set, map, refl, ap, sym, ◌∙◌, inl, inr, arith, append-nil, append_assoc, subst}
 use Rattle.std.specs.List.{filter}
-use Rattle.std.proofs.lemmas.List.{take_more}
+use Rattle.std.proofs.lemmas.List.{take_more, map-append}
 use Rattle.std.proofs.lemmas.List.Elements.{filter_more}
 use Rattle.std.proofs.lemmas.List.Filters.{FiltersInPlace, FiltersInPlace-more_set, FiltersInPlace-more_no}
-use Rattle.std.proofs.lemmas.Bool.{cases_eq, ne_eqb}
+use Rattle.std.proofs.lemmas.Bool.{cases_eq, ne_eqb, and_right}
+use Rattle.std.proofs.lemmas.Grind.{common_steps}
 use Rattle.slab.specs.Slab.{Slab, get, slab_len, ContainsKey, Updates}
 use Rattle.frame_tree.specs.declared.slot_store.StoredSlot.{StoredSlot}
 use Rattle.frame_tree.specs.Places.{has_number}
@@ -45,23 +46,16 @@ swept_early old all had from le none = record {
     same slab [] key none = refl
     same slab (k ∷ keys) key none =
         elim (cases_eq k key) [
-          | inl here ↦ (let off : is_marked (get slab key) ≡ false = ap (λ j. is_marked (get slab j)) (sym here) ∙ none.0 in rw (off, and_false (has_number (k ∷ keys) key)) refl)
+          | inl here ↦ (let off : is_marked (get slab key) ≡ false = ap (λ j. is_marked (get slab j)) (sym here) ∙ none.0 in rw (off, and_right (has_number (k ∷ keys) key) false refl) refl)
           | inr differs ↦ rw (ne_eqb k key differs) (same slab keys key none.1)
         ]
-      where
-        and_false : (b : Bool) → (b && false) ≡ false
-        and_false true = refl
-        and_false false = refl
 
 -- the key that is read is that of all
 pub read_of_all : {T : Type 0} (old now : Slab (StoredSlot T)) (all order : List ℕ) (had values : List T) (kept at key : ℕ) → HasSwept old now all order had values kept at → key ≡ get_or order at key → key ≡ get_or all at key
 read_of_all old now all order had values kept at key h is = is ∙ (sym (get_or-drop order at key) ∙ (ap (λ xs. get_or xs 0 key) h.moved.rest ∙ get_or-drop all at key))
   where
     get_or-drop : (xs : List ℕ) (i d : ℕ) → get_or (drop i xs) 0 d ≡ get_or xs i d
-    get_or-drop [] zero d = refl
-    get_or-drop [] (suc i) d = refl
-    get_or-drop (x ∷ xs) zero d = refl
-    get_or-drop (x ∷ xs) (suc i) d = get_or-drop xs i d
+    get_or-drop xs i d = grind (arith, common_steps)
 
 there_at : {T : Type 0} (slab : Slab (StoredSlot T)) (keys : List ℕ) (i d : ℕ) → AreThere slab keys → i < length keys → ContainsKey slab (get_or keys i d)
 there_at slab [] i d t lt = absurd (omega arith)
@@ -91,7 +85,7 @@ swept_stays old now all order had values kept at key h lt read stays =
     record {
       moved = FiltersInPlace-more_set h.moved (omega (arith, h.moved.long)) (rw stays refl) read;
       slots = λ k. elim (cases_eq k key) [
-        | inl same ↦ (let m : is_marked (get old k) ≡ false = ap (λ j. is_marked (get old j)) same ∙ stays in h.slots k ∙ (rw m (both (has_number (take at all) k) (has_number (take (at + 1) all) k) (get old k))))
+        | inl same ↦ (let m : is_marked (get old k) ≡ false = ap (λ j. is_marked (get old j)) same ∙ stays in h.slots k ∙ (rw (m, and_right (has_number (take at all) k) false refl, and_right (has_number (take (at + 1) all) k) false refl) refl))
         | inr differs ↦ h.slots k ∙ (rw (has_number_more all at key k lt is, first_keys (has_number (take at all) k) key k (λ e. differs (sym e))) refl)
       ];
       written = h.written ∙ ap (λ ks. had ++ values_in old ks) (sym more);
@@ -99,12 +93,6 @@ swept_stays old now all order had values kept at key h lt read stays =
       room = omega (arith, h.room);
       capacity = h.capacity;
     }
-  where
-    both : {X : Type 0} (a b : Bool) (o : Option X) → cond (a && false) None o ≡ cond (b && false) None o
-    both true true o = refl
-    both true false o = refl
-    both false true o = refl
-    both false false o = refl
 
 -- a slot that goes
 pub swept_goes : {T : Type 0} (old now new : Slab (StoredSlot T)) (all order : List ℕ) (had values : List T) (kept at key : ℕ) (gone : StoredSlot T) → HasSwept old now all order had values kept at → AreApartKeys all → at < length all → key ≡ get_or order at key → is_marked (get old key) ≡ true → get now key ≡ Some gone → Updates now new key None → slab_len new + 1 ≡ slab_len now → new.capacity ≡ now.capacity → HasSwept old new all order had (values ++ gone.slot.value ∷ []) kept (at + 1)
@@ -126,10 +114,6 @@ swept_goes old now new all order had values kept at key gone h a lt read goes fo
       capacity = capacity ∙ h.capacity;
     }
   where
-    map_append : {X Y : Type 0} (f : X → Y) (xs ys : List X) → map f (xs ++ ys) ≡ map f xs ++ map f ys
-    map_append f [] ys = refl
-    map_append f (x ∷ xs) ys = ap (λ zs. f x ∷ zs) (map_append f xs ys)
-
     one_more : {T : Type 0} (slab : Slab (StoredSlot T)) (keys : List ℕ) (key : ℕ) (gone : StoredSlot T) → get slab key ≡ Some gone → values_in slab (keys ++ key ∷ []) ≡ values_in slab keys ++ gone.slot.value ∷ []
     one_more slab keys key gone was =
-        ap (map (λ s. s.value)) (slots_in-append slab keys (key ∷ [])) ∙ (map_append (λ s. s.value) (slots_in slab keys) (slots_in slab (key ∷ [])) ∙ (rw was refl))
+        ap (map (λ s. s.value)) (slots_in-append slab keys (key ∷ [])) ∙ (map-append (λ s. s.value) (slots_in slab keys) (slots_in slab (key ∷ [])) ∙ (rw was refl))

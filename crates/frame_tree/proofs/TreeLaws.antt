@@ -1,17 +1,17 @@
 -- A tree, frame by frame: each frame stands under its parent, and what follows for look-ups, paths and children.
-use Rattle.std.proofs.Common.{◌≡◌, ◌≢◌, ℕ, zero, suc, ◌<◌, ◌≤◌, ◌⊎◌, inl, inr, Bool, true, false, ◌||◌, eqb, List, [], ◌∷◌, ◌++◌, Option, Some, None, refl, ap, sym, ◌∙◌, subst, arith, append_assoc}
+use Rattle.std.proofs.Common.{◌≡◌, ◌≢◌, ℕ, zero, suc, ◌<◌, ◌≤◌, ◌⊎◌, inl, inr, Bool, true, false, ◌||◌, eqb, List, [], ◌∷◌, ◌++◌, Option, Some, None, refl, ap, sym, ◌∙◌, arith, append_assoc}
 use Rattle.std.specs.List.{filter}
 use Rattle.std.proofs.lemmas.Bool.{cases_Bool, cases_eq, false≢true, true≢false, eq-eqb, ne_eqb, eqb-true, or_cases}
 use Rattle.frame_tree.specs.Frames.{Frame, frame_at, has_frame, has_parent, path_in, AllBelow, parent_of, path_under, goes_under, is_one_more, children_under, children_of, IsNextFrame, IsTree, IsTreeAfter}
 use Rattle.frame_tree.specs.TreeLaws.{is_that, is_child_of, AllAboveSerial, AreSerialsRising, Each}
+pub use Rattle.frame_tree.proofs.Finds.{frame_at-none as missing, found-path}
 use Rattle.frame_tree.proofs.Finds.{one_more_same, one_more_is, EndsIn-unique}
 use Rattle.frame_tree.proofs.Forest.{AllBelow-left, AllBelow-right, has_frame-above, EndsIn, EndsIn-append, goes_under-append}
 
 -- a frame that is found
 pub found-there : {T : Type 0} (frames : List (Frame T)) (serial : ℕ) (frame : Frame T) → frame_at frames serial ≡ Some frame → has_frame frames serial ≡ true
 found-there [] serial frame at = absurd cc
-found-there (x ∷ xs) serial frame at =
-    elim (cases_Bool (eqb x.serial serial)) [ inl same ↦ rw same refl | inr other ↦ rw other (found-there xs serial frame (rw other at at)) ]
+found-there (x ∷ xs) serial frame at = grind (arith, found-there xs serial frame)
 
 pub there-found : {T : Type 0} (frames : List (Frame T)) (serial : ℕ) → has_frame frames serial ≡ true → (frame : Frame T) × (frame_at frames serial ≡ Some frame)
 there-found [] serial there = absurd (false≢true there)
@@ -20,40 +20,20 @@ there-found (x ∷ xs) serial there =
 
 pub found-serial : {T : Type 0} (frames : List (Frame T)) (serial : ℕ) (frame : Frame T) → frame_at frames serial ≡ Some frame → frame.serial ≡ serial
 found-serial [] serial frame at = absurd cc
-found-serial {T} (x ∷ xs) serial frame at =
-    elim (cases_Bool (eqb x.serial serial)) [
-      | inl same ↦ (let is : ◌≡◌ {A = Option (Frame T)} (Some x) (Some frame) = rw same at at in let e : x ≡ frame = cc in sym (ap (λ f. f.serial) e) ∙ eqb-true x.serial serial same)
-      | inr other ↦ found-serial xs serial frame (rw other at at)
-    ]
-
-pub found-path : {T : Type 0} (frames : List (Frame T)) (serial : ℕ) (frame : Frame T) → frame_at frames serial ≡ Some frame → path_in frames serial ≡ frame.path
-found-path [] serial frame at = absurd cc
-found-path {T} (x ∷ xs) serial frame at =
-    elim (cases_Bool (eqb x.serial serial)) [
-      | inl same ↦ (let is : ◌≡◌ {A = Option (Frame T)} (Some x) (Some frame) = rw same at at in rw same (let e : x ≡ frame = cc in ap (λ f. f.path) e))
-      | inr other ↦ rw other (found-path xs serial frame (rw other at at))
-    ]
-
-pub missing : {T : Type 0} (frames : List (Frame T)) (serial : ℕ) → has_frame frames serial ≡ false → frame_at frames serial ≡ None
-missing [] serial lacks = refl
-missing (x ∷ xs) serial lacks =
-    elim (cases_Bool (eqb x.serial serial)) [ inl same ↦ absurd (false≢true (sym lacks ∙ (rw same refl))) | inr other ↦ rw other (missing xs serial (rw other at lacks)) ]
+found-serial {T} (x ∷ xs) serial frame at = grind (arith, found-serial xs serial frame)
 
 pub frame_at-left : {T : Type 0} (xs ys : List (Frame T)) (serial : ℕ) → has_frame xs serial ≡ true → frame_at (xs ++ ys) serial ≡ frame_at xs serial
 frame_at-left [] ys serial there = absurd (false≢true there)
-frame_at-left (x ∷ xs) ys serial there =
-    elim (cases_Bool (eqb x.serial serial)) [ inl same ↦ rw same refl | inr other ↦ rw other (frame_at-left xs ys serial (rw other at there)) ]
+frame_at-left (x ∷ xs) ys serial there = grind (arith, frame_at-left xs ys serial)
 
 pub frame_at-right : {T : Type 0} (xs ys : List (Frame T)) (serial : ℕ) → has_frame xs serial ≡ false → frame_at (xs ++ ys) serial ≡ frame_at ys serial
 frame_at-right [] ys serial lacks = refl
-frame_at-right (x ∷ xs) ys serial lacks =
-    elim (cases_Bool (eqb x.serial serial)) [ inl same ↦ absurd (false≢true (sym lacks ∙ (rw same refl))) | inr other ↦ rw other (frame_at-right xs ys serial (rw other at lacks)) ]
+frame_at-right (x ∷ xs) ys serial lacks = grind (arith, frame_at-right xs ys serial)
 
 -- one frame more: another serial is found as before, and its own where it is above all
 pub frame_at_other-push : {T : Type 0} (xs : List (Frame T)) (y : Frame T) (serial : ℕ) → y.serial ≢ serial → frame_at (xs ++ y ∷ []) serial ≡ frame_at xs serial
 frame_at_other-push [] y serial other = rw (ne_eqb y.serial serial other) refl
-frame_at_other-push (x ∷ xs) y serial other =
-    elim (cases_Bool (eqb x.serial serial)) [ inl same ↦ rw same refl | inr differs ↦ rw differs (frame_at_other-push xs y serial other) ]
+frame_at_other-push (x ∷ xs) y serial other = grind (arith, frame_at_other-push xs y serial other)
 
 pub frame_at-push : {T : Type 0} (xs : List (Frame T)) (y : Frame T) → AllBelow y.serial xs → frame_at (xs ++ y ∷ []) y.serial ≡ Some y
 frame_at-push xs y below = frame_at-right xs (y ∷ []) y.serial (has_frame-above xs y.serial below) ∙ (rw (eq-eqb y.serial y.serial refl) refl)
@@ -61,11 +41,7 @@ frame_at-push xs y below = frame_at-right xs (y ∷ []) y.serial (has_frame-abov
 -- a serial below a bound on all
 pub below-found : {T : Type 0} (xs : List (Frame T)) (bound serial : ℕ) → AllBelow bound xs → has_frame xs serial ≡ true → serial < bound
 below-found [] bound serial below there = absurd (false≢true there)
-below-found (x ∷ xs) bound serial below there =
-    elim (cases_Bool (eqb x.serial serial)) [
-      | inl same ↦ (let e = eqb-true x.serial serial same in omega (arith, below.0, e))
-      | inr other ↦ below-found xs bound serial below.1 (rw other at there)
-    ]
+below-found (x ∷ xs) bound serial below there = grind (arith, below-found xs bound serial)
 
 -- the frames of a tree rise
 above-linked : {T : Type 0} (before frames : List (Frame T)) (serial : ℕ) → ((bound : ℕ) → AllBelow bound before → serial < bound) → IsTreeAfter before frames → AllAboveSerial serial frames
@@ -84,17 +60,12 @@ tree-rising frames t = rising-after [] frames t
 -- what rises above a serial hasn't got it
 pub above-missing : {T : Type 0} (xs : List (Frame T)) (low serial : ℕ) → serial ≤ low → AllAboveSerial low xs → has_frame xs serial ≡ false
 above-missing [] low serial le above = refl
-above-missing (x ∷ xs) low serial le above =
-    rw (ne_eqb x.serial serial (λ e. omega (arith, above.0, e, le))) (above-missing xs low serial le above.1)
+above-missing (x ∷ xs) low serial le above = grind (arith, above-missing xs low serial le)
 
 -- a fact of each frame that is found, and of each frame of the list
 pub each-found : {T : Type 0} (P : Frame T → Type 0) (frames : List (Frame T)) (serial : ℕ) (frame : Frame T) → Each P frames → frame_at frames serial ≡ Some frame → P frame
 each-found P [] serial frame each at = absurd cc
-each-found {T} P (x ∷ xs) serial frame each at =
-    elim (cases_Bool (eqb x.serial serial)) [
-      | inl same ↦ (let is : ◌≡◌ {A = Option (Frame T)} (Some x) (Some frame) = rw same at at in let e : x ≡ frame = cc in subst P e each.0)
-      | inr other ↦ each-found P xs serial frame each.1 (rw other at at)
-    ]
+each-found {T} P (x ∷ xs) serial frame each at = grind (arith, each-found P xs serial frame)
 
 pub found-each : {T : Type 0} (P : Frame T → Type 0) (frames : List (Frame T)) → AreSerialsRising frames → ((serial : ℕ) (frame : Frame T) → frame_at frames serial ≡ Some frame → P frame) → Each P frames
 found-each P [] rising all = tt
@@ -139,17 +110,14 @@ placed-next {T} before frames x n = by (parent_of x.path) refl
 
 placed-after : {T : Type 0} (before frames : List (Frame T)) → IsTreeAfter before frames → Each (IsPlaced (before ++ frames)) frames
 placed-after before [] t = tt
-placed-after {T} before (x ∷ xs) t =
-    let P : List (Frame T) → Type 0 = λ all. Each (IsPlaced all) xs in
-    (placed-next before (x ∷ xs) x t.0, subst P (append_assoc before (x ∷ []) xs) (placed-after (before ++ x ∷ []) xs t.1))
+placed-after {T} before (x ∷ xs) t = grind (arith, placed-after (before ++ x ∷ []) xs, placed-next, append_assoc)
 
 -- in a tree each frame is in its place
 pub placed : {T : Type 0} (frames : List (Frame T)) (serial : ℕ) (frame : Frame T) → IsTree frames → frame_at frames serial ≡ Some frame → IsPlaced frames frame
 placed frames serial frame t at = each-found (IsPlaced frames) frames serial frame (placed-after [] frames t) at
 
 pub placed-ends : {T : Type 0} (frames : List (Frame T)) (frame : Frame T) → IsPlaced frames frame → EndsIn frame.path frame.serial
-placed-ends frames frame (inl top) = rw top.1 refl
-placed-ends frames frame (inr under) = rw under.path (EndsIn-append under.above.path frame.serial)
+placed-ends frames frame h3 = grind (arith, EndsIn-append)
 
 pub found-ends : {T : Type 0} (frames : List (Frame T)) (serial : ℕ) (frame : Frame T) → IsTree frames → frame_at frames serial ≡ Some frame → EndsIn frame.path serial
 found-ends frames serial frame t at =
@@ -176,8 +144,7 @@ tree-induction P frames t top under serial frame at = by-parents P frames t top 
 -- a path goes under a frame through its parent, or where its parent goes
 pub under-through : {T : Type 0} (frames : List (Frame T)) (frame : Frame T) (p : ℕ) → IsTree frames → (u : IsUnder frames frame) →
     goes_under p frame.path ≡ (eqb u.parent p || goes_under p u.above.path)
-under-through frames frame p t u =
-    rw u.path (goes_under-append p u.above.path u.parent frame.serial (found-ends frames u.parent u.above t u.there))
+under-through frames frame p t u = grind (arith, goes_under-append, found-ends)
 
 top-under-none : {T : Type 0} (frame : Frame T) (p : ℕ) → IsTop frame → goes_under p frame.path ≡ false
 top-under-none frame p top = rw top.1 refl
@@ -232,10 +199,7 @@ child-under {T} frames s f x t at u =
 
 filter-alike : {T : Type 0} (p q : Frame T → Bool) (frames : List (Frame T)) → Each (λ x. p x ≡ q x) frames → filter p frames ≡ filter q frames
 filter-alike p q [] each = refl
-filter-alike p q (x ∷ xs) each = elim (cases_Bool (q x)) [
-  | inl is ↦ rw (each.0, is, filter-alike p q xs each.1) refl
-  | inr not_so ↦ rw (each.0, not_so, filter-alike p q xs each.1) refl
-]
+filter-alike p q (x ∷ xs) each = grind (arith, filter-alike p q xs)
 
 filter-none : {T : Type 0} (p : Frame T → Bool) (frames : List (Frame T)) → Each (λ x. p x ≡ false) frames → filter p frames ≡ []
 filter-none p [] each = refl
@@ -277,14 +241,10 @@ named-under {T} frames s p frame t at named =
     ]
 
 pub under-path : {T : Type 0} (frames : List (Frame T)) (s p : ℕ) (frame : Frame T) → IsTree frames → frame_at frames s ≡ Some frame → parent_of frame.path ≡ Some p → frame.path ≡ path_in frames p ++ s ∷ []
-under-path frames s p frame t at named =
-    let u = named-under frames s p frame t at named in
-    rw (← u.1, found-path frames u.0.parent u.0.above u.0.there) (u.0.path ∙ ap (λ n. u.0.above.path ++ n ∷ []) (found-serial frames s frame at))
+under-path frames s p frame t at named = grind (arith, named-under, found-path, found-serial)
 
 pub under-there : {T : Type 0} (frames : List (Frame T)) (s p : ℕ) (frame : Frame T) → IsTree frames → frame_at frames s ≡ Some frame → parent_of frame.path ≡ Some p → has_frame frames p ≡ true
 under-there frames s p frame t at named = let u = named-under frames s p frame t at named in rw (← u.1) (found-there frames u.0.parent u.0.above u.0.there)
 
 pub under-below : {T : Type 0} (frames : List (Frame T)) (s p : ℕ) (frame : Frame T) → IsTree frames → frame_at frames s ≡ Some frame → parent_of frame.path ≡ Some p → p < s
-under-below frames s p frame t at named =
-    let u = named-under frames s p frame t at named in
-    let below = u.0.below in let e = found-serial frames s frame at in omega (arith, below, e, u.1)
+under-below frames s p frame t at named = grind (arith, named-under, found-serial)

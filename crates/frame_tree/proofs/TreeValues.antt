@@ -1,9 +1,9 @@
 -- A tree with one frame more, with another state in a frame, and with other values: what is found, the children, and that it is a tree.
-use Rattle.std.proofs.Common.{◌≡◌, ◌≢◌, ℕ, zero, suc, ◌<◌, inl, inr, Bool, true, not, eqb, List, [], ◌∷◌, ◌++◌, Option, Some, None, refl, ap, sym, ◌∙◌, subst, arith, append_assoc, append-nil}
+use Rattle.std.proofs.Common.{◌≡◌, ◌≢◌, ℕ, zero, suc, ◌<◌, inl, inr, Bool, true, not, eqb, List, [], ◌∷◌, ◌++◌, Option, Some, None, refl, ap, sym, ◌∙◌, arith, append_assoc, append-nil}
 use Rattle.std.specs.Prelude.{map, option_map}
 use Rattle.std.specs.List.{filter}
 use Rattle.std.proofs.lemmas.List.Elements.{filter-append}
-use Rattle.std.proofs.lemmas.Bool.{cases_Bool, eq-eqb, ne_eqb, eqb-true}
+use Rattle.std.proofs.lemmas.Bool.{cases_Bool}
 use Rattle.frame_tree.specs.declared.names.State.{State}
 use Rattle.frame_tree.specs.Frames.{Frame, frame_at, has_frame, has_parent, path_in, AllBelow, parent_of, path_under, goes_under, root_of, is_one_more, children_under, children_of, frames_under, aborted, frames_without, with_state, values_of, IsNextFrame, IsTree, IsTreeAfter, new_frame}
 use Rattle.frame_tree.specs.TreeLaws.{is_child_of, map_value, map_values, AreAlike}
@@ -13,9 +13,7 @@ use Rattle.frame_tree.proofs.TreeLaws.{there-found, found-serial, found-path, Is
 -- one frame more
 tree-push-after : {T : Type 0} (before xs : List (Frame T)) (y : Frame T) → IsTreeAfter before xs → IsNextFrame (before ++ xs) y → IsTreeAfter before (xs ++ y ∷ [])
 tree-push-after {T} before [] y t next = (rw append-nil at next, tt)
-tree-push-after {T} before (x ∷ xs) y t next =
-    let N : List (Frame T) → Type 0 = λ all. IsNextFrame all y in
-    (t.0, tree-push-after (before ++ x ∷ []) xs y t.1 (subst N (sym (append_assoc before (x ∷ []) xs)) next))
+tree-push-after {T} before (x ∷ xs) y t next = grind (arith, tree-push-after (before ++ x ∷ []) xs y, append_assoc)
 
 pub tree-push : {T : Type 0} (xs : List (Frame T)) (y : Frame T) → IsTree xs → IsNextFrame xs y → IsTree (xs ++ y ∷ [])
 tree-push xs y t next = tree-push-after [] xs y t next
@@ -28,17 +26,14 @@ parent_of-path_under xs (Some p) serial t there =
     parent_of-append (path_in xs p) p serial (rw (found-path xs p f.0 f.1) (found-ends xs p f.0 t f.1))
 
 pub new-frame-next : {T : Type 0} (xs : List (Frame T)) (serial : ℕ) (parent : Option ℕ) (home : ℕ) (value : T) → IsTree xs → AllBelow serial xs → has_parent xs parent ≡ true → IsNextFrame xs (new_frame xs serial parent home value)
-new-frame-next xs serial parent home value t below there =
-    let e = parent_of-path_under xs parent serial t there in
-    record { above = below; parent = rw e there; path = rw e refl }
+new-frame-next xs serial parent home value t below there = grind (arith, parent_of-path_under)
 
 pub tree-new_frame : {T : Type 0} (xs : List (Frame T)) (serial : ℕ) (parent : Option ℕ) (home : ℕ) (value : T) → IsTree xs → AllBelow serial xs → has_parent xs parent ≡ true → IsTree (xs ++ new_frame xs serial parent home value ∷ [])
 tree-new_frame xs serial parent home value t below there = tree-push xs (new_frame xs serial parent home value) t (new-frame-next xs serial parent home value t below there)
 
 -- it is the last child of its parent, and nobody else's
 pub children_of-push : {T : Type 0} (xs : List (Frame T)) (y : Frame T) (s : ℕ) → IsTree xs → IsNextFrame xs y → children_of (xs ++ y ∷ []) s ≡ children_of xs s ++ filter (λ x. is_child_of s x.path) (y ∷ [])
-children_of-push xs y s t next =
-    children-by-paths (xs ++ y ∷ []) s (tree-push xs y t next) ∙ filter-append (λ x. is_child_of s x.path) xs (y ∷ []) ∙ sym (ap (λ zs. zs ++ filter (λ x. is_child_of s x.path) (y ∷ [])) (children-by-paths xs s t))
+children_of-push xs y s t next = grind (arith, children-by-paths, tree-push, filter-append)
 
 -- the root above a frame is there
 root_of-append : (path : List ℕ) (s last : ℕ) → EndsIn path last → root_of (path ++ s ∷ []) ≡ root_of path
@@ -67,9 +62,7 @@ root-there {T} xs s f t at =
 
 -- a frame that is no root is under the root of its path
 pub under-root : (path : List ℕ) (p : ℕ) → parent_of path ≡ Some p → goes_under (root_of path) path ≡ true
-under-root [] p e = absurd cc
-under-root (x ∷ []) p e = absurd cc
-under-root (x ∷ y ∷ path) p e = rw (eq-eqb x x refl) refl
+under-root path p h3 = grind arith
 
 -- frames of the same serials and paths
 has_frame-alike : {T U : Type 0} (xs : List (Frame T)) (ys : List (Frame U)) (s : ℕ) → AreAlike xs ys → has_frame ys s ≡ has_frame xs s
@@ -97,26 +90,16 @@ alike-append (z ∷ xs) [] x y alike s p = absurd alike
 alike-append (z ∷ xs) (w ∷ ys) x y alike s p = (alike.0, alike.1, alike-append xs ys x y alike.2 s p)
 
 path_under-alike : {T U : Type 0} (xs : List (Frame T)) (ys : List (Frame U)) (parent : Option ℕ) (s : ℕ) → AreAlike xs ys → path_under ys parent s ≡ path_under xs parent s
-path_under-alike xs ys None s alike = refl
-path_under-alike xs ys (Some p) s alike = rw (path_in-alike xs ys p alike) refl
+path_under-alike xs ys parent s h5 = grind (arith, path_in-alike)
 
 has_parent-alike : {T U : Type 0} (xs : List (Frame T)) (ys : List (Frame U)) (parent : Option ℕ) → AreAlike xs ys → has_parent ys parent ≡ has_parent xs parent
-has_parent-alike xs ys None alike = refl
-has_parent-alike xs ys (Some p) alike = has_frame-alike xs ys p alike
+has_parent-alike xs ys parent h4 = grind (arith, has_frame-alike)
 
 tree-alike-after : {T U : Type 0} (before xs : List (Frame T)) (others ys : List (Frame U)) → AreAlike before others → AreAlike xs ys → IsTreeAfter before xs → IsTreeAfter others ys
 tree-alike-after before [] others [] all alike t = tt
 tree-alike-after before [] others (y ∷ ys) all alike t = absurd alike
 tree-alike-after before (x ∷ xs) others [] all alike t = absurd alike
-tree-alike-after {T} {U} before (x ∷ xs) others (y ∷ ys) all alike t =
-    let B : ℕ → Type 0 = λ s. AllBelow s others in (
-      record {
-        above = subst B (sym alike.0) (AllBelow-alike before others x.serial all t.0.above);
-        parent = ap (λ path. has_parent others (parent_of path)) alike.1 ∙ has_parent-alike before others (parent_of x.path) all ∙ t.0.parent;
-        path = alike.1 ∙ t.0.path ∙ sym (ap (λ path. path_under others (parent_of path) y.serial) alike.1 ∙ ap (λ s. path_under others (parent_of x.path) s) alike.0 ∙ path_under-alike before others (parent_of x.path) x.serial all);
-      },
-      tree-alike-after (before ++ x ∷ []) xs (others ++ y ∷ []) ys (alike-append before others x y all alike.0 alike.1) alike.2 t.1,
-    )
+tree-alike-after {T} {U} before (x ∷ xs) others (y ∷ ys) all alike t = grind (arith, tree-alike-after (before ++ x ∷ []) xs (others ++ y ∷ []) ys, AllBelow-alike, has_parent-alike, path_under-alike, alike-append)
 
 pub tree-alike : {T U : Type 0} (xs : List (Frame T)) (ys : List (Frame U)) → AreAlike xs ys → IsTree xs → IsTree ys
 tree-alike xs ys alike t = tree-alike-after [] xs [] ys tt alike t
@@ -124,51 +107,27 @@ tree-alike xs ys alike t = tree-alike-after [] xs [] ys tt alike t
 -- another state in a frame
 pub with_state-alike : {T : Type 0} (n : ℕ) (state : State) (xs : List (Frame T)) → AreAlike xs (with_state n state xs)
 with_state-alike n state [] = tt
-with_state-alike {T} n state (x ∷ xs) = elim (cases_Bool (eqb x.serial n)) [
-  | inl same ↦ rw same (refl, refl, with_state-alike n state xs)
-  | inr other ↦ rw other (refl, refl, with_state-alike n state xs)
-]
+with_state-alike {T} n state (x ∷ xs) = grind (arith, with_state-alike n state xs)
 
 pub tree-with_state : {T : Type 0} (n : ℕ) (state : State) (xs : List (Frame T)) → IsTree xs → IsTree (with_state n state xs)
 tree-with_state n state xs t = tree-alike xs (with_state n state xs) (with_state-alike n state xs) t
 
 pub frame_at-with_state : {T : Type 0} (n : ℕ) (state : State) (xs : List (Frame T)) (f : Frame T) → frame_at xs n ≡ Some f → frame_at (with_state n state xs) n ≡ Some (record f { state = state })
 frame_at-with_state n state [] f at = absurd cc
-frame_at-with_state {T} n state (x ∷ xs) f at = elim (cases_Bool (eqb x.serial n)) [
-  | inl same ↦ (let is : ◌≡◌ {A = Option (Frame T)} (Some x) (Some f) = rw same at at in let e : x ≡ f = cc in rw (same, same) (ap (λ (y : Frame T). Some (record y { state = state })) e))
-  | inr other ↦ rw (other, other) (frame_at-with_state n state xs f (rw other at at))
-]
+frame_at-with_state {T} n state (x ∷ xs) f at = grind (arith, frame_at-with_state n state xs f)
 
 pub frame_at_other-with_state : {T : Type 0} (n : ℕ) (state : State) (xs : List (Frame T)) (s : ℕ) → n ≢ s → frame_at (with_state n state xs) s ≡ frame_at xs s
 frame_at_other-with_state n state [] s other = refl
-frame_at_other-with_state n state (x ∷ xs) s other = elim (cases_Bool (eqb x.serial n)) [
-  | inl same ↦ (let e = eqb-true x.serial n same in let differs = ne_eqb x.serial s (λ is. other (sym e ∙ is)) in rw (same, differs) (frame_at_other-with_state n state xs s other))
-  | inr differs ↦ elim (cases_Bool (eqb x.serial s)) [
-    | inl same ↦ rw (differs, same) refl
-    | inr another ↦ rw (differs, another) (frame_at_other-with_state n state xs s other)
-  ]
-]
+frame_at_other-with_state n state (x ∷ xs) s other = grind (arith, frame_at_other-with_state n state xs s other)
 
 -- the frames that pass a test on paths
 paths-with_state : {T : Type 0} (n : ℕ) (state : State) (p : List ℕ → Bool) (xs : List (Frame T)) → filter (λ x. p x.path) (with_state n state xs) ≡ with_state n state (filter (λ x. p x.path) xs)
 paths-with_state n state p [] = refl
-paths-with_state {T} n state p (x ∷ xs) = elim (cases_Bool (eqb x.serial n)) [
-  | inl same ↦ elim (cases_Bool (p x.path)) [
-    | inl is ↦ rw (same, is, same) (ap (λ (ys : List (Frame T)). record x { state = state } ∷ ys) (paths-with_state n state p xs))
-    | inr not_so ↦ rw (same, not_so) (paths-with_state n state p xs)
-  ]
-  | inr other ↦ elim (cases_Bool (p x.path)) [
-    | inl is ↦ rw (other, is, other) (ap (λ (ys : List (Frame T)). x ∷ ys) (paths-with_state n state p xs))
-    | inr not_so ↦ rw (other, not_so) (paths-with_state n state p xs)
-  ]
-]
+paths-with_state {T} n state p (x ∷ xs) = grind (arith, paths-with_state n state p xs)
 
 pub values_of-with_state : {T : Type 0} (n : ℕ) (state : State) (xs : List (Frame T)) → values_of (with_state n state xs) ≡ values_of xs
 values_of-with_state n state [] = refl
-values_of-with_state {T} n state (x ∷ xs) = elim (cases_Bool (eqb x.serial n)) [
-  | inl same ↦ rw same (ap (λ (vs : List T). x.value ∷ vs) (values_of-with_state n state xs))
-  | inr other ↦ rw other (ap (λ (vs : List T). x.value ∷ vs) (values_of-with_state n state xs))
-]
+values_of-with_state {T} n state (x ∷ xs) = grind (arith, values_of-with_state n state xs)
 
 pub children_of-with_state : {T : Type 0} (n : ℕ) (state : State) (xs : List (Frame T)) (s : ℕ) → IsTree xs → children_of (with_state n state xs) s ≡ with_state n state (children_of xs s)
 children_of-with_state n state xs s t =
@@ -205,10 +164,7 @@ append-map_values {T} {U} change (x ∷ xs) ys = ap (λ (zs : List (Frame U)). m
 
 paths-map_values : {T U : Type 0} (change : T → U) (p : List ℕ → Bool) (xs : List (Frame T)) → filter (λ x. p x.path) (map_values change xs) ≡ map_values change (filter (λ x. p x.path) xs)
 paths-map_values change p [] = refl
-paths-map_values {T} {U} change p (x ∷ xs) = elim (cases_Bool (p x.path)) [
-  | inl is ↦ rw is (ap (λ (ys : List (Frame U)). map_value change x ∷ ys) (paths-map_values change p xs))
-  | inr not_so ↦ rw not_so (paths-map_values change p xs)
-]
+paths-map_values {T} {U} change p (x ∷ xs) = grind (arith, paths-map_values change p xs)
 
 pub aborted-map_values : {T U : Type 0} (change : T → U) (s : ℕ) (xs : List (Frame T)) → aborted s (map_values change xs) ≡ map_values change (aborted s xs)
 aborted-map_values change s xs = paths-map_values change (λ path. not (goes_under s path)) xs
@@ -218,10 +174,7 @@ frames_under-map_values change s xs = paths-map_values change (λ path. goes_und
 
 pub frames_without-map_values : {T U : Type 0} (change : T → U) (s : ℕ) (xs : List (Frame T)) → frames_without s (map_values change xs) ≡ map_values change (frames_without s xs)
 frames_without-map_values change s [] = refl
-frames_without-map_values {T} {U} change s (x ∷ xs) = elim (cases_Bool (eqb x.serial s)) [
-  | inl same ↦ rw same (frames_without-map_values change s xs)
-  | inr other ↦ rw other (ap (λ (ys : List (Frame U)). map_value change x ∷ ys) (frames_without-map_values change s xs))
-]
+frames_without-map_values {T} {U} change s (x ∷ xs) = grind (arith, frames_without-map_values change s xs)
 
 pub children_of-map_values : {T U : Type 0} (change : T → U) (xs : List (Frame T)) (s : ℕ) → children_of (map_values change xs) s ≡ map_values change (children_of xs s)
 children_of-map_values {T} {U} change xs s = ap (λ o. children_under o (map_values change xs)) (frame_at-map_values change xs s) ∙ by (frame_at xs s)
@@ -232,15 +185,11 @@ children_of-map_values {T} {U} change xs s = ap (λ o. children_under o (map_val
 
 pub with_state-map_values : {T U : Type 0} (change : T → U) (n : ℕ) (state : State) (xs : List (Frame T)) → with_state n state (map_values change xs) ≡ map_values change (with_state n state xs)
 with_state-map_values change n state [] = refl
-with_state-map_values {T} {U} change n state (x ∷ xs) = elim (cases_Bool (eqb x.serial n)) [
-  | inl same ↦ rw same (ap (λ (ys : List (Frame U)). map_value change (record x { state = state }) ∷ ys) (with_state-map_values change n state xs))
-  | inr other ↦ rw other (ap (λ (ys : List (Frame U)). map_value change x ∷ ys) (with_state-map_values change n state xs))
-]
+with_state-map_values {T} {U} change n state (x ∷ xs) = grind (arith, with_state-map_values change n state xs)
 
 pub new_frame-map_values : {T U : Type 0} (change : T → U) (xs : List (Frame T)) (serial : ℕ) (parent : Option ℕ) (home : ℕ) (value : T) →
     new_frame (map_values change xs) serial parent home (change value) ≡ map_value change (new_frame xs serial parent home value)
-new_frame-map_values {T} {U} change xs serial parent home value =
-    ap (λ (path : List ℕ). map_value change (record (new_frame xs serial parent home value) { path = path })) (path_under-alike xs (map_values change xs) parent serial (map_values-alike change xs))
+new_frame-map_values change xs serial parent home value = grind (arith, path_under-alike, map_values-alike)
 
 pub values_of-map_values : {T U : Type 0} (change : T → U) (xs : List (Frame T)) → values_of (map_values change xs) ≡ map change (values_of xs)
 values_of-map_values change [] = refl

@@ -1,13 +1,13 @@
 -- What the methods of a tenant's frames need, over plain lists.
 use Rattle.std.proofs.Common.{◌≡◌, ℕ, zero, suc, ◌+◌, ◌<◌, ◌≤◌, true, false, IsTrue, nat_lt, List, [], ◌∷◌, ◌++◌, Option, length, get_or, set, slice_index, refl, ap, sym, ◌∙◌, arith, subst, length-set}
 use Rattle.std.specs.List.{remove}
-use Rattle.std.proofs.lemmas.Bool.{ltb-true, ltb-false, lt-ltb, false≢true}
+use Rattle.std.proofs.lemmas.Bool.{false≢true}
 use Rattle.frame_tree.specs.declared.names.State.TheVariants.{Ready}
 use Rattle.frame_tree.specs.declared.slot.Slot.{Slot}
 use Rattle.frame_tree.specs.Frames.{Frame, frame_at, AllBelow, children_of, HasValue, aborted, frames_under, frames_without, values_of, has_parent, new_frame}
-use Rattle.frame_tree.specs.Slots.{frame_of_slot, frames_from, has_slot, AreSoundSlots, IsLinked, serials_of, ready_slots, child_slots, with_child, root_under, AllCountsBelow, with_slot, is_kept, kept_slots, gone_values, without_child}
+use Rattle.frame_tree.specs.Slots.{frame_of_slot, frames_from, has_slot, AreSoundSlots, IsLinked, serials_of, ready_slots, child_slots, with_child, root_under, AllCountsBelow, with_slot, kept_slots, gone_values, without_child}
 use Rattle.frame_tree.proofs.Lengths.{length-filter-le}
-use Rattle.frame_tree.proofs.Counts.{count_in, counts_below, counted_at}
+use Rattle.frame_tree.proofs.Counts.{counts_below, counted_at}
 use Rattle.frame_tree.proofs.Finds.{IsFound, root_under-path, children_of-length, frames_from-length, no_children, none_of_length}
 use Rattle.frame_tree.proofs.Forest.{linked_rises}
 use Rattle.frame_tree.proofs.Search.{with_slot-set, serial_read, above_at}
@@ -16,10 +16,7 @@ use Rattle.frame_tree.proofs.Changes.{sound_add, frames_add, childless, cleared-
 
 -- whether there is a child, by the count that is kept
 pub counted_children : {T : Type 0} (xs : List (Slot T)) (ready i serial : ℕ) (slot : Slot T) → AreSoundSlots xs ready → i < length xs → slice_index (serials_of xs) i ≡ serial → slot ≡ get_or xs i slot → (IsTrue (nat_lt 0 slot.children) → 0 < length (children_of (frames_from [] xs) serial)) × (0 < length (children_of (frames_from [] xs) serial) → IsTrue (nat_lt 0 slot.children))
-counted_children xs ready i serial slot s lt at is =
-    let count = counted_at (λ n. count_in xs n) xs i serial slot s.counted lt at is in
-    let frames = children_of-length xs serial s.linked in
-    (λ t. omega (arith, ltb-true 0 slot.children t, count, frames), λ h. lt-ltb 0 slot.children (omega (arith, count, frames)))
+counted_children xs ready i serial slot s lt at is = grind (arith, counted_at, children_of-length)
 
 pub no_counted_children : {T : Type 0} (xs : List (Slot T)) (ready serial : ℕ) → AreSoundSlots xs ready → has_slot xs serial ≡ false → (IsTrue false → 0 < length (children_of (frames_from [] xs) serial)) × (0 < length (children_of (frames_from [] xs) serial) → IsTrue false)
 no_counted_children xs ready serial s none =
@@ -29,12 +26,7 @@ no_counted_children xs ready serial s none =
 
 -- no count reaches the places that there can be
 pub few_counts : {T : Type 0} (xs : List (Slot T)) (ready limit : ℕ) → AreSoundSlots xs ready → length (frames_from [] xs) < limit → AllCountsBelow limit xs
-few_counts xs ready limit s few =
-    let long = frames_from-length [] xs in
-    counts_below (λ n. count_in xs n) limit xs s.counted (λ n. omega (arith, few, long, count_le n xs))
-  where
-    count_le : {T : Type 0} (n : ℕ) (xs : List (Slot T)) → count_in xs n ≤ length xs
-    count_le n xs = length-filter-le _ xs
+few_counts xs ready limit s few = grind (arith, frames_from-length, counts_below, length-filter-le)
 
 -- a frame that was added
 pub added_sound : {T : Type 0} (xs zs : List (Slot T)) (ready serial root home : ℕ) (parent : Option ℕ) (value : T) → AreSoundSlots xs ready → AllBelow serial (frames_from [] xs) → has_parent (frames_from [] xs) parent ≡ true → root ≡ root_under xs parent serial → zs ≡ with_child parent xs ++ record { serial = serial; parent = parent; root = root; state = Ready home; children = 0; value = value } ∷ [] → AreSoundSlots zs (ready + 1)
@@ -44,9 +36,7 @@ added_sound {T} xs zs ready serial root home parent value s above there is_root 
     subst P (sym is) (sound_add xs ready slot s (record { above = above; parent = there; root = is_root ∙ root_under-path xs parent serial s.linked there }) refl refl)
 
 pub added_frames : {T : Type 0} (xs zs : List (Slot T)) (serial root home : ℕ) (parent : Option ℕ) (value : T) → zs ≡ with_child parent xs ++ record { serial = serial; parent = parent; root = root; state = Ready home; children = 0; value = value } ∷ [] → frames_from [] zs ≡ frames_from [] xs ++ new_frame (frames_from [] xs) serial parent home value ∷ []
-added_frames {T} xs zs serial root home parent value is =
-    let slot : Slot T = record { serial = serial; parent = parent; root = root; state = Ready home; children = 0; value = value } in
-    rw is (frames_add xs slot)
+added_frames xs zs serial root home parent value is = grind (arith, frames_add)
 
 -- the value of a frame that was found
 pub found_value : {T : Type 0} (frames : List (Frame T)) (slot : Slot T) (serial : ℕ) (path : List ℕ) (value : T) → IsFound frames slot serial path → value ≡ slot.value → HasValue (frame_at frames serial) value
@@ -78,8 +68,7 @@ cut_values xs ready i n slot s lt at is =
     rw changed (gone_values-frames n (with_slot n childless xs) (cleared-linked n xs s.linked) ∙ ap (λ fs. values_of (frames_under n fs)) (cleared-frames n xs))
 
 pub cut_length : {T : Type 0} (n : ℕ) (xs : List (Slot T)) (i : ℕ) (slot : Slot T) (zs : List (Slot T)) → zs ≡ kept_slots n (set xs i (childless slot)) → length zs ≤ length xs
-cut_length n xs i slot zs kept =
-    omega (arith, ap length kept, length-filter-le (λ x. is_kept n (frames_from [] (set xs i (childless slot))) x.serial) (set xs i (childless slot)), length-set xs i (childless slot))
+cut_length n xs i slot zs kept = grind (arith, length-filter-le, length-set)
 
 -- a leaf that was removed
 pub lost : {T : Type 0} (xs : List (Slot T)) (ready i n : ℕ) (slot : Slot T) → AreSoundSlots xs ready → i < length xs → slice_index (serials_of xs) i ≡ n → slot ≡ get_or xs i slot → children_of (frames_from [] xs) n ≡ [] → HasLost xs (remove xs i) slot
@@ -102,11 +91,7 @@ lost_frames {T} xs ys zs ready i n slot s lt at is leaf gone fewer =
 
 -- no child, by the count that is kept
 pub counted_leaf : {T : Type 0} (xs : List (Slot T)) (ready i serial : ℕ) (slot : Slot T) → AreSoundSlots xs ready → i < length xs → slice_index (serials_of xs) i ≡ serial → slot ≡ get_or xs i slot → nat_lt 0 slot.children ≡ false → children_of (frames_from [] xs) serial ≡ []
-counted_leaf xs ready i serial slot s lt at is none =
-    let count = counted_at (λ n. count_in xs n) xs i serial slot s.counted lt at is in
-    let frames = children_of-length xs serial s.linked in
-    let few = ltb-false 0 slot.children none in
-    none_of_length (children_of (frames_from [] xs) serial) (omega (arith, count, frames, few))
+counted_leaf xs ready i serial slot s lt at is none = grind (arith, counted_at, children_of-length, none_of_length)
 
 pub no_counted_leaf : {T : Type 0} (xs : List (Slot T)) (ready serial : ℕ) → AreSoundSlots xs ready → has_slot xs serial ≡ false → false ≡ false → children_of (frames_from [] xs) serial ≡ []
 no_counted_leaf xs ready serial s none e =

@@ -1,8 +1,9 @@
 -- What stands up to an aborted frame stays.
-use Rattle.std.proofs.Common.{◌≡◌, ℕ, zero, suc, ◌+◌, ◌<◌, ◌≤◌, nat_lt, Bool, true, false, List, [], ◌∷◌, ◌++◌, Option, Some, None, length, length-set, take, drop, set, get_or, slice_index, refl, ap, sym, ◌∙◌, inl, inr, arith}
+use Rattle.std.proofs.Common.{◌≡◌, ℕ, zero, suc, ◌+◌, ◌<◌, ◌≤◌, nat_lt, Bool, true, false, List, [], ◌∷◌, ◌++◌, Option, Some, None, length, length-set, take, drop, set, get_or, slice_index, refl, ap, sym, ◌∙◌, inl, inr, arith, length-append, take-append-drop, take_at, drop_at, length-take-le as length-front}
 use Rattle.std.proofs.lemmas.Bool.{cases_eq, cases_Bool, false≢true, eq-eqb, ne_eqb}
 use Rattle.std.specs.List.{filter}
-use Rattle.std.proofs.lemmas.List.{get_or-set_same}
+use Rattle.std.proofs.lemmas.List.{get_or-set_same, take-set}
+use Rattle.std.proofs.lemmas.List.Elements.{filter-append}
 use Rattle.slab.specs.Slab.{Slab, get}
 use Rattle.frame_tree.specs.declared.slot.Slot.{Slot as TenantSlot}
 use Rattle.frame_tree.specs.declared.slot_store.StoredSlot.{StoredSlot}
@@ -16,7 +17,7 @@ use Rattle.frame_tree.proofs.Cuts.{FollowsBy, kept_follows}
 use Rattle.frame_tree.proofs.Changes.{below_bound, childless}
 use Rattle.frame_tree.proofs.Forest.{linked_rises}
 use Rattle.frame_tree.proofs.Search.{above_at, serial_read}
-use Rattle.frame_tree.proofs.Cutting.{NoParent}
+use Rattle.frame_tree.proofs.Cutting.{NoParent, tail_key}
 use Rattle.frame_tree.proofs.AbortChildless.{AllStay, all_stay, filter_all}
 use Rattle.frame_tree.proofs.Lengths.{length-take-le}
 use Rattle.frame_tree.proofs.Trees.{cut_linked, cut_length}
@@ -100,15 +101,7 @@ early_staying n slab keys i h l lt at =
 
 -- so marking may begin behind it
 pub marks_early : {T : Type 0} (n : ℕ) (slab : Slab (StoredSlot T)) (keys : List ℕ) (i : ℕ) → AllHere slab [] keys → IsLinked [] (slots_in slab keys) → i < length (slots_in slab keys) → slice_index (serials_of (slots_in slab keys)) i ≡ n → Marks n (slots_in slab keys) (take i keys) slab slab
-marks_early n slab keys i h l lt at k = by_slot n (slots_in slab keys) (take i keys) k (get slab k) (λ x has is. early_staying n slab keys i h l lt at k x has is)
-  where
-    by_slot : {T : Type 0} (n : ℕ) (slots : List (TenantSlot T)) (keys : List ℕ) (k : ℕ) (o : Option (StoredSlot T)) → ((x : StoredSlot T) → has_number keys k ≡ true → o ≡ Some x → (x.marked ≡ false) × (is_kept n (frames_from [] slots) x.slot.serial ≡ true)) → o ≡ marked_in n slots keys k o
-    by_slot n slots keys k None stays = refl
-    by_slot n slots keys k (Some x) stays =
-        elim (cases_Bool (has_number keys k)) [
-          | inl has ↦ (let s = stays x has refl in rw (has, s.1) (ap (λ b. Some (record x { marked = b })) s.0))
-          | inr none ↦ rw none refl
-        ]
+marks_early n slab keys i h l lt at k = grind (arith, early_staying)
 
 -- and so may the removal of the marked
 pub none_marked_early : {T : Type 0} (n : ℕ) (old marked : Slab (StoredSlot T)) (keys : List ℕ) (i : ℕ) → AllHere old [] keys → IsLinked [] (slots_in old keys) → i < length (slots_in old keys) → slice_index (serials_of (slots_in old keys)) i ≡ n → Marks n (slots_in old keys) keys old marked → NoneMarked marked (take i keys)
@@ -119,9 +112,6 @@ none_marked_early n old marked keys i h l lt at m = none n (slots_in old keys) k
     none n slots all old marked (k ∷ keys) m stays up =
         (ap is_marked (m k) ∙ off n slots all k (get old k) (λ x is. stays k x (rw (eq-eqb k k refl) refl) is), none n slots all old marked keys m (λ j x has is. stays j x (tail_key k j keys has) is) (λ j has. has))
       where
-        tail_key : (k j : ℕ) (keys : List ℕ) → has_number keys j ≡ true → has_number (k ∷ keys) j ≡ true
-        tail_key k j keys h = elim (cases_eq k j) [ inl same ↦ rw (eq-eqb k j same) refl | inr differs ↦ rw (ne_eqb k j differs) h ]
-
         off : {T : Type 0} (n : ℕ) (slots : List (TenantSlot T)) (all : List ℕ) (k : ℕ) (o : Option (StoredSlot T)) → ((x : StoredSlot T) → o ≡ Some x → (x.marked ≡ false) × (is_kept n (frames_from [] slots) x.slot.serial ≡ true)) → is_marked (marked_in n slots all k o) ≡ false
         off n slots all k None stays = refl
         off n slots all k (Some x) stays =
@@ -145,54 +135,18 @@ pub cut_ready : {T : Type 0} (xs : List (TenantSlot T)) (count i n places : ℕ)
 cut_ready {T} xs count i n places slot zs frames s lt at is kept ready within =
     let ys : List (TenantSlot T) = set xs i (childless slot) in
     let long : length ys ≡ length xs = length-set xs i (childless slot) in
+    let front : length (take i ys) ≡ i = length-front i ys (omega (arith, long, lt)) in
     let stay = early_stay n ys i (cut_linked xs count i n slot s lt at is) (omega (arith, long, lt)) (childless_at xs i n slot lt at is) in
     let keep : ℕ → Bool = is_kept n (frames_from [] ys) in
     let rest : List (TenantSlot T) = filter (λ x. keep x.serial) (drop i ys) in
-    let parts : zs ≡ take i ys ++ rest = kept ∙ (filter_split keep i ys ∙ ap (λ ws. ws ++ rest) (filter_all keep (take i ys) stay)) in
-    let early : filter (λ frame. nat_lt frame.serial n) frames ≡ ready_in (take i ys) = rw (ready, ready_in-take xs i n (linked_rises [] xs s.linked) lt at) (ap ready_in (sym (take_set i xs (childless slot)))) in
+    let stays : TenantSlot T → Bool = λ x. keep x.serial in
+    let parts : zs ≡ take i ys ++ rest = kept ∙ (ap (filter stays) (sym (take-append-drop i ys)) ∙ filter-append stays (take i ys) (drop i ys) ∙ ap (λ ws. ws ++ rest) (filter_all keep (take i ys) stay)) in
+    let early : filter (λ frame. nat_lt frame.serial n) frames ≡ ready_in (take i ys) = rw (ready, ready_in-take xs i n (linked_rises [] xs s.linked) lt at) (ap ready_in (sym (take-set xs i (childless slot)))) in
     let few = few_ready_in (take i ys) in
     let fewer = cut_length n xs i slot zs kept in
     record {
-      within = rw parts (front_long i ys rest (omega (arith, long, lt)));
-      front = sym (serials_of-take zs i) ∙ (ap serials_of (rw parts (take_front i ys rest (omega (arith, long, lt)) ∙ take_set i xs (childless slot))) ∙ serials_of-take xs i);
+      within = rw parts (omega (arith, length-append (take i ys) rest, front));
+      front = sym (serials_of-take zs i) ∙ (ap serials_of (rw parts (take_at (take i ys) rest i front ∙ take-set xs i (childless slot))) ∙ serials_of-take xs i);
       room = omega (arith, ap length early, few, length-take-le i ys, fewer, within);
-      ready = rw (early, parts, drop_front i ys rest (omega (arith, long, lt))) (sym (ready_in-append (take i ys) rest));
+      ready = rw (early, parts, drop_at (take i ys) rest i front) (sym (ready_in-append (take i ys) rest));
     }
-  where
-    filter_split : {T : Type 0} (keep : ℕ → Bool) (i : ℕ) (xs : List (TenantSlot T)) → filter (λ x. keep x.serial) xs ≡ filter (λ x. keep x.serial) (take i xs) ++ filter (λ x. keep x.serial) (drop i xs)
-    filter_split keep zero [] = refl
-    filter_split keep (suc i) [] = refl
-    filter_split keep zero (x ∷ xs) = refl
-    filter_split keep (suc i) (x ∷ xs) =
-        elim (cases_Bool (keep x.serial)) [ inl stays ↦ rw stays (ap (λ ys. x ∷ ys) (filter_split keep i xs)) | inr goes ↦ rw goes (filter_split keep i xs) ]
-
-    take_set : {X : Type 0} (i : ℕ) (xs : List X) (y : X) → take i (set xs i y) ≡ take i xs
-    take_set zero [] y = refl
-    take_set (suc i) [] y = refl
-    take_set zero (x ∷ xs) y = refl
-    take_set (suc i) (x ∷ xs) y = ap (λ ys. x ∷ ys) (take_set i xs y)
-
-    front_long : {X : Type 0} (i : ℕ) (xs rest : List X) → i ≤ length xs → i ≤ length (take i xs ++ rest)
-    front_long zero xs rest le = omega arith
-    front_long (suc i) [] rest le = absurd (omega arith)
-    front_long (suc i) (x ∷ xs) rest le = let h = front_long i xs rest (omega arith) in omega (arith, h)
-
-    take_front : {X : Type 0} (i : ℕ) (xs rest : List X) → i ≤ length xs → take i (take i xs ++ rest) ≡ take i xs
-    take_front zero [] rest le = none rest
-      where
-        none : {X : Type 0} (rest : List X) → take 0 rest ≡ []
-        none [] = refl
-        none (x ∷ rest) = refl
-    take_front zero (x ∷ xs) rest le = none rest
-      where
-        none : {X : Type 0} (rest : List X) → take 0 rest ≡ []
-        none [] = refl
-        none (x ∷ rest) = refl
-    take_front (suc i) [] rest le = absurd (omega arith)
-    take_front (suc i) (x ∷ xs) rest le = ap (λ ys. x ∷ ys) (take_front i xs rest (omega arith))
-
-    drop_front : {X : Type 0} (i : ℕ) (xs rest : List X) → i ≤ length xs → drop i (take i xs ++ rest) ≡ rest
-    drop_front zero [] rest le = refl
-    drop_front zero (x ∷ xs) rest le = refl
-    drop_front (suc i) [] rest le = absurd (omega arith)
-    drop_front (suc i) (x ∷ xs) rest le = drop_front i xs rest (omega arith)

@@ -1,5 +1,5 @@
 -- A list that begins at a place of another.
-use Rattle.std.proofs.Common.{◌≡◌, ℕ, suc, ◌+◌, ◌-◌, ◌<◌, ◌≤◌, List, ◌∷◌, ◌++◌, length, take, drop, refl, arith, append_assoc, append-nil, add-suc}
+use Rattle.std.proofs.Common.{◌≡◌, ℕ, suc, ◌+◌, ◌-◌, ◌<◌, ◌≤◌, List, ◌++◌, length, take, drop, refl, arith, append_assoc, append-nil, add-suc}
 use Rattle.std.specs.List.{insert, remove, copy_within}
 use Rattle.std.proofs.lemmas.List.{drop-take, drop-drop, drop_all, drop_at, drop-append-le, length-take-le, length-drop}
 
@@ -23,9 +23,7 @@ removed_last xs at e = rw (drop_all (suc at) xs (omega arith), append-nil) refl
 
 -- an element that is put at a place
 pub inserted_back : {X : Type 0} (items : List X) (start at : ℕ) (x : X) → start + at ≤ length items → drop start (insert items (start + at) x) ≡ insert (drop start items) at x
-inserted_back items start at x le =
-    let long : start ≤ length (take (start + at) items) = rw (length-take-le (start + at) items le) (omega arith) in
-    rw (drop-append-le start (take (start + at) items) (x ∷ drop (start + at) items) long, drop-take start at items, drop-drop at start items) refl
+inserted_back items start at x le = grind (arith, length-take-le, drop-append-le, drop-take, drop-drop)
 
 -- a place of the list is a place of all
 pub place_within : {X : Type 0} (items : List X) (start at : ℕ) → start ≤ length items → at < length (drop start items) → start + at < length items

@@ -1,14 +1,13 @@
 -- The minimax value and the best choice of a frame, by places in the list of choices.
-use Rattle.std.specs.Prelude.{◌≡◌, ℕ, zero, suc, ◌<◌, Bool, true, false, ℤ, ◌<ℤ◌, ◌≤ℤ◌, List, [], ◌∷◌, Some, length, map, find, refl, slice_index_or}
+use Rattle.std.specs.Prelude.{◌≡◌, ℕ, zero, suc, ◌<◌, Bool, true, false, ℤ, ◌<ℤ◌, ◌≤ℤ◌, List, [], ◌∷◌, Some, length, map, find, slice_index_or}
 use Rattle.std.specs.Int.{int_max}
 use Rattle.std.proofs.Common.{sym, ◌∙◌, ap, subst, arith}
-use Rattle.std.proofs.lemmas.Grind.{common_steps}
 use Rattle.std.proofs.lemmas.Int.{ints, clamps, by_lt_z}
 use Rattle.othello_moves.specs.declared.choices.Choice.{Choice}
 use Rattle.othello_moves.specs.declared.choices.Choice.TheVariants.{Pass}
 use Rattle.othello_moves.specs.Choices.{choices}
 use Rattle.leaf_search.specs.othello_eval.Values.{final_value}
-use Rattle.leaf_search.specs.othello_eval.Minimax.{minimax, best_choice, choice_value, greatest_or, int_equal}
+use Rattle.leaf_search.specs.othello_eval.Minimax.{best_choice, choice_value, greatest_or}
 use Rattle.leaf_search.proofs.EvalLemmas.MinimaxLemmas.{minimax-deeper, best_choice-deeper}
 use Rattle.leaf_search.proofs.EvalLemmas.GreatestLemmas.{int_equal-same, int_equal-below}
 use Rattle.jamboree_rules.specs.Fits.{IsFound}
@@ -26,16 +25,10 @@ second-greatest : (x m : ℤ) → x ≤ℤ m → m ≡ int_max x m
 second-greatest x m h = omega (arith, ints, clamps)
 
 above-both : {X : Type 0} (v : X → ℤ) (other x : X) (xs : List X) (m : ℤ) → ((k : ℕ) → k < length xs → at v xs other k ≤ℤ m) → (k : ℕ) → k < suc (length xs) → at v (x ∷ xs) other k ≤ℤ int_max (v x) m
-above-both v other x xs m h zero below = omega (arith, ints, clamps)
-above-both v other x xs m h (suc k) below = let e : at v xs other k ≤ℤ m = h k (omega arith) in omega (arith, ints, clamps)
+above-both v other x xs m h6 k h8 = grind arith
 
 pub greatest-is : {X : Type 0} (v : X → ℤ) (other : X) (none : ℤ) (x : X) (xs : List X) → IsGreatest (at v (x ∷ xs) other) (length (x ∷ xs)) (greatest_or none (map v (x ∷ xs)))
-greatest-is v other none x [] = record {
-  above = λ k below. grind (arith, ints, common_steps);
-  place = 0;
-  inside = omega arith;
-  attained = refl;
-}
+greatest-is v other none x [] = grind arith
 greatest-is v other none x (y ∷ xs) =
     let rest : IsGreatest (at v (y ∷ xs) other) (length (y ∷ xs)) (greatest_or none (map v (y ∷ xs))) = greatest-is v other none y xs in
     let m : ℤ = greatest_or none (map v (y ∷ xs)) in
@@ -75,12 +68,7 @@ IsGreatest-frame f deep some =
 
 -- the choice that is found first with the greatest value is the best choice
 pub found-best : (f : Frame) (st rests : List ℕ) → 0 < f.depth → length st ≡ length (choices (board f)) → (found : IsFound (value_at f) (code_at f) st rests f.best f.choice) → value f ≡ f.best → best_choice f.depth (board f) ≡ Some (choice_at f found.place)
-found-best f st rests deep len found same =
-    let p : Choice → Bool = λ c. int_equal (choice_value f.depth (board f) c) (minimax f.depth (board f)) in
-    best_choice-deeper f.depth (board f) deep
-    ∙ find-is p Pass (choices (board f)) found.place (omega (arith, found.inside))
-    (int_equal-same (value_at f found.place) (value f) (found.worth ∙ sym same))
-    (λ k below. int_equal-below (value_at f k) (value f) (subst (λ (m : ℤ). value_at f k <ℤ m) (sym same) (found.earlier k below)))
+found-best f st rests deep len found same = grind (arith, best_choice-deeper, find-is, int_equal-same, int_equal-below)
 
 pub named-best : (f : Frame) (st rests : List ℕ) → 0 < f.depth → length st ≡ length (choices (board f)) → IsFound (value_at f) (code_at f) st rests f.best f.choice → value f ≡ f.best → f.choice ≡ coded (best_choice f.depth (board f))
 named-best f st rests deep len found same = found.named ∙ ap coded (sym (found-best f st rests deep len found same))

@@ -3,7 +3,7 @@ use Rattle.std.specs.Prelude.{◌≡◌, ℕ, ◌+◌, ◌<◌, ◌≤◌, ◌^�
 use Rattle.std.specs.Int.{bit_at}
 use Rattle.std.specs.List.{range_with_len}
 use Rattle.std.proofs.Common.{sym, ◌∙◌, ap, arith, inl, inr, min, eqb}
-use Rattle.std.proofs.lemmas.Bool.{cases_lt, ne_eqb}
+use Rattle.std.proofs.lemmas.Bool.{cases_lt, ne_eqb, and_right}
 use Rattle.std.proofs.lemmas.List.{ext_get_or, length-map}
 use Rattle.std.proofs.lemmas.List.FromFn.{get_or-map-range_with_len}
 use Rattle.std.proofs.lemmas.Nat.Bits.{bit_at_and, bit_at-zero, bit_at-lt, bit_at_above, same_from_bits}
@@ -31,12 +31,7 @@ by-cells b len = ext_get_or Empty (map (λ s. cell_at b s) squares) b (length-ma
     get_or-map-range_with_len (λ s. cell_at b s) 0 64 i i Empty (omega (arith, length-map squares (λ s. cell_at b s), squares-length)) (omega arith))
 
 and-true : (b : Bool) → (b && true) ≡ b
-and-true true = refl
-and-true false = refl
-
-and-false : (b : Bool) → (b && false) ≡ false
-and-false true = refl
-and-false false = refl
+and-true b = grind arith
 
 -- the bits of the squares that pass a test
 bit-passing : (p : ℕ → Bool) (s : ℕ) → s < 64 → bit_at (bits_of (filter p squares)) s ≡ cond (p s) 1 0
@@ -51,12 +46,10 @@ unfolding squares
 no-square i past = among-range i 0 64 past
 
 bit-past : (p : ℕ → Bool) (s : ℕ) → 64 ≤ s → bit_at (bits_of (filter p squares)) s ≡ 0
-bit-past p s past = bit_at-bits_of (filter p squares) s ∙ ap (λ (b : Bool). cond b 1 0) (is_among-filter p squares s ∙ ap (λ (b : Bool). p s && b) (no-square s past) ∙ and-false (p s))
+bit-past p s past = bit_at-bits_of (filter p squares) s ∙ ap (λ (b : Bool). cond b 1 0) (is_among-filter p squares s ∙ ap (λ (b : Bool). p s && b) (no-square s past) ∙ and_right (p s) false refl)
 
 cell-by : (c : Cell) (x y : ℕ) → x ≡ cond (is_own_cell c) 1 0 → y ≡ cond (is_opp_cell c) 1 0 → (if x == 1 then Own else (if y == 1 then Opp else Empty)) ≡ c
-cell-by Empty x y ex ey = rw (ex, ey) refl
-cell-by Own x y ex ey = rw ex refl
-cell-by Opp x y ex ey = rw (ex, ey) refl
+cell-by c x y h4 h5 = grind arith
 
 -- the two words of a board of 64 cells hold it
 pub words-hold : (b : List Cell) → length b ≡ 64 → cells_of (own_word b) (opp_word b) ≡ b
@@ -67,16 +60,10 @@ words-hold b len =
     ∙ by-cells b len
 
 not-both : (c : Cell) (x y : ℕ) → x ≡ cond (is_own_cell c) 1 0 → y ≡ cond (is_opp_cell c) 1 0 → min x y ≡ 0
-not-both Empty x y ex ey = omega arith
-not-both _ x y ex ey = omega arith
+not-both c x y h4 h5 = grind arith
 
 none-both : (b : List Cell) (s : ℕ) → min (bit_at (own_word b) s) (bit_at (opp_word b) s) ≡ 0
-none-both b s =
-    elim (cases_lt s 64) [
-      | inl below ↦ not-both (cell_at b s) (bit_at (own_word b) s) (bit_at (opp_word b) s)
-          (bit-passing (λ t. is_own_cell (cell_at b t)) s below) (bit-passing (λ t. is_opp_cell (cell_at b t)) s below)
-      | inr past ↦ omega (arith, bit-past (λ t. is_own_cell (cell_at b t)) s past)
-    ]
+none-both b s = grind (arith, not-both, bit-passing, bit-past)
 
 -- no square has two discs
 pub words-apart : (b : List Cell) → bit_and (own_word b) (opp_word b) ≡ 0
@@ -84,18 +71,10 @@ words-apart b = same_from_bits (bit_and (own_word b) (opp_word b)) 0 (λ s. bit_
 
 -- the bits of two words that share none, by their cells
 own-by : (x y : ℕ) → x < 2 → y < 2 → x ≡ cond (is_own_cell (cond (eqb x 1) Own (cond (eqb y 1) Opp Empty))) 1 0
-own-by x y p q =
-    elim (bit_cases x p) [
-      | inl clear ↦ elim (bit_cases y q) [ inl low ↦ rw (clear, low) refl | inr high ↦ rw (clear, high) refl ]
-      | inr set ↦ rw set refl
-    ]
+own-by x y p q = grind (arith, bit_cases)
 
 opp-by : (x y : ℕ) → x < 2 → y < 2 → min x y ≡ 0 → y ≡ cond (is_opp_cell (cond (eqb x 1) Own (cond (eqb y 1) Opp Empty))) 1 0
-opp-by x y p q h =
-    elim (bit_cases x p) [
-      | inl clear ↦ elim (bit_cases y q) [ inl low ↦ rw (clear, low) refl | inr high ↦ rw (clear, high) refl ]
-      | inr set ↦ let low : y ≡ 0 = omega arith in rw (set, low) refl
-    ]
+opp-by x y p q h = grind (arith, bit_cases)
 
 -- the words of 64 bits that hold a board are its two words
 own-same : (own opp s : ℕ) → own < 2 ^ 64 → bit_at own s ≡ bit_at (own_word (cells_of own opp)) s

@@ -1,27 +1,20 @@
 -- Codes of choices, and how many there are.
-use Rattle.std.specs.Prelude.{ℕ, ◌<◌, ◌≤◌, List, length, Option, Some, None, IfSome, Contains}
-use Rattle.std.proofs.Common.{arith, sym, subst, ⊎_elim}
-use Rattle.std.proofs.lemmas.Bool.{cases_lt}
+use Rattle.std.specs.Prelude.{ℕ, ◌≤◌, List, length, Option, Some, None, IfSome, Contains}
+use Rattle.std.proofs.Common.{arith}
 use Rattle.std.proofs.lemmas.List.{get_or_past}
 use Rattle.std.proofs.lemmas.List.Elements.{All-get_or}
 use Rattle.othello_board.specs.declared.cells.Cell.{Cell}
 use Rattle.othello_moves.specs.declared.choices.Choice.{Choice}
-use Rattle.othello_moves.specs.declared.choices.Choice.TheVariants.{Square, Pass}
 use Rattle.othello_moves.specs.Choices.{choices, IsAllowed}
 use Rattle.othello_moves.proofs.AllowedLemmas.{choices_allowed, contained_allowed, choices_fit}
-use Rattle.jamboree_rules.specs.Frames.{Frame, board, choice_at, code_of, code_at, coded}
+use Rattle.jamboree_rules.specs.Frames.{Frame, code_of, code_at, coded}
 
 -- an allowed choice has a code of at most 64
 allowed-code : (b : List Cell) (c : Choice) → IsAllowed b c → code_of c ≤ 64
-allowed-code b (Square s) h = let below : s < 64 = h.0 in omega arith
-allowed-code b Pass h = omega arith
+allowed-code b c h3 = grind arith
 
 pub code-small : (f : Frame) (i : ℕ) → code_at f i ≤ 64
-code-small f i =
-    ⊎_elim
-    (λ (inside : i < length (choices (board f))). allowed-code (board f) (choice_at f i) (All-get_or (IsAllowed (board f)) (choices (board f)) i Pass inside (choices_allowed (board f))))
-    (λ (past : length (choices (board f)) ≤ i). subst (λ (c : Choice). code_of c ≤ 64) (sym (get_or_past (choices (board f)) i Pass past)) (omega arith))
-    (cases_lt i (length (choices (board f))))
+code-small f i = grind (arith, allowed-code, All-get_or, choices_allowed, get_or_past)
 
 -- the code of a choice of a board, or of none, is at most 65
 pub coded-small : (b : List Cell) (c : Option Choice) → IfSome c (Contains (choices b)) → coded c ≤ 65

@@ -1,7 +1,7 @@
 -- No choice of a board stands twice in their order.
 use Rattle.std.specs.Prelude.{◌≡◌, ◌≢◌, ℕ, zero, suc, ◌<◌, ◌==◌, ◌&&◌, ◌||◌, not, Bool, true, false, List, [], ◌∷◌, map, filter, length, refl, slice_index, slice_index_or, if◌then◌else◌}
-use Rattle.std.proofs.Common.{sym, ◌∙◌, ap, arith, inl, inr}
-use Rattle.std.proofs.lemmas.Bool.{and_parts, and_from, cases_Bool, eq-eqb}
+use Rattle.std.proofs.Common.{sym, ◌∙◌, ap, arith}
+use Rattle.std.proofs.lemmas.Bool.{and_parts, eq-eqb}
 use Rattle.othello_board.specs.declared.cells.Cell.{Cell}
 use Rattle.othello_board.specs.Rules.{squares, is_among, is_legal, is_nil, exchanged}
 use Rattle.othello_moves.specs.declared.choices.Choice.{Choice}
@@ -20,19 +20,12 @@ unfolding are_distinct in_order squares
 order-distinct = refl
 
 not-among : (p : ℕ → Bool) (x : ℕ) (xs : List ℕ) → not (is_among x xs) ≡ true → not (is_among x (filter p xs)) ≡ true
-not-among p x xs h = rw (is_among-filter p xs x) (absent (p x) (is_among x xs) h)
-  where
-    absent : (a b : Bool) → not b ≡ true → not (a && b) ≡ true
-    absent true b h = h
-    absent false b h = refl
+not-among p x xs h = grind (arith, is_among-filter)
 
 filtered : (p : ℕ → Bool) (xs : List ℕ) → are_distinct xs ≡ true → are_distinct (filter p xs) ≡ true
 unfolding are_distinct
 filtered p [] h = refl
-filtered p (x ∷ xs) h = elim (cases_Bool (p x)) [
-  | inl taken ↦ rw taken (and_from (not (is_among x (filter p xs))) (are_distinct (filter p xs)) (not-among p x xs (and_parts (not (is_among x xs)) (are_distinct xs) h).0) (filtered p xs (and_parts (not (is_among x xs)) (are_distinct xs) h).1))
-  | inr left ↦ rw left (filtered p xs (and_parts (not (is_among x xs)) (are_distinct xs) h).1)
-]
+filtered p (x ∷ xs) h = grind (arith, filtered p xs, are_distinct, not-among)
 
 there-among : (xs : List ℕ) (k : ℕ) → k < length xs → is_among (slice_index xs k) xs ≡ true
 there-among [] k below = absurd (omega arith)
@@ -43,15 +36,10 @@ there-among (x ∷ xs) zero below = either (is_among x xs) (x == x) (eq-eqb x x 
 there-among (x ∷ xs) (suc k) below = either (x == slice_index xs k) (is_among (slice_index xs k) xs) (there-among xs k (omega arith))
   where
     either : (a b : Bool) → b ≡ true → (a || b) ≡ true
-    either true b h = refl
-    either false b h = h
+    either a b h1 = grind arith
 
 absent-among : (x y : ℕ) (xs : List ℕ) → not (is_among x xs) ≡ true → is_among y xs ≡ true → x ≢ y
-absent-among x y xs absent there e = absurd (clash (is_among y xs) (ap (λ (z : ℕ). not (is_among z xs)) (sym e) ∙ absent) there)
-  where
-    clash : (b : Bool) → not b ≡ true → b ≡ true → ⊥
-    clash true n y = absurd (cc)
-    clash false n y = absurd (cc)
+absent-among x y xs absent there e = grind arith
 
 apart-at : (xs : List ℕ) (j k : ℕ) → are_distinct xs ≡ true → j < k → k < length xs → slice_index xs j ≢ slice_index xs k
 unfolding are_distinct
@@ -90,10 +78,4 @@ choices-apart b = choices-by (is_nil (legal_squares b)) b
 
 -- the choice with one number is that with another only where the numbers are the same
 pub same-number : (f : Frame) (j k : ℕ) → j < length (choices (board f)) → k < length (choices (board f)) → choice_at f j ≡ choice_at f k → j ≡ k
-same-number f j k jn kn e = grind (arith, under, above)
-  where
-    under : j < k → ⊥
-    under before = choices-apart (board f) j k before kn e
-
-    above : k < j → ⊥
-    above before = choices-apart (board f) k j before jn (sym e)
+same-number f j k jn kn e = grind (arith, choices-apart)

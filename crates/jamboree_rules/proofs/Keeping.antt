@@ -1,7 +1,7 @@
 -- The laws of Jamboree as a procedure: frames stay fitting, whatever the order of spawns, steals, inlets and aborts.
 use Rattle.std.specs.Prelude.{◌≡◌, ◌≢◌, ℕ, zero, suc, ◌<◌, ◌≤◌, ◌⊎◌, ◌==◌, ◌&&◌, ◌||◌, nat_lt, nat_le, Bool, true, false, int_le, bit_and, List, [], ◌∷◌, ◌++◌, map, length, refl, slice_index, if◌then◌else◌}
-use Rattle.std.proofs.Common.{sym, ◌∙◌, ap, subst, arith, inl, inr}
-use Rattle.std.proofs.lemmas.Bool.{and_from, eq-eqb, cases_eq}
+use Rattle.std.proofs.Common.{sym, ◌∙◌, ap, subst, arith}
+use Rattle.std.proofs.lemmas.Bool.{and_from, eq-eqb}
 use Rattle.std.proofs.lemmas.Bool.Decides.{nat_tests}
 use Rattle.othello_board.specs.declared.cells.Cell.{Cell}
 use Rattle.othello_board.specs.Words.{cells_of}
@@ -16,7 +16,7 @@ use Rattle.sched_rules.specs.Laws.{ParentFits, ActFits, NextKeeps, InletKeeps, M
 use Rattle.jamboree_rules.specs.Frames.{Frame, board, choice_at, own_word, opp_word, may_be_child}
 use Rattle.jamboree_rules.specs.Places.{frame_of, is_formed, is_placed, pairs_of}
 use Rattle.jamboree_rules.specs.Acts.{returns, is_computed, opening_on, opening_under, first_open, act_by, act_of, parent_in, next_act, seen, changes_of, inlet_of, inlet_act}
-use Rattle.jamboree_rules.specs.Fits.{IsInRole, First, Test, Again, IsChildOf, IsSearchingFrame, Fits, AreFitting, IsRoot}
+use Rattle.jamboree_rules.specs.Fits.{IsInRole, IsChildOf, IsSearchingFrame, Fits, AreFitting, IsRoot}
 use Rattle.jamboree_rules.proofs.Tabling.{entered-none}
 use Rattle.jamboree_rules.proofs.Kinship.{IsSameGoal, parent-kept, child-of, in-search}
 use Rattle.jamboree_rules.proofs.BoardWords.{words-apart, after-holds}
@@ -52,17 +52,7 @@ IsBoardOf (parent ∷ above) f o p = cells_of o p ≡ after (board (frame_of par
 -- what stands above a frame fits after its words changed to ones of the same goal, and of the board that those above it say
 above-kept : (origin own own' : List ℕ) (above older younger : List (List ℕ)) → HasSameGoal (frame_of own) (frame_of own') → IsBoardOf above (frame_of own) (frame_of own').own (frame_of own').opp →
     ParentFits AreFitting IsRoot origin above older own younger → ParentFits AreFitting IsRoot origin above older own' younger
-above-kept origin own own' [] older younger goal words root = record {
-  own_is = words.0 ∙ root.own_is;
-  opp_is = words.1 ∙ root.opp_is;
-  depth_is = goal.depth ∙ root.depth_is;
-  role_is = goal.role ∙ root.role_is;
-  alpha_is = goal.alpha ∙ root.alpha_is;
-  beta_is = goal.beta ∙ root.beta_is;
-}
-above-kept origin own own' (parent ∷ above) older younger goal words fits =
-    parent-one parent own own' older younger
-    (record { depth = goal.depth; alpha = goal.alpha; beta = goal.beta; role = goal.role; number = goal.number; known = λ _. words }) fits
+above-kept origin own own' above older younger h7 h8 h9 = grind (arith, parent-one)
 
 -- the board that a frame knows is the one that those above it say
 known-board : (origin own : List ℕ) (above older younger : List (List ℕ)) → (frame_of own).phase ≢ 0 → ParentFits AreFitting IsRoot origin above older own younger →
@@ -72,9 +62,7 @@ known-board origin own (parent ∷ above) older younger known fits = (kin-of par
 
 -- a child has a role, and a number that is one of its parent's choices
 role-there : (f c : Frame) → IsInRole f c → 0 < c.role
-role-there f c (First r) = let e : c.role ≡ 1 = r.role in omega arith
-role-there f c (Test r) = let e : c.role ≡ 2 = r.role in omega arith
-role-there f c (Again r) = let e : c.role ≡ 3 = r.role in omega arith
+role-there f c h3 = grind arith
 
 child-may : (parent : List ℕ) (c : Frame) (children : List Frame) (mark : Mark) → IsFormed parent → Fits (frame_of parent) children mark → IsChildOf (frame_of parent) c → may_be_child (frame_of parent) c ≡ true
 child-may parent c children mark form fits kin =
@@ -97,12 +85,7 @@ isn't-told : (n k : ℕ) → false ≡ (n == k) → n ≢ k
 isn't-told n k e = λ h. absurd (grind (arith, nat_tests, h))
 
 last-phase : (n : ℕ) → n ≤ 4 → false ≡ (n == 0) → false ≡ (n == 2) → false ≡ (n == 3) → n ≢ 1 → n ≡ 4
-last-phase n h e0 e2 e3 no1 =
-    let a : n ≢ 0 = isn't-told n 0 e0 in
-    let b : n ≢ 2 = isn't-told n 2 e2 in
-    let c : n ≢ 3 = isn't-told n 3 e3 in
-    let d : n ≢ 1 = no1 in
-    omega (arith, a, b, c, d)
+last-phase n h1 h2 h3 h4 h5 = grind arith
 
 open-settled-zero : (s : ℕ) (st : List ℕ) → 0 < first_open (s ∷ st) → s ≡ 2
 open-settled-zero s st below = grind (arith, nat_tests)
@@ -128,10 +111,7 @@ Goes own above children act = (o : ℕ) × (p : ℕ) × IsGoodAct own children o
 
 -- a root has no grain
 over-told : (depth n : ℕ) → (nat_le depth 0 || (n == 0)) ≡ true → (depth ≡ 0) ⊎ (n ≡ 0)
-over-told depth n e = elim (cases_eq depth 0) [ inl none ↦ inl none | inr more ↦ inr (none-left depth n e more) ]
-  where
-    none-left : (depth n : ℕ) → (nat_le depth 0 || (n == 0)) ≡ true → depth ≢ 0 → n ≡ 0
-    none-left depth n e more = grind (arith, nat_tests)
+over-told depth n h1 = grind arith
 
 root-over : (f : Frame) (b : List Cell) → is_computed 0 f b ≡ true → length (entered f.depth b) ≡ 0
 root-over f b e = entered-none f.depth b (over-told f.depth (length (choices b)) e)
@@ -226,21 +206,15 @@ inlet-stores own child before behind fits returned =
     inlet-good own (frame_of child) (formed-told own fits.formed) form.frame (kin-of own child before behind Neither fits) returned.frame.marked
 
 left-joined : (cuts : Bool) (before behind : List (List ℕ)) → map frame_of (children_left cuts (before ++ behind)) ≡ frames_left cuts (map frame_of before ++ map frame_of behind)
-left-joined true before behind = refl
-left-joined false before behind = map-joined before behind
+left-joined cuts before behind = grind (arith, map-joined)
 
 searching-known : (f : Frame) → (f.phase ≡ 2) ⊎ (f.phase ≡ 3) → f.phase ≢ 0
-searching-known f (inl e) = λ (z : f.phase ≡ 0). absurd (omega arith)
-searching-known f (inr e) = λ (z : f.phase ≡ 0). absurd (omega arith)
+searching-known f h2 = grind arith
 
 -- what stands above a frame that knows its board fits after stores that leave its goal and its board
 pub store-above : (origin own own' : List ℕ) (g : Frame) (above older younger : List (List ℕ)) → (frame_of own).phase ≢ 0 → frame_of own' ≡ g → HasSameGoal (frame_of own) g → g.own ≡ (frame_of own).own → g.opp ≡ (frame_of own).opp →
     ParentFits AreFitting IsRoot origin above older own younger → ParentFits AreFitting IsRoot origin above older own' younger
-store-above origin own own' g above older younger known is goal own_is opp_is parent =
-    above-kept origin own own' above older younger (subst (λ (h : Frame). HasSameGoal (frame_of own) h) (sym is) goal)
-    (subst (λ (h : Frame). IsBoardOf above (frame_of own) h.own h.opp) (sym is)
-    (subst (λ (o : ℕ). IsBoardOf above (frame_of own) o g.opp) (sym own_is) (subst (λ (p : ℕ). IsBoardOf above (frame_of own) (frame_of own).own p) (sym opp_is)
-    (known-board origin own above older younger known parent)))) parent
+store-above origin own own' g above older younger known is goal own_is opp_is parent = grind (arith, above-kept, known-board)
 
 -- what an inlet of the frames leaves
 inlet-leaves : (origin own child : List ℕ) (above older younger before behind : List (List ℕ)) → AreFitting own (before ++ child ∷ behind) Neither → ParentFits AreFitting IsRoot origin above older own younger → AreFitting child [] HasReturned →

@@ -1,11 +1,10 @@
 -- The inlets keep that a frame fits.
-use Rattle.std.specs.Prelude.{◌≡◌, ◌≢◌, ℕ, ◌+◌, ◌-◌, ◌<◌, ◌≤◌, ◌⊎◌, ℤ, pos, neg_ℤ, ◌<ℤ◌, ◌≤ℤ◌, ◌+ℤ◌, List, [], ◌∷◌, ◌++◌, length, refl, slice_index, slice_set}
+use Rattle.std.specs.Prelude.{◌≡◌, ◌≢◌, ℕ, ◌+◌, ◌<◌, ◌≤◌, ◌⊎◌, ℤ, pos, neg_ℤ, ◌<ℤ◌, ◌≤ℤ◌, ◌+ℤ◌, List, [], ◌∷◌, ◌++◌, length, refl, slice_index, slice_set}
 use Rattle.std.specs.Int.{int_max}
-use Rattle.std.proofs.Common.{sym, ◌∙◌, ap, subst, arith, inl, inr, ⊎_elim}
+use Rattle.std.proofs.Common.{sym, ◌∙◌, ap, subst, arith, inr, ⊎_elim}
 use Rattle.std.proofs.lemmas.Grind.{common_steps}
-use Rattle.std.proofs.lemmas.Bool.{cases_eq}
 use Rattle.std.proofs.lemmas.Int.{ints, clamps, by_lt_z}
-use Rattle.othello_moves.specs.Choices.{after, plies}
+use Rattle.othello_moves.specs.Choices.{after}
 use Rattle.leaf_search.specs.Bounds.{IsBound}
 use Rattle.sched_rules.specs.Laws.{Neither, HasReturned}
 use Rattle.leaf_search.specs.othello_eval.Minimax.{best_choice}
@@ -113,32 +112,22 @@ child-of f c before behind kin = (children-back f before (c ∷ behind) kin).0
 
 -- a parent of a child is in phase 2 or 3
 pub in-search : (f c : Frame) → IsInRole f c → (f.phase ≡ 2) ⊎ (f.phase ≡ 3)
-in-search f c (First r) = inl r.phase
-in-search f c (Test r) = inr r.phase
-in-search f c (Again r) = inr r.phase
+in-search f c h3 = grind arith
 
 begun-phase : (f : Frame) → (f.phase ≡ 2) ⊎ (f.phase ≡ 3) → f.phase ≢ 0
-begun-phase f (inl e) = λ (z : f.phase ≡ 0). absurd (omega arith)
-begun-phase f (inr e) = λ (z : f.phase ≡ 0). absurd (omega arith)
+begun-phase f h2 = grind arith
 
 -- a child with status 1 or 4 isn't settled
 pub unsettled : (f c : Frame) → IsInRole f c → slice_index f.statuses c.number ≢ 2
-unsettled f c (First r) = λ e. absurd (omega (arith, r.status, e))
-unsettled f c (Test r) = λ e. absurd (omega (arith, r.status, e))
-unsettled f c (Again r) = λ e. absurd (omega (arith, r.status, e))
+unsettled f c h3 = grind arith
 
 -- a child's status isn't 0
 pub begun : (f c : Frame) → IsInRole f c → slice_index f.statuses c.number ≢ 0
-begun f c (First r) = λ e. absurd (omega (arith, r.status, e))
-begun f c (Test r) = λ e. absurd (omega (arith, r.status, e))
-begun f c (Again r) = λ e. absurd (omega (arith, r.status, e))
+begun f c h3 = grind arith
 
 pub unspawned-set : (st : List ℕ) (i x spawned : ℕ) → slice_index st i ≢ 0 → ((k : ℕ) → spawned ≤ k → k < length st → slice_index st k ≡ 0) →
     (k : ℕ) → spawned ≤ k → k < length (slice_set st i x) → slice_index (slice_set st i x) k ≡ 0
-unspawned-set st i x spawned here h k low high =
-    let below : k < length st = omega (arith, set_length st i x) in
-    let zero : slice_index st k ≡ 0 = h k low below in
-    set_beside st i x k (λ (e : k ≡ i). here (subst (λ j. slice_index st j ≡ 0) e zero)) ∙ zero
+unspawned-set st i x spawned h1 h2 k h3 h4 = grind (arith, common_steps)
 
 -- a root that has begun keeps its places
 whole-set : (f c : Frame) (children : List Frame) (x : ℕ) → IsInRole f c → Fits f children Neither → f.role ≡ 0 → length (slice_set f.statuses c.number x) ≡ length (entered f.depth (board f))
@@ -150,19 +139,11 @@ taken_in f c phase best choice status = record f { phase = phase; best = best; c
 
 -- two searches again are of one choice
 pub one-again : (f c d : Frame) → IsAgain f c → IsAgain f d → d.number ≢ c.number → ⊥
-one-again f c d r q other =
-    let here : slice_index f.statuses c.number ≡ 4 = r.status in
-    let there : slice_index f.statuses d.number ≡ 4 = q.status in
-    let above : c.number < d.number → slice_index f.statuses c.number ≡ 2 = λ below. q.earlier c.number below in
-    let under : d.number < c.number → slice_index f.statuses d.number ≡ 2 = λ below. r.earlier d.number below in
-    let apart : (d.number ≡ c.number) → ⊥ = other in
-    grind (arith, ints, above, under, apart)
+one-again f c d r q other = grind arith
 
 -- in phase 2 the first child is the only one
 pub first-alone : {P : Type 0} (f c d : Frame) → IsFirst f c → IsInRole f d → d.number ≢ c.number → P
-first-alone f c d first (First r) other = absurd (other (r.number ∙ sym first.number))
-first-alone f c d first (Test r) other = absurd (omega (arith, first.phase, r.phase))
-first-alone f c d first (Again r) other = absurd (omega (arith, first.phase, r.phase))
+first-alone f c d h4 h5 h6 = grind arith
 
 -- what the inlet of a child leaves
 module _ (f c : Frame) (before behind : List Frame) (fits : Fits f (before ++ c ∷ behind) Neither) where
@@ -209,9 +190,7 @@ module _ (f c : Frame) (before behind : List Frame) (fits : Fits f (before ++ c 
 
   -- what a returned child's score says, of any role
   pub scored : Fits c [] HasReturned → (value_at f c.number ≡ neg_ℤ (value c)) × IsBound c.alpha c.beta c.best (value c)
-  scored returned =
-      let phase : c.phase ≡ 4 = returned.marked in
-      (worth_of f c kin (λ (e : c.phase ≡ 0). absurd (omega arith)), (returned.done phase).bound)
+  scored returned = grind (arith, worth_of, kin)
 
   -- inlet cases 2 and 3 with a score that is at most the greater of alpha and best, and an upper bound of the choice's value
   pub inlet-low :
@@ -305,9 +284,7 @@ over-beta f c window below (Again r) worth bound high =
     let e : neg_ℤ c.best ≤ℤ neg_ℤ (value c) = high_side c.alpha c.beta c.best (value c) bound (omega (arith, ints)) in omega (arith, ints)
 
 not-there : (f c : Frame) (i : ℕ) → slice_index f.statuses i ≢ 1 → slice_index f.statuses i ≢ 4 → c.number ≡ i → IsInRole f c → ⊥
-not-there f c i not1 not4 e (First r) = not1 (subst (λ j. slice_index f.statuses j ≡ 1) e r.status)
-not-there f c i not1 not4 e (Test r) = not1 (subst (λ j. slice_index f.statuses j ≡ 1) e r.status)
-not-there f c i not1 not4 e (Again r) = not4 (subst (λ j. slice_index f.statuses j ≡ 4) e r.status)
+not-there f c i h4 h5 h6 h7 = grind arith
 
 -- no child is for a choice whose status is neither 1 nor 4
 pub none-for : (f : Frame) (i : ℕ) (cs : List Frame) → slice_index f.statuses i ≢ 1 → slice_index f.statuses i ≢ 4 → AreChildren f cs → how_many i cs ≡ 0
@@ -319,22 +296,10 @@ none-for f i (c ∷ cs) not1 not4 kin =
 
 respawned : (f c : Frame) (spawned i x rest : ℕ) → IsInRole (record f { statuses = slice_set f.statuses i x; rests = slice_set f.rests i rest }) c →
     IsInRole (record f { spawned = spawned; statuses = slice_set f.statuses i x; rests = slice_set f.rests i rest }) c
-respawned f c spawned i x rest (First r) = First (record { role = r.role; phase = r.phase; number = r.number; status = r.status; low = r.low; high = r.high })
-respawned f c spawned i x rest (Test r) = Test (record { role = r.role; phase = r.phase; status = r.status; low = r.low; least = r.least; most = r.most })
-respawned f c spawned i x rest (Again r) = Again (record { role = r.role; phase = r.phase; status = r.status; low = r.low; high = r.high; earlier = r.earlier })
+respawned f c spawned i x rest h7 = grind arith
 
 once-more : (j i : ℕ) (c : Frame) (children : List Frame) → c.number ≡ i → how_many i children ≡ 0 → how_many j children ≤ 1 → how_many j (children ++ c ∷ []) ≡ how_many j children + how_many j (c ∷ []) → how_many j (children ++ c ∷ []) ≤ 1
-once-more j i c children number none most sum =
-    elim (cases_eq j i) [
-      | inl e ↦
-          let here : how_many j children ≡ 0 = ap (λ (k : ℕ). how_many k children) e ∙ none in
-          let single : how_many j (c ∷ []) ≤ 1 = grind (arith, common_steps) in
-          omega arith
-      | inr other ↦
-          let apart : c.number ≢ j = λ (e : c.number ≡ j). other (sym e ∙ number) in
-          let zero : how_many j (c ∷ []) ≡ 0 = grind (arith, common_steps, apart) in
-          omega arith
-    ]
+once-more j i c children number none most sum = grind arith
 
 -- next, phases 2 and 3: a child is opened for choice i, whose status was 0 or 3 and is 1 or 4 now
 pub spawned-child : (f c : Frame) (children : List Frame) (i x spawned : ℕ) → Fits f children Neither → (f.phase ≡ 2) ⊎ (f.phase ≡ 3) →
@@ -411,12 +376,7 @@ role-same p c c' g (Again r) = Again (record {
 })
 
 pub child-same : (p c c' : Frame) → IsSameGoal p c c' → IsChildOf p c → IsChildOf p c'
-child-same p c c' g kin = record {
-  inside = rw g.number kin.inside;
-  shallower = g.depth ∙ kin.shallower ∙ ap (λ (i : ℕ). p.depth - plies (choice_at p i)) (sym g.number);
-  known = λ there. g.known there ∙ ap (λ (i : ℕ). after (board p) (choice_at p i)) (sym g.number);
-  in_role = role-same p c c' g kin.in_role;
-}
+child-same p c c' g kin = grind (arith, role-same)
 
 kin-replaced : (p c c' : Frame) (older younger : List Frame) → IsSameGoal p c c' → AreChildren p (older ++ c ∷ younger) → AreChildren p (older ++ c' ∷ younger)
 kin-replaced p c c' [] younger g kin = (child-same p c c' g kin.0, kin.1)
@@ -480,17 +440,4 @@ next-settled f children fits phase all g named =
 
 -- next, phase 4
 pub next-done : (f : Frame) (children : List Frame) → Fits f children Neither → f.phase ≡ 4 → (children ≡ []) × Fits f [] HasReturned
-next-done f children fits phase = (
-  fits.idle (λ e. absurd (omega arith)) (λ e. absurd (omega arith)),
-  record {
-    window = fits.window;
-    marked = phase;
-    idle = λ _ _. refl;
-    searching = fits.searching;
-    done = fits.done;
-    table = fits.table;
-    whole = fits.whole;
-    kin = tt;
-    once = λ i. omega arith;
-  },
-)
+next-done f children fits phase = grind (arith, kin)

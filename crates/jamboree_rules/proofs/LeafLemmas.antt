@@ -1,6 +1,6 @@
 -- Leaves by their numbers.
-use Rattle.std.specs.Prelude.{◌≡◌, ℕ, ◌≤◌, Bool, true, false, ℤ, ◌<ℤ◌, refl}
-use Rattle.std.proofs.Common.{sym, ◌∙◌, ap, subst, arith}
+use Rattle.std.specs.Prelude.{◌≡◌, ℕ, ◌≤◌, Bool, true, ℤ, ◌<ℤ◌}
+use Rattle.std.proofs.Common.{ap, subst, arith}
 use Rattle.std.proofs.lemmas.Int.{ints}
 use Rattle.std.proofs.Props.{props}
 use Rattle.std.proofs.Math.Logic.{∥∥₁_elim}
@@ -23,8 +23,7 @@ pub record Has (leaf : Leaf) (own opp depth : ℕ) (alpha beta : ℤ) : Type 0 w
   pub beta_is : leaf.beta ≡ beta
 
 has-by : (own opp depth : ℕ) (alpha beta : ℤ) (b : Bool) (h : b ≡ true → IsLeaf own opp depth alpha beta) → b ≡ true → Has (leaf_by own opp depth alpha beta b h) own opp depth alpha beta
-has-by own opp depth alpha beta true h e = record { own_is = refl; opp_is = refl; depth_is = refl; alpha_is = refl; beta_is = refl }
-has-by own opp depth alpha beta false h e = absurd (cc)
+has-by own opp depth alpha beta b h h8 = grind arith
 
 pub has-from : (own opp depth : ℕ) (alpha beta : ℤ) → IsLeaf own opp depth alpha beta → Has (leaf_from own opp depth alpha beta) own opp depth alpha beta
 has-from own opp depth alpha beta h = has-by own opp depth alpha beta (is_leaf own opp depth alpha beta) (leaf-told own opp depth alpha beta) (leaf-passes own opp depth alpha beta h)
@@ -86,16 +85,4 @@ same-value one other h = leaf-ext one other (same-has one other h)
 
 -- a leaf with these numbers is the leaf of these numbers
 pub leaf-is : (leaf : Leaf) (own opp depth : ℕ) (alpha beta : ℤ) → Has leaf own opp depth alpha beta → leaf ≡ leaf_from own opp depth alpha beta
-leaf-is leaf own opp depth alpha beta h =
-    let known : IsLeaf leaf.board.own leaf.board.opp leaf.depth leaf.alpha leaf.beta =
-    record { disjoint = leaf.board.disjoint; shallow = leaf.shallow; low = leaf.least; window = leaf.window; high = leaf.greatest } in
-    let there : IsLeaf own opp depth alpha beta = rw (h.own_is, h.opp_is, h.depth_is, h.alpha_is, h.beta_is) at known in
-    let has : Has (leaf_from own opp depth alpha beta) own opp depth alpha beta = has-from own opp depth alpha beta there in
-    leaf-ext leaf (leaf_from own opp depth alpha beta)
-    (record {
-      own_is = h.own_is ∙ sym has.own_is;
-      opp_is = h.opp_is ∙ sym has.opp_is;
-      depth_is = h.depth_is ∙ sym has.depth_is;
-      alpha_is = h.alpha_is ∙ sym has.alpha_is;
-      beta_is = h.beta_is ∙ sym has.beta_is;
-    })
+leaf-is leaf own opp depth alpha beta h = grind (arith, has-from, leaf-ext)

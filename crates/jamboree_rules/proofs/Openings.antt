@@ -35,17 +35,7 @@ new_child f role i low high = record {
 
 -- a new child fits
 pub new-child-fits : (f : Frame) (role i : ℕ) (low high : ℤ) → low <ℤ high → Fits (new_child f role i low high) [] Neither
-new-child-fits f role i low high window = record {
-  window = window;
-  marked = λ (e : 0 ≡ 1). absurd (omega arith);
-  idle = λ _ _. refl;
-  searching = ⊎_elim (λ (e : 0 ≡ 2). absurd (omega arith)) (λ (e : 0 ≡ 3). absurd (omega arith));
-  done = λ (e : 0 ≡ 4). absurd (omega arith);
-  table = tabled-none (value_at (new_child f role i low high)) [] [] refl refl;
-  whole = λ _ known. absurd (known refl);
-  kin = tt;
-  once = λ i. omega arith;
-}
+new-child-fits f role i low high window = grind (arith, tabled-none)
 
 -- phase 2: the first child
 pub next-first : (f : Frame) (children : List Frame) → Fits f children Neither → f.phase ≡ 2 → f.spawned ≡ 0 →
@@ -178,14 +168,4 @@ computing-known : (f : Frame) → f.phase ≡ 1 → f.phase ≢ 0
 computing-known f one = λ (zero : f.phase ≡ 0). absurd (omega arith)
 
 pub accepted : (f : Frame) (score : ℤ) (choice : ℕ) → Fits f [] Computes → IsDoneFrame (record f { phase = 4; best = score; choice = choice }) → Fits (record f { phase = 4; best = score; choice = choice }) [] Neither
-accepted f score choice fits done = record {
-  window = fits.window;
-  marked = λ (e : 4 ≡ 1). absurd (omega arith);
-  idle = λ _ _. refl;
-  searching = ⊎_elim (λ (e : 4 ≡ 2). absurd (omega arith)) (λ (e : 4 ≡ 3). absurd (omega arith));
-  done = λ _. done;
-  table = fits.table;
-  whole = λ root _. fits.whole root (computing-known f fits.marked);
-  kin = tt;
-  once = λ i. omega arith;
-}
+accepted f score choice fits done = grind (arith, computing-known)

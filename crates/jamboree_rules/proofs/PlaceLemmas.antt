@@ -1,12 +1,11 @@
 -- Stores by what they set: the frame in the words after them, and the form of these words.
-use Rattle.std.specs.Prelude.{◌≡◌, ◌≢◌, ℕ, ◌+◌, ◌<◌, ◌≤◌, ◌==◌, true, ℤ, ◌≤ℤ◌, if◌then◌else◌, List, [], ◌∷◌, ◌++◌, map, drop, replicate, length, refl, slice_index, slice_set}
+use Rattle.std.specs.Prelude.{◌≡◌, ℕ, ◌+◌, ◌<◌, ◌≤◌, ◌==◌, true, ℤ, ◌≤ℤ◌, if◌then◌else◌, List, [], ◌∷◌, ◌++◌, map, drop, replicate, length, refl, slice_index, slice_set}
 use Rattle.std.proofs.Common.{zero, suc, sym, ◌∙◌, ap, arith}
 use Rattle.std.proofs.lemmas.Grind.{common_steps}
 use Rattle.std.proofs.lemmas.List.{get_or-set_other, get_or-set_same, map-set, drop-set-lt, drop-set-add}
 use Rattle.std.proofs.lemmas.List.Recursion.{and_set}
 use Rattle.std.proofs.Math.ListN.{length-set}
 use Rattle.std.proofs.Math.Seq.{drop-append_seam}
-use Rattle.std.proofs.Math.Path.{fun_ext}
 use Rattle.sched_rules.specs.Trees.{stored}
 use Rattle.jamboree_rules.proofs.Packing.{held, status-read, rest-read, entry-passes}
 use Rattle.jamboree_rules.specs.Frames.{Frame, least}
@@ -39,10 +38,7 @@ put-is : (w : List ℕ) (k x j : ℕ) → k < length w → slice_index (slice_se
 put-is w k x j inside = grind (arith, common_steps, get_or-set_same w k x 0, get_or-set_other w k j x 0)
 
 set-first : (w : List ℕ) (k x : ℕ) → k < 12 → 12 ≤ length w → frame_of (slice_set w k x) ≡ frame_with (put (slice_index w) k x) (drop 12 w)
-set-first w k x early long =
-    let words : slice_index (slice_set w k x) ≡ put (slice_index w) k x = fun_ext (λ j. put-is w k x j (omega arith)) in
-    let entries : drop 12 (slice_set w k x) ≡ drop 12 w = drop-set-lt 12 w k x early in
-    ap (λ (g : ℕ → ℕ). frame_with g (drop 12 (slice_set w k x))) words ∙ ap (λ (es : List ℕ). frame_with (put (slice_index w) k x) es) entries
+set-first w k x early long = grind (arith, put-is, drop-set-lt)
 
 -- words with the same first places have the same frame but for its entries
 frame-alike : (w v : List ℕ) → ((j : ℕ) → j < 12 → slice_index v j ≡ slice_index w j) → frame_of v ≡ record (frame_of w) { statuses = map status_of (drop 12 v); rests = map entry_rest (drop 12 v) }
@@ -71,10 +67,7 @@ set-entry w i x =
 
 -- an entry that is set is read again
 set-both : (w : List ℕ) (i status rest : ℕ) → status ≤ 4 → frame_of (slice_set w (12 + i) (entry_of status rest)) ≡ changed (Status i status rest) (frame_of w)
-set-both w i status rest small =
-    set-entry w i (entry_of status rest)
-    ∙ ap (λ (x : ℕ). record (frame_of w) { statuses = slice_set (map status_of (drop 12 w)) i x; rests = slice_set (map entry_rest (drop 12 w)) i (entry_rest (entry_of status rest)) }) (status-read status rest small)
-    ∙ ap (λ (x : ℕ). record (frame_of w) { statuses = slice_set (map status_of (drop 12 w)) i status; rests = slice_set (map entry_rest (drop 12 w)) i x }) (rest-read status rest small)
+set-both w i status rest small = grind (arith, set-entry, status-read, rest-read)
 
 -- what is stored can be read again: a score is one, and a status and a rest are
 abbrev pub IsSafe : Change → Type 0
@@ -131,8 +124,7 @@ entries-one (Status i status rest) w safe h =
 
 pub entries-stored : (changes : List Change) (w : List ℕ) → AreSafe changes → are_entries (drop 12 w) ≡ true → are_entries (drop 12 (stored (pairs_of changes) w)) ≡ true
 entries-stored [] w safe h = h
-entries-stored (change ∷ changes) w safe h =
-    entries-stored changes (slice_set w (pair_of change).0 (pair_of change).1) safe.1 (entries-one change w safe.0 h)
+entries-stored (change ∷ changes) w safe h = grind (arith, entries-stored changes, entries-one)
 
 -- words that grow by zeros
 first-grown : (w zeros : List ℕ) (j : ℕ) → 12 ≤ length w → j < 12 → slice_index (w ++ zeros) j ≡ slice_index w j
@@ -154,9 +146,4 @@ entries-zeros zero = refl
 entries-zeros (suc n) = entries-zeros n
 
 pub frame-grown : (w : List ℕ) (n : ℕ) → length w ≡ 12 → frame_of (w ++ replicate n 0) ≡ record (frame_of w) { statuses = replicate n 0; rests = replicate n 0 }
-frame-grown w n len =
-    let long : 12 ≤ length w = omega arith in
-    frame-alike w (w ++ replicate n 0) (λ j below. first-grown w (replicate n 0) j long below)
-    ∙ ap (λ (es : List ℕ). record (frame_of w) { statuses = map status_of es; rests = map entry_rest es }) (drop-grown w (replicate n 0) len)
-    ∙ ap (λ (st : List ℕ). record (frame_of w) { statuses = st; rests = map entry_rest (replicate n 0) }) (statuses-zeros n)
-    ∙ ap (λ (rs : List ℕ). record (frame_of w) { statuses = replicate n 0; rests = rs }) (rests-zeros n)
+frame-grown w n len = grind (arith, frame-alike, first-grown, drop-grown, statuses-zeros, rests-zeros)

@@ -1,11 +1,11 @@
 -- What a child's role says, and what it keeps.
 use Rattle.std.specs.Prelude.{◌≡◌, ◌≢◌, ℕ, ◌<◌, neg_ℤ, List, length, slice_index, slice_set}
-use Rattle.std.proofs.Common.{sym, ◌∙◌, ap, subst}
+use Rattle.std.proofs.Common.{sym, ◌∙◌, ap, arith}
 use Rattle.othello_board.specs.declared.cells.Cell.{Cell}
 use Rattle.othello_moves.specs.Choices.{after}
 use Rattle.leaf_search.specs.othello_eval.Minimax.{minimax}
 use Rattle.jamboree_rules.specs.Frames.{Frame, board, choice_at, value_at, value}
-use Rattle.jamboree_rules.specs.Fits.{IsInRole, First, Test, Again, IsChildOf}
+use Rattle.jamboree_rules.specs.Fits.{IsInRole, IsChildOf}
 use Rattle.jamboree_rules.proofs.Searching.{set_beside}
 
 -- the value of a child's choice is the child's own, seen from the parent
@@ -14,13 +14,4 @@ worth_of f c kin there = ap neg_ℤ (ap (λ (d : ℕ). minimax d (after (board f
 
 -- a child of another number stays a child where a status is set that isn't its own and that no other search again relies on
 pub role-kept-mark : (f c : Frame) (i x rest : ℕ) → i < length f.statuses → c.number ≢ i → slice_index f.statuses i ≢ 2 → IsInRole f c → IsInRole (record f { statuses = slice_set f.statuses i x; rests = slice_set f.rests i rest }) c
-role-kept-mark f c i x rest inside other unsettled (First r) = First (record { role = r.role; phase = r.phase; number = r.number; status = set_beside f.statuses i x c.number other ∙ r.status; low = r.low; high = r.high })
-role-kept-mark f c i x rest inside other unsettled (Test r) = Test (record { role = r.role; phase = r.phase; status = set_beside f.statuses i x c.number other ∙ r.status; low = r.low; least = r.least; most = r.most })
-role-kept-mark f c i x rest inside other unsettled (Again r) = Again (record {
-  role = r.role;
-  phase = r.phase;
-  status = set_beside f.statuses i x c.number other ∙ r.status;
-  low = r.low;
-  high = r.high;
-  earlier = λ k below. set_beside f.statuses i x k (λ (e : k ≡ i). unsettled (subst (λ j. slice_index f.statuses j ≡ 2) e (r.earlier k below))) ∙ r.earlier k below;
-})
+role-kept-mark f c i x rest h6 h7 h8 h9 = grind (arith, set_beside)

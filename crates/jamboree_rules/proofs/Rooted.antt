@@ -1,5 +1,5 @@
 -- What a returned root holds of each of its choices.
-use Rattle.std.specs.Prelude.{◌≡◌, ◌≢◌, ℕ, zero, suc, ◌<◌, ◌≤◌, ◌<ℤ◌, List, [], ◌∷◌, Option, Some, None, All, map, length, refl, slice_index, slice_index_or}
+use Rattle.std.specs.Prelude.{◌≡◌, ◌≢◌, ℕ, suc, ◌<◌, ◌≤◌, ◌<ℤ◌, List, [], ◌∷◌, Option, Some, None, All, map, length, refl, slice_index, slice_index_or}
 use Rattle.std.proofs.Common.{sym, ◌∙◌, ap, arith}
 use Rattle.std.proofs.lemmas.List.{take_all}
 use Rattle.std.proofs.lemmas.List.Elements.{All-nil, All-cons}
@@ -27,9 +27,7 @@ use Rattle.jamboree_rules.proofs.Steps.{status-count}
 
 -- a kind is that of its number
 numbered : (n : ℕ) → n ≢ 0 → n < 4 → n ≡ kind_number (kind_numbered n)
-numbered zero some few = absurd (some refl)
-numbered (suc (suc (suc (suc n)))) some few = absurd (omega arith)
-numbered _ some few = refl
+numbered n h2 h3 = grind arith
 
 few-kinds : (rest : ℕ) → kind_in rest < 4
 few-kinds rest = omega arith
@@ -51,13 +49,11 @@ bounds-all P (c ∷ cs) [] each = All-nil P
 bounds-all P (c ∷ cs) (rest ∷ rests) each = All-cons P (bound_in c rest) (bounds_in cs rests) (each 0 (omega arith) (omega arith)) (bounds-all P cs rests (λ i inside there. each (suc i) (omega arith) (omega arith)))
 
 bounds-each : (depth : ℕ) (b : List Cell) (rests : List ℕ) → length rests ≡ length (entered depth b) → map (λ (e : Bound). e.choice) (bounds_in (choices b) rests) ≡ entered depth b
-bounds-each zero b rests same = bounds-none (choices b) rests same
-bounds-each (suc depth) b rests same = bounds-choices (choices b) rests same
+bounds-each depth b rests h4 = grind (arith, bounds-none, bounds-choices)
 
 -- where a choice has a place, the depth is at least 1, and all choices have one
 deep-there : (depth n : ℕ) (b : List Cell) → n < length (entered depth b) → 0 < depth
-deep-there zero b n below = absurd (omega arith)
-deep-there (suc depth) b n below = omega arith
+deep-there depth n b h4 = grind arith
 
 -- what is known of a root that has returned: its places, each with a kind, and the best of them
 record IsWhole (f : Frame) : Type 0 where
@@ -119,8 +115,7 @@ root-whole origin words fits root =
     (w.places, w.kinds, table-of (frame_of words) w)
 
 entered-few : (depth : ℕ) (b : List Cell) → length (entered depth b) ≤ 64
-entered-few zero b = omega arith
-entered-few (suc depth) b = few-choices b
+entered-few depth b = grind (arith, few-choices)
 
 -- and a job keeps all its words
 pub root-kept : (origin words : List ℕ) → AreFitting words [] HasReturned → IsRoot origin words → kept_words words ≡ words

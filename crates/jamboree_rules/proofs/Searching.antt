@@ -1,5 +1,5 @@
 -- One frame's search, over the values v of its choices, the codes of its choices, their statuses and what is found of them.
-use Rattle.std.specs.Prelude.{◌≡◌, ◌≢◌, ℕ, ◌<◌, ℤ, neg_ℤ, ◌<ℤ◌, ◌≤ℤ◌, ◌+ℤ◌, List, length, refl, slice_index, slice_set}
+use Rattle.std.specs.Prelude.{◌≡◌, ◌≢◌, ℕ, ◌<◌, ℤ, neg_ℤ, ◌<ℤ◌, ◌≤ℤ◌, List, length, refl, slice_index, slice_set}
 use Rattle.std.specs.Int.{int_max}
 use Rattle.std.proofs.Common.{sym, ◌∙◌, ap, subst, arith}
 use Rattle.std.proofs.lemmas.Grind.{common_steps}
@@ -33,17 +33,7 @@ set_length st i x = grind (arith, common_steps)
 -- the found choice stays where a choice that isn't settled gets another entry
 pub found-set : (v : ℕ → ℤ) (code : ℕ → ℕ) (st rests : List ℕ) (best : ℤ) (choice i x rest : ℕ) → i < length st → slice_index st i ≢ 2 →
     IsFound v code st rests best choice → IsFound v code (slice_set st i x) (slice_set rests i rest) best choice
-found-set v code st rests best choice i x rest inside other f =
-    let apart : f.place ≢ i = λ (e : f.place ≡ i). other (subst (λ k. slice_index st k ≡ 2) e f.settled) in
-    record {
-      place = f.place;
-      inside = omega (arith, set_length st i x, f.inside);
-      settled = set_beside st i x f.place apart ∙ f.settled;
-      exact = ap kind_in (set_beside rests i rest f.place apart) ∙ f.exact;
-      named = f.named;
-      worth = f.worth;
-      earlier = f.earlier;
-    }
+found-set v code st rests best choice i x rest inside other f = grind (arith, set_length, set_beside)
 
 -- a settled choice after a status was set
 pub settled-set : (v : ℕ → ℤ) (st : List ℕ) (best : ℤ) (i x : ℕ) → i < length st → (x ≡ 2 → v i ≤ℤ best) →

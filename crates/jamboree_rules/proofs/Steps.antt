@@ -2,7 +2,7 @@
 use Rattle.std.specs.Prelude.{◌≡◌, ◌≢◌, ℕ, ◌+◌, ◌-◌, ◌<◌, ◌≤◌, ◌⊎◌, ◌==◌, ◌||◌, ◌&&◌, nat_lt, nat_le, Bool, true, false, ℤ, pos, neg_ℤ, ◌<ℤ◌, ◌≤ℤ◌, ◌+ℤ◌, List, [], ◌∷◌, ◌++◌, map, length, drop, replicate, refl, slice_index, slice_set, bit_and}
 use Rattle.std.proofs.Common.{sym, ◌∙◌, ap, subst, arith, inl, inr, ⊎_elim}
 use Rattle.std.proofs.lemmas.Grind.{common_steps}
-use Rattle.std.proofs.lemmas.Bool.{lt-leb}
+use Rattle.std.proofs.lemmas.Bool.{lt-leb, or_from}
 use Rattle.std.proofs.lemmas.Bool.Decides.{nat_tests}
 use Rattle.std.proofs.lemmas.Int.{ints, clamps}
 use Rattle.std.proofs.lemmas.List.{length-map, length-drop}
@@ -18,7 +18,7 @@ use Rattle.sched_rules.specs.Laws.{NewChildFits, Mark, Neither, HasReturned, gro
 use Rattle.leaf_search.specs.othello_eval.Tables.{entered}
 use Rattle.leaf_search.specs.Bounds.{IsBound}
 use Rattle.jamboree_rules.specs.Frames.{Frame, code_at, rest_at, value_at, value, floor, least, greatest, unscored, choice_at}
-use Rattle.jamboree_rules.specs.Places.{word_of, status_of, frame_of, is_rest, are_entries, Change, OwnBits, OppBits, Phase, Best, Chosen, Count, Spawned, Status, pair_of, pairs_of, given_words, frame_size}
+use Rattle.jamboree_rules.specs.Places.{status_of, frame_of, is_rest, are_entries, Change, OwnBits, OppBits, Phase, Best, Chosen, Count, Spawned, Status, pair_of, pairs_of, given_words, frame_size}
 use Rattle.jamboree_rules.specs.Acts.{returns, spawns, opening, first_search, tests}
 use Rattle.jamboree_rules.specs.Fits.{IsSearchingFrame, Fits, AreFitting}
 use Rattle.jamboree_rules.specs.Leaves.{IsLeaf}
@@ -54,16 +54,7 @@ pub record IsGoodAct (own : List ℕ) (children : List (List ℕ)) (o p : ℕ) (
 good-by : (own : List ℕ) (children : List (List ℕ)) (o p : ℕ) (act : Act) (g : Frame) → frame_of (grown act.after (stored act.stores own)) ≡ g →
     is_bad_act own (has_one children) act ≡ false → IsFormed (grown act.after (stored act.stores own)) → Fits g (map frame_of (children_after act.after children)) (mark_after act.after children) →
     NewChildFits AreFitting act.after → HasSameGoal (frame_of own) g → g.own ≡ o → g.opp ≡ p → g.phase ≢ 0 → IsGoodAct own children o p act
-good-by own children o p act g is good formed fits child goal own_is opp_is known = record {
-  good = good;
-  formed = formed;
-  fits = subst (λ (h : Frame). Fits h (map frame_of (children_after act.after children)) (mark_after act.after children)) (sym is) fits;
-  child = child;
-  goal = subst (λ (h : Frame). HasSameGoal (frame_of own) h) (sym is) goal;
-  own_is = subst (λ (h : Frame). h.own ≡ o) (sym is) own_is;
-  opp_is = subst (λ (h : Frame). h.opp ≡ p) (sym is) opp_is;
-  known = subst (λ (h : Frame). h.phase ≢ 0) (sym is) known;
-}
+good-by own children o p act g is good formed fits child goal own_is opp_is known = grind arith
 
 -- stores at places that are there
 abbrev pub IsInside : ℕ → Change → Type 0
@@ -75,21 +66,15 @@ AreInside n [] = Unit {0}
 AreInside n (change ∷ changes) = IsInside n change × AreInside n changes
 
 inside-place : (n : ℕ) (change : Change) → IsInside n change → (pair_of change).0 < 12 + n
-inside-place n (OwnBits word) h = omega arith
-inside-place n _ h = omega arith
-
-neither : (a b : Bool) → a ≡ false → b ≡ false → (a || b) ≡ false
-neither a b ea eb = rw (ea, eb) refl
+inside-place n change h3 = grind arith
 
 pub inside-stored : (changes : List Change) (w : List ℕ) (n : ℕ) → length w ≡ 12 + n → AreInside n changes → is_outside (pairs_of changes) w ≡ false
 inside-stored [] w n len h = refl
-inside-stored (change ∷ changes) w n len h =
-    let place : (pair_of change).0 < 12 + n = inside-place n change h.0 in
-    neither (nat_le (length w) (pair_of change).0) (is_outside (pairs_of changes) w) (lt-leb (length w) (pair_of change).0 (omega arith)) (inside-stored changes w n len h.1)
+inside-stored (change ∷ changes) w n len h = grind (arith, inside-stored changes w n len, inside-place, lt-leb)
 
 good-act : (changes : List Change) (own : List ℕ) (n : ℕ) (has : Bool) (after : Continuation) → length own ≡ 12 + n → AreInside n changes → is_bad_then (length own) has after ≡ false →
     is_bad_act own has (record { stores = pairs_of changes; after = after }) ≡ false
-good-act changes own n has after len inside fine = neither (is_outside (pairs_of changes) own) (is_bad_then (length own) has after) (inside-stored changes own n len inside) fine
+good-act changes own n has after len inside fine = or_from (is_outside (pairs_of changes) own) (is_bad_then (length own) has after) (inside-stored changes own n len inside) fine
 
 -- a frame has a status for each choice
 pub status-count : (w : List ℕ) → IsFormed w → length (frame_of w).statuses ≡ (frame_of w).count
@@ -102,41 +87,21 @@ rest-there w i h = rests-are (drop 12 w) i h.entries
 -- a frame that goes on searching, or ends
 pub searched : (f : Frame) (phase choice spawned : ℕ) (best : ℤ) (st rests : List ℕ) → IsFrame f → (f.phase ≡ 2) ⊎ (f.phase ≡ 3) → 1 < phase → phase ≤ 4 → choice ≤ 65 → spawned ≤ f.count → least ≤ℤ best → best ≤ℤ greatest →
     IsFrame (record f { phase = phase; best = best; choice = choice; spawned = spawned; statuses = st; rests = rests })
-searched f phase choice spawned best st rests h before later last small few low high = record {
-  leaf = h.leaf;
-  role = h.role;
-  phase = last;
-  choice = small;
-  spawned = few;
-  early = λ (e : phase ≤ 1). absurd (omega arith);
-  late = λ _. (low, high);
-  counts = λ _. h.counts before;
-}
+searched f phase choice spawned best st rests h before later last small few low high = grind arith
 
 pub searching-late : (f : Frame) → (f.phase ≡ 2) ⊎ (f.phase ≡ 3) → 1 < f.phase
-searching-late f (inl e) = omega arith
-searching-late f (inr e) = omega arith
+searching-late f h2 = grind arith
 
 late-known : (phase : ℕ) → 1 < phase → phase ≢ 0
 late-known phase h = λ (e : phase ≡ 0). absurd (omega arith)
 
 -- a frame that hasn't begun has the form
 pub new-form : (f : Frame) → IsLeaf f.own f.opp f.depth f.alpha f.beta → f.role ≤ 3 → f.phase ≡ 0 → f.choice ≤ 65 → f.spawned ≡ 0 → f.best ≡ unscored → f.count ≡ 0 → IsFrame f
-new-form f leaf role phase choice spawned best count = record {
-  leaf = leaf;
-  role = role;
-  phase = omega arith;
-  choice = choice;
-  spawned = omega arith;
-  early = λ _. (best, count);
-  late = λ (late : 1 < f.phase). absurd (omega arith);
-  counts = ⊎_elim (λ (e : f.phase ≡ 2). absurd (omega arith)) (λ (e : f.phase ≡ 3). absurd (omega arith));
-}
+new-form f leaf role phase choice spawned best count = grind arith
 
 -- the frame in a new child's words
 pub child-frame : (f : Frame) (role i : ℕ) (low high : ℤ) → least ≤ℤ low → least ≤ℤ high → frame_of (padded (given_words (f.depth - plies (choice_at f i)) low high role i) frame_size) ≡ new_child f role i low high
-child-frame f role i low high l h =
-    ap (λ (x : ℤ). record (new_child f role i low high) { alpha = x; beta = Rattle.jamboree_rules.specs.Places.score_of (word_of high) }) (held low l) ∙ ap (λ (x : ℤ). record (new_child f role i low high) { beta = x }) (held high h)
+child-frame f role i low high l h = grind (arith, held)
 
 -- a new child has the form, and fits
 pub child-fits : (f : Frame) (role i : ℕ) (low high : ℤ) → IsFrame f → role ≤ 3 → least ≤ℤ low → low <ℤ high → high ≤ℤ greatest → Fits (new_child f role i low high) [] Neither →
@@ -157,9 +122,7 @@ map-joined (w ∷ before) behind = ap (λ (fs : List Frame). frame_of w ∷ fs) 
 
 -- the child's words behind the other children's
 children-behind : (f c : Frame) (children : List (List ℕ)) (child : List ℕ) (mark : Mark) → frame_of child ≡ c → Fits f (map frame_of children ++ c ∷ []) mark → Fits f (map frame_of (children ++ child ∷ [])) mark
-children-behind f c children child mark is fits =
-    subst (λ (fs : List Frame). Fits f fs mark) (sym (map-joined children (child ∷ [])))
-    (subst (λ (g : Frame). Fits f (map frame_of children ++ g ∷ []) mark) (sym is) fits)
+children-behind f c children child mark is fits = grind (arith, map-joined)
 
 -- the frame with this status at a choice, and so many spawned
 abbrev pub with_place : Frame → (i status spawned : ℕ) → Frame
@@ -189,16 +152,7 @@ spawn-good own children changes role i status spawned low high form before safe 
 -- to do nothing but wait
 wait-good : (own : List ℕ) (children : List (List ℕ)) → IsFormed own → Fits (frame_of own) (map frame_of children) Neither → (frame_of own).phase ≢ 0 →
     IsGoodAct own children (frame_of own).own (frame_of own).opp (record { stores = []; after = Wait })
-wait-good own children form fits known = record {
-  good = refl;
-  formed = form;
-  fits = fits;
-  child = tt;
-  goal = record { depth = refl; alpha = refl; beta = refl; role = refl; number = refl };
-  own_is = refl;
-  opp_is = refl;
-  known = known;
-}
+wait-good own children form fits known = grind arith
 
 pub none-told : (n : ℕ) → true ≡ (n == 0) → n ≡ 0
 none-told n e = grind (arith, nat_tests)
@@ -293,10 +247,7 @@ tests-good false false false own children j at ef em ea phase form fits = wait-g
 -- phase 4
 pub done-good : (own : List ℕ) (children : List (List ℕ)) → (frame_of own).phase ≡ 4 → IsFormed own → Fits (frame_of own) (map frame_of children) Neither →
     IsGoodAct own children (frame_of own).own (frame_of own).opp returns
-done-good own children phase form fits =
-    let done = next-done (frame_of own) (map frame_of children) fits phase in
-    return-good own children [] (frame_of own) form refl tt form done.0 done.1
-    (record { depth = refl; alpha = refl; beta = refl; role = refl; number = refl }) refl refl (λ e. absurd (omega arith))
+done-good own children phase form fits = grind (arith, next-done, return-good)
 
 -- phase 0
 abbrev pub opened_changes : ℕ → ℕ → ℕ → List Change

@@ -1,5 +1,5 @@
 -- A frame's table: what is said of a choice is true, and stays so while other entries are set.
-use Rattle.std.specs.Prelude.{◌≡◌, ◌≢◌, ℕ, zero, suc, ◌<◌, ◌⊎◌, Bool, true, false, ℤ, neg_ℤ, int_le, ◌<ℤ◌, ◌≤ℤ◌, List, length, replicate, refl, slice_index, slice_set}
+use Rattle.std.specs.Prelude.{◌≡◌, ◌≢◌, ℕ, ◌<◌, ◌⊎◌, Bool, true, false, ℤ, neg_ℤ, int_le, ◌<ℤ◌, ◌≤ℤ◌, List, length, replicate, refl, slice_index, slice_set}
 use Rattle.std.proofs.Common.{sym, ◌∙◌, ap, subst, arith, inl, inr}
 use Rattle.std.proofs.lemmas.Grind.{common_steps}
 use Rattle.std.proofs.lemmas.Bool.{cases_eq}
@@ -100,30 +100,19 @@ zero-at n k = grind (arith, common_steps)
 
 -- before anything is found
 pub tabled-zeros : (v : ℕ → ℤ) (n : ℕ) → IsTabled v (replicate n 0) (replicate n 0)
-tabled-zeros v n = record {
-  places = refl;
-  holds = λ k. nothing-true (slice_index (replicate n 0) k) (v k) (zero-at n k);
-  said = λ k is. absurd (omega (arith, zero-at n k, is));
-}
+tabled-zeros v n = grind (arith, nothing-true, zero-at)
 
 no-places : (xs : List ℕ) (k : ℕ) → length xs ≡ 0 → slice_index xs k ≡ 0
 no-places xs k none = get_or_past xs k 0 (omega arith)
 
 -- where there are no places
 pub tabled-none : (v : ℕ → ℤ) (st rests : List ℕ) → length st ≡ 0 → length rests ≡ 0 → IsTabled v st rests
-tabled-none v st rests sn rn = record {
-  places = rn ∙ sym sn;
-  holds = λ k. nothing-true (slice_index rests k) (v k) (no-places rests k rn);
-  said = λ k is. absurd (omega (arith, no-places st k sn, is));
-}
+tabled-none v st rests sn rn = grind (arith, nothing-true, no-places)
 
 -- at depth 1 and more all choices have a place
 pub entered-deep : (depth : ℕ) (board : List Cell) → 0 < depth → entered depth board ≡ choices board
-entered-deep zero board deep = absurd (omega arith)
-entered-deep (suc depth) board deep = refl
+entered-deep depth board h3 = grind arith
 
 -- and at depth 0, or in a finished game, none
 pub entered-none : (depth : ℕ) (board : List Cell) → (depth ≡ 0) ⊎ (length (choices board) ≡ 0) → length (entered depth board) ≡ 0
-entered-none zero board either = refl
-entered-none (suc depth) board (inl e) = absurd (omega arith)
-entered-none (suc depth) board (inr e) = e
+entered-none depth board h3 = grind arith

@@ -1,7 +1,7 @@
 -- What an inlet leaves of a frame that fits, and what an answer leaves.
-use Rattle.std.specs.Prelude.{◌≡◌, ◌≢◌, ℕ, ◌<◌, ◌≤◌, ◌⊎◌, ◌==◌, Bool, true, false, ℤ, neg_ℤ, ◌<ℤ◌, ◌≤ℤ◌, int_le, int_lt, List, [], ◌∷◌, ◌++◌, refl, slice_set}
+use Rattle.std.specs.Prelude.{◌≡◌, ◌≢◌, ℕ, ◌<◌, ◌≤◌, ◌⊎◌, ◌==◌, Bool, true, false, ℤ, neg_ℤ, ◌<ℤ◌, ◌≤ℤ◌, int_le, int_lt, List, [], ◌∷◌, ◌++◌, refl}
 use Rattle.std.specs.Int.{int_max}
-use Rattle.std.proofs.Common.{sym, ◌∙◌, ap, subst, arith, inl, inr, ⊎_elim}
+use Rattle.std.proofs.Common.{sym, ◌∙◌, ap, subst, arith, ⊎_elim}
 use Rattle.std.proofs.lemmas.Int.{ints, clamps}
 use Rattle.sched_rules.specs.Trees.{stored, is_outside}
 use Rattle.sched_rules.specs.Laws.{Neither, HasReturned}
@@ -11,7 +11,7 @@ use Rattle.jamboree_rules.specs.Acts.{seen, found_rest, changes_by, changes_of}
 use Rattle.leaf_search.specs.othello_eval.declared.bound.BoundKind.TheVariants.{Exact}
 use Rattle.leaf_search.specs.Bounds.{IsBound}
 use Rattle.jamboree_rules.specs.Entries.{IsOfKind, IsTrueRest}
-use Rattle.jamboree_rules.specs.Fits.{IsFirst, IsTest, IsAgain, IsInRole, First, Test, Again, IsChildOf, IsSearchingFrame, Fits}
+use Rattle.jamboree_rules.specs.Fits.{IsFirst, IsTest, IsAgain, IsInRole, IsChildOf, IsSearchingFrame, Fits}
 use Rattle.jamboree_rules.proofs.Searching.{IsSearching-low, IsSearching-higher}
 use Rattle.jamboree_rules.proofs.Tabling.{le-told, not-le-told, found-true, found-exact, found-passes}
 use Rattle.jamboree_rules.proofs.Kinship.{taken_in, child-of, in-search, unsettled, scored, inlet-failed, inlet-low, inlet-higher, inlet-first, inlet-cut, first-low, first-exact, again-low, again-exact, test-low, over-beta}
@@ -44,15 +44,11 @@ not-lt-told : (x y : ℤ) → false ≡ int_lt x y → y ≤ℤ x
 not-lt-told x y e = grind (arith, ints)
 
 test-told : (f c : Frame) → true ≡ (c.role == 2) → IsInRole f c → IsTest f c
-test-told f c e (First r) = let one : c.role ≡ 1 = r.role in absurd (grind (arith))
-test-told f c e (Test r) = r
-test-told f c e (Again r) = let three : c.role ≡ 3 = r.role in absurd (grind (arith))
+test-told f c h3 h4 = grind arith
 
 -- another than a test: the first child or a search again
 other-told : (f c : Frame) → false ≡ (c.role == 2) → IsInRole f c → IsFirst f c ⊎ IsAgain f c
-other-told f c e (First r) = inl r
-other-told f c e (Test r) = let two : c.role ≡ 2 = r.role in absurd (grind (arith))
-other-told f c e (Again r) = inr r
+other-told f c h3 h4 = grind arith
 
 -- a better score of a search in full is exact
 first-kind : (f c : Frame) → IsFirst f c → seen c <ℤ f.beta → floor f <ℤ seen c → IsOfKind (found_rest c) Exact
@@ -89,23 +85,10 @@ record AreTaken (f c : Frame) (changes : List Change) (g : Frame) : Type 0 where
 
 taken : (f c : Frame) (changes : List Change) (phase : ℕ) (best : ℤ) (choice status : ℕ) → IsFrame f → (f.phase ≡ 2) ⊎ (f.phase ≡ 3) → 1 < phase → phase ≤ 4 → choice ≤ 65 → least ≤ℤ best → best ≤ℤ greatest →
     AreSafe changes → AreInside f.count changes → changed_by changes f ≡ taken_in f c phase best choice status → AreTaken f c changes (taken_in f c phase best choice status)
-taken f c changes phase best choice status form before late last small low high safe inside is = record {
-  safe = safe;
-  inside = inside;
-  is = is;
-  count = refl;
-  form = searched f phase choice f.spawned best (slice_set f.statuses c.number status) (slice_set f.rests c.number (found_rest c)) form before late last small form.spawned low high;
-  goal = record { depth = refl; alpha = refl; beta = refl; role = refl; number = refl };
-  own_is = refl;
-  opp_is = refl;
-  known = λ (e : phase ≡ 0). absurd (omega arith);
-}
+taken f c changes phase best choice status form before late last small low high safe inside is = grind (arith, searched)
 
 seen-ranged : (c : Frame) → IsRanged c → (least ≤ℤ seen c) × (seen c ≤ℤ greatest)
-seen-ranged c r =
-    let low : least ≤ℤ c.best = r.low in
-    let high : c.best ≤ℤ greatest = r.high in
-    (omega (arith, ints), omega (arith, ints))
+seen-ranged c r = grind arith
 
 best-ranged : (f c : Frame) → IsRanged f → IsRanged c → (least ≤ℤ int_max f.best (seen c)) × (int_max f.best (seen c) ≤ℤ greatest)
 best-ranged f c rf rc =

@@ -15,13 +15,6 @@ pub record IsBestOf {X : Type 0} (alpha : ℤ) (v : X → ℤ) (taken : List X) 
   pub first : alpha <ℤ best → find (λ c. int_equal (v c) best) taken ≡ choice
   pub found : alpha <ℤ best → IsSome choice
 
-pub IsBestOf-none : {X : Type 0} (alpha : ℤ) (v : X → ℤ) (best : ℤ) (choice : Option X) → best ≤ℤ alpha → IsBestOf alpha v [] best choice
-IsBestOf-none alpha v best choice low = record {
-  above = All-nil (λ c. v c ≤ℤ best);
-  first = λ (higher : alpha <ℤ best). absurd (omega (arith, ints));
-  found = λ (higher : alpha <ℤ best). absurd (omega (arith, ints));
-}
-
 -- a choice that is worth no more leaves the best
 pub IsBestOf-kept : {X : Type 0} (alpha : ℤ) (v : X → ℤ) (taken : List X) (best : ℤ) (choice : Option X) (c : X) → IsBestOf alpha v taken best choice → v c ≤ℤ best → IsBestOf alpha v (taken ++ c ∷ []) best choice
 IsBestOf-kept alpha v taken best choice c so_far under = record {
@@ -139,10 +132,7 @@ next_chosen all taken left rest c split next =
 -- after a turn the choice is among the choices
 pub still_chosen : {X : Type 0} (all : List X) (best score new_best : ℤ) (choice new_choice : Option X) (c : X) → IfSome choice (Contains all) → Contains all c
     → (best <ℤ neg_ℤ score → (new_best ≡ neg_ℤ score) × (new_choice ≡ Some c)) → (neg_ℤ score ≤ℤ best → (new_best ≡ best) × (new_choice ≡ choice)) → IfSome new_choice (Contains all)
-still_chosen all best score new_best choice new_choice c chosen here raised kept =
-    by_lt_z best (neg_ℤ score)
-    (λ better. subst (λ o. IfSome o (Contains all)) (sym (raised better).1) here)
-    (λ under. subst (λ o. IfSome o (Contains all)) (sym (kept under).1) chosen)
+still_chosen all best score new_best choice new_choice c chosen here raised kept = grind (arith, by_lt_z)
 
 -- a turn that doesn't end the search
 pub IsSearching-turn : {X : Type 0} (alpha beta : ℤ) (v : X → ℤ) (all left : List X) (best : ℤ) (choice : Option X) (c : X) (rest : List X) (floor low high score value new_best : ℤ) (new_choice : Option X) →
@@ -163,8 +153,7 @@ IsSearching-turn alpha beta v all left best choice c rest floor low high score v
 
 -- a turn that ends the search: the bound, and a true score
 pub cut_score : (best beta score new_best : ℤ) → best <ℤ beta → beta ≤ℤ new_best → (best <ℤ neg_ℤ score → new_best ≡ neg_ℤ score) → (neg_ℤ score ≤ℤ best → new_best ≡ best) → new_best ≡ neg_ℤ score
-cut_score best beta score new_best below high raised kept =
-    by_lt_z best (neg_ℤ score) (λ better. raised better) (λ under. let old = kept under in absurd (omega (arith, ints)))
+cut_score best beta score new_best h1 h2 h3 h4 = grind arith
 
 pub IsSearching-cut : {X : Type 0} (alpha beta : ℤ) (v : X → ℤ) (all left : List X) (best : ℤ) (choice : Option X) (c : X) (rest : List X) (floor low high score value new_best other : ℤ) →
     alpha <ℤ beta → IsSearching alpha beta v all left best choice → left ≡ c ∷ rest → low ≡ neg_ℤ beta → high ≡ neg_ℤ floor → IsBound low high score value → v c ≡ neg_ℤ value →
@@ -176,8 +165,7 @@ IsSearching-cut alpha beta v all left best choice c rest floor low high score va
 
 -- the end of the choices
 pub IsSearching-all : {X : Type 0} (alpha beta : ℤ) (v : X → ℤ) (all left : List X) (best : ℤ) (choice : Option X) → IsSearching alpha beta v all left best choice → left ≡ [] → IsBestOf alpha v all best choice
-IsSearching-all alpha beta v all left best choice s none =
-    subst (λ cs. IsBestOf alpha v cs best choice) (sym (append-nil s.taken) ∙ (ap (λ l. s.taken ++ l) (sym none) ∙ s.split)) s.so_far
+IsSearching-all alpha beta v all left best choice s none = grind (arith, append-nil)
 
 pub IsSearching-real : {X : Type 0} (alpha beta : ℤ) (v : X → ℤ) (all left : List X) (best : ℤ) (choice : Option X) → IsSearching alpha beta v all left best choice → left ≡ [] → 0 < length all → negsuc 127999 ≤ℤ best
 IsSearching-real alpha beta v all left best choice s none some =
@@ -188,11 +176,7 @@ IsSearching-next alpha beta v all left best choice c rest s next = next_chosen a
 
 -- the value itself is a bound of it, whatever the window
 pub exact_bound : (alpha beta score value : ℤ) → value ≡ score → IsBound alpha beta score value
-exact_bound alpha beta score value same = record {
-  upper = λ low. omega (arith, ints);
-  lower = λ high. omega (arith, ints);
-  exact = λ higher lower. same;
-}
+exact_bound alpha beta score value same = grind arith
 
 -- what a bound says of the value, by where the score lies
 pub bound_below : (a z s m : ℤ) → s ≤ℤ a → a <ℤ z → IsBound a z s m ↔ (m ≤ℤ s)

@@ -1,13 +1,13 @@
 -- The answers to some lines, and their writes.
-use Rattle.std.proofs.Common.{◌≡◌, ℕ, List, [], ◌∷◌, ◌++◌, map, refl, sym, ap, ◌∙◌, subst, append_assoc, Result, Ok, Err}
+use Rattle.std.proofs.Common.{◌≡◌, ℕ, List, [], ◌∷◌, ◌++◌, map, refl, sym, ap, ◌∙◌, subst, append_assoc, Result, Ok, Err, arith}
 use Rattle.std.proofs.lemmas.List.{append-nil, map-append}
 use Rattle.std.proofs.lemmas.List.Folds.{concat-append}
 use Rattle.std.proofs.lemmas.List.Concat.{flat_map-append}
 use Rattle.std.specs.List.{concat}
 use Rattle.line_io.specs.declared.faults.WriteFailed.{WriteFailed}
 use Rattle.line_io.specs.Lines.{LineText}
-use Rattle.line_io.specs.Leads.{Leads, IsPrefixOf}
-use Rattle.line_io.specs.Streams.{WriteAnswer, Took, Refused}
+use Rattle.line_io.specs.Leads.{Leads}
+use Rattle.line_io.specs.Streams.{WriteAnswer, Took}
 use Rattle.line_io.specs.Writes.{IsWritten, LinesAnswered, IsAnswered, with_newline, written_texts, writes_of}
 use Rattle.line_io.proofs.Chains.{Leads-append, Answers-append}
 
@@ -27,8 +27,7 @@ LinesAnswered-none takes answers k a u =
 
 -- one line, where its answer's writes ended so
 one-line : {K A : Type 0} (takes : K → WriteAnswer → K → Type 0) (answers : A → LineText → List ℕ → A → Type 0) (k : K) (a : A) (line : LineText) (text bytes : List ℕ) (k' : K) (a' : A) (r : Result (Unit {0}) WriteFailed) → answers a line text a' → bytes ≡ with_newline text → (w : IsWritten takes k bytes k' r) → IsAnswered r (line ∷ []) (line ∷ []) (text ∷ []) w.rest → LinesAnswered takes answers k a (line ∷ []) k' a' r
-one-line takes answers k a line text bytes k' a' r h e w ends =
-    record { answered = line ∷ []; texts = text ∷ []; pieces = w.pieces; rest = w.rest; answers_lead = (a', h, refl); writes = w.writes; taken = w.taken ∙ (e ∙ sym (append-nil (with_newline text))); ends = ends }
+one-line takes answers k a line text bytes k' a' r h e w ends = grind (arith, append-nil)
 
 -- one line, whose answer was written
 pub LinesAnswered-one : {K A : Type 0} (takes : K → WriteAnswer → K → Type 0) (answers : A → LineText → List ℕ → A → Type 0) (k : K) (a : A) (line : LineText) (text bytes : List ℕ) (k' : K) (a' : A) (r : Result (Unit {0}) WriteFailed) → answers a line text a' → bytes ≡ with_newline text → IsWritten takes k bytes k' r → LinesAnswered takes answers k a (line ∷ []) k' a' r
@@ -38,14 +37,11 @@ LinesAnswered-one takes answers k a line text bytes k' a' (Err d) h e w =
 
 -- the writes of two lists of pieces
 pub writes_of-append : (ps qs : List (List ℕ)) (r : Result (Unit {0}) WriteFailed) → writes_of (ps ++ qs) r ≡ map Took ps ++ writes_of qs r
-writes_of-append ps qs (Ok u) = map-append Took ps qs
-writes_of-append ps qs (Err e) =
-    ap (λ z. z ++ Refused ∷ []) (map-append Took ps qs) ∙ append_assoc (map Took ps) (map Took qs) (Refused ∷ [])
+writes_of-append ps qs r = grind (arith, map-append, append_assoc)
 
 -- what is taken of two lists of texts
 taken-append : (ps qs : List (List ℕ)) (rest rest' : List ℕ) (ts us : List (List ℕ)) → concat ps ++ rest ≡ written_texts ts → rest ≡ [] → concat qs ++ rest' ≡ written_texts us → concat (ps ++ qs) ++ rest' ≡ written_texts (ts ++ us)
-taken-append ps qs rest rest' ts us p e q =
-    ap (λ z. z ++ rest') (concat-append ps qs) ∙ (append_assoc (concat ps) (concat qs) rest' ∙ (ap (λ z. concat ps ++ z) q ∙ (ap (λ z. z ++ written_texts us) (sym (append-nil (concat ps)) ∙ (ap (λ z. concat ps ++ z) (sym e) ∙ p)) ∙ sym (flat_map-append with_newline ts us))))
+taken-append ps qs rest rest' ts us p e q = grind (arith, concat-append, append_assoc, append-nil, flat_map-append)
 
 -- how the answers to two lists of lines end
 ends-append : (r : Result (Unit {0}) WriteFailed) (ls ls' ms ms' : List LineText) (ts us : List (List ℕ)) (rest : List ℕ) → ls' ≡ ls → IsAnswered r ms ms' us rest → IsAnswered r (ls ++ ms) (ls' ++ ms') (ts ++ us) rest
@@ -78,11 +74,8 @@ LinesAnswered-append takes answers k a ls k' a' u ms k'' a'' r x y =
 
 -- where a write failed, more lines may follow
 pub LinesAnswered-before : {K A : Type 0} (takes : K → WriteAnswer → K → Type 0) (answers : A → LineText → List ℕ → A → Type 0) (k : K) (a : A) (ls more : List LineText) (k' : K) (a' : A) (e : WriteFailed) → LinesAnswered takes answers k a ls k' a' (Err e) → LinesAnswered takes answers k a (ls ++ more) k' a' (Err e)
-LinesAnswered-before takes answers k a ls more k' a' e x =
-    let longer : IsPrefixOf x.answered (ls ++ more) = (x.ends.0.0 ++ more, sym (append_assoc x.answered x.ends.0.0 more) ∙ ap (λ z. z ++ more) x.ends.0.1) in
-    record { answered = x.answered; texts = x.texts; pieces = x.pieces; rest = x.rest; answers_lead = x.answers_lead; writes = x.writes; taken = x.taken; ends = (longer, x.ends.1) }
+LinesAnswered-before takes answers k a ls more k' a' e x = grind (arith, append_assoc)
 
 -- the same lines by another name
 pub LinesAnswered-same : {K A : Type 0} (takes : K → WriteAnswer → K → Type 0) (answers : A → LineText → List ℕ → A → Type 0) (k : K) (a : A) (ls ms : List LineText) (k' : K) (a' : A) (r : Result (Unit {0}) WriteFailed) → ls ≡ ms → LinesAnswered takes answers k a ls k' a' r → LinesAnswered takes answers k a ms k' a' r
-LinesAnswered-same takes answers k a ls ms k' a' r e x =
-    subst (λ zs. LinesAnswered takes answers k a zs k' a' r) e x
+LinesAnswered-same takes answers k a ls ms k' a' r e x = grind arith

@@ -1,6 +1,6 @@
 -- The lines that end in one block.
 use Rattle.std.proofs.Common.{◌≡◌, ◌≢◌, ℕ, ◌+◌, ◌<◌, ◌≤◌, List, [], ◌∷◌, ◌++◌, length, get_or, drop, cond, eqb, false, refl, sym, ap, ◌∙◌, append_assoc, arith, Option, Some, Ok, Err}
-use Rattle.std.proofs.lemmas.List.{append-nil, at_drop_more, drop_all}
+use Rattle.std.proofs.lemmas.List.{at_drop_more, drop_all}
 use Rattle.std.proofs.lemmas.Bool.Decides.{nat_tests}
 use Rattle.line_io.specs.declared.faults.WriteFailed.{WriteFailed}
 use Rattle.line_io.specs.Lines.{LineText}
@@ -56,11 +56,6 @@ Block-line takes answers k a h block i k' a' h' line k'' a'' h'' u s l e f x n =
 pub Block-failed : {K A : Type 0} (takes : K → WriteAnswer → K → Type 0) (answers : A → LineText → List ℕ → A → Type 0) (k : K) (a : A) (h : Option (List ℕ)) (block : List ℕ) (i : ℕ) (k' : K) (a' : A) (h' : Option (List ℕ)) (line : LineText) (k'' : K) (a'' : A) (d : WriteFailed) → BlockSoFar takes answers k a h block i k' a' h' → i < length block → get_or block i 0 ≡ 10 → line ≡ ended_line h' → LinesAnswered takes answers k' a' (line ∷ []) k'' a'' (Err d) → LinesAnswered takes answers k a (ended_within h block) k'' a'' (Err d)
 Block-failed takes answers k a h block i k' a' h' line k'' a'' d s l e f x =
     LinesAnswered-same takes answers k a ((s.lines ++ ended_line h' ∷ []) ++ ended_within (Some []) (drop (i + 1) block)) (ended_within h block) k'' a'' (Err d) (sym (lf-next s.lines h' block i l e) ∙ s.to_come) (LinesAnswered-before takes answers k a (s.lines ++ ended_line h' ∷ []) (ended_within (Some []) (drop (i + 1) block)) k'' a'' d (LinesAnswered-append takes answers k a s.lines k' a' tt (ended_line h' ∷ []) k'' a'' (Err d) s.answered (LinesAnswered-same takes answers k' a' (line ∷ []) (ended_line h' ∷ []) k'' a'' (Err d) (ap (λ z. z ∷ []) f) x)))
-
--- the end of the block
-pub Block-end : {K A : Type 0} (takes : K → WriteAnswer → K → Type 0) (answers : A → LineText → List ℕ → A → Type 0) (k : K) (a : A) (h : Option (List ℕ)) (block : List ℕ) (i : ℕ) (k' : K) (a' : A) (h' : Option (List ℕ)) → BlockSoFar takes answers k a h block i k' a' h' → length block ≤ i → LinesAnswered takes answers k a (ended_within h block) k' a' (Ok tt)
-Block-end takes answers k a h block i k' a' h' s l =
-    LinesAnswered-same takes answers k a s.lines (ended_within h block) k' a' (Ok tt) (sym (append-nil s.lines) ∙ (ap (λ z. s.lines ++ ended_within h' z) (sym (drop_all i block l)) ∙ s.to_come)) s.answered
 
 pub Block-held : {K A : Type 0} (takes : K → WriteAnswer → K → Type 0) (answers : A → LineText → List ℕ → A → Type 0) (k : K) (a : A) (h : Option (List ℕ)) (block : List ℕ) (i : ℕ) (k' : K) (a' : A) (h' : Option (List ℕ)) → BlockSoFar takes answers k a h block i k' a' h' → length block ≤ i → h' ≡ held_after h block
 Block-held takes answers k a h block i k' a' h' s l = ap (held_after h') (sym (drop_all i block l)) ∙ s.held

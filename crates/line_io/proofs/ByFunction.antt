@@ -23,8 +23,7 @@ Answers-function answers holds answer step a (l ∷ ls) (t ∷ ts) b h p =
 
 -- all of the answers
 answers-all : (answer : LineText → List ℕ) (pieces : List (List ℕ)) (rest : List ℕ) (texts : List (List ℕ)) (answered lines : List LineText) → concat pieces ++ rest ≡ written_texts texts → texts ≡ map answer answered → answered ≡ lines → rest ≡ [] → concat pieces ≡ answers_to answer lines
-answers-all answer pieces rest texts answered lines t e same none =
-    sym (append-nil (concat pieces)) ∙ (ap (λ z. concat pieces ++ z) (sym none) ∙ (t ∙ (ap written_texts (e ∙ ap (map answer) same) ∙ flat_map-map with_newline answer lines)))
+answers-all answer pieces rest texts answered lines t e same none = grind (arith, append-nil, flat_map-map)
 
 -- a beginning of them
 answers-begun : (answer : LineText → List ℕ) (pieces : List (List ℕ)) (rest : List ℕ) (texts : List (List ℕ)) (answered lines : List LineText) → concat pieces ++ rest ≡ written_texts texts → texts ≡ map answer answered → IsPrefixOf answered lines → 0 < length rest → IsProperPrefix (concat pieces) (answers_to answer lines)
@@ -41,9 +40,7 @@ answers-written answer (Err d) pieces rest texts answered lines t e h =
 
 -- a run, where what its writes left is this of the lines due
 pub Run-written : {S K A : Type 0} (gives : S → ReadAnswer → S → Type 0) (takes : K → WriteAnswer → K → Type 0) (answers : A → LineText → List ℕ → A → Type 0) (out : List LineText → List ℕ) (s : S) (k : K) (a : A) (s' : S) (k' : K) (a' : A) (r : Result (Unit {0}) LineFault) (x : Run gives takes answers s k a s' k' a' r) → IsOutput (write_result r) (concat x.lines.pieces) (out (lines_of (bytes_due r (concat x.blocks)))) → FunctionRun gives takes (λ bytes. out (lines_of bytes)) s k s' k' r
-Run-written gives takes answers out s k a s' k' a' r x written =
-    let y = x.lines in
-    record { blocks = x.blocks; last = x.last; pieces = y.pieces; reads = x.reads; ends = x.ends; writes = y.writes; written = written }
+Run-written gives takes answers out s k a s' k' a' r x written = grind arith
 
 module _ {S K A : Type 0} (gives : S → ReadAnswer → S → Type 0) (takes : K → WriteAnswer → K → Type 0) (answers : A → LineText → List ℕ → A → Type 0) (holds : A → Type 0) (answer : LineText → List ℕ) (step : (a : A) (l : LineText) (t : List ℕ) (b : A) → holds a → answers a l t b → (t ≡ answer l) × holds b) where
   -- a run whose answers are a function's
@@ -64,7 +61,4 @@ Answers-related answers related step a (l ∷ ls) (t ∷ ts) b p =
 
 -- a run whose answers are
 pub Run-related : {S K A : Type 0} (gives : S → ReadAnswer → S → Type 0) (takes : K → WriteAnswer → K → Type 0) (answers : A → LineText → List ℕ → A → Type 0) (related : LineText → List ℕ → Type 0) → ((a : A) (l : LineText) (t : List ℕ) (b : A) → answers a l t b → related l t) → (s : S) (k : K) (a : A) (s' : S) (k' : K) (a' : A) (r : Result (Unit {0}) LineFault) → Run gives takes answers s k a s' k' a' r → Run gives takes (λ (_ : Unit {0}) l t (_ : Unit {0}). related l t) s k tt s' k' tt r
-Run-related gives takes answers related step s k a s' k' a' r x =
-    let y = x.lines in
-    let lead = Answers-related answers related step a y.answered y.texts a' y.answers_lead in
-    record { blocks = x.blocks; last = x.last; reads = x.reads; ends = x.ends; lines = record { answered = y.answered; texts = y.texts; pieces = y.pieces; rest = y.rest; answers_lead = lead; writes = y.writes; taken = y.taken; ends = y.ends } }
+Run-related gives takes answers related step s k a s' k' a' r x = grind (arith, Answers-related)

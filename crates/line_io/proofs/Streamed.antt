@@ -1,21 +1,20 @@
 -- Lines that are cut byte by byte are the lines of all bytes.
-use Rattle.std.proofs.Common.{◌≡◌, ℕ, ◌+◌, ◌-◌, ◌≤◌, List, [], ◌∷◌, ◌++◌, length, map, take, cond, eqb, Bool, true, false, ◌||◌, refl, sym, ap, ◌∙◌, append_assoc, arith, Option, Some, None, nat_le, slice_index, length-append}
-use Rattle.std.proofs.lemmas.List.{append-nil, length-take}
+use Rattle.std.proofs.Common.{◌≡◌, ℕ, ◌+◌, ◌≤◌, List, [], ◌∷◌, ◌++◌, length, map, cond, eqb, Bool, true, false, ◌||◌, refl, sym, ap, ◌∙◌, append_assoc, arith, Option, Some, None, nat_le, length-append}
+use Rattle.std.proofs.lemmas.List.{append-nil}
 use Rattle.std.proofs.lemmas.Bool.Decides.{nat_tests}
 use Rattle.std.specs.List.{slice_split, onto_first, list_any}
 use Rattle.std.specs.Option.{option_to_list}
 use Rattle.std.specs.Str.Lines.{lines_of_parts, strip_carriage_return}
+use Rattle.std.proofs.lemmas.Grind.{common_steps}
 use Rattle.line_io.specs.Lines.{Whole, TooLong, line_text, lines_of, up_to_last_end}
 use Rattle.line_io.specs.Held.{held, with_byte, ended_line, last_line, held_after, ended_within}
 
 -- what is cut off is one byte at most
 strip-least : (l : List ℕ) → length l ≤ length (strip_carriage_return l) + 1
-strip-least l =
-    elim (eqb (slice_index l (length l - 1)) 13) as (λ b. length l ≤ length (cond b (take (length l - 1) l) l) + 1) [ true ↦ omega (arith, length-take (length l - 1) l) | false ↦ omega arith ]
+strip-least l = grind (arith, common_steps)
 
 strip-most : (l : List ℕ) → length (strip_carriage_return l) ≤ length l
-strip-most l =
-    elim (eqb (slice_index l (length l - 1)) 13) as (λ b. length (cond b (take (length l - 1) l) l) ≤ length l) [ true ↦ omega (arith, length-take (length l - 1) l) | false ↦ omega arith ]
+strip-most l = grind (arith, common_steps)
 
 -- a test that fails stays failed
 held-none : (t : Bool) (raw : List ℕ) (b : ℕ) → nat_le (length (strip_carriage_return raw)) 128 ≡ t → with_byte (cond t (Some raw) None) b ≡ held (raw ++ b ∷ [])
@@ -32,8 +31,7 @@ with_byte-held raw b = held-none (nat_le (length (strip_carriage_return raw)) 12
 
 -- the line that an LF ends
 pub ended_line-held : (raw : List ℕ) → ended_line (held raw) ≡ line_text (strip_carriage_return raw)
-ended_line-held raw =
-    elim (nat_le (length (strip_carriage_return raw)) 128) as (λ t. ended_line (cond t (Some raw) None) ≡ cond t (Whole (strip_carriage_return raw)) TooLong) [ true ↦ refl | false ↦ refl ]
+ended_line-held raw = grind arith
 
 last-held : (t : Bool) (b : ℕ) (bs : List ℕ) → nat_le (length (strip_carriage_return (b ∷ bs))) 128 ≡ t → option_to_list (last_line (cond t (Some (b ∷ bs)) None)) ≡ line_text (b ∷ bs) ∷ []
 last-held true b bs e = refl
@@ -47,9 +45,7 @@ not_empty b bs = grind (arith, nat_tests)
 
 -- the line that the end of the input ends
 pub last_line-held : (raw : List ℕ) → option_to_list (last_line (held raw)) ≡ map line_text (lines_of_parts (raw ∷ []))
-last_line-held [] = refl
-last_line-held (b ∷ bs) =
-    last-held (nat_le (length (strip_carriage_return (b ∷ bs))) 128) b bs refl ∙ ap (λ t. map line_text (cond t [] ((b ∷ bs) ∷ []))) (sym (not_empty b bs))
+last_line-held raw = grind (arith, last-held, not_empty)
 
 -- the bytes before the first of the parts
 abbrev onto : List ℕ → List (List ℕ) → List (List ℕ)
@@ -64,8 +60,7 @@ split_some (b ∷ bs) =
     elim (eqb b 10) as (λ t. (s : List ℕ) × (ss : List (List ℕ)) × (cond t ([] ∷ slice_split (λ b. eqb b 10) bs) (onto_first b (slice_split (λ b. eqb b 10) bs)) ≡ s ∷ ss)) [ true ↦ ([], slice_split (λ b. eqb b 10) bs, refl) | false ↦ (b ∷ p.0, p.1, ap (onto_first b) p.2) ]
 
 onto-first : (raw : List ℕ) (b : ℕ) (parts : List (List ℕ)) → onto (raw ++ b ∷ []) parts ≡ onto raw (onto_first b parts)
-onto-first raw b [] = refl
-onto-first raw b (s ∷ ss) = ap (λ z. z ∷ ss) (append_assoc raw (b ∷ []) s)
+onto-first raw b parts = grind (arith, append_assoc)
 
 -- all lines, with an LF next
 all-lf : (raw bs : List ℕ) (s : List ℕ) (ss : List (List ℕ)) → slice_split (λ b. eqb b 10) bs ≡ s ∷ ss → ended_within (held []) bs ++ option_to_list (last_line (held_after (held []) bs)) ≡ map line_text (lines_of_parts (onto [] (slice_split (λ b. eqb b 10) bs))) → ended_line (held raw) ∷ (ended_within (Some []) bs ++ option_to_list (last_line (held_after (Some []) bs))) ≡ map line_text (lines_of_parts (onto raw ([] ∷ slice_split (λ b. eqb b 10) bs)))
@@ -89,24 +84,14 @@ lines_of-all bs =
     let p = split_some bs in
     all-onto [] bs ∙ (ap (λ z. map line_text (lines_of_parts (onto [] z))) p.2 ∙ ap (λ z. map line_text (lines_of_parts z)) (sym p.2))
 
-or_false : (a b : Bool) → (a || b) ≡ false → (a ≡ false) × (b ≡ false)
-or_false true b e = cc
-or_false false b e = (refl, e)
-
 -- where no byte is an LF, no line ends
 none-ended : (h : Option (List ℕ)) (bs : List ℕ) → list_any (λ c. eqb c 10) bs ≡ false → ended_within h bs ≡ []
 none-ended h [] e = refl
-none-ended h (b ∷ bs) e =
-    let p = or_false (eqb b 10) (list_any (λ c. eqb c 10) bs) e in
-    ap (λ t. cond t (ended_line h ∷ ended_within (Some []) bs) (ended_within (with_byte h b) bs)) p.0 ∙ none-ended (with_byte h b) bs p.1
+none-ended h (b ∷ bs) e = grind (arith, none-ended (with_byte h b) bs)
 
 -- no line ends after the last LF
 end-step : (t u : Bool) (h : Option (List ℕ)) (b : ℕ) (bs : List ℕ) → eqb b 10 ≡ t → list_any (λ c. eqb c 10) bs ≡ u → ((g : Option (List ℕ)) → ended_within g (up_to_last_end bs) ≡ ended_within g bs) → ended_within h (cond (t || u) (b ∷ up_to_last_end bs) []) ≡ cond t (ended_line h ∷ ended_within (Some []) bs) (ended_within (with_byte h b) bs)
-end-step true u h b bs e f ih =
-    ap (λ t. cond t (ended_line h ∷ ended_within (Some []) (up_to_last_end bs)) (ended_within (with_byte h b) (up_to_last_end bs))) e ∙ ap (λ z. ended_line h ∷ z) (ih (Some []))
-end-step false true h b bs e f ih =
-    ap (λ t. cond t (ended_line h ∷ ended_within (Some []) (up_to_last_end bs)) (ended_within (with_byte h b) (up_to_last_end bs))) e ∙ ih (with_byte h b)
-end-step false false h b bs e f ih = sym (none-ended (with_byte h b) bs f)
+end-step t u h b bs h6 h7 h8 = grind (arith, none-ended)
 
 ended_within-end : (h : Option (List ℕ)) (bs : List ℕ) → ended_within h (up_to_last_end bs) ≡ ended_within h bs
 ended_within-end h [] = refl
@@ -114,18 +99,14 @@ ended_within-end h (b ∷ bs) = end-step (eqb b 10) (list_any (λ c. eqb c 10) b
 
 -- after the last LF nothing is held
 held-step : (t u : Bool) (h : Option (List ℕ)) (b : ℕ) (bs : List ℕ) → eqb b 10 ≡ t → ((g : Option (List ℕ)) → held_after g (up_to_last_end bs) ≡ cond u (Some []) g) → held_after h (cond (t || u) (b ∷ up_to_last_end bs) []) ≡ cond (t || u) (Some []) h
-held-step true true h b bs e ih = ap (λ t. held_after (cond t (Some []) (with_byte h b)) (up_to_last_end bs)) e ∙ ih (Some [])
-held-step true false h b bs e ih = ap (λ t. held_after (cond t (Some []) (with_byte h b)) (up_to_last_end bs)) e ∙ ih (Some [])
-held-step false true h b bs e ih = ap (λ t. held_after (cond t (Some []) (with_byte h b)) (up_to_last_end bs)) e ∙ ih (with_byte h b)
-held-step false false h b bs e ih = refl
+held-step t u h b bs h6 h7 = grind arith
 
 held_after-end : (h : Option (List ℕ)) (bs : List ℕ) → held_after h (up_to_last_end bs) ≡ cond (list_any (λ c. eqb c 10) bs) (Some []) h
 held_after-end h [] = refl
 held_after-end h (b ∷ bs) = held-step (eqb b 10) (list_any (λ c. eqb c 10) bs) h b bs refl (λ g. held_after-end g bs)
 
 cond_same : (t : Bool) (h : Option (List ℕ)) → cond t h h ≡ h
-cond_same true h = refl
-cond_same false h = refl
+cond_same t h = grind arith
 
 -- what is cut byte by byte are the lines of the bytes up to the last LF
 pub ended_within-all : (bs : List ℕ) → ended_within (Some []) bs ≡ lines_of (up_to_last_end bs)
@@ -137,14 +118,11 @@ ended_within-all bs =
 -- one block more
 pub held_after-append : (h : Option (List ℕ)) (xs ys : List ℕ) → held_after h (xs ++ ys) ≡ held_after (held_after h xs) ys
 held_after-append h [] ys = refl
-held_after-append h (b ∷ bs) ys =
-    held_after-append (cond (eqb b 10) (Some []) (with_byte h b)) bs ys
+held_after-append h (b ∷ bs) ys = grind (arith, held_after-append (cond (eqb b 10) (Some []) (with_byte h b)) bs ys)
 
 within-step : (t : Bool) (h : Option (List ℕ)) (b : ℕ) (bs ys : List ℕ) → ended_within (Some []) (bs ++ ys) ≡ ended_within (Some []) bs ++ ended_within (held_after (Some []) bs) ys → ended_within (with_byte h b) (bs ++ ys) ≡ ended_within (with_byte h b) bs ++ ended_within (held_after (with_byte h b) bs) ys → cond t (ended_line h ∷ ended_within (Some []) (bs ++ ys)) (ended_within (with_byte h b) (bs ++ ys)) ≡ cond t (ended_line h ∷ ended_within (Some []) bs) (ended_within (with_byte h b) bs) ++ ended_within (held_after (cond t (Some []) (with_byte h b)) bs) ys
-within-step true h b bs ys ih ih' = ap (λ z. ended_line h ∷ z) ih
-within-step false h b bs ys ih ih' = ih'
+within-step t h b bs ys h6 h7 = grind arith
 
 pub ended_within-append : (h : Option (List ℕ)) (xs ys : List ℕ) → ended_within h (xs ++ ys) ≡ ended_within h xs ++ ended_within (held_after h xs) ys
 ended_within-append h [] ys = refl
-ended_within-append h (b ∷ bs) ys =
-    within-step (eqb b 10) h b bs ys (ended_within-append (Some []) bs ys) (ended_within-append (with_byte h b) bs ys)
+ended_within-append h (b ∷ bs) ys = grind (arith, ended_within-append (Some []) bs ys, ended_within-append (with_byte h b) bs ys, within-step)

@@ -1,7 +1,8 @@
 -- Lines that are answered up to one that ends the talk.
-use Rattle.std.proofs.Common.{◌≡◌, ◌≢◌, ℕ, ◌+◌, ◌<◌, ◌≤◌, List, [], ◌∷◌, ◌++◌, length, get_or, drop, Bool, true, false, true≢false, not, ◌&&◌, refl, sym, ap, ◌∙◌, append_assoc, Option, Some, Ok, Err}
+use Rattle.std.proofs.Common.{◌≡◌, ◌≢◌, ℕ, ◌+◌, ◌<◌, ◌≤◌, List, [], ◌∷◌, ◌++◌, length, get_or, drop, Bool, true, false, not, ◌&&◌, refl, sym, ap, ◌∙◌, append_assoc, Option, Some, Ok, Err, arith}
 use Rattle.std.specs.Prelude.{if◌then◌else◌}
 use Rattle.std.proofs.lemmas.List.{append-nil, drop_all}
+use Rattle.std.proofs.lemmas.Bool.{not-true}
 use Rattle.line_io.specs.declared.faults.WriteFailed.{WriteFailed}
 use Rattle.line_io.specs.Lines.{LineText}
 use Rattle.line_io.specs.Streams.{WriteAnswer}
@@ -11,26 +12,14 @@ use Rattle.line_io.specs.Talks.{upto, none_ends}
 use Rattle.line_io.proofs.Answered.{LinesAnswered-append, LinesAnswered-before, LinesAnswered-same}
 use Rattle.line_io.proofs.Blocks.{BlockSoFar, Block-start, Block-byte, Block-line, Block-held, lf-next}
 
-pub not_true : (b : Bool) → not b ≡ true → b ≡ false
-not_true true e = absurd (true≢false (sym e))
-not_true false e = refl
-
-and_true : (a b : Bool) → (a && b) ≡ true → (a ≡ true) × (b ≡ true)
-and_true true b e = (refl, e)
-and_true false b e = absurd (true≢false (sym e))
-
 module _ (ends : LineText → Bool) where
   pub none-append : (xs ys : List LineText) → none_ends ends xs ≡ true → none_ends ends (xs ++ ys) ≡ none_ends ends ys
   none-append [] ys e = refl
-  none-append (x ∷ xs) ys e =
-      let p = and_true (not (ends x)) (none_ends ends xs) e in
-      ap (λ t. t && none_ends ends (xs ++ ys)) p.0 ∙ none-append xs ys p.1
+  none-append (x ∷ xs) ys e = grind (arith, none-append xs ys)
 
   pub upto-append : (xs ys : List LineText) → none_ends ends xs ≡ true → upto ends (xs ++ ys) ≡ xs ++ upto ends ys
   upto-append [] ys e = refl
-  upto-append (x ∷ xs) ys e =
-      let p = and_true (not (ends x)) (none_ends ends xs) e in
-      ap (λ t. if t then x ∷ [] else x ∷ upto ends (xs ++ ys)) (not_true (ends x) p.0) ∙ ap (λ z. x ∷ z) (upto-append xs ys p.1)
+  upto-append (x ∷ xs) ys e = grind (arith, upto-append xs ys, not-true)
 
   upto-last : (l : LineText) (ls : List LineText) → ends l ≡ true → upto ends (l ∷ ls) ≡ l ∷ []
   upto-last l ls e = ap (λ t. if t then l ∷ [] else l ∷ upto ends ls) e
@@ -89,11 +78,4 @@ module _ (ends : LineText → Bool) where
 
     pub Talk-end : (i : ℕ) (k' : K) (a' : A) (h' : Option (List ℕ)) → TalkSoFar i k' a' h' → length block ≤ i
         → LinesAnswered takes answers k a (upto ends (ended_within h block)) k' a' (Ok tt) × (none_ends ends (ended_within h block) ≡ true) × (h' ≡ held_after h block)
-    Talk-end i k' a' h' s l =
-        let lines = s.so_far.lines in
-        let all : ended_within h block ≡ lines ++ [] = sym s.so_far.to_come ∙ ap (λ z. lines ++ ended_within h' z) (drop_all i block l) in
-        let due : lines ≡ upto ends (ended_within h block) = sym (ap (upto ends) all ∙ (upto-append lines [] s.none ∙ append-nil lines)) in (
-          LinesAnswered-same takes answers k a lines (upto ends (ended_within h block)) k' a' (Ok tt) due s.so_far.answered,
-          ap (none_ends ends) all ∙ none-append lines [] s.none,
-          Block-held takes answers k a h block i k' a' h' s.so_far l,
-        )
+    Talk-end i k' a' h' s l = grind (arith, drop_all, upto-append, append-nil, LinesAnswered-same, none-append, Block-held)

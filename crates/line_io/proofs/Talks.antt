@@ -1,5 +1,5 @@
 -- A whole talk.
-use Rattle.std.proofs.Common.{◌≡◌, ℕ, ◌+◌, List, [], ◌∷◌, ◌++◌, length, map, Bool, true, false, true≢false, not, ◌&&◌, refl, sym, ap, ◌∙◌, subst, Option, Some, None, Ok, Err, inl, inr}
+use Rattle.std.proofs.Common.{◌≡◌, ℕ, ◌+◌, List, [], ◌∷◌, ◌++◌, length, map, Bool, true, false, true≢false, not, ◌&&◌, refl, sym, ap, ◌∙◌, subst, Option, Some, Ok, Err, inl, inr, arith}
 use Rattle.std.specs.Prelude.{if◌then◌else◌}
 use Rattle.std.proofs.lemmas.List.{append-nil}
 use Rattle.std.specs.List.{concat}
@@ -8,7 +8,7 @@ use Rattle.line_io.specs.declared.faults.WriteFailed.{WriteFailed}
 use Rattle.line_io.specs.declared.faults.LineFault.TheVariants.{Read, Write}
 use Rattle.line_io.specs.declared.talking.TalkEnd.{TalkEnd}
 use Rattle.line_io.specs.declared.talking.TalkEnd.TheVariants.{Line as by_line}
-use Rattle.line_io.specs.Lines.{LineText, lines_of, up_to_last_end}
+use Rattle.line_io.specs.Lines.{LineText, lines_of}
 use Rattle.line_io.specs.Leads.{Leads}
 use Rattle.line_io.specs.Streams.{ReadAnswer, Gave, Ended, Failed, WriteAnswer}
 use Rattle.line_io.specs.Writes.{LinesAnswered}
@@ -26,8 +26,7 @@ module _ (ends : LineText → Bool) where
 
   -- a line ends the talk already, whatever follows
   before-step : (t : Bool) (x : LineText) (xs ys : List LineText) → (not t && none_ends ends xs) ≡ false → (none_ends ends xs ≡ false → upto ends (xs ++ ys) ≡ upto ends xs) → (if t then x ∷ [] else x ∷ upto ends (xs ++ ys)) ≡ (if t then x ∷ [] else x ∷ upto ends xs)
-  before-step true x xs ys e ih = refl
-  before-step false x xs ys e ih = ap (λ z. x ∷ z) (ih e)
+  before-step t x xs ys h5 h6 = grind arith
 
   upto-before : (xs ys : List LineText) → none_ends ends xs ≡ false → upto ends (xs ++ ys) ≡ upto ends xs
   upto-before [] ys e = absurd (true≢false e)
@@ -44,17 +43,14 @@ module _ (ends : LineText → Bool) where
 
   -- one line at most
   one-step : (t : Bool) (x : LineText) → (if t then x ∷ [] else x ∷ []) ≡ x ∷ []
-  one-step true x = refl
-  one-step false x = refl
+  one-step t x = grind arith
 
   upto-option : (line : Option LineText) → upto ends (option_to_list line) ≡ option_to_list line
-  upto-option None = refl
-  upto-option (Some x) = one-step (ends x) x
+  upto-option line = grind (arith, one-step)
 
   -- how the talk ends at the input's end
   last-ending : (b : Bool) (end : TalkEnd) (bytes : List ℕ) → end ≡ end_of b → none_ends ends (lines_of bytes) ≡ b → IsTalkEnd ends (Ok end) bytes (Ended ∷ [])
-  last-ending true end bytes e none = subst (λ z. IsTalkEnd ends (Ok z) bytes (Ended ∷ [])) (sym e) (refl, none)
-  last-ending false end bytes e none = subst (λ z. IsTalkEnd ends (Ok z) bytes (Ended ∷ [])) (sym e) (inr (refl, none))
+  last-ending b end bytes h4 h5 = grind arith
 
   module _ {S K A : Type 0} (gives : S → ReadAnswer → S → Type 0) (takes : K → WriteAnswer → K → Type 0) (answers : A → LineText → List ℕ → A → Type 0) (s : S) (k : K) (a : A) where
     -- some blocks were read, the lines that an LF ended in them answered, and none of them ends the talk
@@ -78,17 +74,7 @@ module _ (ends : LineText → Bool) where
 
     -- a read failed
     pub Talk-read_failed : (s' : S) (k' : K) (a' : A) (h : Option (List ℕ)) (s'' : S) → TalkingSoFar s' k' a' h → gives s' Failed s'' → Talk gives takes answers ends s k a s'' k' a' (Err Read)
-    Talk-read_failed s' k' a' h s'' x r =
-        let blocks = x.so_far.blocks in
-        let ended = ended_within (Some []) (concat blocks) in
-        let all = ended_within-all (concat blocks) in
-        record {
-          blocks = blocks;
-          last = Failed ∷ [];
-          reads = Leads-more gives s (map Gave blocks) s' Failed s'' x.so_far.reads r;
-          ending = (refl, ap (none_ends ends) (sym all) ∙ x.none);
-          lines = LinesAnswered-same takes answers k a ended (upto ends (lines_of (up_to_last_end (concat blocks)))) k' a' (Ok tt) (sym (upto-none ended x.none) ∙ ap (upto ends) all) x.so_far.lines;
-        }
+    Talk-read_failed s' k' a' h s'' x r = grind (arith, ended_within-all, Leads-more, LinesAnswered-same, upto-none)
 
     -- all lines of what was read, where the last block is this one
     all-lines : (blocks : List (List ℕ)) (block : List ℕ) (h : Option (List ℕ)) → h ≡ held_after (Some []) (concat blocks) → (ended_within (Some []) (concat blocks) ++ ended_within h block) ++ option_to_list (last_line (held_after (Some []) (concat (blocks ++ block ∷ [])))) ≡ lines_of (concat (blocks ++ block ∷ []))

@@ -1,12 +1,11 @@
 -- The lines of all blocks.
-use Rattle.std.proofs.Common.{◌≡◌, ◌≢◌, ℕ, ◌+◌, ◌≤◌, ◌^◌, List, [], ◌∷◌, ◌++◌, length, map, take, cond, eqb, false, refl, sym, ap, ◌∙◌, subst, arith, Option, Some, Ok, Err, length-append, inl, inr}
+use Rattle.std.proofs.Common.{◌≡◌, ◌≢◌, ℕ, ◌+◌, ◌≤◌, ◌^◌, List, [], ◌∷◌, ◌++◌, length, map, take, cond, eqb, refl, sym, ap, ◌∙◌, subst, arith, Option, Some, Ok, Err, length-append, inl, inr}
 use Rattle.std.proofs.lemmas.List.{append-nil, map-append, length-take}
-use Rattle.std.proofs.lemmas.Bool.Decides.{nat_tests}
 use Rattle.std.specs.List.{concat}
 use Rattle.std.specs.Option.{option_to_list}
 use Rattle.line_io.specs.declared.faults.WriteFailed.{WriteFailed}
 use Rattle.line_io.specs.declared.faults.LineFault.TheVariants.{Read, Write, TooMuch}
-use Rattle.line_io.specs.Lines.{LineText, lines_of, up_to_last_end}
+use Rattle.line_io.specs.Lines.{LineText, lines_of}
 use Rattle.line_io.specs.Leads.{Leads}
 use Rattle.line_io.specs.Streams.{ReadAnswer, Gave, Ended, Failed, WriteAnswer}
 use Rattle.line_io.specs.Writes.{LinesAnswered}
@@ -26,14 +25,11 @@ pub record RunSoFar {S K A : Type 0} (gives : S → ReadAnswer → S → Type 0)
 
 -- a read that gave bytes
 pub read-gave : {S : Type 0} (gives : S → ReadAnswer → S → Type 0) (count : ℕ) (room : List ℕ) (s s' : S) → count ≢ 0 → gives s (cond (eqb count 0) Ended (Gave (take count room))) s' → gives s (Gave (take count room)) s'
-read-gave gives count room s s' ne r =
-    let test : eqb count 0 ≡ false = grind (arith, nat_tests) in
-    subst (λ t. gives s (cond t Ended (Gave (take count room))) s') test r
+read-gave gives count room s s' ne r = grind arith
 
 -- a read that gave none
 pub read-ended : {S : Type 0} (gives : S → ReadAnswer → S → Type 0) (count : ℕ) (room : List ℕ) (s s' : S) → count ≡ 0 → gives s (cond (eqb count 0) Ended (Gave (take count room))) s' → gives s Ended s'
-read-ended gives count room s s' e r =
-    subst (λ n. gives s (cond (eqb n 0) Ended (Gave (take n room))) s') e r
+read-ended gives count room s s' e r = grind arith
 
 -- how many bytes it gave
 pub length-front : (count : ℕ) (room : List ℕ) → count ≤ length room → count ≡ length (take count room)
@@ -46,8 +42,7 @@ module _ {S K A : Type 0} (gives : S → ReadAnswer → S → Type 0) (takes : K
 
   -- one more read
   pub reads-more : (blocks : List (List ℕ)) (block : List ℕ) (s' s'' : S) → Leads gives s (map Gave blocks) s' → gives s' (Gave block) s'' → Leads gives s (map Gave (blocks ++ block ∷ [])) s''
-  reads-more blocks block s' s'' p q =
-      subst (λ rs. Leads gives s rs s'') (sym (map-append Gave blocks (block ∷ []))) (Leads-more gives s (map Gave blocks) s' (Gave block) s'' p q)
+  reads-more blocks block s' s'' p q = grind (arith, map-append, Leads-more)
 
   -- the lines of one more block
   pub lines-more : (blocks : List (List ℕ)) (block : List ℕ) (h : Option (List ℕ)) → h ≡ held_after (Some []) (concat blocks) → ended_within (Some []) (concat blocks) ++ ended_within h block ≡ ended_within (Some []) (concat (blocks ++ block ∷ []))
@@ -66,30 +61,15 @@ module _ {S K A : Type 0} (gives : S → ReadAnswer → S → Type 0) (takes : K
 
   -- a read failed
   pub Run-read_failed : (total : ℕ) (s' : S) (k' : K) (a' : A) (h : Option (List ℕ)) (s'' : S) → RunSoFar gives takes answers s k a total s' k' a' h → gives s' Failed s'' → Run gives takes answers s k a s'' k' a' (Err Read)
-  Run-read_failed total s' k' a' h s'' x r =
-      record {
-        blocks = x.blocks;
-        last = Failed ∷ [];
-        reads = Leads-more gives s (map Gave x.blocks) s' Failed s'' x.reads r;
-        ends = refl;
-        lines = LinesAnswered-same takes answers k a (ended_within (Some []) (concat x.blocks)) (lines_of (up_to_last_end (concat x.blocks))) k' a' (Ok tt) (ended_within-all (concat x.blocks)) x.lines;
-      }
+  Run-read_failed total s' k' a' h s'' x r = grind (arith, Leads-more, LinesAnswered-same, ended_within-all)
 
   -- too many bytes were read
   pub Run-too_much : (total : ℕ) (s' : S) (k' : K) (a' : A) (h : Option (List ℕ)) → RunSoFar gives takes answers s k a total s' k' a' h → 2 ^ 62 ≤ total → Run gives takes answers s k a s' k' a' (Err TooMuch)
-  Run-too_much total s' k' a' h x l =
-      record {
-        blocks = x.blocks;
-        last = [];
-        reads = subst (λ rs. Leads gives s rs s') (sym (append-nil (map Gave x.blocks))) x.reads;
-        ends = (refl, subst (λ n. 2 ^ 62 ≤ n) x.count l);
-        lines = LinesAnswered-same takes answers k a (ended_within (Some []) (concat x.blocks)) (lines_of (up_to_last_end (concat x.blocks))) k' a' (Ok tt) (ended_within-all (concat x.blocks)) x.lines;
-      }
+  Run-too_much total s' k' a' h x l = grind (arith, append-nil, LinesAnswered-same, ended_within-all)
 
   -- all lines, the last one too
   pub last-lines : (blocks : List (List ℕ)) (h : Option (List ℕ)) → h ≡ held_after (Some []) (concat blocks) → ended_within (Some []) (concat blocks) ++ option_to_list (last_line h) ≡ lines_of (concat blocks)
-  last-lines blocks h e =
-      ap (λ z. ended_within (Some []) (concat blocks) ++ option_to_list (last_line z)) e ∙ lines_of-all (concat blocks)
+  last-lines blocks h e = grind (arith, lines_of-all)
 
   -- the end of the input, and the last line answered
   pub Run-ended : (total : ℕ) (s' : S) (k' : K) (a' : A) (h : Option (List ℕ)) (s'' : S) (k'' : K) (a'' : A) (u v : Unit {0}) → RunSoFar gives takes answers s k a total s' k' a' h → gives s' Ended s'' → LinesAnswered takes answers k' a' (option_to_list (last_line h)) k'' a'' (Ok u) → Run gives takes answers s k a s'' k'' a'' (Ok v)

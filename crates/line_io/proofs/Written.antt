@@ -1,6 +1,6 @@
 -- The writes of one text.
-use Rattle.std.proofs.Common.{◌≡◌, ℕ, ◌+◌, ◌-◌, ◌<◌, ◌≤◌, List, [], ◌∷◌, ◌++◌, length, map, take, drop, refl, sym, ap, ◌∙◌, subst, append_assoc, arith, Ok, Err}
-use Rattle.std.proofs.lemmas.List.{take-append-drop, drop-drop, drop_all, take_all, length-drop, map-append}
+use Rattle.std.proofs.Common.{◌≡◌, ℕ, ◌+◌, ◌-◌, ◌<◌, List, [], ◌∷◌, ◌++◌, length, map, take, drop, sym, ap, ◌∙◌, subst, append_assoc, arith, Err}
+use Rattle.std.proofs.lemmas.List.{take-append-drop, drop-drop, take_all, length-drop, map-append}
 use Rattle.std.specs.List.{concat}
 use Rattle.line_io.specs.declared.faults.WriteFailed.{WriteFailed}
 use Rattle.line_io.specs.Leads.{Leads}
@@ -14,10 +14,6 @@ pub record Sent {K : Type 0} (takes : K → WriteAnswer → K → Type 0) (from 
   pub writes : Leads takes from (map Took pieces) to
   pub taken : concat pieces ++ drop n bytes ≡ bytes
 
--- none at first
-pub Sent-none : {K : Type 0} (takes : K → WriteAnswer → K → Type 0) (from : K) (bytes : List ℕ) → Sent takes from bytes 0 from
-Sent-none takes from bytes = record { pieces = []; writes = refl; taken = refl }
-
 -- one more write
 pub Sent-more : {K : Type 0} (takes : K → WriteAnswer → K → Type 0) (a : K) (bytes : List ℕ) (n m : ℕ) (offered : List ℕ) (b c : K) → Sent takes a bytes n b → offered ≡ drop n bytes → takes b (Took (take m offered)) c → Sent takes a bytes (n + m) c
 Sent-more takes a bytes n m offered b c s e t' =
@@ -30,19 +26,7 @@ Sent-more takes a bytes n m offered b c s e t' =
 
 -- one more write, which fails
 pub Sent-failed : {K : Type 0} (takes : K → WriteAnswer → K → Type 0) (a : K) (bytes : List ℕ) (n : ℕ) (b c : K) (e : WriteFailed) → Sent takes a bytes n b → n < length bytes → takes b Refused c → IsWritten takes a bytes c (Err e)
-Sent-failed takes a bytes n b c e s l t =
-    record {
-      pieces = s.pieces;
-      rest = drop n bytes;
-      writes = Leads-more takes a (map Took s.pieces) b Refused c s.writes t;
-      taken = s.taken;
-      ends = omega (arith, length-drop n bytes);
-    }
-
--- all of them
-pub Sent-all : {K : Type 0} (takes : K → WriteAnswer → K → Type 0) (a : K) (bytes : List ℕ) (n : ℕ) (b : K) (u : Unit {0}) → Sent takes a bytes n b → length bytes ≤ n → IsWritten takes a bytes b (Ok u)
-Sent-all takes a bytes n b u s l =
-    record { pieces = s.pieces; rest = drop n bytes; writes = s.writes; taken = s.taken; ends = drop_all n bytes l }
+Sent-failed takes a bytes n b c e s l t = grind (arith, Leads-more, length-drop)
 
 -- what is offered is all that is left
 pub offered-all : (n : ℕ) (bytes : List ℕ) → take (length bytes - n) (drop n bytes) ≡ drop n bytes

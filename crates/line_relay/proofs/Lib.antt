@@ -1,6 +1,5 @@
 pub mod AheadLemmas
 pub mod TakenLemmas
 pub mod TokenLemmas
-pub mod AskLemmas
 pub mod RelayLemmas
 pub mod PassedLemmas

@@ -1,10 +1,11 @@
 -- What some turns come to in all.
-use Rattle.std.proofs.Common.{◌≡◌, ℕ, suc, List, [], ◌∷◌, ◌++◌, map, length, Bool, true, false, ◌||◌, cond, eqb, refl, sym, ap, ◌∙◌, subst, append_assoc, Option, Some, Ok}
+use Rattle.std.proofs.Common.{◌≡◌, ℕ, suc, List, [], ◌∷◌, ◌++◌, map, length, true, false, ◌||◌, cond, eqb, refl, sym, ap, ◌∙◌, subst, append_assoc, Option, Some, Ok}
 use Rattle.std.proofs.lemmas.List.{append-nil, map-append}
 use Rattle.std.proofs.lemmas.List.Elements.{All-nil, All-cons}
 use Rattle.std.proofs.lemmas.List.Folds.{concat-append}
 use Rattle.std.specs.List.{concat, list_any, All}
 use Rattle.std.specs.Str.Lines.{strip_carriage_return}
+use Rattle.std.proofs.lemmas.Bool.{or_parts, or_right}
 use Rattle.line_io.specs.Held.{held, with_byte, ended_line, held_after, ended_within}
 use Rattle.line_io.specs.Leads.{Leads}
 use Rattle.line_io.specs.Lines.{LineText, line_text, lines_of, up_to_last_end}
@@ -19,14 +20,9 @@ use Rattle.line_relay.specs.Relays.{Turn, Replied, TurnDone}
 use Rattle.line_relay.specs.Takes.{ByteTaken, has_end}
 use Rattle.line_relay.specs.Verdicts.{Deed, Sends, Answers, Ends}
 
--- an LF is among these bytes
-or_true : (t : Bool) → (t || true) ≡ true
-or_true true = refl
-or_true false = refl
-
 end-there : (raw rest : List ℕ) → list_any (λ c. eqb c 10) (raw ++ 10 ∷ rest) ≡ true
 end-there [] rest = refl
-end-there (b ∷ bs) rest = ap (λ t. eqb b 10 || t) (end-there bs rest) ∙ or_true (eqb b 10)
+end-there (b ∷ bs) rest = ap (λ t. eqb b 10 || t) (end-there bs rest) ∙ or_right (eqb b 10) true refl
 
 -- a line more in front
 pub whole-more : (raw rest : List ℕ) → up_to_last_end (raw ++ 10 ∷ rest) ≡ raw ++ 10 ∷ up_to_last_end rest
@@ -34,21 +30,17 @@ whole-more [] rest = refl
 whole-more (b ∷ bs) rest =
     ap (λ t. cond t (b ∷ up_to_last_end (bs ++ 10 ∷ rest)) []) (end-there (b ∷ bs) rest) ∙ ap (λ z. b ∷ z) (whole-more bs rest)
 
-or_false : (a b : Bool) → (a || b) ≡ false → (a ≡ false) × (b ≡ false)
-or_false true b e = cc
-or_false false b e = (refl, e)
-
 -- where no byte is LF, no line ends, and the bytes are held
 none-ended : (h : Option (List ℕ)) (bs : List ℕ) → has_end bs ≡ false → ended_within h bs ≡ []
 none-ended h [] e = refl
 none-ended h (b ∷ bs) e =
-    let p = or_false (eqb b 10) (has_end bs) e in
+    let p = or_parts (eqb b 10) (has_end bs) e in
     ap (λ t. cond t (ended_line h ∷ ended_within (Some []) bs) (ended_within (with_byte h b) bs)) p.0 ∙ none-ended (with_byte h b) bs p.1
 
 held-more : (pre bs : List ℕ) → has_end bs ≡ false → held_after (held pre) bs ≡ held (pre ++ bs)
 held-more pre [] e = ap held (sym (append-nil pre))
 held-more pre (b ∷ bs) e =
-    let p = or_false (eqb b 10) (has_end bs) e in
+    let p = or_parts (eqb b 10) (has_end bs) e in
     ap (λ t. held_after (cond t (Some []) (with_byte (held pre) b)) bs) p.0 ∙ (ap (λ h. held_after h bs) (with_byte-held pre b) ∙ (held-more (pre ++ b ∷ []) bs p.1 ∙ ap held (append_assoc pre (b ∷ []) bs)))
 
 pub lines-more : (raw rest : List ℕ) → has_end raw ≡ false → up_to_last_end rest ≡ rest → lines_of (raw ++ 10 ∷ rest) ≡ line_text (strip_carriage_return raw) ∷ lines_of rest

@@ -1,69 +1,24 @@
 -- Turns, one after another, and how a relay ends.
-use Rattle.std.proofs.Common.{◌≡◌, ℕ, List, [], ◌∷◌, ◌++◌, Bool, true, false, refl, sym, subst, Result, Ok, Err}
+use Rattle.std.proofs.Common.{◌≡◌, ℕ, List, [], ◌∷◌, ◌++◌, Bool, true, false, refl, subst, Result, Ok, Err}
 use Rattle.line_io.specs.declared.faults.ReadFailed.{ReadFailed}
-use Rattle.line_io.specs.declared.faults.WriteFailed.{WriteFailed}
 use Rattle.line_io.specs.Leads.{Leads}
 use Rattle.line_io.specs.Lines.{LineText}
 use Rattle.line_io.specs.Streams.{ReadAnswer, Ended, WriteAnswer}
-use Rattle.line_io.specs.Writes.{IsWritten, with_newline}
+use Rattle.line_io.specs.Writes.{with_newline}
 use Rattle.line_io.proofs.Chains.{Leads-more}
 use Rattle.protocol.specs.Texts.{error_text}
 use Rattle.line_relay.specs.declared.ahead.Peer.{Peer}
-use Rattle.line_relay.specs.declared.faults.ServerFault.{ServerFault}
 use Rattle.line_relay.specs.declared.faults.RelayFault.{RelayFault}
 use Rattle.line_relay.specs.declared.faults.RelayFault.TheVariants.{Read, Write, Server}
 use Rattle.line_relay.specs.declared.judging.Verdict.{Verdict}
 use Rattle.line_relay.specs.declared.relaying.RelayEnd.TheVariants.{Line as by_line, Input as by_input}
-use Rattle.line_relay.specs.Asks.{Passed}
 use Rattle.line_relay.specs.Relays.{Turn, Found, Handled, TurnDone, EndsAt, IsRelayEnd, Relayed}
 use Rattle.line_relay.specs.Takes.{LineTaken, LineRead, CutShort}
-use Rattle.line_relay.specs.Verdicts.{Deed, Sends, Answers, deed_for, IsShortLine}
-use Rattle.line_relay.proofs.TokenLemmas.{read-short}
-
--- a line that was taken is short
-pub taken-short : {S : Type 0} (gives : S → ReadAnswer → S → Type 0) (from : S × List ℕ) (line : LineText) (to : S × List ℕ) → LineTaken gives from line to → IsShortLine line
-taken-short gives from line to x = subst IsShortLine (sym x.2) (read-short _)
-
--- the fault of a server that gave no answer
-pub Found-sent : {S T J : Type 0} (gives : S → ReadAnswer → S → Type 0) (takes : T → WriteAnswer → T → Type 0) (hears : J → List ℕ → J → Type 0) (deed : Deed) (line : List ℕ) (server : Peer S T) (judge : J) (text : List ℕ) (u : Unit {0}) (server' : Peer S T) (judge' : J) → Sends line ≡ deed → Passed gives takes hears server judge line text (Ok u) server' judge' → Found gives takes hears deed server judge text (Ok true) server' judge'
-Found-sent gives takes hears deed line server judge text u server' judge' e p =
-    subst (λ d. Found gives takes hears d server judge text (Ok true) server' judge') e (p.0, p.1, (p.2, p.3))
-
-pub Found-fault : {S T J : Type 0} (gives : S → ReadAnswer → S → Type 0) (takes : T → WriteAnswer → T → Type 0) (hears : J → List ℕ → J → Type 0) (deed : Deed) (line : List ℕ) (server : Peer S T) (judge : J) (text : List ℕ) (fault : ServerFault) (server' : Peer S T) (judge' : J) → Sends line ≡ deed → Passed gives takes hears server judge line text (Err fault) server' judge' → Found gives takes hears deed server judge text (Err fault) server' judge'
-Found-fault gives takes hears deed line server judge text fault server' judge' e p = (line, sym e, p.0, p.1)
+use Rattle.line_relay.specs.Verdicts.{Deed, Answers}
 
 pub Found-error : {S T J : Type 0} (gives : S → ReadAnswer → S → Type 0) (takes : T → WriteAnswer → T → Type 0) (hears : J → List ℕ → J → Type 0) (deed : Deed) (number : ℕ) (server : Peer S T) (judge : J) (text : List ℕ) → Answers number ≡ deed → text ≡ with_newline (error_text number) → Found gives takes hears deed server judge text (Ok true) server judge
 Found-error gives takes hears deed number server judge text e h =
     subst (λ d. Found gives takes hears d server judge text (Ok true) server judge) e (error_text number, h, (refl, refl, refl))
-
-module _ {K S T J : Type 0} (tells : K → WriteAnswer → K → Type 0) (gives : S → ReadAnswer → S → Type 0) (takes : T → WriteAnswer → T → Type 0) (judges : J → LineText → Verdict → J → Type 0) (hears : J → List ℕ → J → Type 0) where
-  -- a text was found and written
-  pub Handled-told : (line : LineText) (sink : K) (server : Peer S T) (judge judging : J) (verdict : Verdict) (text : List ℕ) (b : Bool) (u : Unit {0}) (sink' : K) (server' : Peer S T) (judge' : J) → judges judge line verdict judging → Found gives takes hears (deed_for verdict line) server judging text (Ok b) server' judge' → b ≡ true → IsWritten tells sink text sink' (Ok u) → Handled tells gives takes judges hears line sink server judge (Ok true) sink' server' judge'
-  Handled-told line sink server judge judging verdict text b u sink' server' judge' j f e w =
-      let found : Found gives takes hears (deed_for verdict line) server judging text (Ok true) server' judge' = subst (λ z. Found gives takes hears (deed_for verdict line) server judging text (Ok z) server' judge') e f in
-      (verdict, found.0, record { judging = judging; judged = j; replied = found.2; told = subst (λ z. IsWritten tells sink z sink' (Ok tt)) found.1 w })
-
-  pub Handled-untold : (line : LineText) (sink : K) (server : Peer S T) (judge judging : J) (verdict : Verdict) (text : List ℕ) (b : Bool) (d : WriteFailed) (sink' : K) (server' : Peer S T) (judge' : J) → judges judge line verdict judging → Found gives takes hears (deed_for verdict line) server judging text (Ok b) server' judge' → b ≡ true → IsWritten tells sink text sink' (Err d) → Handled tells gives takes judges hears line sink server judge (Err Write) sink' server' judge'
-  Handled-untold line sink server judge judging verdict text b d sink' server' judge' j f e w =
-      let found : Found gives takes hears (deed_for verdict line) server judging text (Ok true) server' judge' = subst (λ z. Found gives takes hears (deed_for verdict line) server judging text (Ok z) server' judge') e f in
-      (verdict, found.0, record { judging = judging; judged = j; replied = found.2; told = subst (λ z. IsWritten tells sink z sink' (Err (record {}))) found.1 w })
-
-  pub Handled-ended : (line : LineText) (sink : K) (server : Peer S T) (judge judging : J) (verdict : Verdict) (text : List ℕ) (b : Bool) (server' : Peer S T) (judge' : J) → judges judge line verdict judging → Found gives takes hears (deed_for verdict line) server judging text (Ok b) server' judge' → b ≡ false → Handled tells gives takes judges hears line sink server judge (Ok false) sink server' judge'
-  Handled-ended line sink server judge judging verdict text b server' judge' j f e =
-      let found : Found gives takes hears (deed_for verdict line) server judging text (Ok false) server' judge' = subst (λ z. Found gives takes hears (deed_for verdict line) server judging text (Ok z) server' judge') e f in
-      (verdict, subst (λ z. judges judge line verdict z) (sym found.2) j, found.0, refl, found.1)
-
-  pub Handled-fault : (line : LineText) (sink : K) (server : Peer S T) (judge judging : J) (verdict : Verdict) (text : List ℕ) (fault : ServerFault) (server' : Peer S T) (judge' : J) → judges judge line verdict judging → Found gives takes hears (deed_for verdict line) server judging text (Err fault) server' judge' → Handled tells gives takes judges hears line sink server judge (Err (Server fault)) sink server' judge'
-  Handled-fault line sink server judge judging verdict text fault server' judge' j f =
-      record {
-        verdict = verdict;
-        text = f.0;
-        rest = text;
-        judged = subst (λ z. judges judge line verdict z) (sym f.3) j;
-        sends = f.1;
-        asked = f.2;
-        untold = refl;
-      }
 
 module _ {C K S T J : Type 0} (reads : C → ReadAnswer → C → Type 0) (tells : K → WriteAnswer → K → Type 0) (gives : S → ReadAnswer → S → Type 0) (takes : T → WriteAnswer → T → Type 0) (judges : J → LineText → Verdict → J → Type 0) (hears : J → List ℕ → J → Type 0) (from : Peer C K × Peer S T × J) where
   -- some turns were done
@@ -86,9 +41,6 @@ module _ {C K S T J : Type 0} (reads : C → ReadAnswer → C → Type 0) (tells
 
   no_line-read : (s : C × List ℕ) (line : LineText) (b : Bool) (s' : C × List ℕ) → LineRead reads s line (Ok b) s' → b ≡ false → CutShort reads s Ended s'
   no_line-read s line b s' x e = subst (λ z. LineRead reads s line (Ok z) s') e x
-
-  pub line-short : (s : C × List ℕ) (line text : LineText) (b : Bool) (s' : C × List ℕ) → LineRead reads s line (Ok b) s' → b ≡ true → text ≡ line → IsShortLine text
-  line-short s line text b s' x e f = subst IsShortLine (sym f) (taken-short reads s line s' (line-read s line b s' x e))
 
   -- one turn more
   pub Turns-more : (client client' : Peer C K) (server : Peer S T) (judge : J) (line text : LineText) (b c : Bool) (k : K) (server' : Peer S T) (judge' : J) → TurnsSoFar client server judge → LineRead reads (client.source, client.ahead) line (Ok b) (client'.source, client'.ahead) → b ≡ true → client'.sink ≡ client.sink → text ≡ line → Handled tells gives takes judges hears text client'.sink server judge (Ok c) k server' judge' → c ≡ true → TurnsSoFar (record { source = client'.source; sink = k; ahead = client'.ahead }) server' judge'

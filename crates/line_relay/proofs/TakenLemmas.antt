@@ -1,5 +1,5 @@
 -- Bytes and lines that are taken of a source.
-use Rattle.std.proofs.Common.{◌≡◌, ◌≢◌, ℕ, List, [], ◌∷◌, ◌++◌, false, ◌||◌, eqb, refl, sym, ap, ◌∙◌, subst, Option, Some, None, Ok, map}
+use Rattle.std.proofs.Common.{◌≡◌, ◌≢◌, ℕ, List, [], ◌∷◌, ◌++◌, false, ◌||◌, eqb, sym, ap, ◌∙◌, subst, Option, Some, None, Ok, map}
 use Rattle.std.proofs.lemmas.Bool.{ne_eqb}
 use Rattle.std.proofs.lemmas.List.{append-nil}
 use Rattle.std.proofs.lemmas.List.Folds.{list_any-append}
@@ -32,9 +32,6 @@ module _ {S : Type 0} (gives : S → ReadAnswer → S → Type 0) (from : S × L
     pub taken : Leads (ByteTaken gives) from bytes to
     pub held : cutter ≡ held bytes
 
-  pub Line-start : (c : Option (List ℕ)) → c ≡ Some [] → LineSoFar c from
-  Line-start c e = record { bytes = []; none = refl; taken = refl; held = e }
-
   pub Line-more : (c : Option (List ℕ)) (to : S × List ℕ) (b : ℕ) (c' : Option (List ℕ)) (to' : S × List ℕ) → LineSoFar c to → ByteTaken gives to b to' → b ≢ 10 → c' ≡ with_byte c b → LineSoFar c' to'
   Line-more c to b c' to' x t other e =
       record {
@@ -55,10 +52,6 @@ module _ {S : Type 0} (gives : S → ReadAnswer → S → Type 0) (from : S × L
   pub record AnswerSoFar (text : List ℕ) (to : S × List ℕ) : Type 0 where
     pub none : has_end text ≡ false
     pub taken : Leads (ByteTaken gives) from text to
-
-  pub Answer-start : (text : List ℕ) → text ≡ [] → AnswerSoFar text from
-  Answer-start text e =
-      subst (λ z. AnswerSoFar z from) (sym e) (record { none = refl; taken = refl })
 
   pub Answer-more : (text : List ℕ) (to : S × List ℕ) (b : ℕ) (text' : List ℕ) (to' : S × List ℕ) → AnswerSoFar text to → ByteTaken gives to b to' → b ≢ 10 → text' ≡ text ++ b ∷ [] → AnswerSoFar text' to'
   Answer-more text to b text' to' x t other e =

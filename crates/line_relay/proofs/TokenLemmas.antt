@@ -1,15 +1,9 @@
 -- A token is shorter than its line.
-use Rattle.std.proofs.Common.{◌≡◌, ℕ, suc, ◌-◌, ◌<◌, ◌≤◌, List, [], ◌∷◌, length, eqb, cond, Bool, true, false, refl, sym, ap, subst, nat_le, arith, Option, Some, None, codes}
+use Rattle.std.proofs.Common.{◌≡◌, ℕ, suc, ◌<◌, ◌≤◌, List, [], ◌∷◌, length, eqb, cond, Bool, true, false, sym, subst, arith, Option, Some, None, codes}
 use Rattle.std.specs.Option.{option_map}
 use Rattle.std.specs.Str.{bytes_eq}
-use Rattle.std.proofs.lemmas.Bool.Decides.{nat_tests}
-use Rattle.std.proofs.lemmas.List.{length-take}
 use Rattle.protocol.specs.Words.{split_at_space}
-use Rattle.line_io.specs.Lines.{LineText, Whole, TooLong, line_text}
-use Rattle.line_relay.specs.declared.judging.Verdict.{Verdict}
-use Rattle.line_relay.specs.declared.judging.Verdict.TheVariants.{Pass, Cut, Refuse, End}
-use Rattle.line_relay.specs.Tokens.{last_word, word_after, word_after_two, token_after, token_by, token_of, less_token, without_token}
-use Rattle.line_relay.specs.Verdicts.{Deed, Sends, Answers, Ends, deed_for, IsShortLine, IsShortText}
+use Rattle.line_relay.specs.Tokens.{last_word, word_after, word_after_two, token_after, token_by, token_of}
 
 -- what follows the first space is shorter than this
 rest_short : Option (List ℕ × List ℕ) → ℕ → Type 0
@@ -69,35 +63,3 @@ by-short (Some p) n h =
 pub token-short : (line token : List ℕ) → Some token ≡ token_of line → length token < length line
 token-short line token e =
     subst (λ o. word_short o (length line)) (sym e) (by-short (split_at_space line) (length line) (split-short line))
-
--- what is sent is no longer than the line
-less-short : (line : List ℕ) (o : Option (List ℕ)) → length (less_token line o) ≤ length line
-less-short line None = omega arith
-less-short line (Some token) = omega (arith, length-take (length line - length token - 1) line)
-
-text_sent : Deed → List ℕ → List ℕ
-text_sent (Sends text) other = text
-text_sent (Answers n) other = other
-text_sent Ends other = other
-
-sends : {a b : List ℕ} → Sends a ≡ Sends b → a ≡ b
-unfolding text_sent
-sends {a} {b} e = ap (λ d. text_sent d a) e
-
-pub sends-short : (verdict : Verdict) (line : LineText) (text : List ℕ) → IsShortLine line → Sends text ≡ deed_for verdict line → IsShortText text
-sends-short Pass (Whole bytes) text short e = subst IsShortText (sym (sends e)) short
-sends-short Pass TooLong text short e = cc
-sends-short Cut (Whole bytes) text short e =
-    let fits : length (without_token bytes) ≤ 128 = omega (arith, less-short bytes (token_of bytes), short) in
-    subst IsShortText (sym (sends e)) fits
-sends-short (Refuse n) line text short e = cc
-sends-short End line text short e = cc
-sends-short Cut TooLong text short e = cc
-
--- a line that is read is short
-short-text : (t : Bool) (bytes : List ℕ) → nat_le (length bytes) 128 ≡ t → IsShortLine (cond t (Whole bytes) TooLong)
-short-text true bytes e = grind (arith, nat_tests)
-short-text false bytes e = tt
-
-pub read-short : (bytes : List ℕ) → IsShortLine (line_text bytes)
-read-short bytes = short-text (nat_le (length bytes) 128) bytes refl

@@ -1,5 +1,5 @@
 -- The word of a list of squares, bit by bit.
-use Rattle.std.proofs.Common.{◌≡◌, ℕ, ◌^◌, Bool, true, false, cond, eqb, ◌||◌, List, [], ◌∷◌, ◌++◌, bit_or, bit_and, min, max, inl, inr, refl, sym, ap, ◌∙◌, arith}
+use Rattle.std.proofs.Common.{◌≡◌, ℕ, ◌^◌, Bool, cond, eqb, ◌||◌, List, [], ◌∷◌, ◌++◌, bit_or, bit_and, min, max, refl, sym, ap, ◌∙◌, arith}
 use Rattle.std.specs.Int.{bit_at}
 use Rattle.std.proofs.lemmas.Bool.Decides.{eqb_tells}
 use Rattle.std.proofs.lemmas.Nat.Bits.{bit_at_and, bit_at_or, bit_at-zero, bit_at-pow_same, bit_at-pow_other, same_from_bits}
@@ -27,17 +27,10 @@ apart a b s h = sym (bit_at_and a b s) ∙ ap (λ n. bit_at n s) h ∙ bit_at-ze
 
 -- a power of two, bit by bit
 pub bit_at-pow : (s i : ℕ) → bit_at (2 ^ s) i ≡ cond (eqb s i) 1 0
-bit_at-pow s i =
-    elim (eqb_tells s i) [
-      | inl same ↦ rw (same.0, same.1) (bit_at-pow_same i)
-      | inr other ↦ rw other.0 (bit_at-pow_other s i (λ e. other.1 (sym e)))
-    ]
+bit_at-pow s i = grind (arith, eqb_tells, bit_at-pow_same, bit_at-pow_other)
 
 max_of_tests : (a b : Bool) → max (cond a 1 0) (cond b 1 0) ≡ cond (a || b) 1 0
-max_of_tests true true = refl
-max_of_tests true false = refl
-max_of_tests false true = refl
-max_of_tests false false = refl
+max_of_tests a b = grind arith
 
 -- the bits of a list of squares are set just at those squares
 pub bit_at-bits_of : (xs : List ℕ) (i : ℕ) → bit_at (bits_of xs) i ≡ cond (is_among i xs) 1 0

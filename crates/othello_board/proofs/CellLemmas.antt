@@ -41,21 +41,13 @@ length-cells_of own opp = length-map-range_with_len (cell_of own opp) 0 64
 
 -- what the tests of `cell` say
 pub reads_own : (own opp s : ℕ) → s < 64 → bit_and (own / 2 ^ s) 1 ≡ 1 → Own ≡ cell_at (cells_of own opp) s
-reads_own own opp s below set =
-    let is_set : bit_at own s ≡ 1 = sym (shr_and_one own s) ∙ set in
-    rw (cell_at-cells_of own opp s below, is_set) refl
+reads_own own opp s below set = grind (arith, shr_and_one, cell_at-cells_of)
 
 pub reads_opp : (own opp s : ℕ) → s < 64 → bit_and (own / 2 ^ s) 1 ≢ 1 → bit_and (opp / 2 ^ s) 1 ≡ 1 → Opp ≡ cell_at (cells_of own opp) s
-reads_opp own opp s below clear set =
-    let is_clear : bit_at own s ≡ 0 = omega (arith, shr_and_one own s, bit_at-lt own s) in
-    let is_set : bit_at opp s ≡ 1 = sym (shr_and_one opp s) ∙ set in
-    rw (cell_at-cells_of own opp s below, is_clear, is_set) refl
+reads_opp own opp s below clear set = grind (arith, shr_and_one, bit_at-lt, cell_at-cells_of)
 
 pub reads_empty : (own opp s : ℕ) → s < 64 → bit_and (own / 2 ^ s) 1 ≢ 1 → bit_and (opp / 2 ^ s) 1 ≢ 1 → Empty ≡ cell_at (cells_of own opp) s
-reads_empty own opp s below clear clear_too =
-    let is_clear : bit_at own s ≡ 0 = omega (arith, shr_and_one own s, bit_at-lt own s) in
-    let is_clear_too : bit_at opp s ≡ 0 = omega (arith, shr_and_one opp s, bit_at-lt opp s) in
-    rw (cell_at-cells_of own opp s below, is_clear, is_clear_too) refl
+reads_empty own opp s below clear clear_too = grind (arith, shr_and_one, bit_at-lt, cell_at-cells_of)
 
 -- what stands on a square, by its bits
 pub empty_here : (own opp t : ℕ) → t < 64 → bit_at own t ≡ 0 → bit_at opp t ≡ 0 → Empty ≡ cell_at (cells_of own opp) t
@@ -72,11 +64,7 @@ pub bit_cases : (n : ℕ) → n < 2 → (n ≡ 0) ⊎ (n ≡ 1)
 bit_cases n h = elim (cases_lt n 1) [ inl low ↦ inl (omega arith) | inr high ↦ inr (omega arith) ]
 
 pub exchanged-cell_of-by : (a b : ℕ) → a < 2 → b < 2 → min a b ≡ 0 → cond (nat_eq b 1) Own (cond (nat_eq a 1) Opp Empty) ≡ exchanged_cell (cond (nat_eq a 1) Own (cond (nat_eq b 1) Opp Empty))
-exchanged-cell_of-by a b p q h =
-    elim (bit_cases a p) [
-      | inl a_clear ↦ elim (bit_cases b q) [ inl b_clear ↦ rw (a_clear, b_clear) refl | inr b_set ↦ rw (a_clear, b_set) refl ]
-      | inr a_set ↦ let b_clear : b ≡ 0 = omega arith in rw (a_set, b_clear) refl
-    ]
+exchanged-cell_of-by a b p q h = grind (arith, bit_cases)
 
 pub exchanged-cells_of : (own opp : ℕ) → bit_and own opp ≡ 0 → cells_of opp own ≡ exchanged (cells_of own opp)
 exchanged-cells_of own opp disjoint =

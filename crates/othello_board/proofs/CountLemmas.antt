@@ -1,5 +1,5 @@
 -- The discs of a player are the set bits of that player's word.
-use Rattle.std.proofs.Common.{◌≡◌, ℕ, zero, suc, ◌+◌, ◌/◌, ◌%◌, ◌<◌, ◌^◌, Bool, true, false, cond, eqb, List, [], ◌∷◌, map, bit_and, min, inl, inr, refl, sym, ap, ◌∙◌, arith}
+use Rattle.std.proofs.Common.{◌≡◌, ℕ, zero, suc, ◌+◌, ◌/◌, ◌%◌, ◌<◌, ◌^◌, Bool, cond, eqb, List, [], ◌∷◌, map, bit_and, min, inl, inr, refl, sym, ap, ◌∙◌, arith}
 use Rattle.std.specs.Prelude.{count_by}
 use Rattle.std.specs.Int.{bit_at}
 use Rattle.std.specs.List.{range_with_len}
@@ -38,8 +38,7 @@ one_bit : (b : ℕ) → b < 2 → b ≡ cond (eqb b 1) 1 0
 one_bit b h = elim (bit_cases b h) [ inl clear ↦ rw clear refl | inr set ↦ rw set refl ]
 
 one_more : (b : Bool) (m : ℕ) → cond b 1 0 + m ≡ cond b (1 + m) m
-one_more true m = refl
-one_more false m = omega arith
+one_more b m = grind arith
 
 -- the set bits of a number of d bits
 pub ones_by_bits : (d n : ℕ) → n < 2 ^ d → ones n ≡ count_in (λ s. eqb (bit_at n s) 1) 0 d
@@ -58,16 +57,10 @@ tally-map p f [] = refl
 tally-map p f (x ∷ xs) = ap (λ m. cond (p (f x)) (1 + m) m) (tally-map p f xs)
 
 is_own-cell_of : (a b : Bool) → is_own_cell (cond a Own (cond b Opp Empty)) ≡ a
-is_own-cell_of true b = refl
-is_own-cell_of false true = refl
-is_own-cell_of false false = refl
+is_own-cell_of a b = grind arith
 
 is_opp-cell_of : (a b : ℕ) → a < 2 → b < 2 → min a b ≡ 0 → is_opp_cell (cond (eqb a 1) Own (cond (eqb b 1) Opp Empty)) ≡ eqb b 1
-is_opp-cell_of a b p q h =
-    elim (bit_cases a p) [
-      | inl a_clear ↦ elim (bit_cases b q) [ inl b_clear ↦ rw (a_clear, b_clear) refl | inr b_set ↦ rw (a_clear, b_set) refl ]
-      | inr a_set ↦ let b_clear : b ≡ 0 = omega arith in rw (a_set, b_clear) refl
-    ]
+is_opp-cell_of a b p q h = grind (arith, bit_cases)
 
 pub ones-own : (own opp : ℕ) → own < 2 ^ 64 → ones own ≡ count_by is_own_cell (cells_of own opp)
 unfolding squares

@@ -1,21 +1,21 @@
 -- The end of a run: the first square of a ray that isn't opposing, found in a list and in a word.
-use Rattle.std.proofs.Common.{◌≡◌, ◌≢◌, ℕ, zero, suc, ◌+◌, ◌-◌, ◌*◌, ◌/◌, ◌%◌, ◌^◌, ◌<◌, ◌≤◌, Bool, true, false, cond, not, ◌&&◌, ◌||◌, eqb, ltb, nat_eq, List, [], ◌∷◌, ◌++◌, Some, None, unwrap_or, bit_and, bit_or, min, max, ◌⊎◌, inl, inr, refl, sym, ap, ap₂, subst, ◌∙◌, arith, w64, add-one}
+use Rattle.std.proofs.Common.{◌≡◌, ◌≢◌, ℕ, zero, suc, ◌+◌, ◌-◌, ◌*◌, ◌/◌, ◌%◌, ◌^◌, ◌<◌, ◌≤◌, Bool, true, false, cond, not, ◌||◌, eqb, ltb, nat_eq, List, [], ◌∷◌, ◌++◌, Some, None, unwrap_or, bit_and, bit_or, min, max, ◌⊎◌, inl, inr, refl, sym, ap, ap₂, subst, ◌∙◌, arith, w64, add-one}
 use Rattle.std.specs.Int.{bit_at}
 use Rattle.std.specs.List.{list_all}
 use Rattle.std.specs.Option.{option_map}
 use mir.Val.{bool_byte}
-use Rattle.std.proofs.lemmas.Bool.{eqb-true, ltb-true, eq-eqb, ne_eqb, and_from, cases_lt}
+use Rattle.std.proofs.lemmas.Bool.{eqb-true, ltb-true, eq-eqb, ne_eqb, and_from, cases_lt, and_parts}
 use Rattle.std.proofs.lemmas.Bool.Decides.{eqb_tells}
 use Rattle.std.proofs.lemmas.Nat.{and_comm, and_le_l, le_or_l, div-add-mod', mod_below, one_shl, pow_pos, pow_below}
 use Rattle.std.proofs.lemmas.Nat.Bits.{and_pow, bit_at_and, bit_at_or, bit_at_not, bit_at-lt, bit_at-zero, bit_at-pow_same, bit_at-pow_other, bit_at_above, bit_at_ones, bit_at_ones_above, bit_at_cat_low, bit_at_cat_high, bit_at_mask_inside, bit_at_mask_below, same_from_bits_below}
 use Rattle.std.proofs.Math.Nat.{pow-suc, mul_comm}
 use Rattle.std.proofs.Math.Pow.{pow_mono}
+use Rattle.std.proofs.lemmas.Grind.{common_steps}
 use Rattle.othello_board.specs.declared.cells.Cell.TheVariants.{Opp}
 use Rattle.othello_board.specs.Rules.{cell_at, led_by, outflanked, is_among}
 use Rattle.othello_board.specs.Words.{cells_of, bits_of}
 use Rattle.othello_board.proofs.BitLemmas.{apart, bit_at-bits_of, bits_of-append}
 use Rattle.othello_board.proofs.CellLemmas.{bit_cases, own_here, opp_here, empty_here}
-use Rattle.othello_board.proofs.ShiftLemmas.{both}
 use Rattle.othello_board.proofs.RayLemmas.{comes, ordered}
 
 -- ---- in a list
@@ -63,23 +63,19 @@ pub record Leads (up : Bool) (s : ℕ) (more : List ℕ) : Type 0 where
   pub rest : ordered up more ≡ true
 
 leads : (up : Bool) (s : ℕ) (more : List ℕ) → ordered up (s ∷ more) ≡ true → Leads up s more
-leads up s more order =
-    let first = both (ltb s 64) (list_all (comes up s) more && ordered up more) order in
-    let second = both (list_all (comes up s) more) (ordered up more) first.1 in
-    record { below = first.0; first = second.0; rest = second.1 }
+leads up s more order = grind arith
 
 -- a ray of opposing discs alone outflanks nothing
 pub outflanked_all : (up : Bool) (own opp : ℕ) (ray : List ℕ) → bit_and own opp ≡ 0 → ordered up ray ≡ true → list_all (set_in opp) ray ≡ true → outflanked (cells_of own opp) ray ≡ None
 outflanked_all up own opp [] disjoint order all = refl
 outflanked_all up own opp (s ∷ more) disjoint order all =
     let h = leads up s more order in
-    let parts = both (set_in opp s) (list_all (set_in opp) more) all in
+    let parts = and_parts (set_in opp s) (list_all (set_in opp) more) all in
     ap₂ (λ c o. led_by c s o) (sym (opposing_cell own opp s disjoint h.below parts.0)) (outflanked_all up own opp more disjoint h.rest parts.1)
 
 -- else the squares before the stop are outflanked, where an own disc stands there
 longer : (s : ℕ) (before : List ℕ) (t : Bool) → option_map (λ run. s ∷ run) (cond t (Some before) None) ≡ cond t (Some (s ∷ before)) None
-longer s before true = refl
-longer s before false = refl
+longer s before t = grind arith
 
 pub outflanked_stop : (up : Bool) (own opp : ℕ) (before : List ℕ) (stop : ℕ) (after : List ℕ) → bit_and own opp ≡ 0 → ordered up (before ++ stop ∷ after) ≡ true
     → list_all (set_in opp) before ≡ true → bit_at opp stop ≡ 0 → outflanked (cells_of own opp) (before ++ stop ∷ after) ≡ cond (set_in own stop) (Some before) None
@@ -96,7 +92,7 @@ outflanked_stop up own opp [] stop after disjoint order all other =
     ]
 outflanked_stop up own opp (s ∷ before) stop after disjoint order all other =
     let h = leads up s (before ++ stop ∷ after) order in
-    let parts = both (set_in opp s) (list_all (set_in opp) before) all in
+    let parts = and_parts (set_in opp s) (list_all (set_in opp) before) all in
     ap₂ (λ c o. led_by c s o) (sym (opposing_cell own opp s disjoint h.below parts.0)) (outflanked_stop up own opp before stop after disjoint h.rest parts.1 other)
     ∙ longer s before (set_in own stop)
 
@@ -105,23 +101,21 @@ outflanked_stop up own opp (s ∷ before) stop after disjoint order all other =
 among_all : (p : ℕ → Bool) (xs : List ℕ) (i : ℕ) → list_all p xs ≡ true → is_among i xs ≡ true → p i ≡ true
 among_all p [] i all among = cc
 among_all p (x ∷ xs) i all among =
-    let parts = both (p x) (list_all p xs) all in
+    let parts = and_parts (p x) (list_all p xs) all in
     elim (eqb_tells x i) [
       | inl same ↦ ap p (sym same.1) ∙ parts.0
       | inr other ↦ among_all p xs i parts.1 (sym (ap (λ b. b || is_among i xs) other.0) ∙ among)
     ]
 
 one_cond : (b : Bool) (n : ℕ) → n ≡ cond b 1 0 → n ≡ 1 → b ≡ true
-one_cond true n e h = refl
-one_cond false n e h = absurd (omega arith)
+one_cond b n h1 h2 = grind arith
 
 -- a set bit is that of a square of the list
 pub bits_all : (p : ℕ → Bool) (xs : List ℕ) (i : ℕ) → list_all p xs ≡ true → bit_at (bits_of xs) i ≡ 1 → p i ≡ true
 bits_all p xs i all set = among_all p xs i all (one_cond (is_among i xs) (bit_at (bits_of xs) i) (bit_at-bits_of xs i) set)
 
 all_middle : (p : ℕ → Bool) (xs : List ℕ) (x : ℕ) (ys : List ℕ) → list_all p (xs ++ x ∷ ys) ≡ true → p x ≡ true
-all_middle p [] x ys all = (both (p x) (list_all p ys) all).0
-all_middle p (y ∷ xs) x ys all = all_middle p xs x ys (both (p y) (list_all p (xs ++ x ∷ ys)) all).1
+all_middle p xs x ys h1 = grind (arith, common_steps)
 
 -- around the stop
 pub record Around (up : Bool) (before : List ℕ) (stop : ℕ) (after : List ℕ) : Type 0 where
@@ -207,10 +201,7 @@ and_negated x k neg fits k_below set lower neg_fits is =
 
 -- the highest bit of a number between two powers
 pub highest : (y k : ℕ) → 2 ^ k ≤ y → y < 2 * 2 ^ k → bit_at y k ≡ 1
-highest y k low high =
-    let split : y ≡ 1 * 2 ^ k + (y - 2 ^ k) = omega arith in
-    let none : k - k ≡ 0 = omega arith in
-    ap (λ n. bit_at n k) split ∙ bit_at_cat_high 1 k (y - 2 ^ k) k (omega arith) (omega arith) ∙ ap (bit_at 1) none
+highest y k h1 h2 = grind arith
 
 pub highest_is : (y k stop : ℕ) → 2 ^ k ≤ y → y < 2 * 2 ^ k → bit_at y stop ≡ 1 → ((i : ℕ) → stop < i → bit_at y i ≡ 0) → k ≡ stop
 highest_is y k stop low high set above =
@@ -241,20 +232,10 @@ other_bit : (ray opp i : ℕ) → opp < 2 ^ 64 → i < 64 → bit_at (bit_and ra
 other_bit ray opp i fits below = bit_at_and ray (2 ^ 64 - 1 - opp) i ∙ ap (min (bit_at ray i)) (bit_at_not w64 opp i fits below)
 
 stop_bit : (before stop after opp : ℕ) → opp < 2 ^ 64 → stop < 64 → bit_at opp stop ≡ 0 → bit_at (bit_and (joined before stop after) (2 ^ 64 - 1 - opp)) stop ≡ 1
-stop_bit before stop after opp fits below other =
-    let here = joined_bit before stop after stop in
-    let whole = other_bit (joined before stop after) opp stop fits below in
-    omega (arith, here, whole, bit_at-pow_same stop, bit_at-lt before stop, bit_at-lt after stop)
+stop_bit before stop after opp fits below other = grind (arith, joined_bit, other_bit, bit_at-pow_same, bit_at-lt)
 
 before_bit : (before stop after opp i : ℕ) → opp < 2 ^ 64 → i < 64 → (bit_at before i ≡ 1 → bit_at opp i ≡ 1) → bit_at after i ≡ 0 → i ≢ stop → bit_at (bit_and (joined before stop after) (2 ^ 64 - 1 - opp)) i ≡ 0
-before_bit before stop after opp i fits below opposing no_after other =
-    let here = joined_bit before stop after i in
-    let whole = other_bit (joined before stop after) opp i fits below in
-    let apart = bit_at-pow_other stop i other in
-    elim (bit_cases (bit_at before i) (bit_at-lt before i)) [
-      | inl clear ↦ omega (arith, here, whole, apart)
-      | inr set ↦ omega (arith, here, whole, apart, opposing set)
-    ]
+before_bit before stop after opp i fits below opposing no_after other = grind (arith, joined_bit, other_bit, bit_at-pow_other, bit_cases, bit_at-lt)
 
 own_end : (own stop : ℕ) → bit_and (2 ^ stop) own ≡ bit_at own stop * 2 ^ stop
 own_end own stop = and_comm (2 ^ stop) own ∙ and_pow own stop
@@ -379,10 +360,7 @@ nothing_other ray opp fits opp_fits all =
 pub rising_none : (own opp ray neg from : ℕ) → ray < 2 ^ 64 → opp < 2 ^ 64 → ((i : ℕ) → bit_at ray i ≡ 1 → bit_at opp i ≡ 1)
     → from ≡ bool_byte (not (nat_eq (bit_and (bit_and (bit_and ray (2 ^ 64 - 1 - opp)) neg) own) 0))
     → bit_and ray ((bit_and (bit_and (bit_and ray (2 ^ 64 - 1 - opp)) neg) own + (2 ^ 64 - from)) % 2 ^ 64) ≡ 0
-rising_none own opp ray neg from fits opp_fits all test =
-    let none : bit_and (bit_and (bit_and ray (2 ^ 64 - 1 - opp)) neg) own ≡ 0 = ap (λ n. bit_and (bit_and n neg) own) (nothing_other ray opp fits opp_fits all) in
-    let step : from ≡ 0 = test ∙ ap (λ n. bool_byte (not (nat_eq n 0))) none in
-    and_none ray _ (omega (arith, none, step))
+rising_none own opp ray neg from fits opp_fits all test = grind (arith, nothing_other, and_none)
 
 pub falling_none : (own opp ray k neg : ℕ) → ray < 2 ^ 64 → opp < 2 ^ 64 → bit_and own opp ≡ 0 → ((i : ℕ) → bit_at ray i ≡ 1 → bit_at opp i ≡ 1)
     → 2 ^ k ≤ bit_or (bit_and ray (2 ^ 64 - 1 - opp)) 1 → bit_or (bit_and ray (2 ^ 64 - 1 - opp)) 1 < 2 * 2 ^ k
@@ -402,8 +380,7 @@ falling_none own opp ray k neg fits opp_fits disjoint all low high neg_fits nega
 -- ---- a run, by its ray
 
 at_least : (own : ℕ) (before : List ℕ) (t : Bool) → bits_of (unwrap_or (cond t (Some before) None) []) ≡ cond t (bits_of before) 0
-at_least own before true = refl
-at_least own before false = refl
+at_least own before t = grind arith
 
 -- what the words of a ray's parts say
 pub record Parts (opp : ℕ) (up : Bool) (ray : List ℕ) : Type 0 where

@@ -1,5 +1,5 @@
 -- The two words after a move, square by square.
-use Rattle.std.proofs.Common.{◌≡◌, ℕ, ◌-◌, ◌<◌, ◌^◌, Bool, true, false, cond, eqb, ◌||◌, List, ◌∷◌, bit_or, bit_and, min, max, refl, sym, ◌∙◌, arith}
+use Rattle.std.proofs.Common.{◌≡◌, ℕ, ◌-◌, ◌<◌, ◌^◌, Bool, cond, eqb, ◌||◌, List, ◌∷◌, bit_or, bit_and, min, max, sym, ◌∙◌, arith}
 use Rattle.std.proofs.Common.{w64}
 use Rattle.std.specs.Int.{bit_at}
 use Rattle.std.proofs.lemmas.Nat.{and_le_l}
@@ -11,10 +11,7 @@ use Rattle.othello_board.proofs.BitLemmas.{apart, bit_at-pow, bit_at-bits_of}
 use Rattle.othello_board.proofs.CellLemmas.{map-map, map-squares_same, cell_at-cells_of, exchanged-cell_of-by}
 
 max_of_tests_turned : (a b : Bool) → max (cond b 1 0) (cond a 1 0) ≡ cond (a || b) 1 0
-max_of_tests_turned true true = refl
-max_of_tests_turned true false = refl
-max_of_tests_turned false true = refl
-max_of_tests_turned false false = refl
+max_of_tests_turned a b = grind arith
 
 -- the words after these discs were made own and the board was exchanged share no bit
 pub play_disjoint : (own opp discs : ℕ) → opp < 2 ^ 64 → discs < 2 ^ 64 → bit_and own opp ≡ 0 → bit_and (bit_and opp (2 ^ 64 - 1 - discs)) (bit_or own discs) ≡ 0
@@ -30,14 +27,7 @@ play_disjoint own opp discs opp_fits discs_fit disjoint =
 -- one square after the move
 played_cell : (own opp discs : ℕ) → own < 2 → opp < 2 → discs < 2 → min own opp ≡ 0 → (made : Bool) → discs ≡ cond made 1 0
     → cond (eqb (min opp (1 - discs)) 1) Own (cond (eqb (max own discs) 1) Opp Empty) ≡ exchanged_cell (cond made Own (cond (eqb own 1) Own (cond (eqb opp 1) Opp Empty)))
-played_cell own opp discs p q r apart true set =
-    let kept : min opp (1 - discs) ≡ 0 = omega arith in
-    let taken : max own discs ≡ 1 = omega arith in
-    rw (kept, taken) refl
-played_cell own opp discs p q r apart false clear =
-    let kept : min opp (1 - discs) ≡ opp = omega arith in
-    let taken : max own discs ≡ own = omega arith in
-    rw (kept, taken) (exchanged-cell_of-by own opp p q apart)
+played_cell own opp discs h4 h5 h6 h7 made h9 = grind (arith, apart, exchanged-cell_of-by)
 
 -- all cells after a move, where the word holds just these squares
 pub played-cells_of : (own opp discs : ℕ) (squares_made : List ℕ) → discs < 2 ^ 64 → bit_and own opp ≡ 0
@@ -53,5 +43,4 @@ played-cells_of own opp discs made discs_fit disjoint same =
 
 -- the word that `play` makes holds the square and what it flips
 pub bit_at-made : (flipped : List ℕ) (s i : ℕ) → bit_at (bit_or (bits_of flipped) (2 ^ s)) i ≡ cond (is_among i (s ∷ flipped)) 1 0
-bit_at-made flipped s i =
-    rw (bit_at_or (bits_of flipped) (2 ^ s) i, bit_at-pow s i, bit_at-bits_of flipped i) (max_of_tests_turned (eqb s i) (is_among i flipped))
+bit_at-made flipped s i = grind (arith, bit_at_or, bit_at-pow, bit_at-bits_of, max_of_tests_turned)

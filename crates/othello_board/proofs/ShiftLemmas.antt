@@ -1,7 +1,7 @@
 -- A shifted word, bit by bit.
-use Rattle.std.proofs.Common.{◌≡◌, ℕ, zero, suc, ◌+◌, ◌-◌, ◌*◌, ◌/◌, ◌%◌, ◌^◌, ◌<◌, ◌≤◌, Bool, true, false, ◌&&◌, eqb, leb, ltb, Option, Some, None, inl, inr, refl, sym, ap, ◌∙◌, arith}
+use Rattle.std.proofs.Common.{◌≡◌, ℕ, zero, suc, ◌+◌, ◌-◌, ◌*◌, ◌/◌, ◌%◌, ◌^◌, ◌<◌, ◌≤◌, Bool, true, ◌&&◌, eqb, leb, ltb, Option, Some, None, inl, inr, sym, ap, ◌∙◌, arith}
 use Rattle.std.specs.Int.{bit_at}
-use Rattle.std.proofs.lemmas.Bool.{eqb-true}
+use Rattle.std.proofs.lemmas.Bool.{eqb-true, and_parts}
 use borrow.Author.Tests.{ltb-true, leb-true}
 use Rattle.std.proofs.lemmas.Nat.{div-add-mod', mod_below, pow_pos}
 use Rattle.std.proofs.lemmas.Bool.Decides.{eqb_tells}
@@ -13,14 +13,10 @@ abbrev pub all_below : ℕ → (ℕ → Bool) → Bool
 all_below zero test = true
 all_below (suc n) test = test n && all_below n test
 
-pub both : (a b : Bool) → (a && b) ≡ true → (a ≡ true) × (b ≡ true)
-both true b h = (refl, h)
-both false b h = cc
-
 pub holds_below : (n : ℕ) (test : ℕ → Bool) → all_below n test ≡ true → (s : ℕ) → s < n → test s ≡ true
 holds_below zero test all s below = absurd (omega arith)
 holds_below (suc n) test all s below =
-    let parts = both (test n) (all_below n test) all in
+    let parts = and_parts (test n) (all_below n test) all in
     elim (eqb_tells s n) [
       | inl same ↦ ap test same.1 ∙ parts.0
       | inr other ↦ holds_below n test parts.1 s (omega (arith, other.1))
@@ -54,7 +50,7 @@ up_by x k t None below test =
     let fell : t < k = ltb-true t k test in
     omega (arith, bit_at-left x k t below, bit_at_cat_low x k 0 t fell, bit_at-zero t)
 up_by x k t (Some s) below test =
-    let parts = both (leb k t) (eqb s (t - k)) test in
+    let parts = and_parts (leb k t) (eqb s (t - k)) test in
     let high : k ≤ t = leb-true k t parts.0 in
     let from : s ≡ t - k = eqb-true s (t - k) parts.1 in
     bit_at-left x k t below ∙ bit_at_cat_high x k 0 t (pow_pos k) high ∙ ap (bit_at x) (sym from)

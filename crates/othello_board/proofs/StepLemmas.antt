@@ -1,12 +1,10 @@
 -- Steps and the way back.
-use Rattle.std.proofs.Common.{◌≡◌, ℕ, suc, ◌<◌, Bool, true, false, ◌&&◌, eqb, ltb, [], ◌∷◌, Option, Some, None, unwrap_or, refl, ap}
+use Rattle.std.proofs.Common.{◌≡◌, ℕ, suc, ◌<◌, Bool, true, false, ◌&&◌, eqb, ltb, [], ◌∷◌, Option, Some, None, unwrap_or, ap, arith}
 use Rattle.std.specs.Option.{option_map}
-use Rattle.std.proofs.lemmas.Bool.{eqb-true, ltb-true}
 use Rattle.othello_board.specs.declared.directions.Direction.{Direction}
-use Rattle.othello_board.specs.declared.directions.Direction.TheVariants.{North, NorthEast, East, SouthEast, South, SouthWest, West, NorthWest}
 use Rattle.othello_board.specs.Rules.{step, squares_beside}
 use Rattle.othello_board.specs.Shifts.{opposite}
-use Rattle.othello_board.proofs.ShiftLemmas.{all_below, holds_below, both}
+use Rattle.othello_board.proofs.ShiftLemmas.{all_below, holds_below}
 
 -- a step leads to a square of the board, and a step in the other direction leads back
 abbrev is_square : ℕ → Option ℕ → Bool
@@ -18,25 +16,13 @@ back_test back s None = true
 back_test back s (Some t) = ltb t 64 && is_square s (step back t)
 
 is_square-true : (s : ℕ) (o : Option ℕ) → is_square s o ≡ true → o ≡ Some s
-is_square-true s None h = cc
-is_square-true s (Some t) h = ap (λ n. Some n) (eqb-true t s h)
+is_square-true s o h3 = grind arith
 
 back_by : (back : Direction) (s t : ℕ) (next : Option ℕ) → back_test back s next ≡ true → next ≡ Some t → (t < 64) × (step back t ≡ Some s)
-back_by back s t None test e = cc
-back_by back s t (Some u) test e =
-    let same : u ≡ t = cc in
-    let parts = both (ltb u 64) (is_square s (step back u)) test in
-    (rw (← same) (ltb-true u 64 parts.0), rw (← same) (is_square-true s (step back u) parts.1))
+back_by back s t next h5 h6 = grind (arith, is_square-true)
 
 back_everywhere : (d : Direction) → all_below 64 (λ s. back_test (opposite d) s (step d s)) ≡ true
-back_everywhere North = refl
-back_everywhere NorthEast = refl
-back_everywhere East = refl
-back_everywhere SouthEast = refl
-back_everywhere South = refl
-back_everywhere SouthWest = refl
-back_everywhere West = refl
-back_everywhere NorthWest = refl
+back_everywhere d = grind arith
 
 pub step_back : (d : Direction) (s t : ℕ) → s < 64 → step d s ≡ Some t → (t < 64) × (step (opposite d) t ≡ Some s)
 step_back d s t below e =

@@ -54,16 +54,7 @@ skipped v m c cs ne = cond-false (int_equal (v c) m) (Some c) (first_worth v m c
 -- a choice that is worth no more than the one before it changes nothing
 passed_over : (v : Choice → ℤ) (m : ℤ) (c e : Choice) (es : List Choice) → v e ≤ℤ v c → v c ≤ℤ m
     → first_worth v m (c ∷ e ∷ es) ≡ first_worth v m (c ∷ es)
-passed_over v m c e es l h =
-    cond_both (int_equal (v c) m) (Some c) (first_worth v m (e ∷ es)) (λ o. o ≡ first_worth v m (c ∷ es))
-    (λ t. sym (cond-true (int_equal (v c) m) (Some c) (first_worth v m es) t))
-    (λ f. skipped v m e es (λ q. false_true (sym f ∙ int_equal-same (v c) m (squeezed (v e) (v c) m l h q))) ∙ sym (cond-false (int_equal (v c) m) (Some c) (first_worth v m es) f))
-  where
-    squeezed : (x y z : ℤ) → x ≤ℤ y → y ≤ℤ z → x ≡ z → y ≡ z
-    squeezed x y z a b q = omega (arith, ints)
-
-    false_true : false ≡ true → ⊥
-    false_true q = cc
+passed_over v m c e es l h = grind (arith, cond_both, cond-true, skipped, int_equal-same, cond-false)
 
 pub running-choice : (v : Choice → ℤ) (best : ℤ) (c : Choice) (es : List Choice) → v c ≡ best
     → first_worth v (greatest best (map v es)) (c ∷ es) ≡ Some (running v best c es).1

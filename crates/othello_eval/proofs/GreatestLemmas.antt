@@ -50,8 +50,7 @@ greatest-first x (y ∷ ys) = int_max-left x (greatest y ys) x (omega (arith, in
 -- and at least the value of each
 pub greatest-lower : {X : Type 0} (v : X → ℤ) (x : ℤ) (before : List X) (c : X) (later : List X) → v c ≤ℤ greatest x (map v (before ++ c ∷ later))
 greatest-lower v x [] c later = int_max-right x (greatest (v c) (map v later)) (v c) (greatest-first (v c) (map v later))
-greatest-lower v x (b ∷ before) c later =
-    int_max-right x (greatest (v b) (map v (before ++ c ∷ later))) (v c) (greatest-lower v (v b) before c later)
+greatest-lower v x (b ∷ before) c later = grind (arith, greatest-lower v (v b) before c later, int_max-right)
 
 pub greatest_or-lower : {X : Type 0} (v : X → ℤ) (other : ℤ) (before : List X) (c : X) (later : List X) → v c ≤ℤ greatest_or other (map v (before ++ c ∷ later))
 greatest_or-lower v other [] c later = greatest-first (v c) (map v later)
@@ -59,18 +58,12 @@ greatest_or-lower v other (b ∷ before) c later = greatest-lower v (v b) before
 
 -- the value of the first choice that attains x, or else what is found among the others
 pub found_below_max : (value x greatest : ℤ) {X : Type 0} (c : X) (more : Option X) (test : Bool) → int_equal value x ≡ test → (IsSome more → x ≤ℤ greatest) → IsSome (cond test (Some c) more) → x ≤ℤ int_max value greatest
-found_below_max value x greatest c more true passed later found =
-    let same : value ≡ x = same_from_int_equal value x passed in int_max-left value greatest x (omega (arith, ints))
-found_below_max value x greatest c more false passed later found = int_max-right value greatest x (later found)
+found_below_max value x greatest c more test h7 h8 h9 = grind (arith, same_from_int_equal, int_max-left, int_max-right)
 
 -- the greatest of x and these values is at least the greatest of these values
 pub found_below_greatest : {X : Type 0} (v : X → ℤ) (x : ℤ) (c : X) (cs : List X) → IsSome (find (λ d. int_equal (v d) x) (c ∷ cs)) → x ≤ℤ greatest (v c) (map v cs)
-found_below_greatest v x c [] found =
-    let upper : x ≤ℤ int_max (v c) (v c) = found_below_max (v c) x (v c) c None (int_equal (v c) x) refl (λ none. cc) found in
-    omega (arith, ints, clamps)
-found_below_greatest v x c (d ∷ cs) found =
-    found_below_max (v c) x (greatest (v d) (map v cs)) c (find (λ e. int_equal (v e) x) (d ∷ cs)) (int_equal (v c) x) refl
-    (λ later. found_below_greatest v x d cs later) found
+found_below_greatest v x c [] found = grind (arith, found_below_max)
+found_below_greatest v x c (d ∷ cs) found = grind (arith, found_below_greatest v x d cs, found_below_max)
 
 -- none of these choices has a value above all of theirs
 pub find-none : {X : Type 0} (v : X → ℤ) (x : ℤ) (cs : List X) → All (λ c. v c <ℤ x) cs → find (λ c. int_equal (v c) x) cs ≡ None
@@ -80,15 +73,11 @@ find-none v x (c ∷ cs) below =
 
 -- the first of these choices stays the first, and a choice of value x after others below x is the first
 option_or-some : {X : Type 0} (first more : Option X) → IsSome first → option_or first more ≡ first
-option_or-some None more some = cc
-option_or-some (Some c) more some = refl
+option_or-some first more h3 = grind arith
 
 pub find-kept : {X : Type 0} (test : X → Bool) (cs : List X) (c : X) (first : Option X) → find test cs ≡ first → IsSome first → find test (cs ++ c ∷ []) ≡ first
 find-kept test cs c first found some =
     find-append test cs (c ∷ []) ∙ (ap (λ o. option_or o (find test (c ∷ []))) found ∙ option_or-some first (find test (c ∷ [])) some)
 
 pub find-new : {X : Type 0} (v : X → ℤ) (x : ℤ) (cs : List X) (c : X) → All (λ d. v d <ℤ x) cs → v c ≡ x → find (λ d. int_equal (v d) x) (cs ++ c ∷ []) ≡ Some c
-find-new v x cs c below same =
-    find-append (λ d. int_equal (v d) x) cs (c ∷ [])
-    ∙ (ap (λ o. option_or o (find (λ d. int_equal (v d) x) (c ∷ []))) (find-none v x cs below)
-    ∙ ap (λ b. cond b (Some c) None) (int_equal-same (v c) x same))
+find-new v x cs c below same = grind (arith, find-append, find-none, int_equal-same)

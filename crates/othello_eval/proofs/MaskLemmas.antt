@@ -1,5 +1,5 @@
 -- The weights of discs, counted under one word of squares for each weight.
-use Rattle.std.proofs.Common.{◌≡◌, ℕ, zero, suc, ◌+◌, ◌^◌, ◌<◌, ◌≤◌, ◌*◌, Bool, true, false, ◌&&◌, cond, eqb, List, [], ◌∷◌, map, length, min, bit_and, ℤ, pos, negsuc, ◌+ℤ◌, ◌-ℤ◌, ◌*ℤ◌, neg_ℤ, inl, inr, refl, sym, ap, ◌∙◌, arith}
+use Rattle.std.proofs.Common.{◌≡◌, ℕ, zero, suc, ◌+◌, ◌^◌, ◌<◌, ◌≤◌, ◌*◌, Bool, ◌&&◌, cond, eqb, List, [], ◌∷◌, map, length, min, bit_and, ℤ, pos, negsuc, ◌+ℤ◌, ◌-ℤ◌, ◌*ℤ◌, neg_ℤ, refl, sym, ap, ◌∙◌, arith}
 use Rattle.std.specs.Prelude.{count_ones}
 use Rattle.std.specs.Int.{bit_at}
 use Rattle.std.specs.List.{range_with_len}
@@ -11,7 +11,8 @@ use Rattle.std.proofs.lemmas.List.{at_drop_more, at_drop_all}
 use Rattle.std.proofs.lemmas.Int.{ints, unsigned_abs-mul}
 use Rattle.std.proofs.lemmas.Nat.{and_le_l, mul-le}
 use Rattle.std.proofs.lemmas.Nat.Bits.{bit_at_and, bit_at-lt}
-use Rattle.std.proofs.Math.IntN.{suc_ℤ, pred_ℤ, -ℤ_one, *ℤ_comm, suc_ℤ-*ℤ, pred_ℤ-*ℤ, *ℤ-zero, zero-*ℤ}
+use Rattle.std.proofs.Math.IntN.{pred_ℤ, -ℤ_one, *ℤ_comm, pred_ℤ-*ℤ, *ℤ-zero, zero-*ℤ}
+use Rattle.std.proofs.lemmas.Grind.{common_steps}
 use Rattle.othello_board.specs.declared.cells.Cell.TheVariants.{Empty, Own, Opp}
 use Rattle.othello_board.specs.Rules.{squares}
 use Rattle.othello_board.specs.Words.{cell_of, cells_of}
@@ -40,11 +41,7 @@ worth word a (w ∷ ws) = (cond (eqb (bit_at word a) 1) w (pos 0)) +ℤ worth wo
 -- one cell is worth its own bit, less its opposing one
 cell_by : (a b : ℕ) (w : ℤ) → a < 2 → b < 2 → min a b ≡ 0
     → disc_value (cond (eqb a 1) Own (cond (eqb b 1) Opp Empty)) w ≡ cond (eqb a 1) w (pos 0) -ℤ cond (eqb b 1) w (pos 0)
-cell_by a b w p q h =
-    elim (bit_cases a p) [
-      | inl a_clear ↦ elim (bit_cases b q) [ inl b_clear ↦ rw (a_clear, b_clear) (omega (arith, ints)) | inr b_set ↦ rw (a_clear, b_set) (omega (arith, ints)) ]
-      | inr a_set ↦ let b_clear : b ≡ 0 = omega arith in rw (a_set, b_clear) (omega (arith, ints))
-    ]
+cell_by a b w p q h = grind (arith, bit_cases)
 
 joined_sums : (d x y u v : ℤ) → d ≡ x -ℤ y → d +ℤ (u -ℤ v) ≡ (x +ℤ u) -ℤ (y +ℤ v)
 joined_sums d x y u v e = omega (arith, ints)
@@ -66,17 +63,14 @@ added (w ∷ ws) [] = []
 added (w ∷ ws) (v ∷ vs) = (w +ℤ v) ∷ added ws vs
 
 split_test : (t : Bool) (w v x y : ℤ) → (cond t (w +ℤ v) (pos 0)) +ℤ (x +ℤ y) ≡ (cond t w (pos 0) +ℤ x) +ℤ (cond t v (pos 0) +ℤ y)
-split_test true w v x y = omega (arith, ints)
-split_test false w v x y = omega (arith, ints)
+split_test t w v x y = grind (arith, common_steps)
 
 worth-added : (word a n : ℕ) (ws vs : List ℤ) → length ws ≡ n → length vs ≡ n → worth word a (added ws vs) ≡ worth word a ws +ℤ worth word a vs
 worth-added word a n [] [] l m = refl
 worth-added word a n [] (v ∷ vs) l m = absurd (omega arith)
 worth-added word a n (w ∷ ws) [] l m = absurd (omega arith)
 worth-added word a zero (w ∷ ws) (v ∷ vs) l m = absurd (omega arith)
-worth-added word a (suc n) (w ∷ ws) (v ∷ vs) l m =
-    ap (λ x. cond (eqb (bit_at word a) 1) (w +ℤ v) (pos 0) +ℤ x) (worth-added word (a + 1) n ws vs (omega arith) (omega arith))
-    ∙ split_test (eqb (bit_at word a) 1) w v (worth word (a + 1) ws) (worth word (a + 1) vs)
+worth-added word a (suc n) (w ∷ ws) (v ∷ vs) l m = grind (arith, worth-added word (a + 1) n ws vs, split_test)
 
 -- one weight on the squares of a word, and 0 elsewhere
 abbrev on_squares : ℤ → ℕ → ℕ → ℕ → List ℤ
@@ -87,34 +81,17 @@ length-on_squares w mask a zero = refl
 length-on_squares w mask a (suc n) = ap suc (length-on_squares w mask (a + 1) n)
 
 both_set : (a b : ℕ) → a < 2 → b < 2 → eqb (min a b) 1 ≡ (eqb a 1 && eqb b 1)
-both_set a b p q =
-    elim (bit_cases a p) [
-      | inl a_clear ↦ elim (bit_cases b q) [ inl b_clear ↦ rw (a_clear, b_clear) refl | inr b_set ↦ rw (a_clear, b_set) refl ]
-      | inr a_set ↦ elim (bit_cases b q) [ inl b_clear ↦ rw (a_set, b_clear) refl | inr b_set ↦ rw (a_set, b_set) refl ]
-    ]
+both_set a b h1 h2 = grind arith
 
 one_more : (w : ℤ) (k : ℕ) → w +ℤ (w *ℤ pos k) ≡ w *ℤ pos (1 + k)
-one_more w k =
-    let next : pos (1 + k) ≡ suc_ℤ (pos k) = ap pos (omega arith) in
-    let turned : w *ℤ pos (1 + k) ≡ suc_ℤ (pos k) *ℤ w = *ℤ_comm w (pos (1 + k)) ∙ ap (λ m. m *ℤ w) next in
-    let step = suc_ℤ-*ℤ (pos k) w in
-    let back = *ℤ_comm (pos k) w in
-    omega (arith, ints, turned, step, back)
+one_more w k = grind arith
 
 counted_by : (t u : Bool) (w : ℤ) (k : ℕ) → (cond t (cond u w (pos 0)) (pos 0)) +ℤ (w *ℤ pos k) ≡ w *ℤ pos (cond (t && u) (1 + k) k)
-counted_by true true w k = one_more w k
-counted_by true false w k = omega (arith, ints)
-counted_by false u w k = omega (arith, ints)
+counted_by t u w k = grind arith
 
 worth-on_squares : (word mask : ℕ) (w : ℤ) (a n : ℕ) → worth word a (on_squares w mask a n) ≡ w *ℤ pos (count_in (λ s. eqb (bit_at (bit_and word mask) s) 1) a n)
 worth-on_squares word mask w a zero = sym (*ℤ-zero w)
-worth-on_squares word mask w a (suc n) =
-    let here : eqb (bit_at (bit_and word mask) a) 1 ≡ (eqb (bit_at word a) 1 && eqb (bit_at mask a) 1) =
-    ap (λ b. eqb b 1) (bit_at_and word mask a) ∙ both_set (bit_at word a) (bit_at mask a) (bit_at-lt word a) (bit_at-lt mask a) in
-    let rest = count_in (λ s. eqb (bit_at (bit_and word mask) s) 1) (a + 1) n in
-    ap (λ x. cond (eqb (bit_at word a) 1) (cond (eqb (bit_at mask a) 1) w (pos 0)) (pos 0) +ℤ x) (worth-on_squares word mask w (a + 1) n)
-    ∙ counted_by (eqb (bit_at word a) 1) (eqb (bit_at mask a) 1) w rest
-    ∙ ap (λ t. w *ℤ pos (cond t (1 + rest) rest)) (sym here)
+worth-on_squares word mask w a (suc n) = grind (arith, worth-on_squares word mask w (a + 1) n, bit_at_and, both_set, bit_at-lt, counted_by)
 
 -- on the whole board
 worth_under : (word mask : ℕ) (w : ℤ) → word < 2 ^ 64 → worth word 0 (on_squares w mask 0 64) ≡ w *ℤ pos (count_ones (bit_and word mask))
@@ -142,10 +119,7 @@ less_none : (x y : ℤ) → y ≡ pos 0 → x ≡ x -ℤ y
 less_none x y e = omega (arith, ints)
 
 mul_difference : (w : ℤ) (a b : ℕ) → w *ℤ (pos a -ℤ pos b) ≡ (w *ℤ pos a) -ℤ (w *ℤ pos b)
-mul_difference w a zero =
-    let whole : pos a -ℤ pos zero ≡ pos a = omega (arith, ints) in
-    let none = *ℤ-zero w in
-    ap (λ z. w *ℤ z) whole ∙ less_none (w *ℤ pos a) (w *ℤ pos zero) none
+mul_difference w a zero = grind (arith, less_none)
 mul_difference w a (suc b) =
     let one_less : pos a -ℤ pos (suc b) ≡ (pos a -ℤ pos b) -ℤ pos (suc zero) = omega (arith, ints) in
     let back : pos a -ℤ pos (suc b) ≡ pred_ℤ (pos a -ℤ pos b) = one_less ∙ -ℤ_one (pos a -ℤ pos b) in
@@ -195,12 +169,10 @@ weighed_sum-discs_value own opp own_fits opp_fits disjoint =
 -- ---- bounds
 
 abs_within : (n : ℕ) (z : ℤ) → IsWithin n z → unsigned_abs z ≤ n
-abs_within n (pos a) h = omega (arith, ints)
-abs_within n (negsuc a) h = omega (arith, ints)
+abs_within n z h3 = grind arith
 
 within_abs : (n : ℕ) (z : ℤ) → unsigned_abs z ≤ n → IsWithin n z
-within_abs n (pos a) h = (omega (arith, ints), omega (arith, ints))
-within_abs n (negsuc a) h = (omega (arith, ints), omega (arith, ints))
+within_abs n z h3 = grind arith
 
 pub product_within : (m n : ℕ) (x y : ℤ) → IsWithin m x → IsWithin n y → IsWithin (m * n) (x *ℤ y)
 product_within m n x y p q =
@@ -236,11 +208,4 @@ pub sums_end : (own opp i : ℕ) → 7 ≤ i → weighed_sum own opp (drop i wei
 sums_end own opp i end = at_drop_all (weighed_sum own opp) weight_table i end
 
 pub weight_fits : (i : ℕ) → (get_or weight_table i (pos 0, 0)).0 ≡ to_z w32 (of_z w32 (get_or weight_table i (pos 0, 0)).0)
-weight_fits zero = refl
-weight_fits (suc zero) = refl
-weight_fits (suc (suc zero)) = refl
-weight_fits (suc (suc (suc zero))) = refl
-weight_fits (suc (suc (suc (suc zero)))) = refl
-weight_fits (suc (suc (suc (suc (suc zero))))) = refl
-weight_fits (suc (suc (suc (suc (suc (suc zero)))))) = refl
-weight_fits (suc (suc (suc (suc (suc (suc (suc i))))))) = refl
+weight_fits i = grind arith

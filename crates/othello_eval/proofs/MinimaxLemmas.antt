@@ -1,5 +1,5 @@
 -- Minimax values and best choices at a board, from what its choices are worth.
-use Rattle.std.proofs.Common.{◌≡◌, ℕ, zero, suc, ◌<◌, false, cond, sym, List, [], ◌∷◌, map, length, None, find, ℤ, neg_ℤ, int_lt, refl, ap, ap₂, ◌∙◌, arith}
+use Rattle.std.proofs.Common.{◌≡◌, ℕ, zero, suc, ◌<◌, false, cond, sym, List, [], ◌∷◌, map, length, None, find, ℤ, neg_ℤ, refl, ap, ap₂, ◌∙◌, arith}
 use Rattle.std.proofs.lemmas.Int.{ints}
 use Rattle.std.proofs.lemmas.Bool.{cond_both}
 use Rattle.std.proofs.lemmas.Simd.{map-map}
@@ -25,15 +25,12 @@ best_choice-leaf board = refl
 
 -- a mover with legal squares chooses among them
 squares_there : (own : List ℕ) (other : List Choice) → is_nil own ≡ false → cond (is_nil own) other (map Square own) ≡ map Square own
-squares_there [] other some = cc
-squares_there (s ∷ own) other some = refl
+squares_there own other h3 = grind arith
 
 pub minimax-squares : (depth : ℕ) (board : List Cell) → is_nil (legal_squares board) ≡ false
     → minimax (suc depth) board ≡ over_squares (minimax depth) board (legal_squares board)
 unfolding minimax
-minimax-squares depth board some =
-    ap (λ cs. greatest_or (final_value board) (map (λ c. neg_ℤ (value_after (minimax depth) board c)) cs)) (squares_there (legal_squares board) (choices_without_move board) some)
-    ∙ ap (greatest_or (final_value board)) (map-map (λ c. neg_ℤ (value_after (minimax depth) board c)) Square (legal_squares board))
+minimax-squares depth board some = grind (arith, squares_there, map-map)
 
 -- with one ply at least, a choice is worth what comes after it: a pass, a square, any choice
 one_pass : (depth : ℕ) (board : List Cell) (theirs : List ℕ) → theirs ≡ legal_squares (exchanged board)
@@ -49,8 +46,7 @@ squares_same depth board (s ∷ own) = ap₂ (λ v more. neg_ℤ v ∷ more) (ap
 
 by_squares : (depth : ℕ) (board : List Cell) (own : List ℕ)
     → map (λ c. neg_ℤ (value_after (minimax depth) board c)) (cond (is_nil own) (choices_without_move board) (map Square own)) ≡ map (choice_value (suc depth) board) (cond (is_nil own) (choices_without_move board) (map Square own))
-by_squares depth board [] = one_pass depth board (legal_squares (exchanged board)) refl
-by_squares depth board (s ∷ own) = squares_same depth board (s ∷ own)
+by_squares depth board own = grind (arith, one_pass, squares_same)
 
 pub minimax-deeper : (depth : ℕ) (board : List Cell) → 0 < depth → minimax depth board ≡ greatest_or (final_value board) (map (choice_value depth board) (choices board))
 unfolding minimax
@@ -80,8 +76,7 @@ minimax-goes_on board c cs e = minimax-leaf board ∙ ap (leaf_value board) e
 -- and else the greatest of what the choices are worth
 pub minimax-more : (depth : ℕ) (board : List Cell) (c : Choice) (cs : List Choice) → 0 < depth → choices board ≡ c ∷ cs
     → minimax depth board ≡ greatest (choice_value depth board c) (map (choice_value depth board) cs)
-minimax-more depth board c cs some e =
-    minimax-deeper depth board some ∙ ap (λ l. greatest_or (final_value board) (map (choice_value depth board) l)) e
+minimax-more depth board c cs some e = grind (arith, minimax-deeper)
 
 -- ---- bounds
 
@@ -93,17 +88,14 @@ within_negated n z h = (omega (arith, ints), omega (arith, ints))
 
 greatest_within : {X : Type 0} (n : ℕ) (v : X → ℤ) → ((c : X) → IsWithin n (v c)) → (x : ℤ) (cs : List X) → IsWithin n x → IsWithin n (greatest x (map v cs))
 greatest_within n v each x [] h = h
-greatest_within n v each x (c ∷ cs) h =
-    let rest = greatest (v c) (map v cs) in
-    cond_both (int_lt rest x) x rest (IsWithin n) (λ _. h) (λ _. greatest_within n v each (v c) cs (each c))
+greatest_within n v each x (c ∷ cs) h = grind (arith, greatest_within n v each (v c) cs (each c), cond_both)
 
 greatest_or_within : {X : Type 0} (n : ℕ) (v : X → ℤ) → ((c : X) → IsWithin n (v c)) → (other : ℤ) (cs : List X) → IsWithin n other → IsWithin n (greatest_or other (map v cs))
 greatest_or_within n v each other [] h = h
 greatest_or_within n v each other (c ∷ cs) h = greatest_within n v each (v c) cs (each c)
 
 leaf_within : (board : List Cell) (cs : List Choice) → length board ≡ 64 → IsWithin 128000 (leaf_value board cs)
-leaf_within board [] e = final_value_within board e
-leaf_within board (c ∷ cs) e = within_more (eval board) (eval_within board)
+leaf_within board cs h3 = grind (arith, final_value_within, within_more, eval_within)
 
 -- what comes after a choice lies within too
 after_within : (depth : ℕ) → ((b : List Cell) → length b ≡ 64 → IsWithin 128000 (minimax depth b)) → (board : List Cell) (c : Choice) → length board ≡ 64 → IsWithin 128000 (value_after (minimax depth) board c)

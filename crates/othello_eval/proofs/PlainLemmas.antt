@@ -39,22 +39,16 @@ start_value depth board w c cs e some is =
 
 pub start_choice : (depth : ℕ) (board : List Cell) (w : ℤ) (c : Choice) (cs : List Choice) → choices board ≡ c ∷ cs → 0 < depth → w ≡ choice_value depth board c
     → Some (running (choice_value depth board) w c cs).1 ≡ best_choice depth board
-start_choice depth board w c cs e some is =
-    ap (λ x. Some (running (choice_value depth board) x c cs).1) is ∙ sym (best_choice-running depth board c cs some e)
+start_choice depth board w c cs e some is = grind (arith, best_choice-running)
 
 -- one choice more
 pub running_more : (v : Choice → ℤ) (best w : ℤ) (c e : Choice) (left es : List Choice) → left ≡ e ∷ es → w ≡ v e → int_lt best w ≡ true
     → running v w e es ≡ running v best c left
-running_more v best w c e left es is worth l =
-    ap (λ x. running v x e es) worth
-    ∙ sym (cond-true (int_lt best (v e)) (running v (v e) e es) (running v best c es) (ap (int_lt best) (sym worth) ∙ l))
-    ∙ ap (running v best c) (sym is)
+running_more v best w c e left es is worth l = grind (arith, cond-true)
 
 pub running_same : (v : Choice → ℤ) (best w : ℤ) (c e : Choice) (left es : List Choice) → left ≡ e ∷ es → w ≡ v e → int_lt best w ≡ false
     → running v best c es ≡ running v best c left
-running_same v best w c e left es is worth l =
-    sym (cond-false (int_lt best (v e)) (running v (v e) e es) (running v best c es) (ap (int_lt best) (sym worth) ∙ l))
-    ∙ ap (running v best c) (sym is)
+running_same v best w c e left es is worth l = grind (arith, cond-false)
 
 pub running_all : (v : Choice → ℤ) (best : ℤ) (c : Choice) (left : List Choice) → left ≡ [] → (running v best c left) ≡ (best, c)
 running_all v best c left e = ap (running v best c) e

@@ -1,5 +1,5 @@
 -- That a table is one has one proof at most.
-use Rattle.std.specs.Prelude.{◌≡◌, ℕ, ℤ, List}
+use Rattle.std.specs.Prelude.{ℕ, ℤ, List}
 use Rattle.std.proofs.Props.{props}
 use Rattle.othello_board.specs.declared.cells.Cell.{Cell}
 use Rattle.othello_eval.specs.declared.bound.Bound.{Bound}

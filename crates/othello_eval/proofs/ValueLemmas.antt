@@ -1,9 +1,8 @@
 -- How large values are.
-use Rattle.std.proofs.Common.{◌≡◌, ℕ, ◌+◌, ◌<◌, ◌≤◌, List, [], ◌∷◌, length, count_by, ℤ, pos, negsuc, ◌+ℤ◌, ◌-ℤ◌, ◌*ℤ◌, ◌<ℤ◌, nat_abs, refl, arith}
+use Rattle.std.proofs.Common.{◌≡◌, ℕ, ◌+◌, ◌<◌, ◌≤◌, List, [], ◌∷◌, length, count_by, ℤ, pos, ◌+ℤ◌, ◌-ℤ◌, ◌*ℤ◌, ◌<ℤ◌, nat_abs, refl, arith}
 use Rattle.std.proofs.lemmas.Int.{ints}
 use Rattle.std.proofs.lemmas.List.Sums.{count_by-le-length}
 use Rattle.othello_board.specs.declared.cells.Cell.{Cell}
-use Rattle.othello_board.specs.declared.cells.Cell.TheVariants.{Empty, Own, Opp}
 use Rattle.othello_board.specs.Rules.{exchanged, is_own_cell, is_opp_cell}
 use Rattle.othello_moves.specs.Choices.{legal_squares}
 use Rattle.othello_moves.proofs.AllowedLemmas.{legal_squares_fit}
@@ -15,13 +14,10 @@ abs_sum [] = 0
 abs_sum (w ∷ ws) = nat_abs w + abs_sum ws
 
 within_abs : (w : ℤ) → IsWithin (nat_abs w) w
-within_abs (pos n) = (omega (arith, ints), omega (arith, ints))
-within_abs (negsuc n) = (omega (arith, ints), omega (arith, ints))
+within_abs w = grind arith
 
 disc_value_within : (c : Cell) (w : ℤ) → IsWithin (nat_abs w) (disc_value c w)
-disc_value_within Empty w = (omega (arith, ints), omega (arith, ints))
-disc_value_within Own w = within_abs w
-disc_value_within Opp w = let h = within_abs w in (omega (arith, ints), omega (arith, ints))
+disc_value_within c w = grind (arith, within_abs)
 
 pub discs_value_within : (cs : List Cell) (ws : List ℤ) → IsWithin (abs_sum ws) (discs_value cs ws)
 discs_value_within [] ws = (omega (arith, ints), omega (arith, ints))

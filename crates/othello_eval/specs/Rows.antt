@@ -7,7 +7,7 @@ use Rattle.othello_moves.specs.declared.choices.Choice.{Choice}
 use Rattle.othello_moves.specs.declared.choices.Choice.TheVariants.{Square, Pass}
 use Rattle.othello_eval.specs.declared.bound.Bound.{Bound}
 use Rattle.othello_eval.specs.declared.bound.BoundKind.{BoundKind}
-use Rattle.othello_eval.specs.declared.bound.BoundKind.TheVariants.{Low, High, Exact}
+use Rattle.othello_eval.specs.declared.bound.BoundKind.TheVariants.{Low, Exact}
 
 -- all 64 discs are the opponent's
 abbrev pub all_opposing : List Cell

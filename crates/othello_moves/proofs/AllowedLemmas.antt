@@ -1,5 +1,5 @@
 -- What holds of every choice.
-use Rattle.std.proofs.Common.{◌≡◌, ◌<◌, ◌≤◌, ltb, List, [], ◌∷◌, map, length, All, Contains, refl, ◌∙◌, arith}
+use Rattle.std.proofs.Common.{◌≡◌, ◌<◌, ◌≤◌, ltb, List, map, length, All, Contains, refl, arith}
 use Rattle.std.specs.List.{list_all}
 use Rattle.std.proofs.lemmas.Bool.{cond_both}
 use Rattle.std.proofs.lemmas.Bool.Decides.{Decides-by_and, Decides-ltb}
@@ -7,13 +7,13 @@ use Rattle.std.proofs.lemmas.List.{length-map}
 use Rattle.std.proofs.lemmas.List.Elements.{All-nil, All-cons, All-map, All-filter, filter_passes, All-contains}
 use Rattle.std.proofs.lemmas.List.Sums.{length-filter, count_by-le-length}
 use Rattle.othello_board.specs.declared.cells.Cell.{Cell}
-use Rattle.othello_board.specs.Rules.{squares, is_legal, is_nil, exchanged}
+use Rattle.othello_board.specs.Rules.{squares, is_legal}
 use Rattle.othello_board.specs.declared.boards.Board.{Board}
 use Rattle.othello_board.specs.Words.{cells}
 use Rattle.othello_board.proofs.CellLemmas.{length-cells_of}
 use Rattle.othello_moves.specs.declared.choices.Choice.{Choice}
-use Rattle.othello_moves.specs.declared.choices.Choice.TheVariants.{Square, Pass}
-use Rattle.othello_moves.specs.Choices.{in_order, legal_squares, choices, choices_without_move, after, IsAllowed}
+use Rattle.othello_moves.specs.declared.choices.Choice.TheVariants.{Square}
+use Rattle.othello_moves.specs.Choices.{in_order, legal_squares, choices, after, IsAllowed}
 
 in_order_below : All (λ s. s < 64) in_order
 unfolding in_order squares
@@ -30,10 +30,7 @@ allowed_squares board =
 
 -- every choice is allowed
 pub choices_allowed : (board : List Cell) → All (IsAllowed board) (choices board)
-choices_allowed board =
-    cond_both (is_nil (legal_squares board)) (choices_without_move board) (map Square (legal_squares board)) (All (IsAllowed board))
-    (λ _. cond_both (is_nil (legal_squares (exchanged board))) [] (Pass ∷ []) (All (IsAllowed board)) (λ _. All-nil (IsAllowed board)) (λ _. All-cons (IsAllowed board) Pass [] tt (All-nil (IsAllowed board))))
-    (λ _. allowed_squares board)
+choices_allowed board = grind (arith, cond_both, All-nil, All-cons, allowed_squares)
 
 pub contained_allowed : (board : List Cell) (c : Choice) → Contains (choices board) c → IsAllowed board c
 contained_allowed board c h = All-contains (IsAllowed board) (choices board) c (choices_allowed board) h
@@ -44,10 +41,7 @@ legal_squares_fit board = omega (arith, length-filter (is_legal board) in_order,
 
 -- and at most 64 choices
 pub choices_fit : (board : List Cell) → length (choices board) ≤ 64
-choices_fit board =
-    cond_both (is_nil (legal_squares board)) (choices_without_move board) (map Square (legal_squares board)) (λ cs. length cs ≤ 64)
-    (λ _. cond_both (is_nil (legal_squares (exchanged board))) [] (Pass ∷ []) (λ cs. length cs ≤ 64) (λ _. omega arith) (λ _. omega arith))
-    (λ _. omega (arith, length-map (legal_squares board) Square, legal_squares_fit board))
+choices_fit board = grind (arith, cond_both, length-map, legal_squares_fit)
 
 squares_length : length squares ≡ 64
 unfolding squares
@@ -55,8 +49,7 @@ squares_length = refl
 
 -- the board after a move has 64 cells, and the board after a pass as many as before
 pub length-after : (board : List Cell) (c : Choice) → length board ≡ 64 → length (after board c) ≡ 64
-length-after board (Square s) e = length-map _ _ ∙ length-map squares _ ∙ squares_length
-length-after board Pass e = length-map board _ ∙ e
+length-after board c h3 = grind (arith, length-map, squares_length)
 
 -- a board has 64 cells
 pub length-cells : (b : Board) → length (cells b) ≡ 64

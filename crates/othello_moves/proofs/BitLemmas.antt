@@ -1,8 +1,8 @@
 -- Words of bits, and the lists of squares that they stand for.
-use Rattle.std.proofs.Common.{◌≡◌, ℕ, zero, suc, ◌+◌, ◌*◌, ◌/◌, ◌%◌, ◌^◌, ◌<◌, Bool, true, false, cond, ◌&&◌, ◌||◌, eqb, List, [], ◌∷◌, length, filter, count_ones, bit_and, refl, sym, ap, ◌∙◌, w64, pow-suc, arith}
+use Rattle.std.proofs.Common.{◌≡◌, ℕ, zero, suc, ◌+◌, ◌*◌, ◌/◌, ◌%◌, ◌^◌, ◌<◌, Bool, true, false, cond, ◌&&◌, ◌||◌, eqb, List, [], ◌∷◌, length, filter, count_ones, bit_and, refl, ap, ◌∙◌, w64, pow-suc, arith}
 use Rattle.std.specs.List.{range_with_len}
 use Rattle.std.specs.Int.{bit_at, bit_not, trailing_zeros}
-use Rattle.std.proofs.lemmas.Bool.{eqb-true, true≢false, agree_below_at}
+use Rattle.std.proofs.lemmas.Bool.{eqb-true, agree_below_at}
 use Rattle.std.proofs.lemmas.Nat.Bits.{bit_at-suc, bit_at_lowest, bit_at-trailing_zeros, bit_at_clear_same, bit_at_clear_other}
 use lib.Count.{ones_step, ones-le}
 use Rattle.othello_board.specs.Rules.{squares, is_among}
@@ -14,8 +14,7 @@ use Rattle.othello_moves.proofs.ListLemmas.{ascends, length-cond, filter_first}
 -- ---- bits
 
 is_one-cond : (b : Bool) → eqb (cond b 1 0) 1 ≡ b
-is_one-cond true = refl
-is_one-cond false = refl
+is_one-cond b = grind arith
 
 pub has-bits_of : (xs : List ℕ) (s : ℕ) → eqb (bit_at (bits_of xs) s) 1 ≡ is_among s xs
 has-bits_of xs s = ap (λ n. eqb n 1) (bit_at-bits_of xs s) ∙ is_one-cond (is_among s xs)
@@ -23,23 +22,16 @@ has-bits_of xs s = ap (λ n. eqb n 1) (bit_at-bits_of xs s) ∙ is_one-cond (is_
 -- ---- what is among the squares that pass a test
 
 among-cond : (s x : ℕ) (xs : List ℕ) (b : Bool) → is_among s (cond b (x ∷ xs) xs) ≡ ((b && eqb x s) || is_among s xs)
-among-cond s x xs true = refl
-among-cond s x xs false = refl
+among-cond s x xs b = grind arith
 
 or-and : (b c q t : Bool) → (c ≡ true → b ≡ q) → ((b && c) || (q && t)) ≡ (q && (c || t))
-or-and true true true t same = refl
-or-and true true false t same = absurd (true≢false (same refl))
-or-and false true true t same = absurd (true≢false (sym (same refl)))
-or-and false true false t same = refl
-or-and true false q t same = refl
-or-and false false q t same = refl
+or-and b c q t h1 = grind arith
 
 pub is_among-filter : (p : ℕ → Bool) (xs : List ℕ) (s : ℕ) → is_among s (filter p xs) ≡ (p s && is_among s xs)
 is_among-filter p [] s = and-false (p s)
   where
     and-false : (b : Bool) → false ≡ (b && false)
-    and-false true = refl
-    and-false false = refl
+    and-false b = grind arith
 is_among-filter p (x ∷ xs) s =
     among-cond s x (filter p xs) (p x)
     ∙ ap (λ b. (p x && eqb x s) || b) (is_among-filter p xs s)
@@ -58,9 +50,7 @@ is_square s lt = agree_below_at (λ k. is_among k squares) (λ k. true) 64 s ref
 -- ---- how many bits are set
 
 lowest-cond : (d : ℕ) → d < 2 → cond (eqb d 1) 1 0 ≡ d
-lowest-cond zero lt = refl
-lowest-cond (suc zero) lt = refl
-lowest-cond (suc (suc d)) lt = absurd (omega arith)
+lowest-cond d h1 = grind arith
 
 ones_range : (k a n : ℕ) (p : ℕ → Bool) → n < 2 ^ k → ((i : ℕ) → i < k → p (a + i) ≡ eqb (bit_at n i) 1) → count_ones n ≡ length (filter p (range_with_len a k))
 ones_range zero a n p fits same = omega (arith, ones-le 0 n fits)

@@ -1,5 +1,5 @@
 -- A pass is followed by a square: so plies and passes together go down with each choice.
-use Rattle.std.proofs.Common.{◌≡◌, ℕ, ◌+◌, ◌-◌, ◌*◌, ◌<◌, Bool, true, false, cond, List, [], ◌∷◌, map, All, Contains, ap, ◌∙◌, arith}
+use Rattle.std.proofs.Common.{◌≡◌, ℕ, ◌+◌, ◌-◌, ◌*◌, ◌<◌, Bool, true, false, cond, List, [], ◌∷◌, map, All, Contains, arith}
 use Rattle.std.proofs.lemmas.Bool.{cond_both, cond-true, cond-false}
 use Rattle.std.proofs.lemmas.List.Elements.{All-nil, All-cons, All-map, All-contains}
 use Rattle.othello_board.specs.declared.cells.Cell.{Cell}
@@ -31,14 +31,9 @@ abbrev pub passing : List Cell → ℕ
 passing board = cond (is_nil (legal_squares board)) 1 0
 
 at_most_1 : (b : Bool) → cond b 1 0 < 2
-at_most_1 true = omega arith
-at_most_1 false = omega arith
+at_most_1 b = grind arith
 
 -- so twice the depth and the pass that is due, counted together, fall with each choice
 pub goes_down : (depth left : ℕ) (board child : List Cell) (c : Choice) → Contains (choices board) c → child ≡ after board c → 0 < depth → left ≡ depth - plies c
     → 2 * left + passing child < 2 * depth + passing board
-goes_down depth left board child (Square s) h e deep is = omega (arith, at_most_1 (is_nil (legal_squares child)))
-goes_down depth left board child Pass h e deep is =
-    let before : passing board ≡ 1 = cond-true (is_nil (legal_squares board)) 1 0 (passed board h).0 in
-    let later : passing child ≡ 0 = ap passing e ∙ cond-false (is_nil (legal_squares (exchanged board))) 1 0 (passed board h).1 in
-    omega arith
+goes_down depth left board child c h6 h7 h8 h9 = grind (arith, at_most_1, cond-true, passed, cond-false)

@@ -1,9 +1,9 @@
 -- The spread of a word from the mover's discs over opposing ones, bit by bit and round by round.
-use Rattle.std.proofs.Common.{◌≡◌, ℕ, zero, suc, ◌+◌, ◌-◌, ◌^◌, ◌<◌, ◌≤◌, Bool, true, false, not, ◌&&◌, ◌||◌, cond, eqb, ltb, List, [], ◌∷◌, ◌++◌, filter, Option, Some, None, unwrap_or, bit_and, bit_or, min, max, ◌⊎◌, inl, inr, refl, sym, ap, ap₂, ◌∙◌, arith, w64}
+use Rattle.std.proofs.Common.{◌≡◌, ℕ, zero, suc, ◌+◌, ◌-◌, ◌^◌, ◌<◌, ◌≤◌, Bool, true, false, not, ◌&&◌, ◌||◌, cond, eqb, ltb, List, [], ◌++◌, filter, Option, Some, None, unwrap_or, bit_and, bit_or, min, max, ◌⊎◌, inl, inr, refl, sym, ap, ap₂, ◌∙◌, arith, w64}
 use Rattle.std.specs.Prelude.{is_some}
 use Rattle.std.specs.List.{flat_map, range_with_len}
 use Rattle.std.specs.Int.{bit_at}
-use Rattle.std.proofs.lemmas.Bool.{cases_lt, ne_eqb, eqb-true, ltb-true}
+use Rattle.std.proofs.lemmas.Bool.{cases_lt, ne_eqb, eqb-true, ltb-true, and_parts, or_cases, not-true, and_right}
 use Rattle.std.proofs.lemmas.Nat.{or_lt}
 use Rattle.std.proofs.lemmas.Nat.Bits.{bit_at_and, bit_at_or, bit_at_not, bit_at_above, bit_at_ones, bit_at-lt, same_from_bits}
 use Rattle.othello_board.specs.declared.cells.Cell.{Cell}
@@ -15,7 +15,7 @@ use Rattle.othello_board.specs.Words.{cells_of, bits_of}
 use Rattle.othello_board.specs.Shifts.{opposite, slid_from, bit_there}
 use Rattle.othello_board.proofs.BitLemmas.{apart, bit_at-bits_of}
 use Rattle.othello_board.proofs.CellLemmas.{cell_at-cells_of, bit_cases}
-use Rattle.othello_board.proofs.ShiftLemmas.{all_below, holds_below, both}
+use Rattle.othello_board.proofs.ShiftLemmas.{all_below, holds_below}
 use Rattle.othello_board.proofs.StepLemmas.{step_back, beside_edge, beside_next}
 use Rattle.othello_moves.proofs.BitLemmas.{is_among-filter, is_square}
 use Rattle.othello_moves.specs.Inner.{bit_of, has_both_sides, is_inner}
@@ -31,50 +31,28 @@ leads n board d s = is_opp_cell (cell_at board s) && goes_on (suc n) board d s
 -- ---- the bits of a square
 
 own_of : (a b : ℕ) → a < 2 → b < 2 → a ≡ bit_of (is_own_cell (cond (eqb a 1) Own (cond (eqb b 1) Opp Empty)))
-own_of a b p q =
-    elim (bit_cases a p) [
-      | inl a_clear ↦ elim (bit_cases b q) [ inl b_clear ↦ rw (a_clear, b_clear) refl | inr b_set ↦ rw (a_clear, b_set) refl ]
-      | inr a_set ↦ rw a_set refl
-    ]
+own_of a b p q = grind (arith, bit_cases)
 
 opp_of : (a b : ℕ) → a < 2 → b < 2 → min a b ≡ 0 → b ≡ bit_of (is_opp_cell (cond (eqb a 1) Own (cond (eqb b 1) Opp Empty)))
-opp_of a b p q h =
-    elim (bit_cases a p) [
-      | inl a_clear ↦ elim (bit_cases b q) [ inl b_clear ↦ rw (a_clear, b_clear) refl | inr b_set ↦ rw (a_clear, b_set) refl ]
-      | inr a_set ↦ let b_clear : b ≡ 0 = omega arith in rw (a_set, b_clear) refl
-    ]
+opp_of a b p q h = grind (arith, bit_cases)
 
 empty_of : (a b : ℕ) → a < 2 → b < 2 → 1 - max a b ≡ bit_of (is_empty_cell (cond (eqb a 1) Own (cond (eqb b 1) Opp Empty)))
-empty_of a b p q =
-    elim (bit_cases a p) [
-      | inl a_clear ↦ elim (bit_cases b q) [ inl b_clear ↦ rw (a_clear, b_clear) refl | inr b_set ↦ rw (a_clear, b_set) refl ]
-      | inr a_set ↦ elim (bit_cases b q) [ inl b_clear ↦ rw (a_set, b_clear) refl | inr b_set ↦ rw (a_set, b_set) refl ]
-    ]
+empty_of a b p q = grind (arith, bit_cases)
 
 own_bit : (own opp t : ℕ) → t < 64 → bit_at own t ≡ bit_of (is_own_cell (cell_at (cells_of own opp) t))
-own_bit own opp t below =
-    own_of (bit_at own t) (bit_at opp t) (bit_at-lt own t) (bit_at-lt opp t) ∙ ap (λ c. bit_of (is_own_cell c)) (sym (cell_at-cells_of own opp t below))
+own_bit own opp t below = grind (arith, own_of, bit_at-lt, cell_at-cells_of)
 
 opp_bit : (own opp t : ℕ) → bit_and own opp ≡ 0 → t < 64 → bit_at opp t ≡ bit_of (is_opp_cell (cell_at (cells_of own opp) t))
-opp_bit own opp t disjoint below =
-    opp_of (bit_at own t) (bit_at opp t) (bit_at-lt own t) (bit_at-lt opp t) (apart own opp t disjoint)
-    ∙ ap (λ c. bit_of (is_opp_cell c)) (sym (cell_at-cells_of own opp t below))
+opp_bit own opp t disjoint below = grind (arith, opp_of, bit_at-lt, apart, cell_at-cells_of)
 
 pub empty_bit : (own opp t : ℕ) → t < 64 → 1 - max (bit_at own t) (bit_at opp t) ≡ bit_of (is_empty_cell (cell_at (cells_of own opp) t))
-empty_bit own opp t below =
-    empty_of (bit_at own t) (bit_at opp t) (bit_at-lt own t) (bit_at-lt opp t) ∙ ap (λ c. bit_of (is_empty_cell c)) (sym (cell_at-cells_of own opp t below))
+empty_bit own opp t below = grind (arith, empty_of, bit_at-lt, cell_at-cells_of)
 
 pub min_of_tests : (a b : Bool) → min (bit_of a) (bit_of b) ≡ bit_of (a && b)
-min_of_tests true true = refl
-min_of_tests true false = refl
-min_of_tests false true = refl
-min_of_tests false false = refl
+min_of_tests a b = grind arith
 
 pub max_of_tests : (a b : Bool) → max (bit_of a) (bit_of b) ≡ bit_of (a || b)
-max_of_tests true true = refl
-max_of_tests true false = refl
-max_of_tests false true = refl
-max_of_tests false false = refl
+max_of_tests a b = grind arith
 
 -- ---- one square ahead
 
@@ -84,15 +62,10 @@ ahead n board d None = false
 ahead n board d (Some u) = is_own_cell (cell_at board u) || (is_opp_cell (cell_at board u) && goes_on n board d u)
 
 some-led_by : (c : Cell) (u : ℕ) (beyond : Option (List ℕ)) → is_some (led_by c u beyond) ≡ (is_own_cell c || (is_opp_cell c && is_some beyond))
-some-led_by Own u beyond = refl
-some-led_by Opp u None = refl
-some-led_by Opp u (Some run) = refl
-some-led_by Empty u beyond = refl
+some-led_by c u beyond = grind arith
 
 goes_on-next : (n : ℕ) (board : List Cell) (d : Direction) (t : ℕ) (next : Option ℕ) → step d t ≡ next → goes_on (suc n) board d t ≡ ahead n board d next
-goes_on-next n board d t None e = ap (λ ray. is_some (outflanked board ray)) (beside_edge n d t e)
-goes_on-next n board d t (Some u) e =
-    ap (λ ray. is_some (outflanked board ray)) (beside_next n d t u e) ∙ some-led_by (cell_at board u) u (outflanked board (squares_beside n d u))
+goes_on-next n board d t next h6 = grind (arith, beside_edge, beside_next, some-led_by)
 
 nothing_beside : (board : List Cell) (d : Direction) (t : ℕ) → goes_on 0 board d t ≡ false
 unfolding squares_beside
@@ -100,14 +73,10 @@ nothing_beside board d t = refl
 
 -- a run that goes on within n squares does so within one more
 or_keeps : (w p g h : Bool) → (g ≡ true → h ≡ true) → (w || (p && g)) ≡ true → (w || (p && h)) ≡ true
-or_keeps true p g h step e = refl
-or_keeps false true g h step e = step e
-or_keeps false false g h step e = e
+or_keeps w p g h h1 h2 = grind arith
 
 keeps_ahead : (n : ℕ) (board : List Cell) (d : Direction) (next : Option ℕ) → ((u : ℕ) → goes_on n board d u ≡ true → goes_on (suc n) board d u ≡ true) → ahead n board d next ≡ true → ahead (suc n) board d next ≡ true
-keeps_ahead n board d None step e = e
-keeps_ahead n board d (Some u) step e =
-    or_keeps (is_own_cell (cell_at board u)) (is_opp_cell (cell_at board u)) (goes_on n board d u) (goes_on (suc n) board d u) (step u) e
+keeps_ahead n board d next h5 h6 = grind (arith, or_keeps)
 
 keeps_on : (n : ℕ) (board : List Cell) (d : Direction) (t : ℕ) → goes_on n board d t ≡ true → goes_on (suc n) board d t ≡ true
 keeps_on zero board d t e = let no = nothing_beside board d t in cc
@@ -129,36 +98,21 @@ same_square (Some s) None = false
 same_square (Some s) (Some u) = eqb s u
 
 same_square-true : (o p : Option ℕ) → same_square o p ≡ true → o ≡ p
-same_square-true None None e = refl
-same_square-true None (Some u) e = cc
-same_square-true (Some s) None e = cc
-same_square-true (Some s) (Some u) e = ap (λ n. Some n) (eqb-true s u e)
-
-either_of : (a b : Bool) → (a || b) ≡ true → (a ≡ true) ⊎ (b ≡ true)
-either_of true b e = inl refl
-either_of false b e = inr e
+same_square-true o p h3 = grind arith
 
 -- on an inner square the slide is a step
 abbrev inner_test : Direction → ℕ → Bool
 inner_test d t = not (is_inner d t) || same_square (slid_from (opposite d) t) (step d t)
 
 inner_everywhere : (d : Direction) → all_below 64 (inner_test d) ≡ true
-inner_everywhere North = refl
-inner_everywhere NorthEast = refl
-inner_everywhere East = refl
-inner_everywhere SouthEast = refl
-inner_everywhere South = refl
-inner_everywhere SouthWest = refl
-inner_everywhere West = refl
-inner_everywhere NorthWest = refl
+inner_everywhere d = grind arith
 
 not_both : (a : Bool) → a ≡ true → not a ≡ true → ⊥
-not_both true e n = cc
-not_both false e n = cc
+not_both a h1 h2 = grind arith
 
 inner_step : (d : Direction) (t : ℕ) → t < 64 → is_inner d t ≡ true → slid_from (opposite d) t ≡ step d t
 inner_step d t below inner =
-    elim (either_of (not (is_inner d t)) (same_square (slid_from (opposite d) t) (step d t)) (holds_below 64 (inner_test d) (inner_everywhere d) t below)) [
+    elim (or_cases (not (is_inner d t)) (same_square (slid_from (opposite d) t) (step d t)) (holds_below 64 (inner_test d) (inner_everywhere d) t below)) [
       | inl outer ↦ absurd (not_both (is_inner d t) inner outer)
       | inr same ↦ same_square-true (slid_from (opposite d) t) (step d t) same
     ]
@@ -173,14 +127,7 @@ abbrev slide_test : Direction → ℕ → Bool
 slide_test d t = same_square (slid_from (opposite d) t) (step d t) || at_side d (slid_from (opposite d) t) (step d t)
 
 slide_everywhere : (d : Direction) → all_below 64 (slide_test d) ≡ true
-slide_everywhere North = refl
-slide_everywhere NorthEast = refl
-slide_everywhere East = refl
-slide_everywhere SouthEast = refl
-slide_everywhere South = refl
-slide_everywhere SouthWest = refl
-slide_everywhere West = refl
-slide_everywhere NorthWest = refl
+slide_everywhere d = grind arith
 
 -- a square with one before it and one after it is an inner one
 abbrev between_by : Direction → ℕ → Option ℕ → Bool
@@ -192,14 +139,7 @@ between_test d None = true
 between_test d (Some u) = between_by d u (step d u)
 
 between_everywhere : (d : Direction) → all_below 64 (λ t. between_test d (step d t)) ≡ true
-between_everywhere North = refl
-between_everywhere NorthEast = refl
-between_everywhere East = refl
-between_everywhere SouthEast = refl
-between_everywhere South = refl
-between_everywhere SouthWest = refl
-between_everywhere West = refl
-between_everywhere NorthWest = refl
+between_everywhere d = grind arith
 
 between : (d : Direction) (t u : ℕ) → t < 64 → step d t ≡ Some u → between_by d u (step d u) ≡ true
 between d t u below next = sym (ap (between_test d) next) ∙ holds_below 64 (λ s. between_test d (step d s)) (between_everywhere d) t below
@@ -218,12 +158,7 @@ and_inner false b y n within here few = omega arith
 pub slid_under : (under from slid : ℕ) (w test : ℕ → Bool) (d : Direction) → ((t : ℕ) → t < 64 → bit_at under t ≡ bit_of (w t)) → ((t : ℕ) → w t ≡ true → is_inner d t ≡ true)
     → ((t : ℕ) → t < 64 → bit_at slid t ≡ bit_there from (slid_from (opposite d) t)) → ((u : ℕ) → u < 64 → bit_at from u ≡ bit_of (test u))
     → (t : ℕ) → t < 64 → bit_at (bit_and under slid) t ≡ bit_of (w t && there_is test (step d t))
-slid_under under from slid w test d under_bits within slides bits t below =
-    bit_at_and under slid t
-    ∙ ap (λ n. min n (bit_at slid t)) (under_bits t below)
-    ∙ and_inner (w t) (is_inner d t) (there_is test (step d t)) (bit_at slid t) (within t)
-    (λ inner. slides t below ∙ ap (bit_there from) (inner_step d t below inner) ∙ bit_there-test from test d t (step d t) below refl bits)
-    (bit_at-lt slid t)
+slid_under under from slid w test d under_bits within slides bits t below = grind (arith, bit_at_and, and_inner, inner_step, bit_there-test, bit_at-lt)
 
 -- ---- the word of the inner discs that lead on
 
@@ -232,25 +167,13 @@ led n board d t = is_inner d t && leads n board d t
 
 -- a disc that leads on, and isn't the first, is an inner one
 nothing_ahead : (n : ℕ) (board : List Cell) (d : Direction) (u : ℕ) → step d u ≡ None → leads n board d u ≡ false
-nothing_ahead n board d u edge = ap (λ g. is_opp_cell (cell_at board u) && g) (goes_on-next n board d u None edge) ∙ and_none (is_opp_cell (cell_at board u))
-  where
-    and_none : (b : Bool) → (b && false) ≡ false
-    and_none true = refl
-    and_none false = refl
-
-and_false : (b : Bool) → (b && false) ≡ false
-and_false true = refl
-and_false false = refl
+nothing_ahead n board d u edge = ap (λ g. is_opp_cell (cell_at board u) && g) (goes_on-next n board d u None edge) ∙ and_right (is_opp_cell (cell_at board u)) false refl
 
 led_by_next : (n : ℕ) (board : List Cell) (d : Direction) (u : ℕ) (next : Option ℕ) → step d u ≡ next → between_by d u next ≡ true → led n board d u ≡ leads n board d u
-led_by_next n board d u None edge inner =
-    let none = nothing_ahead n board d u edge in
-    ap (λ g. is_inner d u && g) none ∙ and_false (is_inner d u) ∙ sym none
-led_by_next n board d u (Some v) edge inner = ap (λ b. b && leads n board d u) inner
+led_by_next n board d u next h6 h7 = grind (arith, nothing_ahead, and_right)
 
 led_there : (n : ℕ) (board : List Cell) (d : Direction) (t : ℕ) (next : Option ℕ) → t < 64 → step d t ≡ next → there_is (led n board d) next ≡ there_is (leads n board d) next
-led_there n board d t None below e = refl
-led_there n board d t (Some u) below e = led_by_next n board d u (step d u) refl (between d t u below e)
+led_there n board d t next h6 h7 = grind (arith, led_by_next, between)
 
 -- the word of these discs, slid back whole
 side_bit : (found n : ℕ) (board : List Cell) (d : Direction) (from next : Option ℕ) → ((u : ℕ) → u < 64 → bit_at found u ≡ bit_of (led n board d u)) → at_side d from next ≡ true
@@ -258,18 +181,14 @@ side_bit : (found n : ℕ) (board : List Cell) (d : Direction) (from next : Opti
 side_bit found n board d None next bits side = cc
 side_bit found n board d (Some s) (Some u) bits side = cc
 side_bit found n board d (Some s) None bits side =
-    let parts = both (ltb s 64) (not (is_inner d s)) side in
-    bits s (ltb-true s 64 parts.0) ∙ ap (λ b. bit_of (b && leads n board d s)) (not_inner (is_inner d s) parts.1)
-  where
-    not_inner : (b : Bool) → not b ≡ true → b ≡ false
-    not_inner true e = cc
-    not_inner false e = refl
+    let parts = and_parts (ltb s 64) (not (is_inner d s)) side in
+    bits s (ltb-true s 64 parts.0) ∙ ap (λ b. bit_of (b && leads n board d s)) (not-true (is_inner d s) parts.1)
 
 pub slid_led : (found slid n : ℕ) (board : List Cell) (d : Direction) → ((t : ℕ) → t < 64 → bit_at slid t ≡ bit_there found (slid_from (opposite d) t))
     → ((u : ℕ) → u < 64 → bit_at found u ≡ bit_of (led n board d u)) → (t : ℕ) → t < 64 → bit_at slid t ≡ bit_of (there_is (leads n board d) (step d t))
 slid_led found slid n board d slides bits t below =
     slides t below
-    ∙ elim (either_of (same_square (slid_from (opposite d) t) (step d t)) (at_side d (slid_from (opposite d) t) (step d t)) (holds_below 64 (slide_test d) (slide_everywhere d) t below)) [
+    ∙ elim (or_cases (same_square (slid_from (opposite d) t) (step d t)) (at_side d (slid_from (opposite d) t) (step d t)) (holds_below 64 (slide_test d) (slide_everywhere d) t below)) [
       | inl same ↦
           ap (bit_there found) (same_square-true (slid_from (opposite d) t) (step d t) same)
           ∙ bit_there-test found (led n board d) d t (step d t) below refl bits
@@ -286,21 +205,14 @@ middle_bit : (t : ℕ) → t < 64 → bit_at 0x7e7e_7e7e_7e7e_7e7e t ≡ bit_of 
 middle_bit t below = eqb-true (bit_at 0x7e7e_7e7e_7e7e_7e7e t) (bit_of (has_both_sides t)) (holds_below 64 (λ s. eqb (bit_at 0x7e7e_7e7e_7e7e_7e7e s) (bit_of (has_both_sides s))) refl t below)
 
 pub inner_middle : (d : Direction) → (d ≡ North → ⊥) → (d ≡ South → ⊥) → (t : ℕ) → t < 64 → bit_at 0x7e7e_7e7e_7e7e_7e7e t ≡ bit_of (is_inner d t)
-inner_middle North no_north no_south t below = absurd (no_north refl)
-inner_middle NorthEast no_north no_south t below = middle_bit t below
-inner_middle East no_north no_south t below = middle_bit t below
-inner_middle SouthEast no_north no_south t below = middle_bit t below
-inner_middle South no_north no_south t below = absurd (no_south refl)
-inner_middle SouthWest no_north no_south t below = middle_bit t below
-inner_middle West no_north no_south t below = middle_bit t below
-inner_middle NorthWest no_north no_south t below = middle_bit t below
+inner_middle d h2 h3 t h5 = grind (arith, middle_bit)
 
 -- the opposing discs that may stand inside a run
 abbrev pub inside : List Cell → Direction → ℕ → Bool
 inside board d t = is_opp_cell (cell_at board t) && is_inner d t
 
 pub inside_inner : (board : List Cell) (d : Direction) (t : ℕ) → inside board d t ≡ true → is_inner d t ≡ true
-inside_inner board d t e = (both (is_opp_cell (cell_at board t)) (is_inner d t) e).1
+inside_inner board d t e = (and_parts (is_opp_cell (cell_at board t)) (is_inner d t) e).1
 
 pub inside_bit : (own opp mask : ℕ) (d : Direction) → bit_and own opp ≡ 0 → ((t : ℕ) → t < 64 → bit_at mask t ≡ bit_of (is_inner d t))
     → (t : ℕ) → t < 64 → bit_at (bit_and opp mask) t ≡ bit_of (inside (cells_of own opp) d t)
@@ -309,27 +221,10 @@ inside_bit own opp mask d disjoint bits t below =
 
 -- before the first round: opposing discs beside one of the mover
 first_by : (board : List Cell) (d : Direction) (o : Bool) (next : Option ℕ) → (there_is (λ u. is_own_cell (cell_at board u)) next && o) ≡ (o && ahead 0 board d next)
-first_by board d true None = refl
-first_by board d false None = refl
-first_by board d o (Some u) = rw (nothing_beside board d u) (shuffle (is_own_cell (cell_at board u)) (is_opp_cell (cell_at board u)) o)
-  where
-    shuffle : (w p q : Bool) → (w && q) ≡ (q && (w || (p && false)))
-    shuffle true p true = refl
-    shuffle true p false = refl
-    shuffle false true true = refl
-    shuffle false false true = refl
-    shuffle false true false = refl
-    shuffle false false false = refl
+first_by board d o next = grind (arith, nothing_beside)
 
 turned : (o b x : Bool) → ((o && b) && x) ≡ (b && (x && o))
-turned true true true = refl
-turned true true false = refl
-turned true false true = refl
-turned true false false = refl
-turned false true true = refl
-turned false true false = refl
-turned false false true = refl
-turned false false false = refl
+turned o b x = grind arith
 
 -- runs of one disc
 pub led_one : (own opp over slid : ℕ) (d : Direction) → ((t : ℕ) → t < 64 → bit_at over t ≡ bit_of (inside (cells_of own opp) d t))
@@ -344,50 +239,18 @@ led_one own opp over slid d over_bits slides t below =
     ∙ ap (λ g. is_inner d t && g) (first_by board d o (step d t) ∙ ap (λ g. o && g) (sym (goes_on-next 0 board d t (step d t) refl))))
 
 both_true : (w p q : Bool) → ((q && (w || (p && true))) || ((p && true) && q)) ≡ (q && (w || (p && true)))
-both_true true true true = refl
-both_true true true false = refl
-both_true true false true = refl
-both_true true false false = refl
-both_true false true true = refl
-both_true false true false = refl
-both_true false false true = refl
-both_true false false false = refl
+both_true w p q = grind arith
 
 only_later : (w p q h : Bool) → ((q && (w || (p && false))) || ((p && h) && q)) ≡ (q && (w || (p && h)))
-only_later true true true h = refl
-only_later true true false true = refl
-only_later true true false false = refl
-only_later true false true h = refl
-only_later true false false h = refl
-only_later false true true true = refl
-only_later false true true false = refl
-only_later false true false true = refl
-only_later false true false false = refl
-only_later false false true h = refl
-only_later false false false h = refl
+only_later w p q h = grind arith
 
 -- one round
 round_by : (board : List Cell) (d : Direction) (n : ℕ) (o : Bool) (next : Option ℕ)
     → ((o && ahead n board d next) || (there_is (leads n board d) next && o)) ≡ (o && ahead (suc n) board d next)
-round_by board d n true None = refl
-round_by board d n false None = refl
-round_by board d n o (Some u) =
-    shuffle (is_own_cell (cell_at board u)) (is_opp_cell (cell_at board u)) o (goes_on n board d u) (goes_on (suc n) board d u) (keeps_on n board d u)
-  where
-    shuffle : (w p q g h : Bool) → (g ≡ true → h ≡ true) → ((q && (w || (p && g))) || ((p && h) && q)) ≡ (q && (w || (p && h)))
-    shuffle w p q true true keeps = both_true w p q
-    shuffle w p q true false keeps = let bad : false ≡ true = keeps refl in cc
-    shuffle w p q false h keeps = only_later w p q h
+round_by board d n o next = grind (arith, keeps_on)
 
 spread : (b x o y : Bool) → ((b && x) || ((o && b) && y)) ≡ (b && (x || (y && o)))
-spread true x true true = refl
-spread true x true false = refl
-spread true x false true = refl
-spread true x false false = refl
-spread false x true true = refl
-spread false x true false = refl
-spread false x false true = refl
-spread false x false false = refl
+spread b x o y = grind arith
 
 -- one disc more
 pub led_more : (own opp over found slid n : ℕ) (d : Direction) → ((t : ℕ) → t < 64 → bit_at over t ≡ bit_of (inside (cells_of own opp) d t))
@@ -413,7 +276,7 @@ abbrev pub paired : List Cell → Direction → ℕ → Bool
 paired board d t = inside board d t && there_is (inside board d) (step d t)
 
 pub paired_inner : (board : List Cell) (d : Direction) (t : ℕ) → paired board d t ≡ true → is_inner d t ≡ true
-paired_inner board d t e = inside_inner board d t (both (inside board d t) (there_is (inside board d) (step d t)) e).0
+paired_inner board d t e = inside_inner board d t (and_parts (inside board d t) (there_is (inside board d) (step d t)) e).0
 
 pub paired_bit : (over slid : ℕ) (board : List Cell) (d : Direction) → ((t : ℕ) → t < 64 → bit_at over t ≡ bit_of (inside board d t))
     → ((t : ℕ) → t < 64 → bit_at slid t ≡ bit_there over (slid_from (opposite d) t))
@@ -422,36 +285,20 @@ paired_bit over slid board d bits slides t below = slid_under over over slid (in
 
 -- two discs more
 or_false : (x : Bool) → (x || false) ≡ x
-or_false true = refl
-or_false false = refl
+or_false x = grind arith
 
 nothing_more : (x y : Bool) → (x || (y && false)) ≡ x
-nothing_more x y = ap (λ z. x || z) (and_false y) ∙ or_false x
+nothing_more x y = ap (λ z. x || z) (and_right y false refl) ∙ or_false x
 
 joins : (b o w p w2 p2 g h : Bool) → (g ≡ true → h ≡ true)
     → ((b && (o && (w || (p && (w2 || (p2 && g)))))) || (((o && b) && (p && true)) && (p2 && h))) ≡ (b && (o && (w || (p && (w2 || (p2 && h))))))
-joins false true w p w2 p2 g h keeps = refl
-joins false false w p w2 p2 g h keeps = refl
-joins true false w p w2 p2 g h keeps = refl
-joins true true true p w2 p2 g h keeps = refl
-joins true true false false w2 p2 g h keeps = refl
-joins true true false true true p2 g h keeps = refl
-joins true true false true false false g h keeps = refl
-joins true true false true false true true h keeps = sym (keeps refl)
-joins true true false true false true false h keeps = refl
+joins b o w p w2 p2 g h h1 = grind arith
 
 -- the second square
 two_by : (board : List Cell) (d : Direction) (m : ℕ) (b o : Bool) (u : ℕ) (next : Option ℕ) → between_by d u next ≡ true
     → ((b && (o && (is_own_cell (cell_at board u) || (is_opp_cell (cell_at board u) && ahead m board d next)))) || (((o && b) && inside board d u) && there_is (leads (suc m) board d) next))
     ≡ (b && (o && (is_own_cell (cell_at board u) || (is_opp_cell (cell_at board u) && ahead (suc (suc m)) board d next))))
-two_by board d m b o u None inner = nothing_more (b && (o && (is_own_cell (cell_at board u) || (is_opp_cell (cell_at board u) && false)))) ((o && b) && inside board d u)
-two_by board d m b o u (Some v) inner =
-    let w = is_own_cell (cell_at board u) in
-    let p = is_opp_cell (cell_at board u) in
-    let w2 = is_own_cell (cell_at board v) in
-    let p2 = is_opp_cell (cell_at board v) in
-    ap (λ i. (b && (o && (w || (p && ahead m board d (Some v))))) || (((o && b) && (p && i)) && (p2 && goes_on (suc (suc m)) board d v))) inner
-    ∙ joins b o w p w2 p2 (goes_on m board d v) (goes_on (suc (suc m)) board d v) (λ e. keeps_on (suc m) board d v (keeps_on m board d v e))
+two_by board d m b o u next h8 = grind (arith, nothing_more, joins, keeps_on)
 
 -- the first square
 pair_by : (board : List Cell) (d : Direction) (m : ℕ) (b o : Bool) (t : ℕ) (next : Option ℕ) → t < 64 → step d t ≡ next
@@ -486,16 +333,10 @@ led_two_more found pairs slid twice m board d pair_bits slides slides_again bits
 
 -- a run is there where its first disc leads on
 nil-led_by : (c : Cell) (u : ℕ) (beyond : Option (List ℕ)) → not (is_nil (unwrap_or (led_by c u beyond) [])) ≡ (is_opp_cell c && is_some beyond)
-nil-led_by Own u beyond = refl
-nil-led_by Opp u None = refl
-nil-led_by Opp u (Some run) = refl
-nil-led_by Empty u beyond = refl
+nil-led_by c u beyond = grind arith
 
 run_by : (board : List Cell) (d : Direction) (t : ℕ) (next : Option ℕ) → step d t ≡ next → there_is (leads 5 board d) next ≡ not (is_nil (run board t d))
-run_by board d t None e = sym (ap (λ ray. not (is_nil (unwrap_or (outflanked board ray) []))) (beside_edge 6 d t e))
-run_by board d t (Some u) e =
-    sym (ap (λ ray. not (is_nil (unwrap_or (outflanked board ray) []))) (beside_next 6 d t u e)
-    ∙ nil-led_by (cell_at board u) u (outflanked board (squares_beside 6 d u)))
+run_by board d t next h5 = grind (arith, beside_edge, beside_next, nil-led_by)
 
 -- the squares from which a run begins
 pub start_bit : (found slid : ℕ) (board : List Cell) (d : Direction) → ((t : ℕ) → t < 64 → bit_at slid t ≡ bit_there found (slid_from (opposite d) t))
@@ -505,8 +346,7 @@ start_bit found slid board d slides bits t below = slid_led found slid 5 board d
 -- ---- all directions
 
 not_nil-append : (xs ys : List ℕ) → not (is_nil (xs ++ ys)) ≡ (not (is_nil xs) || not (is_nil ys))
-not_nil-append [] ys = refl
-not_nil-append (x ∷ xs) ys = refl
+not_nil-append xs ys = grind arith
 
 abbrev starts_in : (Direction → List ℕ) → Direction → Bool
 starts_in f d = not (is_nil (f d))
@@ -517,21 +357,7 @@ in_order : (f : Direction → List ℕ) → not (is_nil (flat_map f directions))
 in_order f = simp not_nil-append
 
 by_lines : (a b c d e f g h : Bool) → (((a || e) || (b || f)) || ((c || g) || (d || h))) ≡ (a || (b || (c || (d || (e || (f || (g || (h || false))))))))
-by_lines true b c d e f g h = refl
-by_lines false true c d true f g h = refl
-by_lines false true c d false f g h = refl
-by_lines false false true d true f g h = refl
-by_lines false false true d false true g h = refl
-by_lines false false true d false false g h = refl
-by_lines false false false true true f g h = refl
-by_lines false false false true false true g h = refl
-by_lines false false false true false false true h = refl
-by_lines false false false true false false false h = refl
-by_lines false false false false true f g h = refl
-by_lines false false false false false true g h = refl
-by_lines false false false false false false true h = refl
-by_lines false false false false false false false true = refl
-by_lines false false false false false false false false = refl
+by_lines a b c d e f g h = grind arith
 
 either_bit : (x y t : ℕ) (a b : Bool) → bit_at x t ≡ bit_of a → bit_at y t ≡ bit_of b → bit_at (bit_or x y) t ≡ bit_of (a || b)
 either_bit x y t a b first second = bit_at_or x y t ∙ ap₂ max first second ∙ max_of_tests a b
@@ -560,10 +386,7 @@ legal_bit own opp reached t own_fits opp_fits below here =
     ∙ ap bit_of (and_comm_of (not (is_nil (flips board t))) (is_empty_cell (cell_at board t)))
   where
     and_comm_of : (a b : Bool) → (a && b) ≡ (b && a)
-    and_comm_of true true = refl
-    and_comm_of true false = refl
-    and_comm_of false true = refl
-    and_comm_of false false = refl
+    and_comm_of a b = grind arith
 
 among_range : (i a n : ℕ) → a + n ≤ i → is_among i (range_with_len a n) ≡ false
 among_range i a zero over = refl
@@ -579,13 +402,8 @@ pub word_of_passing : (word : ℕ) (test : ℕ → Bool) → word < 2 ^ 64 → (
 word_of_passing word test fits bits =
     same_from_bits word (bits_of (filter test squares)) (λ i. elim (cases_lt i 64) [
       | inl below ↦ bits i below ∙ ap bit_of (sym (is_among-filter test squares i ∙ ap (λ a. test i && a) (is_square i below) ∙ and_true (test i))) ∙ sym (bit_at-bits_of (filter test squares) i)
-      | inr over ↦ bit_at_above word 64 i fits over ∙ sym (bit_at-bits_of (filter test squares) i ∙ ap (λ a. bit_of a) (is_among-filter test squares i ∙ ap (λ a. test i && a) (no_square i over) ∙ and_no (test i)))
+      | inr over ↦ bit_at_above word 64 i fits over ∙ sym (bit_at-bits_of (filter test squares) i ∙ ap (λ a. bit_of a) (is_among-filter test squares i ∙ ap (λ a. test i && a) (no_square i over) ∙ and_right (test i) false refl))
     ])
   where
     and_true : (b : Bool) → (b && true) ≡ b
-    and_true true = refl
-    and_true false = refl
-
-    and_no : (b : Bool) → (b && false) ≡ false
-    and_no true = refl
-    and_no false = refl
+    and_true b = grind arith

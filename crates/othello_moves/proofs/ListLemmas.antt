@@ -1,13 +1,12 @@
 -- Filters of lists of squares.
 use Rattle.std.proofs.Common.{◌≡◌, ◌≢◌, ℕ, suc, ◌+◌, ◌<◌, ◌≤◌, Bool, true, false, cond, not, ◌&&◌, ◌||◌, eqb, ltb, leb, List, [], ◌∷◌, length, filter, refl, sym, ap, ◌∙◌, ⊎_elim, arith}
-use Rattle.std.proofs.lemmas.Bool.{cases_order, and_parts, ne_eqb, leb-true, ltb-true, false≢true, cond-true, cond-false}
+use Rattle.std.proofs.lemmas.Bool.{cases_order, ne_eqb, false≢true, cond-true, cond-false}
 use Rattle.othello_board.specs.Rules.{is_among}
 
 filter-cond : (p q : ℕ → Bool) (x : ℕ) (xs : List ℕ) (b : Bool)
     → filter p (filter q xs) ≡ filter (λ s. q s && p s) xs
     → filter p (cond b (x ∷ filter q xs) (filter q xs)) ≡ cond (b && p x) (x ∷ filter (λ s. q s && p s) xs) (filter (λ s. q s && p s) xs)
-filter-cond p q x xs true e = ap (λ l. cond (p x) (x ∷ l) l) e
-filter-cond p q x xs false e = e
+filter-cond p q x xs b h1 = grind arith
 
 -- a filter of a filter is one filter
 pub filter-filter : (p q : ℕ → Bool) (xs : List ℕ) → filter p (filter q xs) ≡ filter (λ s. q s && p s) xs
@@ -15,14 +14,12 @@ filter-filter p q [] = refl
 filter-filter p q (x ∷ xs) = filter-cond p q x xs (q x) (filter-filter p q xs)
 
 pub length-cond : (c : Bool) (x : ℕ) (xs : List ℕ) → length (cond c (x ∷ xs) xs) ≡ cond c 1 0 + length xs
-length-cond true x xs = omega arith
-length-cond false x xs = omega arith
+length-cond c x xs = grind arith
 
 length-split : (p : ℕ → Bool) (x : ℕ) (xs ys zs : List ℕ) (b : Bool)
     → length (filter p xs) + length (filter p ys) ≡ length (filter p zs)
     → length (filter p (cond b (x ∷ xs) xs)) + length (filter p (cond (not b) (x ∷ ys) ys)) ≡ length (filter p (x ∷ zs))
-length-split p x xs ys zs true e = omega (arith, length-cond (p x) x (filter p xs), length-cond (p x) x (filter p zs), e)
-length-split p x xs ys zs false e = omega (arith, length-cond (p x) x (filter p ys), length-cond (p x) x (filter p zs), e)
+length-split p x xs ys zs b h1 = grind arith
 
 -- a test and its opposite keep, together, as many as there are
 pub length-filter_split : (p q : ℕ → Bool) (xs : List ℕ) → length (filter p (filter q xs)) + length (filter p (filter (λ s. not (q s)) xs)) ≡ length (filter p xs)
@@ -41,10 +38,7 @@ pub record Leads (low high x : ℕ) (xs : List ℕ) : Type 0 where
   pub rest : ascends (suc x) high xs ≡ true
 
 pub leads : (low high x : ℕ) (xs : List ℕ) → ascends low high (x ∷ xs) ≡ true → Leads low high x xs
-leads low high x xs up =
-    let first = and_parts (leb low x) (ltb x high && ascends (suc x) high xs) up in
-    let second = and_parts (ltb x high) (ascends (suc x) high xs) first.1 in
-    record { above = leb-true low x first.0; below = ltb-true x high second.0; rest = second.1 }
+leads low high x xs up = grind arith
 
 -- two tests that agree from low up to high keep the same elements
 pub filter_agree_between : (p q : ℕ → Bool) (low high : ℕ) (xs : List ℕ) → ascends low high xs ≡ true

@@ -9,16 +9,14 @@ use Rattle.othello_moves.proofs.BitLemmas.{count_ones-squares, squares_of-first,
 
 -- a `bool` as a number
 pub bool_byte-cond : (p : Bool) → bool_byte p ≡ cond p 1 0
-bool_byte-cond true = refl
-bool_byte-cond false = refl
+bool_byte-cond p = grind arith
 
 -- a word without its lowest bit
 abbrev rest_of : ℕ → ℕ
 rest_of n = bit_and n (bit_not w64 (1 * 2 ^ trailing_zeros w64 n % 2 ^ 64))
 
 length-pass_if : (p : Bool) → length (pass_if p) ≡ cond p 1 0
-length-pass_if true = refl
-length-pass_if false = refl
+length-pass_if p = grind arith
 
 pub length-sequence : (a b : ℕ) (p : Bool) → a < 2 ^ 64 → b < 2 ^ 64 → length (sequence a b p) ≡ count_ones a + count_ones b + cond p 1 0
 length-sequence a b p fits fits' =
@@ -36,10 +34,7 @@ zero-both : (a b : ℕ) (p : Bool) → a ≡ 0 → b ≡ 0 → sequence a b p �
 zero-both a b p e f = zero-first a b p e ∙ ap (λ n. map Square (squares_of n) ++ pass_if p) f ∙ ap (λ xs. map Square xs ++ pass_if p) squares_of-zero
 
 pub sequence-second : (a b : ℕ) (p : Bool) → a ≡ 0 → 0 < b → b < 2 ^ 64 → sequence a b p ≡ Square (trailing_zeros w64 b) ∷ sequence a (rest_of b) p
-sequence-second a b p e some fits =
-    zero-first a b p e
-    ∙ ap (λ xs. map Square xs ++ pass_if p) (squares_of-first b some fits)
-    ∙ ap (λ l. Square (trailing_zeros w64 b) ∷ l) (sym (zero-first a (rest_of b) p e))
+sequence-second a b p e some fits = grind (arith, zero-first, squares_of-first)
 
 pub sequence-pass : (a b : ℕ) (p : Bool) → a ≡ 0 → b ≡ 0 → p ≡ true → sequence a b p ≡ Pass ∷ sequence a b false
 sequence-pass a b p e f passes = zero-both a b p e f ∙ ap pass_if passes ∙ ap (λ l. Pass ∷ l) (sym (zero-both a b false e f))

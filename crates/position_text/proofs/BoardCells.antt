@@ -1,5 +1,5 @@
 -- The cells of a board, square by square, and boards with the same cells.
-use Rattle.std.proofs.Common.{◌≡◌, ℕ, zero, suc, ◌<◌, ◌^◌, cond, nat_eq, min, bit_and, refl, sym, ap, subst, ◌∙◌, arith}
+use Rattle.std.proofs.Common.{◌≡◌, ℕ, ◌<◌, ◌^◌, cond, nat_eq, min, bit_and, sym, ap, subst, ◌∙◌, arith}
 use Rattle.std.proofs.Math.Nat.{ℕ_set}
 use Rattle.std.specs.Int.{bit_at}
 use Rattle.std.proofs.lemmas.Nat.Bits.{bit_at-lt, same_from_bits_below}
@@ -26,12 +26,7 @@ cell_by a b = cond (nat_eq a 1) Own (cond (nat_eq b 1) Opp Empty)
 
 bits-cell_by : (a b : ℕ) → a < 2 → b < 2 → min a b ≡ 0 → (own_bit (cell_by a b) ≡ a) × (opp_bit (cell_by a b) ≡ b)
 unfolding own_bit opp_bit
-bits-cell_by zero zero p q h = (refl, refl)
-bits-cell_by zero (suc zero) p q h = (refl, refl)
-bits-cell_by (suc zero) zero p q h = (refl, refl)
-bits-cell_by (suc zero) (suc zero) p q h = absurd (omega arith)
-bits-cell_by (suc (suc a)) b p q h = absurd (omega arith)
-bits-cell_by a (suc (suc b)) p q h = absurd (omega arith)
+bits-cell_by a b h3 h4 h5 = grind arith
 
 -- the bits of two words, from their cell
 bits-cell_of : (own opp s : ℕ) → bit_and own opp ≡ 0 → (own_bit (cell_of own opp s) ≡ bit_at own s) × (opp_bit (cell_of own opp s) ≡ bit_at opp s)

@@ -40,11 +40,7 @@ one_more black white more_black more_white text n m held byte here blacks whites
 
 -- the words of no byte
 pub none_held : (black white : ℕ) (text : List ℕ) → black ≡ 0 → white ≡ 0 → HoldsFirst black white text 0
-none_held black white text no_black no_white = record {
-  marks = λ s below. absurd (omega arith);
-  no_black = λ s above. rw no_black (bit_at-zero s);
-  no_white = λ s above. rw no_white (bit_at-zero s);
-}
+none_held black white text no_black no_white = grind (arith, bit_at-zero)
 
 -- bytes that the words hold are spelled
 pub held_spelled : (black white : ℕ) (text : List ℕ) (n : ℕ) → HoldsFirst black white text n → AllSpelled text n

@@ -1,5 +1,5 @@
 -- The position of a text: at most one, and that of the discs that it holds.
-use Rattle.std.proofs.Common.{◌≡◌, ◌↔◌, ℕ, ◌<◌, zero, suc, Bool, true, false, cond, nat_eq, min, bit_and, List, length, get_or, Some, Result, Ok, refl, sym, subst, ap, ◌∙◌, arith}
+use Rattle.std.proofs.Common.{◌≡◌, ◌↔◌, ℕ, ◌<◌, Bool, cond, nat_eq, min, bit_and, List, length, get_or, Some, Result, Ok, refl, sym, ap, ◌∙◌, arith}
 use Rattle.std.specs.Int.{bit_at}
 use Rattle.std.proofs.lemmas.Nat.Bits.{bit_at-lt}
 use Rattle.othello_board.specs.declared.cells.Cell.{Cell}
@@ -40,10 +40,7 @@ mark_of-injective White Empty Opp h = cc
 mark_of-injective White Empty Empty h = refl
 
 position_same : (p q : Position) → p.board ≡ q.board → p.side ≡ q.side → p ≡ q
-position_same p q e f =
-    let with_board : Board → Position = λ b. record { board = b; side = p.side } in
-    let with_side : Side → Position = λ s. record { board = q.board; side = s } in
-    ap with_board e ∙ ap with_side f
+position_same p q e f = grind arith
 
 -- a text spells at most one position
 pub one_position : (text : List ℕ) (p q : Position) → FitsWords p → FitsWords q → Spells text p → Spells text q → p ≡ q
@@ -60,18 +57,10 @@ one_position text p q fits fits_too this that =
 
 -- the cell of two bits, seen by black and by white
 seen_by_black : (x y : Bool) → mark_of_cell Black (cond x Own (cond y Opp Empty)) ≡ cond x (Disc Black) (cond y (Disc White) Blank)
-seen_by_black true true = refl
-seen_by_black true false = refl
-seen_by_black false true = refl
-seen_by_black false false = refl
+seen_by_black x y = grind arith
 
 seen_by_white : (a b : ℕ) → a < 2 → b < 2 → min a b ≡ 0 → mark_of_cell White (cond (nat_eq b 1) Own (cond (nat_eq a 1) Opp Empty)) ≡ cond (nat_eq a 1) (Disc Black) (cond (nat_eq b 1) (Disc White) Blank)
-seen_by_white zero zero p q h = refl
-seen_by_white zero (suc zero) p q h = refl
-seen_by_white (suc zero) zero p q h = refl
-seen_by_white (suc zero) (suc zero) p q h = absurd (omega arith)
-seen_by_white (suc (suc a)) b p q h = absurd (omega arith)
-seen_by_white a (suc (suc b)) p q h = absurd (omega arith)
+seen_by_white a b h3 h4 h5 = grind arith
 
 -- what stands on a square, from the board that a side sees
 mark_seen : (black white : ℕ) (b : Board) (side : Side) (s : ℕ) → bit_and black white ≡ 0
@@ -103,7 +92,4 @@ answer p = Ok p
 -- an answer with a spelled position has another exactly where the text spells that one
 pub ok_exactly : (text : List ℕ) (q : Position) → FitsWords q → Spells text q
     → (p : Position) → FitsWords p → (answer q ≡ answer p) ↔ Spells text p
-ok_exactly text q fits this p fits_too = (
-  (λ same. let positions : q ≡ p = cc same in subst (λ (r : Position). Spells text r) positions this),
-  (λ that. ap answer (one_position text q p fits fits_too this that)),
-)
+ok_exactly text q fits this p fits_too = grind (arith, one_position)

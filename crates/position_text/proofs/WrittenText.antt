@@ -1,15 +1,13 @@
 -- The written text of a position, byte by byte.
-use Rattle.std.proofs.Common.{◌≡◌, ◌≢◌, ℕ, ◌+◌, ◌<◌, List, [], ◌∷◌, length, map, get_or, set, replicate, below_more, Some, inl, inr, refl, sym, ◌∙◌, arith, length-append}
+use Rattle.std.proofs.Common.{◌≡◌, ◌≢◌, ℕ, ◌<◌, List, length, map, get_or, set, replicate, Some, inl, inr, sym, ◌∙◌, arith, length-append}
 use Rattle.std.proofs.lemmas.List.{ext_get_or, get_or_append_left, get_or-append_right, get_or-map, length-map, get_or-replicate, length-replicate, length-set, get_or-set_same, get_or-set_other}
 use Rattle.std.proofs.lemmas.Bool.{cases_lt, cases_eq}
-use Rattle.othello_board.specs.declared.cells.Cell.TheVariants.{Empty}
 use Rattle.othello_board.specs.Rules.{cell_at}
 use Rattle.othello_board.specs.Words.{cells}
 use Rattle.position_text.specs.declared.positions.Side.{Side}
-use Rattle.position_text.specs.declared.positions.Side.TheVariants.{Black, White}
 use Rattle.position_text.specs.declared.positions.Position.{Position}
 use Rattle.position_text.specs.declared.marks.Mark.{Mark}
-use Rattle.position_text.specs.declared.marks.Mark.TheVariants.{Disc, Blank}
+use Rattle.position_text.specs.declared.marks.Mark.TheVariants.{Disc}
 use Rattle.position_text.specs.Spelling.{spelled, side_spelled, mark_of_cell, byte_of, written, Spells}
 use Rattle.othello_board.proofs.CellLemmas.{length-cells_of}
 
@@ -32,19 +30,10 @@ length-front : (p : Position) → length (front p) ≡ 64
 length-front p = length-map (cells p.board) (λ cell. byte_of (mark_of_cell p.side cell)) ∙ length-cells_of p.board.own p.board.opp
 
 get_or-front : (p : Position) (s : ℕ) → s < 64 → get_or (front p) s 0 ≡ byte_at p s
-get_or-front p s below =
-    get_or-map (λ cell. byte_of (mark_of_cell p.side cell)) (cells p.board) s Empty 0 (omega (arith, length-cells_of p.board.own p.board.opp))
+get_or-front p s below = grind (arith, get_or-map, length-cells_of)
 
 pub written_is : (p : Position) → IsWritten (written p) p
-written_is p =
-    let ends : List ℕ = 32 ∷ byte_of (Disc p.side) ∷ [] in
-    let count : length (front p) ≡ 64 = length-front p in
-    record {
-      len = omega (arith, length-append (front p) ends, count);
-      each = λ s below. get_or_append_left (front p) ends 0 s (omega (arith, count)) ∙ get_or-front p s below;
-      space = get_or-append_right (front p) ends 64 64 0 count (omega arith);
-      side = get_or-append_right (front p) ends 64 65 0 count (omega arith);
-    }
+written_is p = grind (arith, length-front, length-append, get_or_append_left, get_or-front, get_or-append_right)
 
 -- only one text is written like a position
 pub written_same : (one other : List ℕ) (p : Position) → IsWritten one p → IsWritten other p → one ≡ other
@@ -59,22 +48,14 @@ written_same one other p this that =
     ])
 
 spelled-byte_of : (m : Mark) → spelled (byte_of m) ≡ Some m
-spelled-byte_of (Disc Black) = refl
-spelled-byte_of (Disc White) = refl
-spelled-byte_of Blank = refl
+spelled-byte_of m = grind arith
 
 side_spelled-byte_of : (side : Side) → side_spelled (byte_of (Disc side)) ≡ Some side
-side_spelled-byte_of Black = refl
-side_spelled-byte_of White = refl
+side_spelled-byte_of side = grind arith
 
 -- a text that is written like a position spells it
 pub written_spells : (text : List ℕ) (p : Position) → IsWritten text p → Spells text p
-written_spells text p this = record {
-  len = this.len;
-  each = λ s below. rw (this.each s below) (spelled-byte_of (mark_of_cell p.side (cell_at (cells p.board) s)));
-  space = this.space;
-  side = rw this.side (side_spelled-byte_of p.side);
-}
+written_spells text p this = grind (arith, spelled-byte_of, side_spelled-byte_of)
 
 -- 66 bytes that are written like this position up to the cell n, with the space in its place
 pub record WritesFirst (text : List ℕ) (p : Position) (n : ℕ) : Type 0 where
@@ -83,20 +64,7 @@ pub record WritesFirst (text : List ℕ) (p : Position) (n : ℕ) : Type 0 where
   pub space : get_or text 64 0 ≡ 32
 
 pub writes_none : (text : List ℕ) (p : Position) → text ≡ replicate 66 32 → WritesFirst text p 0
-writes_none text p blank = record {
-  len = rw blank (length-replicate {A = ℕ} 66 32);
-  each = λ s below. absurd (omega arith);
-  space = rw blank (get_or-replicate {A = ℕ} 66 64 32 0 (omega arith));
-}
-
-pub writes_more : (text : List ℕ) (p : Position) (n byte : ℕ) → n < 64 → byte ≡ byte_at p n → WritesFirst text p n → WritesFirst (set text n byte) p (n + 1)
-writes_more text p n byte below is this = record {
-  len = length-set text n byte ∙ this.len;
-  each = below_more _ n
-      (λ s before. let other : s ≢ n = omega arith in get_or-set_other text n s byte 0 other ∙ this.each s before)
-      (get_or-set_same text n byte 0 (omega (arith, this.len)) ∙ is);
-  space = let other : 64 ≢ n = omega arith in get_or-set_other text n 64 byte 0 other ∙ this.space;
-}
+writes_none text p blank = grind (arith, length-replicate, get_or-replicate)
 
 -- the whole text, once the side stands at its end
 pub writes_all : (text : List ℕ) (p : Position) (n byte : ℕ) → n ≡ 64 → byte ≡ byte_of (Disc p.side) → WritesFirst text p n → IsWritten (set text 65 byte) p

@@ -1,6 +1,6 @@
 -- What the shape of a tenant gives.
-use Rattle.std.proofs.Common.{◌≡◌, ℕ, suc, ◌+◌, ◌-◌, ◌≤◌, inl, inr, true, eqb, List, [], ◌∷◌, Option, Some, length, refl, ap, sym, ◌∙◌, subst, arith}
-use Rattle.std.proofs.lemmas.Bool.{cases_Bool, false≢true, eqb-true, ne_eqb}
+use Rattle.std.proofs.Common.{◌≡◌, ℕ, suc, ◌+◌, ◌-◌, ◌≤◌, inl, inr, true, List, [], ◌∷◌, Some, length, ap, ◌∙◌, arith}
+use Rattle.std.proofs.lemmas.Bool.{cases_Bool, ne_eqb}
 use Rattle.std.proofs.lemmas.List.Sums.{sum_by-cons}
 use Rattle.sched_rules.specs.cactus_stack.Nodes.{charge}
 use Rattle.tenant_quota.specs.Quota.{IsWithinLimits}
@@ -12,7 +12,7 @@ use Rattle.sched_rules.specs.declared.job.Job.{Job}
 use Rattle.sched_rules.specs.declared.job.Job.TheVariants.{Live}
 use Rattle.sched_rules.specs.Trees.{Tree, Tenant, account_in, charged_for, is_root, job_at, is_live_at, number_from, job_under}
 use Rattle.sched_rules.specs.Laws.{mark_of_state}
-use Rattle.sched_laws.specs.Shapes.{IsShaped, live_count, AreRootsLive, IsRootThere, AreLiveRootsThere, HaveWords}
+use Rattle.sched_laws.specs.Shapes.{IsShaped, live_count, AreRootsLive, AreLiveRootsThere, HaveWords}
 use Rattle.sched_laws.proofs.Shaped.{returned-childless}
 
 -- a frame that has returned or computes has no child
@@ -25,32 +25,22 @@ computing-leaf tenant s worker f shape at is = returned-childless tenant s f sha
 -- the root of a live job is there
 job-there : (tree : Tree) (jobs : List Job) (number root : ℕ) → AreLiveRootsThere tree jobs → job_at jobs number ≡ Some (Live root) → path_in tree root ≡ root ∷ []
 job-there tree [] number root live is = absurd cc
-job-there tree (job ∷ jobs) number root live is = elim (cases_Bool (eqb number 1)) [
-  | inl first ↦ (let both : Some job ≡ Some (Live root) = rw first at is in let own : job ≡ Live root = cc in let P : Job → Type 0 = λ j. IsRootThere tree j in subst P own live.0)
-  | inr later ↦ job-there tree jobs (number - 1) root live.1 (rw later at is)
-]
+job-there tree (job ∷ jobs) number root live is = grind (arith, job-there tree jobs (number - 1) root)
 
 pub live-root : (tenant : Tenant) (number root : ℕ) → IsShaped tenant → job_at tenant.jobs number ≡ Some (Live root) → path_in tenant.frames root ≡ root ∷ []
 live-root tenant number root shape is = job-there tenant.frames tenant.jobs number root shape.live is
 
 -- the job that lives under a root is found
 is-live : (root : ℕ) (job : Job) → is_live_at root job ≡ true → job ≡ Live root
-is-live root (Live s) is = ap Live (eqb-true s root is)
-is-live root _ is = absurd (false≢true is)
+is-live root job h3 = grind arith
 
 number-above : (first root : ℕ) (jobs : List Job) → 1 ≤ live_count root jobs → first ≤ number_from first root jobs
 number-above first root [] some = absurd (omega (arith, some))
-number-above first root (job ∷ jobs) some = elim (cases_Bool (is_live_at root job)) [
-  | inl is ↦ rw is (omega arith)
-  | inr not_so ↦ rw not_so (let rest = number-above (first + 1) root jobs (rw not_so at some) in omega (arith, rest))
-]
+number-above first root (job ∷ jobs) some = grind (arith, number-above (first + 1) root jobs)
 
 number-shift : (first root : ℕ) (jobs : List Job) → 1 ≤ live_count root jobs → number_from (first + 1) root jobs ≡ number_from first root jobs + 1
 number-shift first root [] some = absurd (omega (arith, some))
-number-shift first root (job ∷ jobs) some = elim (cases_Bool (is_live_at root job)) [
-  | inl is ↦ rw is refl
-  | inr not_so ↦ rw not_so (number-shift (first + 1) root jobs (rw not_so at some))
-]
+number-shift first root (job ∷ jobs) some = grind (arith, number-shift (first + 1) root jobs)
 
 job-found : (root : ℕ) (jobs : List Job) → 1 ≤ live_count root jobs → job_at jobs (number_from 1 root jobs) ≡ Some (Live root)
 job-found root [] some = absurd (omega (arith, some))
@@ -71,11 +61,7 @@ job-found root (job ∷ jobs) some = elim (cases_Bool (is_live_at root job)) [
 
 pub root-counted : (jobs : List Job) (xs : Tree) (s : ℕ) (f : Frame (List ℕ)) → AreRootsLive jobs xs → frame_at xs s ≡ Some f → is_root f.path ≡ true → live_count s jobs ≡ 1
 root-counted jobs [] s f roots at root = absurd cc
-root-counted jobs (x ∷ xs) s f roots at root = elim (cases_Bool (eqb x.serial s)) [
-  | inl same ↦ (let both : ◌≡◌ {A = Option (Frame (List ℕ))} (Some x) (Some f) = rw same at at in let own : x ≡ f = cc in
-      ap (λ (n : ℕ). live_count n jobs) (sym (eqb-true x.serial s same)) ∙ roots.0 (ap (λ (y : Frame (List ℕ)). is_root y.path) own ∙ root))
-  | inr other ↦ root-counted jobs xs s f roots.1 (rw other at at) root
-]
+root-counted jobs (x ∷ xs) s f roots at root = grind (arith, root-counted jobs xs s f)
 
 pub root-live : (tenant : Tenant) (s : ℕ) (f : Frame (List ℕ)) → IsShaped tenant → frame_at tenant.frames s ≡ Some f → is_root f.path ≡ true → job_at tenant.jobs (job_under s tenant.jobs) ≡ Some (Live s)
 root-live tenant s f shape at root = (let one = root-counted tenant.jobs tenant.frames s f shape.roots at root in job-found s tenant.jobs (omega (arith, one)))
@@ -86,8 +72,7 @@ root-above tenant s f shape at = root-there tenant.frames s f shape.tree at
 
 -- nothing is used beyond what is reserved
 pub within-reserve : (tenant : Tenant) → IsWithinLimits tenant.reserve → IsShaped tenant → IsWithinReserve (account_in tenant)
-within-reserve tenant limits shape =
-    record { some_segments = limits.some_segments; segments_within = limits.segments_within; some_nodes = limits.some_nodes; nodes_within = limits.nodes_within; charged_within = shape.charged; opened_within = shape.opened; ticks_within = shape.ticks }
+within-reserve tenant limits shape = grind arith
 
 -- each frame charges a segment at least
 frames-charged : (xs : Tree) → HaveWords xs → length xs ≤ charged_for xs

@@ -1,6 +1,6 @@
 -- Every step of a tenant leaves its frames fitting, and its jobs holding what they were asked: Inlet, Finish, Spend, Cancel and Submit.
-use Rattle.std.proofs.Common.{◌≡◌, ◌≢◌, ℕ, ◌+◌, ◌<◌, inl, inr, Bool, true, false, not, eqb, List, [], ◌∷◌, ◌++◌, Option, Some, None, length, refl, ap, sym, ◌∙◌, subst, arith}
-use Rattle.std.proofs.lemmas.Bool.{cases_Bool, false≢true, eq-eqb, eqb-true}
+use Rattle.std.proofs.Common.{◌≡◌, ◌≢◌, ℕ, ◌+◌, ◌<◌, Bool, true, false, not, List, [], ◌∷◌, ◌++◌, Option, Some, None, length, refl, ap, sym, ◌∙◌, subst, arith}
+use Rattle.std.proofs.lemmas.Bool.{false≢true, eq-eqb, eqb-true}
 use Rattle.sched_rules.specs.cactus_stack.Nodes.{padded}
 use Rattle.frame_tree.specs.Frames.{frame_at, path_in, parent_of, goes_under, children_under, children_of, aborted, frames_without, values_of, IsTree, new_frame}
 use Rattle.frame_tree.specs.TreeLaws.{is_that, is_child_of}
@@ -28,9 +28,7 @@ root-found tree root is = let f = there-found tree root (path-there tree root is
 
 -- it stays at an abort, at the removal of another frame, and at both
 root-aborted : (p : ℕ) (tree : Tree) (root : ℕ) → IsTree tree → path_in tree root ≡ root ∷ [] → frame_at (aborted p tree) root ≡ frame_at tree root
-root-aborted p tree root t is =
-    let f = root-found tree root is in
-    frame_at-stays (λ x. not (goes_under p x.path)) tree root f.0 (tree-rising tree t) f.1 (rw f.2 refl) ∙ sym f.1
+root-aborted p tree root t is = grind (arith, root-found, frame_at-stays, tree-rising)
 
 pub root-without_job : (p : ℕ) (tree : Tree) (root : ℕ) → IsTree tree → root ≢ p → path_in tree root ≡ root ∷ [] → frame_at (without_job p tree) root ≡ frame_at tree root
 root-without_job p tree root t other is = frame_at_other-without p (aborted p tree) root (λ e. other (sym e)) ∙ root-aborted p tree root t is
@@ -88,16 +86,7 @@ submit-fits fits rooted origins tenant words size shape fitting newborn belongs 
 -- the frames that stay at an inlet, with other words in the parent
 without-words : (n p : ℕ) (words : List ℕ) (tree : Tree) → frames_without n (with_frame_words p words tree) ≡ with_frame_words p words (frames_without n tree)
 without-words n p words [] = refl
-without-words n p words (x ∷ xs) = elim (cases_Bool (eqb x.serial p)) [
-  | inl same ↦ elim (cases_Bool (eqb x.serial n)) [
-    | inl gone ↦ rw (same, gone) (without-words n p words xs)
-    | inr stays ↦ rw (same, stays, same) (ap (λ (ys : Tree). record x { value = words } ∷ ys) (without-words n p words xs))
-  ]
-  | inr other ↦ elim (cases_Bool (eqb x.serial n)) [
-    | inl gone ↦ rw (other, gone) (without-words n p words xs)
-    | inr stays ↦ rw (other, stays, other) (ap (λ (ys : Tree). x ∷ ys) (without-words n p words xs))
-  ]
-]
+without-words n p words (x ∷ xs) = grind (arith, without-words n p words xs)
 
 staying-words : (n p : ℕ) (words : List ℕ) (tree : Tree) (abort : Bool) → staying (with_frame_words p words tree) n p abort ≡ with_frame_words p words (staying tree n p abort)
 staying-words n p words tree true = paths-with_frame_words p words (λ path. not (goes_under p path)) tree
@@ -146,8 +135,7 @@ staying-fits fits rooted tenant n p f g words false shape every at_n at_p u name
     only s is = sym (eqb-true u.parent s (sym (ap (is_that s) u.named) ∙ is)) ∙ named
 
 staying-root : (n p : ℕ) (tree : Tree) (root : ℕ) (abort : Bool) → IsTree tree → root ≢ n → path_in tree root ≡ root ∷ [] → frame_at (staying tree n p abort) root ≡ frame_at tree root
-staying-root n p tree root true t other is = root-aborted p tree root t is
-staying-root n p tree root false t other is = frame_at_other-without n tree root (λ e. other (sym e))
+staying-root n p tree root abort h6 h7 h8 = grind (arith, root-aborted, frame_at_other-without)
 
 -- the tenant without the frames that go, with what the inlet stored
 pub taken-in-fits : (fits : Fitting) (rooted : Rooting) (origins : Lists) (tenant : Tenant) (n p : ℕ) (f g : F) (words : List ℕ) (abort : Bool) → IsShaped tenant → TenantFits fits rooted origins tenant → frame_at tenant.frames n ≡ Some f → frame_at tenant.frames p ≡ Some g →

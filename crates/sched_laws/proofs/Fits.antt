@@ -49,10 +49,7 @@ words-with_state n state tree s = elim (cases_eq n s) [
 -- twice in the same frame
 pub with_frame_words-twice : (n : ℕ) (first second : List ℕ) (tree : Tree) → with_frame_words n second (with_frame_words n first tree) ≡ with_frame_words n second tree
 with_frame_words-twice n first second [] = refl
-with_frame_words-twice n first second (x ∷ xs) = elim (cases_Bool (eqb x.serial n)) [
-  | inl same ↦ rw (same, same) (ap (λ (ys : Tree). record x { value = second } ∷ ys) (with_frame_words-twice n first second xs))
-  | inr other ↦ rw (other, other) (ap (λ (ys : Tree). x ∷ ys) (with_frame_words-twice n first second xs))
-]
+with_frame_words-twice n first second (x ∷ xs) = grind (arith, with_frame_words-twice n first second xs)
 
 -- a root path is a top's
 pub root-top : (tree : Tree) (root : ℕ) (f : F) → frame_at tree root ≡ Some f → path_in tree root ≡ root ∷ [] → parent_of f.path ≡ None
@@ -61,15 +58,7 @@ root-top tree root f at is = ap parent_of (sym (found-path tree root f at) ∙ i
 -- where the words of a frame are kept above, so are the roots
 pub roots-with_frame_words : (fits : Fitting) (rooted : Rooting) (tree : Tree) (n : ℕ) (f : F) (words : List ℕ) → frame_at tree n ≡ Some f → IsKeptAbove fits rooted tree f words →
     (root : ℕ) (origin : List ℕ) → path_in tree root ≡ root ∷ [] → rooted origin (words_in tree root) → rooted origin (words_in (with_frame_words n words tree) root)
-roots-with_frame_words fits rooted tree n f words at kept root origin is was =
-    let P : List ℕ → Type 0 = λ w. rooted origin w in
-    elim (cases_eq n root) [
-      | inl same ↦ (let none = root-top tree root f (ap (frame_at tree) (sym same) ∙ at) is in
-          let own : words_in tree root ≡ f.value = ap (words_in tree) (sym same) ∙ words-found tree n f at in
-          let new : words ≡ words_in (with_frame_words n words tree) root = sym (words-own n words tree f at) ∙ ap (words_in (with_frame_words n words tree)) same in
-          subst P new (kept.root none origin (subst P own was)))
-      | inr other ↦ subst P (sym (words-other n words tree root other)) was
-    ]
+roots-with_frame_words fits rooted tree n f words at kept root origin is was = grind (arith, root-top, words-found, words-own, words-other)
 
 -- a tenant, by its parts
 pub fits-counted : (fits : Fitting) (rooted : Rooting) (origins : Lists) (tenant : Tenant) → TenantFits fits rooted origins tenant → TenantFits fits rooted origins (counted tenant)

@@ -40,14 +40,10 @@ fits-each fits tree [] all = tt
 fits-each fits tree (x ∷ xs) all = (all.0, fits-each fits tree xs all.1)
 
 pub fits-holds : (fits : Fitting) (tree : Tree) → EveryFrameFits fits tree → Holds (λ s w k m. fits w k m) tree
-fits-holds fits tree all s f at =
-    let P : ℕ → Type 0 = λ n. fits f.value (kids tree n) (mark_of_state f.state) in
-    subst P (found-serial tree s f at) (each-found (λ f. fits f.value (kids tree f.serial) (mark_of_state f.state)) tree s f (each-fits fits tree tree all) at)
+fits-holds fits tree all s f at = grind (arith, found-serial, each-found, each-fits)
 
 pub holds-fits : (fits : Fitting) (tree : Tree) → IsTree tree → Holds (λ s w k m. fits w k m) tree → EveryFrameFits fits tree
-holds-fits fits tree t all =
-    fits-each fits tree tree (found-each (λ f. fits f.value (kids tree f.serial) (mark_of_state f.state)) tree (tree-rising tree t)
-    (λ s f at. let P : ℕ → Type 0 = λ n. fits f.value (kids tree n) (mark_of_state f.state) in subst P (sym (found-serial tree s f at)) (all s f at)))
+holds-fits fits tree t all = grind (arith, fits-each, found-each, tree-rising, found-serial)
 
 -- the same frame
 pub found-same : (tree : Tree) (s n : ℕ) (f g : F) → s ≡ n → frame_at tree s ≡ Some f → frame_at tree n ≡ Some g → f ≡ g
@@ -97,10 +93,7 @@ pub record IsAmong (xs : Tree) (n : ℕ) (f : F) : Type 0 where
 
 pub without-missing : (n : ℕ) (xs : Tree) → has_frame xs n ≡ false → frames_without n xs ≡ xs
 without-missing n [] lacks = refl
-without-missing n (x ∷ xs) lacks = elim (cases_Bool (eqb x.serial n)) [
-  | inl same ↦ absurd (false≢true (sym lacks ∙ (rw same refl)))
-  | inr other ↦ rw other (ap (λ (ys : Tree). x ∷ ys) (without-missing n xs (rw other at lacks)))
-]
+without-missing n (x ∷ xs) lacks = grind (arith, without-missing n xs)
 
 pub among : (xs : Tree) (n : ℕ) (f : F) → AreSerialsRising xs → frame_at xs n ≡ Some f → IsAmong xs n f
 among [] n f rising at = absurd cc
@@ -158,14 +151,10 @@ among-kids tree s n f t at child =
     }
 
 pub no-frame : (xs : Tree) (n : ℕ) → frame_at xs n ≡ None → has_frame xs n ≡ false
-no-frame xs n none = elim (cases_Bool (has_frame xs n)) [
-  | inl there ↦ (let f = there-found xs n there in let both : ◌≡◌ {A = Option F} None (Some f.0) = sym none ∙ f.1 in absurd cc)
-  | inr lacks ↦ lacks
-]
+no-frame xs n none = grind (arith, there-found)
 
 pub not-among : (tree : Tree) (s n : ℕ) (f : F) → IsTree tree → frame_at tree n ≡ Some f → is_child_of s f.path ≡ false → has_frame (children_of tree s) n ≡ false
-not-among tree s n f t at child =
-    no-frame (children_of tree s) n (ap (λ (ys : Tree). frame_at ys n) (children-by-paths tree s t) ∙ frame_at-filter (λ x. is_child_of s x.path) tree n (tree-rising tree t) ∙ ap (if_kept (λ x. is_child_of s x.path)) at ∙ (rw child refl))
+not-among tree s n f t at child = grind (arith, no-frame, children-by-paths, frame_at-filter, tree-rising)
 
 -- other words
 abbrev pub BeforeWords : Fact → ℕ → F → List ℕ → Fact
@@ -291,14 +280,7 @@ children-stay p s h tree t at stays other =
     ]
 
 pub holds-aborted : (Q : Fact) (p : ℕ) (tree : Tree) → IsTree tree → Holds (BeforeAbort Q p) tree → Holds Q (aborted p tree)
-holds-aborted Q p tree t all s h at =
-    let found = filter-found (λ x. not (goes_under p x.path)) tree s h (tree-rising tree t) at in
-    let stays = not-true (goes_under p h.path) found.1 in
-    let P : Lists → Type 0 = λ k. Q s h.value k (mark_of_state h.state) in
-    elim (cases_eq s p) [
-      | inl is ↦ subst P (sym (ap (kids (aborted p tree)) is ∙ ap values_of (aborted-leaf p tree t))) ((all s h found.0).0 is)
-      | inr other ↦ subst P (sym (ap values_of (children-filter (λ x. not (goes_under p x.path)) tree s t (tree-aborted p tree t) ∙ children-stay p s h tree t found.0 stays other))) ((all s h found.0).1 other)
-    ]
+holds-aborted Q p tree t all s h at = grind (arith, filter-found, tree-rising, not-true, aborted-leaf, children-filter, tree-aborted, children-stay)
 
 -- a root and all that is below it removed
 pub holds-without_job : (Q : Fact) (p : ℕ) (tree : Tree) → IsTree tree → Holds (λ s w k m. s ≢ p → Q s w k m) tree → (parent_of_root : (f : F) → frame_at tree p ≡ Some f → parent_of f.path ≡ None) → Holds Q (frames_without p (aborted p tree))

@@ -1,8 +1,7 @@
 -- Which ready frame `newest_ready_of` finds.
-use Rattle.std.proofs.Common.{◌≡◌, ◌≢◌, ℕ, ◌<◌, inl, inr, true, false, eqb, List, [], ◌∷◌, Option, Some, None, refl, ap, sym, ◌∙◌, subst, arith}
-use Rattle.std.proofs.lemmas.Bool.{cases_Bool, cases_eq, false≢true, true≢false, eq-eqb, ne_eqb, eqb-true}
+use Rattle.std.proofs.Common.{◌≡◌, ◌≢◌, ℕ, ◌<◌, inl, inr, true, false, List, [], ◌∷◌, Option, Some, None, refl, sym, ◌∙◌, subst, arith}
+use Rattle.std.proofs.lemmas.Bool.{cases_Bool, cases_eq, false≢true, eq-eqb, ne_eqb}
 use Rattle.frame_tree.specs.declared.names.State.{State}
-use Rattle.frame_tree.specs.declared.names.State.TheVariants.{Ready}
 use Rattle.frame_tree.specs.declared.names.FrameId.{FrameId}
 use Rattle.frame_tree.specs.Frames.{Frame, frame_at, has_frame, is_ready, ready_name, first_of_two, newest_ready_of, IsReadyAt}
 use Rattle.frame_tree.specs.TreeLaws.{AllAboveSerial, AreSerialsRising}
@@ -31,38 +30,18 @@ at-first x xs s f same at = let both : ◌≡◌ {A = Option F} (Some x) (Some f
 
 above-found : (low : ℕ) (xs : Tree) (s : ℕ) → AllAboveSerial low xs → has_frame xs s ≡ true → low < s
 above-found low [] s above there = absurd (false≢true there)
-above-found low (x ∷ xs) s above there = elim (cases_Bool (eqb x.serial s)) [
-  | inl same ↦ (let e = eqb-true x.serial s same in omega (arith, e, above.0))
-  | inr other ↦ above-found low xs s above.1 (rw other at there)
-]
+above-found low (x ∷ xs) s above there = grind (arith, above-found low xs s)
 
 ready-there : (o : Option F) (home : ℕ) → IsReadyAt o home → o ≢ None
-ready-there None home is = λ e. is
-ready-there (Some f) home is = λ e. cc
+ready-there o home h3 = grind arith
 
 -- the first frame is not ready
 not-first : (tenant : ℕ) (x : F) (xs : Tree) → is_ready x.state ≡ false → ready_name tenant x.serial x.state ≡ None → NoneReady xs → Answers tenant (x ∷ xs) (ready_name tenant x.serial x.state)
-not-first tenant x xs idle none rest =
-    let P : Option (FrameId × ℕ) → Type 0 = λ o. Answers tenant (x ∷ xs) o in
-    subst P (sym none) (λ s f at. elim (cases_eq x.serial s) [
-      | inl same ↦ ap (λ (y : F). is_ready y.state) (sym (at-first x xs s f same at)) ∙ idle
-      | inr other ↦ rest s f (sym (behind x xs s other) ∙ at)
-    ])
+not-first tenant x xs idle none rest = grind (arith, at-first, behind)
 
 -- the last that is ready
 by-first : (tenant : ℕ) (x : F) (xs : Tree) → NoneReady xs → (state : State) → x.state ≡ state → Answers tenant (x ∷ xs) (ready_name tenant x.serial x.state)
-by-first tenant x xs rest (Ready home) is =
-    let P : Option (FrameId × ℕ) → Type 0 = λ o. Answers tenant (x ∷ xs) o in
-    let found : IsReadyAt (frame_at (x ∷ xs) x.serial) home = rw (eq-eqb x.serial x.serial refl) is in
-    subst P (sym (ap (ready_name tenant x.serial) is)) (record {
-      own = refl;
-      ready = found;
-      greatest = λ s f at ready. elim (cases_eq x.serial s) [
-        | inl same ↦ omega (arith, same)
-        | inr other ↦ absurd (true≢false (sym ready ∙ rest s f (sym (behind x xs s other) ∙ at)))
-      ];
-    })
-by-first tenant x xs rest _ is = not-first tenant x xs (ap is_ready is) (ap (ready_name tenant x.serial) is) rest
+by-first tenant x xs h4 state h6 = grind (arith, behind, not-first)
 
 pub newest-answers : (tenant : ℕ) (frames : Tree) → AreSerialsRising frames → Answers tenant frames (newest_ready_of tenant frames)
 newest-answers tenant [] rising = λ s f at. absurd cc

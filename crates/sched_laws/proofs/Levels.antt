@@ -1,6 +1,5 @@
 -- What stands above a frame, and a law of a procedure applied there.
 use Rattle.std.proofs.Common.{◌≡◌, ◌≢◌, ℕ, ◌≤◌, inl, inr, true, false, List, [], ◌∷◌, ◌++◌, Option, Some, None, refl, ap, sym, ◌∙◌, subst, arith}
-use Rattle.std.specs.Prelude.{map, reverse}
 use Rattle.std.proofs.lemmas.List.{map-append, reverse-append}
 use Rattle.std.proofs.lemmas.Bool.{cases_Bool, false≢true, eq-eqb, eqb-true, eqb-false}
 use Rattle.frame_tree.specs.Frames.{frame_at, path_in, parent_of, children_of, IsTree}
@@ -30,15 +29,10 @@ words-found tree s f at = ap frame_words at
 
 -- the sight of a frame: its own words first, then the sight of its parent
 pub sight-top : (tree : Tree) (s : ℕ) (f : F) → frame_at tree s ≡ Some f → IsTop f → sight tree f.path ≡ f.value ∷ []
-sight-top tree s f at top =
-    let e : words_in tree f.serial ≡ f.value = ap (words_in tree) (found-serial tree s f at) ∙ words-found tree s f at in
-    ap (sight tree) top.1 ∙ ap (λ (w : List ℕ). w ∷ []) e
+sight-top tree s f at top = grind (arith, found-serial, words-found)
 
 pub sight-under : (tree : Tree) (s : ℕ) (f : F) → frame_at tree s ≡ Some f → (u : IsUnder tree f) → sight tree f.path ≡ f.value ∷ sight tree u.above.path
-sight-under tree s f at u =
-    let e : words_in tree f.serial ≡ f.value = ap (words_in tree) (found-serial tree s f at) ∙ words-found tree s f at in
-    let w : ℕ → List ℕ = λ n. words_in tree n in
-    ap (sight tree) u.path ∙ ap (λ (ls : Lists). reverse ls) (map-append w u.above.path (f.serial ∷ [])) ∙ reverse-append (map w u.above.path) (w f.serial ∷ []) ∙ ap (λ (v : List ℕ). v ∷ sight tree u.above.path) e
+sight-under tree s f at u = grind (arith, found-serial, words-found, map-append, reverse-append)
 
 pub sight-head : (tree : Tree) (s : ℕ) (f : F) → IsTree tree → frame_at tree s ≡ Some f → (rest : Lists) × (sight tree f.path ≡ f.value ∷ rest)
 sight-head tree s f t at = elim (placed tree s f t at) [
@@ -143,17 +137,13 @@ jobs-append fits rooted tree (other ∷ origins) origin (next ∷ jobs) job all 
 
 -- the origin of a live job's root
 job-origin : (fits : Fitting) (rooted : Rooting) (tree : Tree) (origin : List ℕ) (job : Job) (root : ℕ) → is_live_at root job ≡ true → JobFits fits rooted tree origin job → rooted origin (words_in tree root)
-job-origin fits rooted tree origin (Live s) root is fitting = let P : ℕ → Type 0 = λ n. rooted origin (words_in tree n) in subst P (eqb-true s root is) fitting
-job-origin fits rooted tree origin _ root is fitting = absurd (false≢true is)
+job-origin fits rooted tree origin job root h7 h8 = grind arith
 
 origin-of : (fits : Fitting) (rooted : Rooting) (tree : Tree) (origins : List (List ℕ)) (jobs : List Job) (root : ℕ) → 1 ≤ live_count root jobs → JobsFit fits rooted tree origins jobs → (origin : List ℕ) × rooted origin (words_in tree root)
 origin-of fits rooted tree [] [] root some all = absurd (omega (arith, some))
 origin-of fits rooted tree [] (job ∷ jobs) root some all = absurd all
 origin-of fits rooted tree (origin ∷ origins) [] root some all = absurd all
-origin-of fits rooted tree (origin ∷ origins) (job ∷ jobs) root some all = elim (cases_Bool (is_live_at root job)) [
-  | inl is ↦ (origin, job-origin fits rooted tree origin job root is all.0)
-  | inr not_so ↦ origin-of fits rooted tree origins jobs root (rw not_so at some) all.1
-]
+origin-of fits rooted tree (origin ∷ origins) (job ∷ jobs) root some all = grind (arith, origin-of fits rooted tree origins jobs root, job-origin)
 
 pub has-origin : (fits : Fitting) (rooted : Rooting) (origins : List (List ℕ)) (tenant : Tenant) (s : ℕ) (f : F) → IsShaped tenant → TenantFits fits rooted origins tenant → frame_at tenant.frames s ≡ Some f → HasOrigin rooted f
 has-origin fits rooted origins tenant s f shape fitting at none =

@@ -21,8 +21,7 @@ use Rattle.sched_laws.proofs.Parts.{childless-with_state, childless-with_frame_w
 
 -- one more step is counted, where one was left
 pub shaped-counted : (tenant : Tenant) → tenant.steps < 16 * tenant.reserve.nodes → IsShaped tenant → IsShaped (counted tenant)
-shaped-counted tenant left s =
-    record { tree = s.tree; given = s.given; childless = s.childless; roots = s.roots; live = s.live; few_jobs = s.few_jobs; words = s.words; charged = s.charged; opened = s.opened; ticks = omega (arith, left) }
+shaped-counted tenant left s = grind arith
 
 -- another state in a frame: one that neither computes nor has returned, or of a frame without a child
 pub shaped-in_state : (n : ℕ) (state : State) (tenant : Tenant) → (mark_of_state state ≡ Neither) ⊎ (has_child tenant.frames n ≡ false) → IsShaped tenant → IsShaped (in_state n state tenant)
@@ -66,18 +65,7 @@ shaped-holding n words tenant f at fit room s =
 -- fewer frames: those that stay are a tree, and the root frames are among them
 pub shaped-fewer : (keep : Frame (List ℕ) → Bool) (tenant : Tenant) → IsTree (filter keep tenant.frames) → ((root : ℕ) (f : Frame (List ℕ)) → f.serial ≡ root → f.path ≡ root ∷ [] → keep f ≡ true) →
     IsShaped tenant → IsShaped (record tenant { frames = filter keep tenant.frames })
-shaped-fewer keep tenant left stays s = record {
-  tree = left;
-  given = AllBelow-filter keep (tenant.serials + 1) tenant.frames s.given;
-  childless = childless-filter keep tenant.frames s.tree left s.childless;
-  roots = roots-filter keep tenant.jobs tenant.frames s.roots;
-  live = live-kept tenant.frames (filter keep tenant.frames) tenant.jobs (λ root is. roots-stay keep tenant.frames root s.tree (stays root) is) s.live;
-  few_jobs = s.few_jobs;
-  words = words-filter keep tenant.frames s.words;
-  charged = (let e = charged-filter keep tenant.frames in let c = s.charged in omega (arith, e, c));
-  opened = s.opened;
-  ticks = s.ticks;
-}
+shaped-fewer keep tenant left stays s = grind (arith, AllBelow-filter, childless-filter, roots-filter, live-kept, roots-stay, words-filter, charged-filter)
 
 -- an abort
 pub shaped-aborted : (p : ℕ) (tenant : Tenant) → IsShaped tenant → IsShaped (record tenant { frames = aborted p tenant.frames })
@@ -157,8 +145,7 @@ given-push : (tenant : Tenant) (y : Frame (List ℕ)) → y.serial ≡ tenant.se
 given-push tenant y e below = AllBelow-append (tenant.serials + 1 + 1) tenant.frames (y ∷ []) (below-more (tenant.serials + 1) (tenant.serials + 1 + 1) tenant.frames (omega arith) below) (omega (arith, e), tt)
 
 charged-push : (xs : Tree) (y : Frame (List ℕ)) (size segments : ℕ) → length y.value ≡ size → charged_for xs + charge size ≤ segments → charged_for (xs ++ y ∷ []) ≤ segments
-charged-push xs y size segments is room =
-    (let whole = charged-append xs (y ∷ []) in let own = charged-one y in let n = ap charge is in omega (arith, whole, own, n, room))
+charged-push xs y size segments is room = grind (arith, charged-append, charged-one)
 
 words-new : (y : Frame (List ℕ)) (size : ℕ) → length y.value ≡ size → 1 ≤ size → size ≤ 128 → HaveWords (y ∷ [])
 words-new y size is some few = ((omega (arith, is), omega (arith, is)), tt)

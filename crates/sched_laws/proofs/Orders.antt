@@ -1,12 +1,11 @@
 -- Lists of steps in parts, and the numbers of jobs.
-use Rattle.std.proofs.Common.{◌≡◌, ℕ, suc, ◌+◌, List, [], ◌∷◌, ◌++◌, Option, Some, Result, Ok, length, refl, ap, sym, ◌∙◌}
+use Rattle.std.proofs.Common.{◌≡◌, ℕ, suc, ◌+◌, List, [], ◌∷◌, ◌++◌, Option, Some, Result, Ok, length, refl, ap, sym, ◌∙◌, arith}
 use Rattle.std.specs.Prelude.{◌==◌}
 use Rattle.std.proofs.lemmas.List.Elements.{filter-append}
 use Rattle.tenant_quota.specs.Quota.{Quota}
 use Rattle.sched_rules.specs.declared.job.Job.{Job}
 use Rattle.sched_rules.specs.declared.refusal.Refusal.{Refusal}
 use Rattle.sched_rules.specs.declared.act.Continuation.{Continuation}
-use Rattle.sched_rules.specs.declared.act.Continuation.TheVariants.{Grow}
 use Rattle.sched_rules.specs.declared.step.StepOf.{StepOf}
 use Rattle.sched_rules.specs.declared.step.StepOf.TheVariants.{Submit}
 use Rattle.sched_rules.specs.declared.step.DidOf.{DidOf}
@@ -46,26 +45,19 @@ AlwaysRooted origin own = Unit {0}
 
 parent-always : (origin : List ℕ) (above older : List (List ℕ)) (own : List ℕ) (younger : List (List ℕ)) → ParentFits AlwaysFits AlwaysRooted origin above older own younger
 unfolding AlwaysFits AlwaysRooted
-parent-always origin [] older own younger = tt
-parent-always origin (parent ∷ above) older own younger = tt
+parent-always origin above older own younger = grind arith
 
 child-always : (after : Continuation) → NewChildFits AlwaysFits after
 unfolding AlwaysFits
-child-always (Grow more) = tt
-child-always _ = tt
+child-always after = grind arith
 
 always-lawful : {I A : Type 0} (functions : Functions I A) → IsLawful functions AlwaysFits AlwaysRooted
 unfolding AlwaysFits
-always-lawful functions = record {
-  next = λ origin own above older younger children fits parent all done. (tt, parent-always origin above older _ younger, child-always _);
-  inlet = λ origin own child above older younger before behind fits parent all_before returned all_behind done. (tt, parent-always origin above older _ younger);
-  accept = λ origin own above older younger answer fits parent same done. (tt, parent-always origin above older _ younger);
-}
+always-lawful functions = grind (arith, parent-always, child-always)
 
 root-always : {A : Type 0} (step : StepOf A) → RootFits AlwaysFits AlwaysRooted step
 unfolding AlwaysFits AlwaysRooted
-root-always (Submit number words size) = (tt, tt)
-root-always _ = tt
+root-always step = grind arith
 
 roots-always : {A : Type 0} (steps : List (StepOf A)) → RootsFit AlwaysFits AlwaysRooted steps
 roots-always [] = tt

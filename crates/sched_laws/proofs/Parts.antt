@@ -1,8 +1,8 @@
 -- Each part of a tenant's shape, under each change of the tree and of the jobs.
-use Rattle.std.proofs.Common.{◌≡◌, ◌≢◌, ℕ, suc, ◌+◌, ◌≤◌, ◌⊎◌, inl, inr, Bool, true, false, eqb, ltb, List, [], ◌∷◌, ◌++◌, Option, Some, None, length, refl, ap, sym, ◌∙◌, subst, arith, length-append}
+use Rattle.std.proofs.Common.{◌≡◌, ◌≢◌, ℕ, suc, ◌+◌, ◌≤◌, ◌⊎◌, inl, inr, Bool, true, false, eqb, ltb, List, [], ◌∷◌, ◌++◌, Option, Some, None, length, refl, ap, sym, ◌∙◌, arith, length-append}
 use Rattle.std.specs.List.{filter}
 use Rattle.std.proofs.lemmas.List.Elements.{filter-append}
-use Rattle.std.proofs.lemmas.Bool.{cases_Bool, cases_eq, false≢true, true≢false, eq-eqb, ne_eqb, eqb-true, eqb-false, ltb-false}
+use Rattle.std.proofs.lemmas.Bool.{cases_Bool, cases_eq, false≢true, eq-eqb, ne_eqb, eqb-false, ltb-false}
 use Rattle.frame_tree.specs.declared.names.State.{State}
 use Rattle.frame_tree.specs.Frames.{Frame, frame_at, has_frame, path_in, AllBelow, parent_of, with_state, children_of, values_of, IsNextFrame, IsTree}
 use Rattle.frame_tree.specs.TreeLaws.{is_child_of, Each, AreAlike}
@@ -11,7 +11,7 @@ use Rattle.frame_tree.proofs.TreeChanges.{filter-found, frame_at-stays}
 use Rattle.frame_tree.proofs.TreeValues.{tree-push, children_of-push, tree-with_state, frame_at-with_state, frame_at_other-with_state, children_of-with_state}
 use Rattle.sched_rules.specs.declared.job.Job.{Job}
 use Rattle.sched_rules.specs.declared.job.Job.TheVariants.{Live}
-use Rattle.sched_rules.specs.Trees.{Tree, has_child, is_root, is_live_at, with_frame_words, with_ended}
+use Rattle.sched_rules.specs.Trees.{Tree, has_child, is_live_at, with_frame_words, with_ended}
 use Rattle.sched_rules.specs.Laws.{Neither, mark_of_state}
 use Rattle.sched_laws.specs.Shapes.{AreMarkedChildless, live_count, AreRootsLive, IsRootThere, AreLiveRootsThere, HaveWords}
 use Rattle.sched_laws.proofs.Words.{children_of-with_frame_words, length-with_frame_words}
@@ -52,8 +52,7 @@ length-with_state n state [] = refl
 length-with_state n state (x ∷ xs) = ap (λ (k : ℕ). suc k) (length-with_state n state xs)
 
 pub has_child-with_state : (n : ℕ) (state : State) (tree : Tree) (s : ℕ) → IsTree tree → has_child (with_state n state tree) s ≡ has_child tree s
-has_child-with_state n state tree s t =
-    has_child-length tree (with_state n state tree) s (ap length (children_of-with_state n state tree s t) ∙ length-with_state n state (children_of tree s))
+has_child-with_state n state tree s t = grind (arith, has_child-length, children_of-with_state, length-with_state)
 
 pub childless-with_state : (n : ℕ) (state : State) (tree : Tree) → IsTree tree → (mark_of_state state ≡ Neither) ⊎ (has_child tree n ≡ false) → AreMarkedChildless tree tree → AreMarkedChildless (with_state n state tree) (with_state n state tree)
 childless-with_state n state tree t ok all =
@@ -94,8 +93,7 @@ childless-from new t at = each-childless new new (found-each (IsMarkedChildless 
 
 -- other words in a frame
 pub has_child-with_frame_words : (n : ℕ) (words : List ℕ) (tree : Tree) (s : ℕ) → IsTree tree → has_child (with_frame_words n words tree) s ≡ has_child tree s
-has_child-with_frame_words n words tree s t =
-    has_child-length tree (with_frame_words n words tree) s (ap length (children_of-with_frame_words n words tree s t) ∙ length-with_frame_words n words (children_of tree s))
+has_child-with_frame_words n words tree s t = grind (arith, has_child-length, children_of-with_frame_words, length-with_frame_words)
 
 words-kept : (n : ℕ) (words : List ℕ) (tree frames : Tree) → IsTree tree → AreMarkedChildless tree frames → AreMarkedChildless (with_frame_words n words tree) (with_frame_words n words frames)
 words-kept n words tree [] t all = tt
@@ -141,32 +139,20 @@ childless-push tree y t next new free all = childless-from (tree ++ y ∷ []) (t
 -- fewer frames
 none-filter : (p q : Frame (List ℕ) → Bool) (xs : Tree) → filter q xs ≡ [] → filter q (filter p xs) ≡ []
 none-filter p q [] none = refl
-none-filter p q (x ∷ xs) none = elim (cases_Bool (q x)) [
-  | inl is ↦ (let e : (x ∷ filter q xs) ≡ [] = rw is at none in absurd cc)
-  | inr not_so ↦ elim (cases_Bool (p x)) [
-    | inl kept ↦ rw (kept, not_so) (none-filter p q xs (rw not_so at none))
-    | inr gone ↦ rw gone (none-filter p q xs (rw not_so at none))
-  ]
-]
+none-filter p q (x ∷ xs) none = grind (arith, none-filter p q xs)
 
 pub no-child-filter : (keep : Frame (List ℕ) → Bool) (tree : Tree) (s : ℕ) → IsTree tree → IsTree (filter keep tree) → has_child tree s ≡ false → has_child (filter keep tree) s ≡ false
-no-child-filter keep tree s t left none =
-    none-has_child (filter keep tree) s (children-by-paths (filter keep tree) s left ∙ none-filter keep (λ x. is_child_of s x.path) tree (sym (children-by-paths tree s t) ∙ no-child tree s none))
+no-child-filter keep tree s t left none = grind (arith, none-has_child, children-by-paths, none-filter, no-child)
 
 pub childless-filter : (keep : Frame (List ℕ) → Bool) (tree : Tree) → IsTree tree → IsTree (filter keep tree) → AreMarkedChildless tree tree → AreMarkedChildless (filter keep tree) (filter keep tree)
-childless-filter keep tree t left all = childless-from (filter keep tree) left (λ s f is. stays f (childless-at tree s f all (filter-found keep tree s f (tree-rising tree t) is).0))
-  where
-    stays : (f : Frame (List ℕ)) → IsMarkedChildless tree f → IsMarkedChildless (filter keep tree) f
-    stays f (inl neither) = inl neither
-    stays f (inr none) = inr (no-child-filter keep tree f.serial t left none)
+childless-filter keep tree t left all = grind (arith, childless-from, childless-at, filter-found, tree-rising, no-child-filter)
 
 -- the root frames, where serials and paths stay
 pub roots-alike : (jobs : List Job) (xs ys : Tree) → AreAlike xs ys → AreRootsLive jobs xs → AreRootsLive jobs ys
 roots-alike jobs [] [] alike roots = tt
 roots-alike jobs [] (y ∷ ys) alike roots = absurd alike
 roots-alike jobs (x ∷ xs) [] alike roots = absurd alike
-roots-alike jobs (x ∷ xs) (y ∷ ys) alike roots =
-    ((λ is. ap (λ s. live_count s jobs) alike.0 ∙ roots.0 (sym (ap is_root alike.1) ∙ is)), roots-alike jobs xs ys alike.2 roots.1)
+roots-alike jobs (x ∷ xs) (y ∷ ys) alike roots = grind (arith, roots-alike jobs xs ys)
 
 pub roots-append : (jobs : List Job) (xs ys : Tree) → AreRootsLive jobs xs → AreRootsLive jobs ys → AreRootsLive jobs (xs ++ ys)
 roots-append jobs [] ys p q = q
@@ -174,13 +160,11 @@ roots-append jobs (x ∷ xs) ys p q = (p.0, roots-append jobs xs ys p.1 q)
 
 pub roots-filter : (keep : Frame (List ℕ) → Bool) (jobs : List Job) (xs : Tree) → AreRootsLive jobs xs → AreRootsLive jobs (filter keep xs)
 roots-filter keep jobs [] roots = tt
-roots-filter keep jobs (x ∷ xs) roots =
-    elim (cases_Bool (keep x)) [ inl is ↦ rw is (roots.0, roots-filter keep jobs xs roots.1) | inr not_so ↦ rw not_so (roots-filter keep jobs xs roots.1) ]
+roots-filter keep jobs (x ∷ xs) roots = grind (arith, roots-filter keep jobs xs)
 
 -- a job more, under a root above all
 pub live_count-append : (root : ℕ) (jobs more : List Job) → live_count root (jobs ++ more) ≡ live_count root jobs + live_count root more
-live_count-append root jobs more =
-    ap length (filter-append (λ job. is_live_at root job) jobs more) ∙ length-append (filter (λ job. is_live_at root job) jobs) (filter (λ job. is_live_at root job) more)
+live_count-append root jobs more = grind (arith, filter-append, length-append)
 
 pub one-live : (root : ℕ) → live_count root (Live root ∷ []) ≡ 1
 one-live root = rw (eq-eqb root root refl) refl
@@ -190,10 +174,7 @@ none-live s root other = rw (ne_eqb root s (λ e. other (sym e))) refl
 
 pub roots-more : (root : ℕ) (jobs : List Job) (xs : Tree) → AllBelow root xs → AreRootsLive jobs xs → AreRootsLive (jobs ++ Live root ∷ []) xs
 roots-more root jobs [] below roots = tt
-roots-more root jobs (x ∷ xs) below roots = (
-  (λ is. let old = roots.0 is in let new = none-live x.serial root (λ e. omega (arith, e, below.0)) in live_count-append x.serial jobs (Live root ∷ []) ∙ omega (arith, old, new)),
-  roots-more root jobs xs below.1 roots.1,
-)
+roots-more root jobs (x ∷ xs) below roots = grind (arith, roots-more root jobs xs, none-live, live_count-append)
 
 -- a path that is there
 pub path-there : (tree : Tree) (root : ℕ) → path_in tree root ≡ root ∷ [] → has_frame tree root ≡ true
@@ -203,10 +184,7 @@ path-there (x ∷ xs) root e = elim (cases_Bool (eqb x.serial root)) [ inl same 
 -- no job lives under a serial that is no frame's
 pub no-live : (tree : Tree) (root : ℕ) (jobs : List Job) → has_frame tree root ≡ false → AreLiveRootsThere tree jobs → live_count root jobs ≡ 0
 no-live tree root [] lacks live = refl
-no-live tree root (Live s ∷ jobs) lacks live = elim (cases_Bool (eqb s root)) [
-  | inl same ↦ absurd (true≢false (sym (path-there tree s live.0) ∙ ap (has_frame tree) (eqb-true s root same) ∙ lacks))
-  | inr other ↦ rw other (no-live tree root jobs lacks live.1)
-]
+no-live tree root (Live s ∷ jobs) lacks live = grind (arith, no-live tree root jobs lacks, path-there)
 no-live tree root (_ ∷ jobs) lacks live = no-live tree root jobs lacks live.1
 
 -- the job that lives under a root ended
@@ -219,31 +197,15 @@ length-with_ended root job (x ∷ xs) = ap (λ (n : ℕ). suc n) (length-with_en
 
 -- two roots have no live job in common
 live-one : (job : Job) (a b : ℕ) → is_live_at a job ≡ true → is_live_at b job ≡ true → a ≡ b
-live-one (Live s) a b p q = sym (eqb-true s a p) ∙ eqb-true s b q
-live-one _ a b p q = absurd (false≢true p)
+live-one job a b h4 h5 = grind arith
 
 pub live_count-with_ended : (s root : ℕ) (job : Job) (jobs : List Job) → IsEnd job → s ≢ root → live_count s (with_ended root job jobs) ≡ live_count s jobs
 live_count-with_ended s root job [] end other = refl
-live_count-with_ended s root job (x ∷ xs) end other =
-    let rest = live_count-with_ended s root job xs end other in
-    elim (cases_Bool (is_live_at root x)) [
-      | inl is ↦ elim (cases_Bool (is_live_at s x)) [
-        | inl both ↦ absurd (other (live-one x s root both is))
-        | inr not_so ↦ rw (is, end s, not_so) rest
-      ]
-      | inr not_so ↦ elim (cases_Bool (is_live_at s x)) [
-        | inl is ↦ rw (not_so, is) (ap (λ (n : ℕ). suc n) rest)
-        | inr neither ↦ rw (not_so, neither) rest
-      ]
-    ]
+live_count-with_ended s root job (x ∷ xs) end other = grind (arith, live_count-with_ended s root job xs end other, live-one)
 
 pub roots-with_ended : (root : ℕ) (job : Job) (jobs : List Job) (xs : Tree) → IsEnd job → has_frame xs root ≡ false → AreRootsLive jobs xs → AreRootsLive (with_ended root job jobs) xs
 roots-with_ended root job jobs [] end gone roots = tt
-roots-with_ended root job jobs (x ∷ xs) end gone roots =
-    elim (cases_Bool (eqb x.serial root)) [
-      | inl same ↦ absurd (false≢true (sym gone ∙ (rw same refl)))
-      | inr other ↦ ((λ is. live_count-with_ended x.serial root job jobs end (eqb-false x.serial root other) ∙ roots.0 is), roots-with_ended root job jobs xs end (rw other at gone) roots.1)
-    ]
+roots-with_ended root job jobs (x ∷ xs) end gone roots = grind (arith, roots-with_ended root job jobs xs end, live_count-with_ended)
 
 -- the roots of the live jobs, by their paths
 abbrev pub KeepsRoots : Tree → Tree → Type 0
@@ -270,11 +232,7 @@ other-there old new root _ kept other there = tt
 pub live-with_ended : (old new : Tree) (root : ℕ) (job : Job) (jobs : List Job) → IsEnd job → ((s : ℕ) → s ≢ root → path_in old s ≡ s ∷ [] → path_in new s ≡ s ∷ []) →
     AreLiveRootsThere old jobs → AreLiveRootsThere new (with_ended root job jobs)
 live-with_ended old new root job [] end kept live = tt
-live-with_ended old new root job (x ∷ xs) end kept live =
-    elim (cases_Bool (is_live_at root x)) [
-      | inl is ↦ rw is (end-there new job end, live-with_ended old new root job xs end kept live.1)
-      | inr not_so ↦ rw not_so (other-there old new root x kept not_so live.0, live-with_ended old new root job xs end kept live.1)
-    ]
+live-with_ended old new root job (x ∷ xs) end kept live = grind (arith, live-with_ended old new root job xs end kept, end-there, other-there)
 
 -- the roots that pass a test are still there
 pub roots-stay : (keep : Frame (List ℕ) → Bool) (tree : Tree) (s : ℕ) → IsTree tree → ((f : Frame (List ℕ)) → f.serial ≡ s → f.path ≡ s ∷ [] → keep f ≡ true) → path_in tree s ≡ s ∷ [] → path_in (filter keep tree) s ≡ s ∷ []
@@ -289,11 +247,7 @@ pub words-values : (xs ys : Tree) → values_of ys ≡ values_of xs → HaveWord
 words-values [] [] e all = tt
 words-values [] (y ∷ ys) e all = absurd cc
 words-values (x ∷ xs) [] e all = absurd cc
-words-values (x ∷ xs) (y ∷ ys) e all =
-    let head : y.value ≡ x.value = cc in
-    let tail : values_of ys ≡ values_of xs = cc in
-    let P : List ℕ → Type 0 = λ v. (1 ≤ length v) × (length v ≤ 128) in
-    (subst P (sym head) all.0, words-values xs ys tail all.1)
+words-values (x ∷ xs) (y ∷ ys) e all = grind (arith, words-values xs ys)
 
 pub words-append : (xs ys : Tree) → HaveWords xs → HaveWords ys → HaveWords (xs ++ ys)
 words-append [] ys p q = q
@@ -301,21 +255,12 @@ words-append (x ∷ xs) ys p q = (p.0, words-append xs ys p.1 q)
 
 pub words-filter : (keep : Frame (List ℕ) → Bool) (xs : Tree) → HaveWords xs → HaveWords (filter keep xs)
 words-filter keep [] all = tt
-words-filter keep (x ∷ xs) all =
-    elim (cases_Bool (keep x)) [ inl is ↦ rw is (all.0, words-filter keep xs all.1) | inr not_so ↦ rw not_so (words-filter keep xs all.1) ]
+words-filter keep (x ∷ xs) all = grind (arith, words-filter keep xs)
 
 pub words-with_frame_words : (n : ℕ) (words : List ℕ) (xs : Tree) → (1 ≤ length words) × (length words ≤ 128) → HaveWords xs → HaveWords (with_frame_words n words xs)
 words-with_frame_words n words [] fit all = tt
-words-with_frame_words n words (x ∷ xs) fit all = elim (cases_Bool (eqb x.serial n)) [
-  | inl same ↦ rw same (fit, words-with_frame_words n words xs fit all.1)
-  | inr other ↦ rw other (all.0, words-with_frame_words n words xs fit all.1)
-]
+words-with_frame_words n words (x ∷ xs) fit all = grind (arith, words-with_frame_words n words xs fit)
 
 pub words-at : (xs : Tree) (s : ℕ) (f : Frame (List ℕ)) → HaveWords xs → frame_at xs s ≡ Some f → (1 ≤ length f.value) × (length f.value ≤ 128)
 words-at [] s f all at = absurd cc
-words-at (x ∷ xs) s f all at = elim (cases_Bool (eqb x.serial s)) [
-  | inl same ↦ (let is : ◌≡◌ {A = Option (Frame (List ℕ))} (Some x) (Some f) = rw same at at in
-      let e : x ≡ f = cc in
-      let P : Frame (List ℕ) → Type 0 = λ y. (1 ≤ length y.value) × (length y.value ≤ 128) in subst P e all.0)
-  | inr other ↦ words-at xs s f all.1 (rw other at at)
-]
+words-at (x ∷ xs) s f all at = grind (arith, words-at xs s f)

@@ -1,5 +1,5 @@
 -- A frame is spendable exactly where no step is left, its Advance would be refused by what the act can't do, or its Inlet by a bad store.
-use Rattle.std.proofs.Common.{◌≡◌, ℕ, ◌⊎◌, inl, inr, Bool, true, false, not, ◌||◌, ◌&&◌, eqb, ltb, List, [], ◌∷◌, Option, Some, None, refl, ap, sym, ◌∙◌}
+use Rattle.std.proofs.Common.{◌≡◌, ℕ, ◌⊎◌, inl, inr, Bool, true, false, not, ◌||◌, ◌&&◌, eqb, ltb, List, [], ◌∷◌, Option, Some, None, refl, ap, sym, ◌∙◌, arith}
 use Rattle.std.specs.Prelude.{◌↔◌}
 use Rattle.std.proofs.lemmas.Bool.{cases_Bool, false≢true, eq-eqb, eqb-true, not-false, or_cases, or_left, or_right, and_parts, and_from}
 use Rattle.frame_tree.specs.declared.names.State.{State}
@@ -11,7 +11,7 @@ use Rattle.sched_rules.specs.declared.refusal.Refusal.TheVariants.{NotRunning, N
 use Rattle.sched_rules.specs.declared.step.StepOf.TheVariants.{Advance, Inlet}
 use Rattle.sched_rules.specs.Functions.{Functions}
 use Rattle.sched_rules.specs.Trees.{Tenant, words_in, left, is_outside, has_child, is_busy_in}
-use Rattle.sched_rules.specs.Lone.{unless, applies, refusal_in, lone_refusal, at_frame, is_run, is_run_by, is_returned, act_by_sight, is_bad_act, is_spawn, segments_for, act_tests, advance_tests, advanced, inlet_tests, taken_in, inlet_under, is_bad_inlet, IsSpendable}
+use Rattle.sched_rules.specs.Lone.{unless, applies, refusal_in, lone_refusal, is_run, is_run_by, is_returned, act_by_sight, is_bad_act, is_spawn, segments_for, act_tests, advance_tests, advanced, inlet_tests, taken_in, inlet_under, is_bad_inlet, IsSpendable}
 use Rattle.sched_laws.specs.Spends.{IsActRefusal, IsStuck, IsBadInlet, MayBeSpent}
 
 -- the tests of an Advance, as tests
@@ -25,21 +25,11 @@ stuck false false true effect is = (NoSegments, inr (inr refl), refl)
 stuck false false false effect is = absurd (false≢true is)
 
 other-refusal : (a b : Refusal) → IsActRefusal b → (a ≡ NotRunning) ⊎ (a ≡ NoSteps) → Some a ≡ Some b → ⊥
-other-refusal a b (inl is) (inl e) same = cc
-other-refusal a b (inl is) (inr e) same = cc
-other-refusal a b (inr (inl is)) (inl e) same = cc
-other-refusal a b (inr (inl is)) (inr e) same = cc
-other-refusal a b (inr (inr is)) (inl e) same = cc
-other-refusal a b (inr (inr is)) (inr e) same = cc
+other-refusal a b h3 h4 h5 = grind arith
 
 unstuck : {X : Type 0} (run steps bad nodes segments : Bool) (effect : X) (refusal : Refusal) → IsActRefusal refusal → refusal_in (unless (Tests run steps bad nodes segments) effect) ≡ Some refusal →
     (run ≡ false) × ((bad || (nodes || (segments || false))) ≡ true)
-unstuck true steps bad nodes segments effect refusal act is = absurd (other-refusal NotRunning refusal act (inl refl) is)
-unstuck false true bad nodes segments effect refusal act is = absurd (other-refusal NoSteps refusal act (inr refl) is)
-unstuck false false true nodes segments effect refusal act is = (refl, refl)
-unstuck false false false true segments effect refusal act is = (refl, refl)
-unstuck false false false false true effect refusal act is = (refl, refl)
-unstuck false false false false false effect refusal act is = absurd cc
+unstuck run steps bad nodes segments effect refusal h8 h9 = grind (arith, other-refusal)
 
 -- who runs a frame
 runner : (state : State) → is_run state ≡ true → (worker : ℕ) × (is_run_by worker state ≡ true)
@@ -47,28 +37,23 @@ runner (Running holder) is = (holder, eq-eqb holder holder refl)
 runner _ is = absurd (false≢true is)
 
 run-by : (worker : ℕ) (state : State) → is_run_by worker state ≡ true → is_run state ≡ true
-run-by worker (Running holder) is = refl
-run-by worker _ is = absurd (false≢true is)
+run-by worker state h3 = grind arith
 
 -- what an Advance of a frame that is there would be refused by
 advance-refusal : {I A : Type 0} (functions : Functions I A) (tenant : Tenant) (worker : ℕ) (name : FrameId) (frame : Frame (List ℕ)) → frame_at tenant.frames name.serial ≡ Some frame →
     lone_refusal {A = A} functions (Some tenant) (Advance worker name) ≡ refusal_in (unless (advance_tests tenant worker frame (act_by_sight functions tenant frame)) (advanced functions tenant worker name frame (act_by_sight functions tenant frame)))
-advance-refusal functions tenant worker name frame at =
-    ap (λ o. refusal_in (at_frame o (λ f. unless (advance_tests tenant worker f (act_by_sight functions tenant f)) (advanced functions tenant worker name f (act_by_sight functions tenant f))))) at
+advance-refusal functions tenant worker name frame at = grind arith
 
 inlet-refusal : {I A : Type 0} (functions : Functions I A) (tenant : Tenant) (worker : ℕ) (name : FrameId) (frame : Frame (List ℕ)) → frame_at tenant.frames name.serial ≡ Some frame →
     lone_refusal {A = A} functions (Some tenant) (Inlet worker name) ≡ refusal_in (inlet_under functions tenant worker name frame (parent_of frame.path))
-inlet-refusal functions tenant worker name frame at =
-    ap (λ o. refusal_in (at_frame o (λ f. inlet_under functions tenant worker name f (parent_of f.path)))) at
+inlet-refusal functions tenant worker name frame at = grind arith
 
 -- the tests of an Inlet, as tests
 abbrev InletTests : Bool → Bool → Bool → Bool → List (Bool × Refusal)
 InletTests returned steps outside busy = (returned, NotReturned) ∷ (steps, NoSteps) ∷ (outside, BadAct) ∷ (busy, Busy) ∷ []
 
 bad-inlet : {X : Type 0} (returned outside busy : Bool) (effect : X) → returned ≡ true → outside ≡ true → refusal_in (unless (InletTests (not returned) false outside busy) effect) ≡ Some BadAct
-bad-inlet true true busy effect is bad = refl
-bad-inlet false outside busy effect is bad = absurd (false≢true is)
-bad-inlet true false busy effect is bad = absurd (false≢true bad)
+bad-inlet returned outside busy effect h5 h6 = grind arith
 
 good-inlet : {X : Type 0} (returned steps outside busy : Bool) (effect : X) → refusal_in (unless (InletTests (not returned) steps outside busy) effect) ≡ Some BadAct → (returned ≡ true) × (outside ≡ true)
 good-inlet true false true busy effect is = (refl, refl)

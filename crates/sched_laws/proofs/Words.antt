@@ -3,7 +3,7 @@ use Rattle.std.proofs.Common.{◌≡◌, ◌≢◌, ℕ, suc, ◌+◌, ◌≤◌
 use Rattle.std.specs.List.{filter}
 use Rattle.std.proofs.lemmas.List.{length-set}
 use Rattle.std.proofs.lemmas.List.Sums.{sum_by-append, sum_by-cons}
-use Rattle.std.proofs.lemmas.Bool.{cases_Bool, false≢true, eq-eqb, ne_eqb, eqb-true}
+use Rattle.std.proofs.lemmas.Bool.{cases_Bool, eqb-true}
 use Rattle.sched_rules.specs.cactus_stack.Nodes.{charge}
 use Rattle.frame_tree.specs.Frames.{Frame, frame_at, has_frame, children_of, values_of, IsTree}
 use Rattle.frame_tree.specs.TreeLaws.{is_child_of, AreSerialsRising, AreAlike}
@@ -19,44 +19,23 @@ length-stored (store ∷ stores) words = length-stored stores _ ∙ length-set w
 -- the same serials and paths
 pub with_frame_words-alike : (n : ℕ) (words : List ℕ) (xs : Tree) → AreAlike xs (with_frame_words n words xs)
 with_frame_words-alike n words [] = tt
-with_frame_words-alike n words (x ∷ xs) = elim (cases_Bool (eqb x.serial n)) [
-  | inl same ↦ rw same (refl, refl, with_frame_words-alike n words xs)
-  | inr other ↦ rw other (refl, refl, with_frame_words-alike n words xs)
-]
+with_frame_words-alike n words (x ∷ xs) = grind (arith, with_frame_words-alike n words xs)
 
 pub tree-with_frame_words : (n : ℕ) (words : List ℕ) (xs : Tree) → IsTree xs → IsTree (with_frame_words n words xs)
 tree-with_frame_words n words xs t = tree-alike xs (with_frame_words n words xs) (with_frame_words-alike n words xs) t
 
 pub frame_at-with_frame_words : (n : ℕ) (words : List ℕ) (xs : Tree) (f : Frame (List ℕ)) → frame_at xs n ≡ Some f → frame_at (with_frame_words n words xs) n ≡ Some (record f { value = words })
 frame_at-with_frame_words n words [] f at = absurd cc
-frame_at-with_frame_words n words (x ∷ xs) f at = elim (cases_Bool (eqb x.serial n)) [
-  | inl same ↦ (let is : ◌≡◌ {A = Option (Frame (List ℕ))} (Some x) (Some f) = rw same at at in let e : x ≡ f = cc in rw (same, same) (ap (λ (y : Frame (List ℕ)). Some (record y { value = words })) e))
-  | inr other ↦ rw (other, other) (frame_at-with_frame_words n words xs f (rw other at at))
-]
+frame_at-with_frame_words n words (x ∷ xs) f at = grind (arith, frame_at-with_frame_words n words xs f)
 
 pub frame_at_other-with_frame_words : (n : ℕ) (words : List ℕ) (xs : Tree) (s : ℕ) → n ≢ s → frame_at (with_frame_words n words xs) s ≡ frame_at xs s
 frame_at_other-with_frame_words n words [] s other = refl
-frame_at_other-with_frame_words n words (x ∷ xs) s other = elim (cases_Bool (eqb x.serial n)) [
-  | inl same ↦ (let e = eqb-true x.serial n same in let differs = ne_eqb x.serial s (λ is. other (sym e ∙ is)) in rw (same, differs) (frame_at_other-with_frame_words n words xs s other))
-  | inr differs ↦ elim (cases_Bool (eqb x.serial s)) [
-    | inl same ↦ rw (differs, same) refl
-    | inr another ↦ rw (differs, another) (frame_at_other-with_frame_words n words xs s other)
-  ]
-]
+frame_at_other-with_frame_words n words (x ∷ xs) s other = grind (arith, frame_at_other-with_frame_words n words xs s other)
 
 -- the frames that pass a test on paths
 pub paths-with_frame_words : (n : ℕ) (words : List ℕ) (p : List ℕ → Bool) (xs : Tree) → filter (λ x. p x.path) (with_frame_words n words xs) ≡ with_frame_words n words (filter (λ x. p x.path) xs)
 paths-with_frame_words n words p [] = refl
-paths-with_frame_words n words p (x ∷ xs) = elim (cases_Bool (eqb x.serial n)) [
-  | inl same ↦ elim (cases_Bool (p x.path)) [
-    | inl is ↦ rw (same, is, same) (ap (λ (ys : Tree). record x { value = words } ∷ ys) (paths-with_frame_words n words p xs))
-    | inr not_so ↦ rw (same, not_so) (paths-with_frame_words n words p xs)
-  ]
-  | inr other ↦ elim (cases_Bool (p x.path)) [
-    | inl is ↦ rw (other, is, other) (ap (λ (ys : Tree). x ∷ ys) (paths-with_frame_words n words p xs))
-    | inr not_so ↦ rw (other, not_so) (paths-with_frame_words n words p xs)
-  ]
-]
+paths-with_frame_words n words p (x ∷ xs) = grind (arith, paths-with_frame_words n words p xs)
 
 pub children_of-with_frame_words : (n : ℕ) (words : List ℕ) (xs : Tree) (s : ℕ) → IsTree xs → children_of (with_frame_words n words xs) s ≡ with_frame_words n words (children_of xs s)
 children_of-with_frame_words n words xs s t =
@@ -69,10 +48,7 @@ length-with_frame_words n words (x ∷ xs) = ap (λ (k : ℕ). suc k) (length-wi
 -- no frame of that serial: nothing changes
 pub with_frame_words-missing : (n : ℕ) (words : List ℕ) (xs : Tree) → has_frame xs n ≡ false → with_frame_words n words xs ≡ xs
 with_frame_words-missing n words [] lacks = refl
-with_frame_words-missing n words (x ∷ xs) lacks = elim (cases_Bool (eqb x.serial n)) [
-  | inl same ↦ absurd (false≢true (sym lacks ∙ (rw same refl)))
-  | inr other ↦ rw other (ap (λ (ys : Tree). x ∷ ys) (with_frame_words-missing n words xs (rw other at lacks)))
-]
+with_frame_words-missing n words (x ∷ xs) lacks = grind (arith, with_frame_words-missing n words xs)
 
 -- what is charged, frame by frame
 charged-cons : (x : Frame (List ℕ)) (xs : Tree) → charged_for (x ∷ xs) ≡ charge (length x.value) + charged_for xs
@@ -84,14 +60,7 @@ charged-one x = charged-cons x [] ∙ omega arith
 -- that of the new words in place of the old
 charged-here : (n : ℕ) (words : List ℕ) (x : Frame (List ℕ)) (xs : Tree) → x.serial ≡ n → AreSerialsRising (x ∷ xs) →
     charged_for (with_frame_words n words (x ∷ xs)) + charge (length x.value) ≡ charged_for (x ∷ xs) + charge (length words)
-charged-here n words x xs serial rising =
-    let rest = with_frame_words-missing n words xs (above-missing xs x.serial n (omega (arith, serial)) rising.0) in
-    let y : Frame (List ℕ) = record x { value = words } in
-    let is : with_frame_words n words (x ∷ xs) ≡ y ∷ xs = rw (eq-eqb x.serial n serial, rest) refl in
-    ap (λ (ys : Tree). charged_for ys + charge (length x.value)) is ∙ swap (charged_for (y ∷ xs)) (charged_for (x ∷ xs)) (charge (length words)) (charge (length x.value)) (charged_for xs) (charged-cons y xs) (charged-cons x xs)
-  where
-    swap : (a b c d e : ℕ) → a ≡ c + e → b ≡ d + e → a + d ≡ b + c
-    swap a b c d e p q = omega arith
+charged-here n words x xs serial rising = grind (arith, with_frame_words-missing, above-missing, charged-cons)
 
 pub charged-with_frame_words : (n : ℕ) (words : List ℕ) (xs : Tree) (f : Frame (List ℕ)) → AreSerialsRising xs → frame_at xs n ≡ Some f →
     charged_for (with_frame_words n words xs) + charge (length f.value) ≡ charged_for xs + charge (length words)
@@ -137,7 +106,4 @@ pub charged-values : (xs ys : Tree) → values_of ys ≡ values_of xs → charge
 charged-values [] [] e = refl
 charged-values [] (y ∷ ys) e = absurd cc
 charged-values (x ∷ xs) [] e = absurd cc
-charged-values (x ∷ xs) (y ∷ ys) e =
-    let head : y.value ≡ x.value = cc in
-    let tail : values_of ys ≡ values_of xs = cc in
-    charged-cons y ys ∙ ap (λ (v : List ℕ). charge (length v) + charged_for ys) head ∙ ap (λ (n : ℕ). charge (length x.value) + n) (charged-values xs ys tail) ∙ sym (charged-cons x xs)
+charged-values (x ∷ xs) (y ∷ ys) e = grind (arith, charged-values xs ys, charged-cons)

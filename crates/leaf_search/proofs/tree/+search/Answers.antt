@@ -1,5 +1,6 @@
-use Rattle.std.proofs.Common.{rules, ◌≡◌, ◌↔◌, ◌<◌, ℕ, Bool, IsTrue, true, false, List, ◌∷◌, neg_ℤ, length, ◌-◌, [], find, refl, sym, ◌∙◌, ap, subst, arith}
+use Rattle.std.proofs.Common.{rules, ◌≡◌, ◌↔◌, ◌<◌, ℕ, Bool, IsTrue, true, false, List, neg_ℤ, length, ◌-◌, [], find, refl, sym, ◌∙◌, ap, subst, arith}
 use Rattle.std.proofs.lemmas.Int.{ints}
+use Rattle.std.proofs.lemmas.Grind.{common_steps}
 use Rattle.othello_board.specs.declared.boards.Board.{Board}
 use Rattle.othello_board.specs.Words.{cells}
 use Rattle.othello_board.specs.declared.cells.Cell.{Cell}
@@ -93,8 +94,7 @@ goes_on board b over same exactly denied none =
     cc
 
 some_length : {X : Type 0} (xs : List X) → (xs ≡ [] → ⊥) → 0 < length xs
-some_length [] some = absurd (some refl)
-some_length (x ∷ xs) some = omega arith
+some_length xs h1 = grind (arith, common_steps)
 
 pub search_below-returns-then-depth-eq0-clause-bound : goal.search_below-returns-then-depth-eq0-clause-bound
 search_below-returns-then-depth-eq0-clause-bound t c =

@@ -1,7 +1,7 @@
 use Rattle.std.proofs.Common.{◌≡◌, ◌∙◌, refl, sym, ap, Ok, not, Bool, true, false, true≢false}
 use Rattle.std.proofs.lemmas.Result.{err_from_is_err_and}
+use Rattle.std.proofs.lemmas.Bool.{not-true}
 use Rattle.line_io.proofs.Whole.{read-gave, read-ended}
-use Rattle.line_io.proofs.Talked.{not_true}
 use Rattle.line_io.proofs.Talks.{Talking-start, Talking-more, Talk-read_failed, Talk-stopped, Talk-write_failed, Talk-ended, Talk-last_failed}
 use Rattle.line_io.proofs.talking.talk_lines.Goals as goal
 
@@ -34,7 +34,7 @@ returns-in_err-talk_block g c =
 
 pub returns-then-branch : goal.returns-then-branch
 returns-then-branch g c =
-    let stops = not_true _ (sym c.in_ok-talk_block.ensures.ended ∙ c.if-branch.true) in
+    let stops = not-true _ (sym c.in_ok-talk_block.ensures.ended ∙ c.if-branch.true) in
     Talk-stopped g.A.Ends.ends g.S.Source.gives g.K.Sink.takes g.A.Answer.answers _ _ _ _ _ _ _ _ _ _ _ c.loop.invariant (read-gave g.S.Source.gives _ _ _ _ c.if-count-eq0.false c.in_ok-count.ensures.answer) c.in_ok-talk_block.ensures.lines stops
 
 pub loop-preserved : goal.loop-preserved
