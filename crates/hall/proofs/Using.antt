@@ -1,27 +1,22 @@
 -- Each taken step of a tenant uses one of what it may do, so a journal stays within its places.
-use Rattle.std.proofs.Common.{◌≡◌, ℕ, ◌+◌, ◌*◌, ◌<◌, ◌≤◌, inl, inr, Bool, false, true, not, ◌||◌, ◌&&◌, eqb, List, [], ◌∷◌, ◌++◌, length, Option, Some, None, Result, Ok, Err, refl, subst, ap, sym, ◌∙◌, arith, length-append}
-use Rattle.std.proofs.lemmas.Bool.{cases_Bool, eqb-true, or_parts}
+use Rattle.std.proofs.Common.{◌≡◌, ℕ, ◌+◌, ◌*◌, ◌<◌, ◌≤◌, inl, inr, Bool, false, true, eqb, List, [], ◌∷◌, ◌++◌, length, Option, Some, None, Result, Ok, Err, refl, subst, ap, sym, ◌∙◌, arith, length-append}
+use Rattle.std.proofs.lemmas.Bool.{cases_Bool, eqb-true}
 use Rattle.std.proofs.lemmas.Bool.Decides.{nat_tests}
 use Rattle.tenant_quota.specs.Quota.{Quota}
-use Rattle.frame_tree.specs.declared.names.FrameId.{FrameId}
-use Rattle.frame_tree.specs.Frames.{AllBelow, Frame, frame_at, parent_of, root_of, path_in}
-use Rattle.sched_rules.specs.declared.act.InletAct.{InletAct}
-use Rattle.sched_rules.specs.declared.act.Continuation.{Continuation}
-use Rattle.sched_rules.specs.declared.act.Continuation.TheVariants.{Wait, Return}
+use Rattle.frame_tree.specs.Frames.{AllBelow, Frame, frame_at, root_of, path_in}
 use Rattle.sched_rules.specs.declared.job.Job.{Job}
 use Rattle.sched_rules.specs.declared.job.Job.TheVariants.{Live, Done, Spent as SpentJob, Cancelled as CancelledJob}
 use Rattle.sched_rules.specs.declared.refusal.Refusal.{Refusal}
-use Rattle.sched_rules.specs.declared.refusal.Refusal.TheVariants.{NotSpent, OldTenant, NotReturned, NoJob, Lower}
+use Rattle.sched_rules.specs.declared.refusal.Refusal.TheVariants.{Lower}
 use Rattle.sched_rules.specs.declared.step.StepOf.{StepOf}
-use Rattle.sched_rules.specs.declared.step.StepOf.TheVariants.{Admit, AdmitMore, Submit, Take, Steal, Advance, Answer, Inlet, Finish, Spend, Cancel, Leave}
-use Rattle.sched_rules.specs.declared.step.DidOf.TheVariants.{Cancelled, Left}
+use Rattle.sched_rules.specs.declared.step.StepOf.TheVariants.{Admit, AdmitMore, Take, Steal, Advance, Answer, Inlet, Finish, Spend}
 use Rattle.sched_rules.specs.Functions.{Functions}
-use Rattle.sched_rules.specs.Trees.{Tree, Tenant, admitted_with, words_in, has_child, is_root, job_at, with_ended}
-use Rattle.sched_rules.specs.Lone.{Outcome, at_frame, unless, lone_step, is_lower, raised, counted, holding, submit_tests, submitted, take_tests, steal_tests, taken_by, act_by_sight, advance_tests, then_done, advanced, answer_tests, answered, inlet_tests, does_wait, staying, taken_in, inlet_under, finish_tests, finished, is_spendable, spent, cancelled, ended}
+use Rattle.sched_rules.specs.Trees.{Tree, Tenant, admitted_with, is_root, with_ended}
+use Rattle.sched_rules.specs.Lone.{Outcome, at_frame, lone_step, is_lower, raised, counted, ended}
 use Rattle.sched_rules.specs.Runs.{state_after, alone_from}
 use Rattle.jamboree_core.specs.sched_laws.Ended.{HasEnded}
 use Rattle.jamboree_core.specs.sched_laws.Shapes.{IsShaped, AreRootsLive, live_count}
-use Rattle.jamboree_core.proofs.sched_laws_Shaped.{unless-passed, frame-found, step-shaped, admitted-shaped}
+use Rattle.jamboree_core.proofs.sched_laws_Shaped.{unless-passed, frame-found, by-kinds, step-shaped, admitted-shaped}
 use Rattle.jamboree_core.proofs.sched_laws_Parts.{length-with_ended}
 use Rattle.jamboree_core.proofs.sched_laws_Consequences.{live-root, root-above}
 use Rattle.jamboree_core.specs.Journals.{StaysTaken, AreTakenFrom, IsJournalOf}
@@ -83,34 +78,6 @@ job-ended root end tenant has shape at =
     let same = length-with_ended root end tenant.jobs in
     (omega (arith, one, more, same), refl)
 
-came-used : {I : Type 0} (goes : Bool) (tenant : Tenant) (effect outcome : Outcome I) → effect ≡ outcome → HasUsed goes None tenant effect.0 → HasUsed goes None tenant outcome.0
-came-used {I} goes tenant effect outcome is has = let P : Outcome I → Type 0 = λ o. HasUsed goes None tenant o.0 in subst P is has
-
-refused-used : {I : Type 0} (goes : Bool) (tenant : Tenant) (refusal : Refusal) (outcome : Outcome I) → ◌≡◌ {A = Result (Outcome I) Refusal} (Err refusal) (Ok outcome) → HasUsed goes None tenant outcome.0
-refused-used goes tenant refusal outcome e = absurd cc
-
--- a counted step
-ticked : (tenant : Tenant) → uses tenant + 1 ≤ uses (counted tenant)
-ticked tenant = omega arith
-
-then-used : {I A : Type 0} (functions : Functions I A) (tenant t : Tenant) (worker : ℕ) (name : FrameId) (path words : List ℕ) (after : Continuation) →
-    uses t ≡ uses (counted tenant) → t.reserve ≡ tenant.reserve → HasUsed true None tenant (then_done functions t worker name path words after).0
-then-used functions tenant t worker name path words Wait u r = elim (cases_Bool (has_child t.frames name.serial)) [ inl some ↦ rw some (omega (arith, u), r) | inr none ↦ rw none (omega (arith, u), r) ]
-then-used functions tenant t worker name path words Return u r = elim (cases_Bool (has_child t.frames name.serial)) [ inl some ↦ rw some (omega (arith, u), r) | inr none ↦ rw none (omega (arith, u), r) ]
-then-used functions tenant t worker name path words _ u r = (omega (arith, u), r)
-
-inlet-used : (I : Type 0) (tenant : Tenant) (worker : ℕ) (name : FrameId) (parent : ℕ) (act : InletAct) → HasUsed true None tenant (taken_in {I = I} tenant worker name parent act).0
-inlet-used I tenant worker name parent act =
-    let frames = staying tenant.frames name.serial parent act.abort in
-    elim (cases_Bool (does_wait (frame_at frames parent) && (act.abort || act.wake || not (has_child frames parent)))) [ inl woken ↦ rw woken (ticked tenant, refl) | inr sleeps ↦ rw sleeps (ticked tenant, refl) ]
-
-cancel-used : {I : Type 0} (tenant : Tenant) (number : ℕ) (job : Option Job) (outcome : Outcome I) → IsShaped tenant → job_at tenant.jobs number ≡ job → cancelled tenant job ≡ Ok outcome → HasUsed true None tenant outcome.0
-cancel-used {I} tenant number (Some (Live root)) outcome shape at is =
-    let e : ◌≡◌ {A = Result (Outcome I) Refusal} (Ok (Some (ended root CancelledJob tenant), Cancelled)) (Ok outcome) = is in
-    let pair : ◌≡◌ {A = Outcome I} (Some (ended root CancelledJob tenant), Cancelled) outcome = cc in
-    came-used true tenant (Some (ended root CancelledJob tenant), Cancelled) outcome pair (job-ended root CancelledJob tenant tt shape (live-root tenant number root shape at))
-cancel-used tenant number _ outcome shape at is = refused-used true tenant NoJob outcome is
-
 submit-used : (tenant : Tenant) (root : ℕ) → length tenant.jobs + 1 + ended_count tenant.jobs ≤ length (tenant.jobs ++ Live root ∷ []) + ended_count (tenant.jobs ++ Live root ∷ [])
 submit-used tenant root =
     let one = length-append tenant.jobs (Live root ∷ []) in let same = ended-append root tenant.jobs in omega (arith, one, same)
@@ -119,47 +86,24 @@ finish-used : (tenant : Tenant) (root : ℕ) (words : List ℕ) → uses tenant 
 finish-used tenant root words =
     let more = ended-more root (Done words) tenant.jobs tt in let same = length-with_ended root (Done words) tenant.jobs in omega (arith, more, same)
 
+-- each taken step but a raise
+others-used : {I A : Type 0} (functions : Functions I A) (tenant : Tenant) (step : StepOf A) (outcome : Outcome I) → raise_in step ≡ None → lone_step functions tenant step ≡ Ok outcome → IsShaped tenant → HasUsed (is_appended step) None tenant outcome.0
+others-used functions tenant step outcome none is shape = by-kinds functions tenant step outcome (HasUsed (is_appended step) None tenant) is (record {
+  at_raise = λ number quota raises. (let both : Some quota ≡ None = sym (ap raise_in raises) ∙ none in absurd cc);
+  at_submit = λ serials root frames. (let more = submit-used tenant root in (omega (arith, more), refl));
+  at_work = λ serials frames. (omega arith, refl);
+  at_finish = λ root words. (finish-used tenant root words, refl);
+  at_spend = λ serial f at. job-ended (root_of f.path) SpentJob tenant tt shape (root-above tenant serial f shape at);
+  at_cancel = λ number root at. job-ended root CancelledJob tenant tt shape (live-root tenant number root shape at);
+  at_leave = λ number leaves. ap is_appended leaves;
+})
+
 -- each taken step
 pub step-used : {I A : Type 0} (functions : Functions I A) (tenant : Tenant) (step : StepOf A) (outcome : Outcome I) → lone_step functions tenant step ≡ Ok outcome → IsShaped tenant → HasUsed (is_appended step) (raise_in step) tenant outcome.0
-step-used functions tenant (Admit number quota) outcome is shape = refused-used false tenant OldTenant outcome is
 step-used {I} functions tenant (AdmitMore number quota) outcome is shape =
     let p = unless-passed ((is_lower tenant.reserve quota, Lower) ∷ []) (raised {I = I} tenant quota) outcome is in
     let P : Outcome I → Type 0 = λ o. HasUsed true (Some quota) tenant o.0 in subst P p.1 (omega arith, refl)
-step-used {I} functions tenant (Submit number words size) outcome is shape =
-    let p = unless-passed (submit_tests tenant words size) (submitted {I = I} tenant number words size) outcome is in
-    came-used true tenant (submitted tenant number words size) outcome p.1 (let more = submit-used tenant (tenant.serials + 1) in (omega (arith, more), refl))
-step-used {I} functions tenant (Take worker name) outcome is shape =
-    let f = frame-found tenant.frames name.serial (λ frame. unless (take_tests tenant worker frame) (taken_by tenant worker frame)) outcome is in
-    let p = unless-passed (take_tests tenant worker f.0) (taken_by {I = I} tenant worker f.0) outcome f.2 in came-used true tenant (taken_by tenant worker f.0) outcome p.1 (ticked tenant, refl)
-step-used {I} functions tenant (Steal worker from name) outcome is shape =
-    let f = frame-found tenant.frames name.serial (λ frame. unless (steal_tests tenant worker from frame) (taken_by tenant worker frame)) outcome is in
-    let p = unless-passed (steal_tests tenant worker from f.0) (taken_by {I = I} tenant worker f.0) outcome f.2 in came-used true tenant (taken_by tenant worker f.0) outcome p.1 (ticked tenant, refl)
-step-used functions tenant (Advance worker name) outcome is shape =
-    let f = frame-found tenant.frames name.serial (λ frame. unless (advance_tests tenant worker frame (act_by_sight functions tenant frame)) (advanced functions tenant worker name frame (act_by_sight functions tenant frame))) outcome is in
-    let act = act_by_sight functions tenant f.0 in
-    let p = unless-passed (advance_tests tenant worker f.0 act) (advanced functions tenant worker name f.0 act) outcome f.2 in
-    came-used true tenant (advanced functions tenant worker name f.0 act) outcome p.1 (then-used functions tenant (counted (holding f.0.serial _ tenant)) worker name f.0.path _ act.after refl refl)
-step-used functions tenant (Answer worker name answer) outcome is shape =
-    let f = frame-found tenant.frames name.serial (λ frame. unless (answer_tests functions tenant worker frame answer) (answered functions tenant worker frame answer)) outcome is in
-    let p = unless-passed (answer_tests functions tenant worker f.0 answer) (answered functions tenant worker f.0 answer) outcome f.2 in came-used true tenant (answered functions tenant worker f.0 answer) outcome p.1 (ticked tenant, refl)
-step-used {I} functions tenant (Inlet worker name) outcome is shape =
-    let f = frame-found tenant.frames name.serial (λ frame. inlet_under functions tenant worker name frame (parent_of frame.path)) outcome is in by f.0 (parent_of f.0.path) f.2
-  where
-    by : (f : Frame (List ℕ)) (parent : Option ℕ) → inlet_under functions tenant worker name f parent ≡ Ok outcome → HasUsed true None tenant outcome.0
-    by f None e = refused-used true tenant NotReturned outcome e
-    by f (Some parent) e =
-        let act = functions.inlet (words_in tenant.frames parent) f.value in
-        let p = unless-passed (inlet_tests tenant worker f parent act) (taken_in {I = I} tenant worker name parent act) outcome e in came-used true tenant (taken_in tenant worker name parent act) outcome p.1 (inlet-used I tenant worker name parent act)
-step-used {I} functions tenant (Finish worker name) outcome is shape =
-    let f = frame-found tenant.frames name.serial (λ frame. unless (finish_tests tenant worker frame) (finished tenant frame)) outcome is in
-    let p = unless-passed (finish_tests tenant worker f.0) (finished {I = I} tenant f.0) outcome f.2 in came-used true tenant (finished tenant f.0) outcome p.1 (finish-used tenant f.0.serial _, refl)
-step-used {I} functions tenant (Spend name) outcome is shape =
-    let f = frame-found tenant.frames name.serial (λ frame. unless ((not (is_spendable functions tenant frame), NotSpent) ∷ []) (spent tenant frame)) outcome is in
-    let p = unless-passed ((not (is_spendable functions tenant f.0), NotSpent) ∷ []) (spent {I = I} tenant f.0) outcome f.2 in
-    came-used true tenant (spent tenant f.0) outcome p.1 (job-ended (root_of f.0.path) SpentJob tenant tt shape (root-above tenant name.serial f.0 shape f.1))
-step-used functions tenant (Cancel number job) outcome is shape = cancel-used tenant job (job_at tenant.jobs job) outcome shape refl is
-step-used {I} functions tenant (Leave number) outcome is shape =
-    let e : ◌≡◌ {A = Result (Outcome I) Refusal} (Ok (None, Left)) (Ok outcome) = is in let own : ◌≡◌ {A = Outcome I} (None, Left) outcome = cc in came-used false tenant (None, Left) outcome own refl
+step-used functions tenant step outcome is shape = others-used functions tenant step outcome refl is shape
 
 -- a frame's serial is below what all are below
 serial-below : (n : ℕ) (frames : Tree) (s : ℕ) (f : Frame (List ℕ)) → AllBelow n frames → frame_at frames s ≡ Some f → s < n
@@ -177,20 +121,13 @@ frame-given tenant s step outcome is shape =
 
 -- a taken step names no serial that wasn't given
 pub serial-given : {I A : Type 0} (functions : Functions I A) (tenant : Tenant) (step : StepOf A) (outcome : Outcome I) → lone_step functions tenant step ≡ Ok outcome → IsShaped tenant → serial_in step ≤ tenant.serials
-serial-given functions tenant (Take worker name) outcome is shape =
-    frame-given tenant name.serial (λ frame. unless (take_tests tenant worker frame) (taken_by tenant worker frame)) outcome is shape
-serial-given functions tenant (Steal worker from name) outcome is shape =
-    frame-given tenant name.serial (λ frame. unless (steal_tests tenant worker from frame) (taken_by tenant worker frame)) outcome is shape
-serial-given functions tenant (Advance worker name) outcome is shape =
-    frame-given tenant name.serial (λ frame. unless (advance_tests tenant worker frame (act_by_sight functions tenant frame)) (advanced functions tenant worker name frame (act_by_sight functions tenant frame))) outcome is shape
-serial-given functions tenant (Answer worker name answer) outcome is shape =
-    frame-given tenant name.serial (λ frame. unless (answer_tests functions tenant worker frame answer) (answered functions tenant worker frame answer)) outcome is shape
-serial-given functions tenant (Inlet worker name) outcome is shape =
-    frame-given tenant name.serial (λ frame. inlet_under functions tenant worker name frame (parent_of frame.path)) outcome is shape
-serial-given functions tenant (Finish worker name) outcome is shape =
-    frame-given tenant name.serial (λ frame. unless (finish_tests tenant worker frame) (finished tenant frame)) outcome is shape
-serial-given functions tenant (Spend name) outcome is shape =
-    frame-given tenant name.serial (λ frame. unless ((not (is_spendable functions tenant frame), NotSpent) ∷ []) (spent tenant frame)) outcome is shape
+serial-given functions tenant (Take worker name) outcome is shape = frame-given tenant name.serial _ outcome is shape
+serial-given functions tenant (Steal worker from name) outcome is shape = frame-given tenant name.serial _ outcome is shape
+serial-given functions tenant (Advance worker name) outcome is shape = frame-given tenant name.serial _ outcome is shape
+serial-given functions tenant (Answer worker name answer) outcome is shape = frame-given tenant name.serial _ outcome is shape
+serial-given functions tenant (Inlet worker name) outcome is shape = frame-given tenant name.serial _ outcome is shape
+serial-given functions tenant (Finish worker name) outcome is shape = frame-given tenant name.serial _ outcome is shape
+serial-given functions tenant (Spend name) outcome is shape = frame-given tenant name.serial _ outcome is shape
 serial-given functions tenant _ outcome is shape = omega arith
 
 -- no more jobs have ended than there are
@@ -205,7 +142,7 @@ not-lower now quota is = grind (arith, nat_tests)
 
 pub step-brings : {I A : Type 0} (functions : Functions I A) (tenant : Tenant) (step : StepOf A) (outcome : Outcome I) → lone_step functions tenant step ≡ Ok outcome → Brings (raise_in step) tenant.reserve
 step-brings {I} functions tenant (AdmitMore number quota) outcome is =
-    let p = unless-passed ((is_lower tenant.reserve quota, Lower) ∷ []) (raised {I = I} tenant quota) outcome is in not-lower tenant.reserve quota (or_parts (is_lower tenant.reserve quota) false p.0).0
+    let p = unless-passed ((is_lower tenant.reserve quota, Lower) ∷ []) (raised {I = I} tenant quota) outcome is in not-lower tenant.reserve quota p.0.0
 step-brings functions tenant _ outcome is = tt
 
 -- a step that was taken of a tenant that is there reserves what it raises

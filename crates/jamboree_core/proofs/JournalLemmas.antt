@@ -1,9 +1,8 @@
 -- Journals: what a tenant of searches comes to by its own taken steps, and how a journal grows.
-use Rattle.std.proofs.Common.{◌≡◌, ◌≢◌, ℕ, inl, inr, List, [], ◌∷◌, ◌++◌, Option, Some, None, Result, Ok, Err, refl, ap, sym, ◌∙◌, subst, append_assoc, append-nil}
-use Rattle.std.proofs.lemmas.Bool.{cases_Bool}
+use Rattle.std.proofs.Common.{◌≡◌, ◌≢◌, ℕ, List, [], ◌∷◌, ◌++◌, Option, Some, None, Result, Ok, Err, refl, ap, sym, ◌∙◌, subst, append_assoc, append-nil}
 use Rattle.tenant_quota.specs.Quota.{Quota}
 use Rattle.sched_rules.specs.declared.refusal.Refusal.{Refusal}
-use Rattle.sched_rules.specs.declared.refusal.Refusal.TheVariants.{OldTenant}
+use Rattle.sched_rules.specs.declared.refusal.Refusal.TheVariants.{NoTenant, OldTenant}
 use Rattle.sched_rules.specs.declared.step.StepOf.{StepOf}
 use Rattle.sched_rules.specs.declared.step.DidOf.{DidOf}
 use Rattle.sched_rules.specs.declared.step.DidOf.TheVariants.{Admitted}
@@ -13,14 +12,14 @@ use Rattle.sched_rules.specs.Trees.{Tenant, admitted_with}
 use Rattle.sched_rules.specs.Lone.{Outcome, lone}
 use Rattle.sched_rules.specs.Runs.{tenant_of, state_after, alone_from}
 use Rattle.sched_rules.specs.Cores.{CoreState, tenant_in, shared_with}
-use Rattle.sched_rules.specs.Headline.{is_admission, AreNumbersGiven, IsOneStep}
+use Rattle.sched_rules.specs.Headline.{AreNumbersGiven, IsOneStep}
 use Rattle.sched_rules.proofs.Tenants.{tenant_in-with_outcome, tenant_in_other-with_outcome}
-use Rattle.sched_rules.proofs.Isolation.{there, more-there, step-taken, shared-after-taken}
+use Rattle.sched_rules.proofs.Isolation.{step-taken, shared-after-taken}
 use Rattle.sched_laws.specs.Fitted.{submits, origins_of}
 use Rattle.sched_laws.proofs.Shaped.{LeftShaped}
 use Rattle.sched_laws.proofs.Answers.{lone-shaped}
 use Rattle.sched_laws.proofs.Fits.{LeftFits}
-use Rattle.sched_laws.proofs.FitAnswers.{step-fits, admission}
+use Rattle.sched_laws.proofs.FitAnswers.{step-fits}
 use Rattle.jamboree_rules.specs.declared.leaf.Leaf.{Leaf}
 use Rattle.jamboree_rules.specs.declared.leaf.LeafAnswer.{LeafAnswer}
 use Rattle.jamboree_rules.specs.Fits.{AreFitting, IsRoot}
@@ -36,21 +35,12 @@ Came = Result (Outcome Leaf) Refusal
 
 -- from nothing only an admission is taken, and it leaves a tenant without jobs
 begun-fits : (grain : ℕ) (step : StepOf LeafAnswer) (outcome : Outcome Leaf) → lone (jamboree grain) None step ≡ Ok outcome → LeftFits AreFitting IsRoot (submits step) outcome.0
-begun-fits grain step outcome is = elim (cases_Bool (is_admission step)) [
-  | inr other ↦ absurd (there (jamboree grain) None step outcome other is refl)
-  | inl admits ↦ elim (admission step admits) [
-    | inl a ↦ (let P : StepOf LeafAnswer → Type 0 = λ st. LeftFits AreFitting IsRoot (submits st) outcome.0 in
-        subst P (sym a.2) (begun a.0 a.1 (ap (lone (jamboree grain) None) (sym a.2) ∙ is)))
-    | inr m ↦ absurd (more-there (jamboree grain) None m.0 m.1 outcome (ap (lone (jamboree grain) None) (sym m.2) ∙ is) refl)
-  ]
-]
-  where
-    begun : (number : ℕ) (quota : Quota) → lone (jamboree grain) None (Admit number quota) ≡ Ok outcome → LeftFits AreFitting IsRoot [] outcome.0
-    begun number quota taken =
-        let both : ◌≡◌ {A = Came} (Ok (Some (admitted_with quota), Admitted)) (Ok outcome) = taken in
-        let own : ◌≡◌ {A = Outcome Leaf} (Some (admitted_with quota), Admitted) outcome = cc in
-        let P : Outcome Leaf → Type 0 = λ o. LeftFits AreFitting IsRoot [] o.0 in
-        subst P own (record { frames = tt; jobs = tt })
+begun-fits grain (Admit number quota) outcome is =
+    let both : ◌≡◌ {A = Came} (Ok (Some (admitted_with quota), Admitted)) (Ok outcome) = is in
+    let own : ◌≡◌ {A = Outcome Leaf} (Some (admitted_with quota), Admitted) outcome = cc in
+    let P : Outcome Leaf → Type 0 = λ o. LeftFits AreFitting IsRoot [] o.0 in
+    subst P own (record { frames = tt; jobs = tt })
+begun-fits grain _ outcome is = (let no : ◌≡◌ {A = Came} (Err NoTenant) (Ok outcome) = is in absurd cc)
 
 -- a tenant of searches after one of its own steps; where it wasn't there, no words were submitted
 lone-fits : (grain : ℕ) (origins : List (List ℕ)) (before : Option Tenant) (step : StepOf LeafAnswer) (outcome : Outcome Leaf) → IsSearch step → lone (jamboree grain) before step ≡ Ok outcome →

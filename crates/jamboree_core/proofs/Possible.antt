@@ -5,7 +5,7 @@ use Rattle.frame_tree.specs.Frames.{frame_at, parent_of, values_of}
 use Rattle.frame_tree.specs.TreeLaws.{is_that}
 use Rattle.frame_tree.proofs.TreeLaws.{there-found, found-serial, under-there, named-under}
 use Rattle.sched_rules.specs.declared.job.Job.{Job}
-use Rattle.sched_rules.specs.declared.job.Job.TheVariants.{Live, Done, Spent as SpentJob, Cancelled as CancelledJob}
+use Rattle.sched_rules.specs.declared.job.Job.TheVariants.{Live}
 use Rattle.sched_rules.specs.declared.refusal.Refusal.{Refusal}
 use Rattle.sched_rules.specs.declared.refusal.Refusal.TheVariants.{NotSpent, BadAct, Busy, Lower, OutOfMemory}
 use Rattle.sched_rules.specs.declared.step.StepOf.{StepOf}
@@ -18,7 +18,7 @@ use Rattle.sched_rules.specs.Cores.{CoreState, tenant_in, meets_busy, admit_test
 use Rattle.sched_rules.specs.Headline.{IsAnswerTo, IsAnswerToStep, IsAnswerToAdmit}
 use Rattle.sched_rules.specs.Trees.{Tree, Tenant, admitted_with, sight, words_in, is_outside, has_child, job_at}
 use Rattle.sched_rules.specs.Laws.{Mark, Neither, Computes, HasReturned, mark_of_state, ParentFits}
-use Rattle.sched_rules.specs.Lone.{Outcome, unless, refusal_in, lone, first_step, lone_step, is_lower, raised, at_frame, is_run_by, is_computed_by, is_returned, is_bad_act, act_by_sight, take_tests, steal_tests, taken_by, advance_tests, advanced, answer_tests, answered, inlet_tests, inlet_under, taken_in, finish_tests, finished, is_spendable, spent, cancelled}
+use Rattle.sched_rules.specs.Lone.{Outcome, unless, refusal_in, lone, first_step, lone_step, is_lower, raised, at_frame, is_run_by, is_computed_by, is_returned, is_bad_act, act_by_sight, take_tests, steal_tests, advance_tests, answer_tests, inlet_tests, inlet_under, taken_in, finish_tests, is_spendable, cancelled}
 use Rattle.sched_laws.specs.Shapes.{IsShaped, AreShaped}
 use Rattle.sched_laws.specs.Fitted.{TenantFits, CoreFits, submits}
 use Rattle.sched_laws.proofs.Answers.{shaped-in}
@@ -55,6 +55,10 @@ at-none-bad {X} frames s step each = by (frame_at frames s) refl
     by : (o : Option F) → frame_at frames s ≡ o → refusal_in (at_frame o step) ≢ Some BadAct
     by None at = λ e. absurd cc
     by (Some f) at = each f at
+
+frame-none-bad : {X : Type 0} (frames : Tree) (s : ℕ) (tests : F → List (Bool × Refusal)) (effect : F → X) → ((f : F) → frame_at frames s ≡ Some f → NoneBad (tests f)) →
+    refusal_in (at_frame (frame_at frames s) (λ frame. unless (tests frame) (effect frame))) ≢ Some BadAct
+frame-none-bad frames s tests effect none = at-none-bad frames s (λ frame. unless (tests frame) (effect frame)) (λ f at. not-bad (tests f) (effect f) (none f at))
 
 module _ (grain : ℕ) (origins : Lists) (tenant : Tenant) (shape : IsShaped tenant) (fitting : TenantFits AreFitting IsRoot origins tenant) where
   -- the next act of a frame that runs
@@ -104,17 +108,11 @@ module _ (grain : ℕ) (origins : Lists) (tenant : Tenant) (shape : IsShaped ten
   possible (Admit number quota) none = λ e. absurd cc
   possible (AdmitMore number quota) none = not-bad {X = Outcome Leaf} ((is_lower tenant.reserve quota, Lower) ∷ []) (raised tenant quota) ((λ e. absurd cc), λ n. tt)
   possible (Submit number words size) none = absurd cc
-  possible (Take worker name) none = at-none-bad tenant.frames name.serial (λ frame. unless (take_tests tenant worker frame) (taken_by {I = Leaf} tenant worker frame)) (λ f at.
-      not-bad (take_tests tenant worker f) (taken_by {I = Leaf} tenant worker f) ((λ e. absurd cc), λ n. ((λ e. absurd cc), λ n. ((λ e. absurd cc), λ n. ((λ e. absurd cc), λ n. tt)))))
-  possible (Steal worker from name) none = at-none-bad tenant.frames name.serial (λ frame. unless (steal_tests tenant worker from frame) (taken_by {I = Leaf} tenant worker frame)) (λ f at.
-      not-bad (steal_tests tenant worker from f) (taken_by {I = Leaf} tenant worker f) ((λ e. absurd cc), λ n. ((λ e. absurd cc), λ n. ((λ e. absurd cc), λ n. ((λ e. absurd cc), λ n. tt)))))
-  possible (Advance worker name) none =
-      at-none-bad tenant.frames name.serial (λ frame. unless (advance_tests tenant worker frame (act_by_sight (jamboree grain) tenant frame)) (advanced (jamboree grain) tenant worker name frame (act_by_sight (jamboree grain) tenant frame))) (λ f at.
-      not-bad (advance_tests tenant worker f (act_by_sight (jamboree grain) tenant f)) (advanced (jamboree grain) tenant worker name f (act_by_sight (jamboree grain) tenant f))
+  possible (Take worker name) none = frame-none-bad tenant.frames name.serial (take_tests tenant worker) _ (λ f at. ((λ e. absurd cc), λ n. ((λ e. absurd cc), λ n. ((λ e. absurd cc), λ n. ((λ e. absurd cc), λ n. tt)))))
+  possible (Steal worker from name) none = frame-none-bad tenant.frames name.serial (steal_tests tenant worker from) _ (λ f at. ((λ e. absurd cc), λ n. ((λ e. absurd cc), λ n. ((λ e. absurd cc), λ n. ((λ e. absurd cc), λ n. tt)))))
+  possible (Advance worker name) none = frame-none-bad tenant.frames name.serial (λ f. advance_tests tenant worker f (act_by_sight (jamboree grain) tenant f)) _ (λ f at.
       ((λ e. absurd cc), λ runs. ((λ e. absurd cc), λ n. ((λ e. act-good name.serial f at (run-free worker f.state (not-false (is_run_by worker f.state) runs))), λ n. ((λ e. absurd cc), λ n. ((λ e. absurd cc), λ n. tt))))))
-  possible (Answer worker name answer) none =
-      at-none-bad tenant.frames name.serial (λ frame. unless (answer_tests (jamboree grain) tenant worker frame answer) (answered (jamboree grain) tenant worker frame answer)) (λ f at.
-      not-bad (answer_tests (jamboree grain) tenant worker f answer) (answered (jamboree grain) tenant worker f answer)
+  possible (Answer worker name answer) none = frame-none-bad tenant.frames name.serial (λ f. answer_tests (jamboree grain) tenant worker f answer) _ (λ f at.
       ((λ e. absurd cc), λ computes. ((λ e. absurd cc), λ n. ((λ e. absurd cc), λ n. ((λ e. answer-good name.serial f answer at (computes-marked worker f.state (not-false (is_computed_by worker f.state) computes))), λ n. tt)))))
   possible (Inlet worker name) none = at-none-bad tenant.frames name.serial (λ frame. inlet_under (jamboree grain) tenant worker name frame (parent_of frame.path)) (λ f at. by f at (parent_of f.path) refl)
     where
@@ -124,24 +122,18 @@ module _ (grain : ℕ) (origins : Lists) (tenant : Tenant) (shape : IsShaped ten
           let act = inlet_act (words_in tenant.frames parent) f.value in
           not-bad (inlet_tests tenant worker f parent act) (taken_in {I = Leaf} tenant worker name parent act)
           ((λ e. absurd cc), λ returned. ((λ e. absurd cc), λ n. ((λ e. inlet-good name.serial parent f at named (has-returned f.state (not-false (is_returned f.state) returned))), λ n. ((λ e. absurd cc), λ n. tt))))
-  possible (Finish worker name) none = at-none-bad tenant.frames name.serial (λ frame. unless (finish_tests tenant worker frame) (finished {I = Leaf} tenant frame)) (λ f at.
-      not-bad (finish_tests tenant worker f) (finished {I = Leaf} tenant f) ((λ e. absurd cc), λ n. ((λ e. absurd cc), λ n. ((λ e. absurd cc), λ n. tt))))
-  possible (Spend name) none = at-none-bad tenant.frames name.serial (λ frame. unless ((not (is_spendable (jamboree grain) tenant frame), NotSpent) ∷ []) (spent {I = Leaf} tenant frame)) (λ f at.
-      not-bad ((not (is_spendable (jamboree grain) tenant f), NotSpent) ∷ []) (spent {I = Leaf} tenant f) ((λ e. absurd cc), λ n. tt))
+  possible (Finish worker name) none = frame-none-bad tenant.frames name.serial (finish_tests tenant worker) _ (λ f at. ((λ e. absurd cc), λ n. ((λ e. absurd cc), λ n. ((λ e. absurd cc), λ n. tt))))
+  possible (Spend name) none = frame-none-bad tenant.frames name.serial (λ f. (not (is_spendable (jamboree grain) tenant f), NotSpent) ∷ []) _ (λ f at. ((λ e. absurd cc), λ n. tt))
   possible (Cancel number job) none = by (job_at tenant.jobs job)
     where
       by : (found : Option Job) → refusal_in (cancelled {I = Leaf} tenant found) ≢ Some BadAct
-      by None = λ e. absurd cc
       by (Some (Live root)) = λ e. absurd cc
-      by (Some (Done words)) = λ e. absurd cc
-      by (Some SpentJob) = λ e. absurd cc
-      by (Some CancelledJob) = λ e. absurd cc
+      by _ = λ e. absurd cc
   possible (Leave number) none = λ e. absurd cc
 
 -- a step from nothing
 first-none-bad : (step : StepOf LeafAnswer) → refusal_in (first_step {I = Leaf} step) ≢ Some BadAct
 first-none-bad (Admit number quota) = λ e. absurd cc
-first-none-bad (AdmitMore number quota) = λ e. absurd cc
 first-none-bad _ = λ e. absurd cc
 
 -- a step of a core of searches that is no admission, by what its tenant alone would be answered
@@ -214,15 +206,7 @@ pub tenant-none-bad : (grain : ℕ) (origins : Lists) (before : CoreState) (step
 tenant-none-bad grain origins before (Admit number quota) answer own none right = admission-none-bad grain before (Admit number quota) answer (admit-none-bad grain before number quota) (right.0 refl)
 tenant-none-bad grain origins before (AdmitMore number quota) answer own none right = admission-none-bad grain before (AdmitMore number quota) answer (more-none-bad grain before number quota) (right.0 refl)
 tenant-none-bad grain origins before (Submit number words size) answer own none right = absurd cc
-tenant-none-bad grain origins before (Take worker name) answer own none right = step-none-bad grain origins before (Take worker name) answer own none (right.1 refl)
-tenant-none-bad grain origins before (Steal worker from name) answer own none right = step-none-bad grain origins before (Steal worker from name) answer own none (right.1 refl)
-tenant-none-bad grain origins before (Advance worker name) answer own none right = step-none-bad grain origins before (Advance worker name) answer own none (right.1 refl)
-tenant-none-bad grain origins before (Answer worker name value) answer own none right = step-none-bad grain origins before (Answer worker name value) answer own none (right.1 refl)
-tenant-none-bad grain origins before (Inlet worker name) answer own none right = step-none-bad grain origins before (Inlet worker name) answer own none (right.1 refl)
-tenant-none-bad grain origins before (Finish worker name) answer own none right = step-none-bad grain origins before (Finish worker name) answer own none (right.1 refl)
-tenant-none-bad grain origins before (Spend name) answer own none right = step-none-bad grain origins before (Spend name) answer own none (right.1 refl)
-tenant-none-bad grain origins before (Cancel number job) answer own none right = step-none-bad grain origins before (Cancel number job) answer own none (right.1 refl)
-tenant-none-bad grain origins before (Leave number) answer own none right = step-none-bad grain origins before (Leave number) answer own none (right.1 refl)
+tenant-none-bad grain origins before step answer own none right = step-none-bad grain origins before step answer own none (right.1 refl)
 
 -- each step of a core of searches
 pub answer-none-bad : (grain : ℕ) (origins : ℕ → Lists) (before : CoreState) (step : StepOf LeafAnswer) (answer : Result (DidOf Leaf) Refusal) → AreShaped before.tenants → CoreFits AreFitting IsRoot origins before → submits step ≡ [] →

@@ -6,7 +6,7 @@ use Rattle.sched_rules.specs.declared.job.Job.{Job}
 use Rattle.sched_rules.specs.declared.job.Job.TheVariants.{Live, Done, Spent as SpentJob, Cancelled as CancelledJob}
 use Rattle.sched_rules.specs.declared.refusal.Refusal.{Refusal}
 use Rattle.sched_rules.specs.declared.step.StepOf.{StepOf}
-use Rattle.sched_rules.specs.declared.step.StepOf.TheVariants.{Admit, AdmitMore, Submit, Take, Steal, Advance, Answer, Inlet, Finish, Spend, Cancel, Leave}
+use Rattle.sched_rules.specs.declared.step.StepOf.TheVariants.{Submit}
 use Rattle.sched_rules.specs.declared.step.DidOf.{DidOf}
 use Rattle.sched_rules.specs.Trees.{Tree, Tenant, kept_words}
 use Rattle.sched_rules.specs.Laws.{HasReturned, mark_of_state, EachFits}
@@ -35,20 +35,10 @@ use Rattle.jamboree_core.specs.Replies.{IsSearch, AreSearches, IsReplyTo, AreRep
 
 -- the new root of a search fits, and belongs to a board and a depth
 pub search-parts : {A : Type 0} (step : StepOf A) → IsSearch step → RootFits AreFitting IsRoot step × AreAllRootWords (submits step)
-search-parts (Admit number quota) is = (tt, tt)
-search-parts (AdmitMore number quota) is = (tt, tt)
 search-parts (Submit number words size) is =
     let root = root-fits is.0.own is.0.opp is.0.depth is.0.apart is.0.shallow in
     (rw (is.0.are, is.1) root, (is.0, tt))
-search-parts (Take worker name) is = (tt, tt)
-search-parts (Steal worker from name) is = (tt, tt)
-search-parts (Advance worker name) is = (tt, tt)
-search-parts (Answer worker name answer) is = (tt, tt)
-search-parts (Inlet worker name) is = (tt, tt)
-search-parts (Finish worker name) is = (tt, tt)
-search-parts (Spend name) is = (tt, tt)
-search-parts (Cancel number job) is = (tt, tt)
-search-parts (Leave number) is = (tt, tt)
+search-parts _ is = (tt, tt)
 
 pub search-fits : (step : StepOf LeafAnswer) → IsSearch step → RootFits AreFitting IsRoot step
 search-fits step is = (search-parts step is).0

@@ -7,7 +7,7 @@ use Rattle.jamboree_rules.specs.othello_eval.Tables.{IsTable}
 use Rattle.sched_rules.specs.declared.job.Job.{Job}
 use Rattle.sched_rules.specs.declared.job.Job.TheVariants.{Live, Done, Spent as SpentJob, Cancelled as CancelledJob}
 use Rattle.sched_rules.specs.declared.step.StepOf.{StepOf}
-use Rattle.sched_rules.specs.declared.step.StepOf.TheVariants.{Admit, AdmitMore, Submit, Take, Steal, Advance, Answer, Inlet, Finish, Spend, Cancel, Leave}
+use Rattle.sched_rules.specs.declared.step.StepOf.TheVariants.{Submit}
 use Rattle.sched_rules.specs.Trees.{Tree}
 use Rattle.jamboree_rules.specs.Frames.{coded}
 use Rattle.jamboree_rules.specs.Places.{root_words, frame_size, frame_of, score_of}

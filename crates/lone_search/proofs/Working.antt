@@ -5,7 +5,7 @@ use Rattle.std.proofs.lemmas.Bool.Decides.{nat_tests}
 use Rattle.tenant_quota.specs.Quota.{Quota, IsWithinLimits}
 use Rattle.sched_rules.specs.declared.refusal.Refusal.{Refusal}
 use Rattle.sched_rules.specs.declared.step.StepOf.{StepOf}
-use Rattle.sched_rules.specs.declared.step.StepOf.TheVariants.{Admit, Submit, Take, Steal, Advance, Answer, Inlet, Finish, Spend}
+use Rattle.sched_rules.specs.declared.step.StepOf.TheVariants.{Admit, Submit}
 use Rattle.sched_rules.specs.declared.step.DidOf.{DidOf}
 use Rattle.sched_rules.specs.declared.step.DidOf.TheVariants.{Admitted}
 use Rattle.sched_rules.specs.Trees.{Tenant, admitted_with, left}
@@ -29,14 +29,8 @@ use Rattle.lone_search.proofs.Asking.{StepSearches, step-asks, submit-asks, noth
 
 -- a worker's step submits nothing, and so is one that a search may take
 work-search : {A : Type 0} (step : StepOf A) → IsWork step → (submits step ≡ []) × IsSearch step
-work-search (Take worker name) work = (refl, tt)
-work-search (Steal worker from name) work = (refl, tt)
-work-search (Advance worker name) work = (refl, tt)
-work-search (Answer worker name answer) work = (refl, tt)
-work-search (Inlet worker name) work = (refl, tt)
-work-search (Finish worker name) work = (refl, tt)
-work-search (Spend name) work = (refl, tt)
-work-search _ work = absurd work
+work-search (Submit number words size) work = absurd work
+work-search _ work = (refl, tt)
 
 -- a run goes on
 pub run-begins : (grain : ℕ) (totals : Quota) (shared : CoreState) → shared ≡ shared_by_nobody totals → HasRun grain totals shared

@@ -23,7 +23,8 @@ use Rattle.sched_core.specs.StepResults.{IsCome}
 use Rattle.sched_core.specs.declared.engine.Seen.{Seen}
 use Rattle.sched_core.specs.Seeing.{GoesOn, IsRunning}
 use Rattle.sched_core.proofs.Deciding.{some-is, advance-told}
-use Rattle.sched_core.proofs.TakenStep.{IsWith, IsGoing, AllPass, going, begins, then-changed}
+use Rattle.sched_laws.proofs.Shaped.{AllPass}
+use Rattle.sched_core.proofs.TakenStep.{IsWith, IsGoing, going, begins, then-changed}
 use Rattle.sched_core.proofs.Ending.{named-words}
 
 -- Answer and Advance

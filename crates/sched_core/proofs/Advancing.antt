@@ -5,7 +5,7 @@ use Rattle.std.proofs.lemmas.Bool.Decides.{nat_tests}
 use Rattle.cactus_stack.specs.Nodes.{charge}
 use Rattle.frame_tree.specs.declared.names.FrameId.{FrameId}
 use Rattle.frame_tree.specs.Frames.{Frame, frame_at, children_of}
-use Rattle.frame_tree.proofs.TreeLaws.{tree-rising}
+use Rattle.frame_tree.proofs.TreeLaws.{tree-rising, found-serial}
 use Rattle.sched_rules.specs.declared.act.Act.{Act}
 use Rattle.sched_rules.specs.declared.act.Continuation.{Continuation}
 use Rattle.sched_rules.specs.declared.act.Continuation.TheVariants.{Grow, Spawn, Go, Wait, Compute, Return}
@@ -23,7 +23,6 @@ use Rattle.sched_laws.proofs.Words.{length-stored, children_of-with_frame_words,
 use Rattle.sched_store.specs.Reads.{TenantHasStepLeft, words_under}
 use Rattle.sched_core.specs.Seeing.{GoesOn}
 use Rattle.sched_core.specs.StepResults.{FollowsResult, IsCome}
-use Rattle.sched_core.proofs.Deciding.{seen-serial}
 use Rattle.sched_core.proofs.TakenStep.{IsWith, with_tenant-twice, begins, then-changed, step-left}
 use Rattle.sched_core.proofs.Ending.{named-words}
 use Rattle.sched_core.proofs.Acting.{IsSetOut, not-false, held-found}
@@ -108,7 +107,7 @@ module _ {I A : Type 0} {functions : Functions I A} {shared : CoreState} {worker
           let shape = shaped-in name.tenant shared.tenants tenant shaped t.owner in
           let same : length words ≡ length frame.value = length-stored act.stores frame.value in
           let can : is_bad_then (length frame.value) (has_child tenant.frames frame.serial) act.after ≡ false = act-can (is_outside act.stores frame.value) _ t.passes.1.1.0 in
-          let can' : is_bad_then (length frame.value) (has_child tenant.frames name.serial) act.after ≡ false = rw (seen-serial tenant.frames name.serial frame t.found) at can in
+          let can' : is_bad_then (length frame.value) (has_child tenant.frames name.serial) act.after ≡ false = rw (found-serial tenant.frames name.serial frame t.found) at can in
           record {
             owner = stored-is.there;
             found = held-found name words tenant frame t.found;
@@ -124,5 +123,5 @@ module _ {I A : Type 0} {functions : Functions I A} {shared : CoreState} {worker
           IsCome name.tenant (then_done functions before worker name going.path going.value act.after) next did after) → FollowsResult functions shared (Advance worker name) (Ok did) after
       step_result-advance root came =
           let come = came _ _ goes-on root in
-          let among = rw (seen-serial tenant.frames name.serial frame t.found) at t.among in
+          let among = rw (found-serial tenant.frames name.serial frame t.found) at t.among in
           record { told = rw (among, come.told) refl; left = come.left ∙ rw (stored-is.is, outcome-with name.tenant _ _ shared.tenants, among) refl }

@@ -1,6 +1,5 @@
 -- A tenant that comes, and a job of it.
 use Rattle.std.proofs.Common.{◌≡◌, ℕ, ◌+◌, ◌<◌, ◌==◌, true, false, List, [], ◌∷◌, Option, Some, None, Ok, refl, sym, ◌∙◌, arith}
-use Rattle.std.specs.Prelude.{◌||◌, ◌^◌, nat_le, nat_lt}
 use Rattle.std.proofs.lemmas.Bool.Decides.{nat_tests}
 use Rattle.frame_tree.specs.Frames.{has_frame}
 use Rattle.frame_tree.proofs.TreeLaws.{below-found, found-there}
@@ -12,16 +11,20 @@ use Rattle.sched_rules.specs.declared.step.StepOf.TheVariants.{Admit, Submit}
 use Rattle.sched_rules.specs.declared.step.DidOf.TheVariants.{Admitted}
 use Rattle.sched_rules.specs.Functions.{Functions}
 use Rattle.sched_rules.specs.Trees.{Tenant, Tree, admitted_with, number_from, job_under}
-use Rattle.sched_rules.specs.Lone.{unless, submitted, submit_tests}
-use Rattle.sched_rules.specs.Headline.{AreNumbersGiven, AreNumbersTaken}
+use Rattle.sched_rules.specs.Lone.{unless, submitted, submit_tests, opened}
+use Rattle.sched_rules.specs.Changes.{on_tenant}
+use Rattle.sched_rules.specs.Headline.{AreNumbersGiven}
 use Rattle.sched_rules.specs.Cores.{CoreState, tenant_in, step_result, shared_refusal, admit_tests}
+use Rattle.sched_rules.proofs.Tenants.{tenant_in-new}
+use Rattle.sched_rules.proofs.Isolation.{above}
 use Rattle.sched_laws.specs.Shapes.{IsShaped, AreLiveRootsThere}
 use Rattle.sched_store.specs.Changes.{with_admitted}
 use Rattle.sched_core.specs.StepResults.{FollowsResult}
 use Rattle.sched_core.proofs.Changing.{with_tenant-new}
 use Rattle.sched_core.proofs.Deciding.{not-elsewhere}
 use Rattle.sched_core.proofs.Ending.{root-found}
-use Rattle.sched_core.proofs.TakenStep.{AllPass, all-pass, step_result-taken}
+use Rattle.sched_laws.proofs.Shaped.{AllPass}
+use Rattle.sched_core.proofs.TakenStep.{all-pass, step_result-taken, IsWith, begins, then-changed}
 
 -- Submit
 pub record IsSubmitting {I A : Type 0} (functions : Functions I A) (shared : CoreState) (number : ℕ) (words : List ℕ) (size : ℕ) : Type 0 where
@@ -40,6 +43,12 @@ submit-going {I = I} functions shared number words size none = by-owner (tenant_
         let passed = all-pass {I = I} false (submit_tests tenant words size) (submitted tenant number words size) (sym (rw owner at none)) in
         record { tenant = tenant; owner = owner; passes = passed.1; among = rw owner passed.0 }
 
+-- with its root open
+pub submit-opens : {I A : Type 0} (functions : Functions I A) (shared after : CoreState) (number : ℕ) (words : List ℕ) (size : ℕ) → None ≡ shared_refusal functions shared (Submit number words size) → after ≡ on_tenant number (opened None words size 0) shared →
+    (t : IsSubmitting functions shared number words size) × IsWith shared number (opened None words size 0 t.tenant) after
+submit-opens functions shared after number words size none is =
+    let t = submit-going functions shared number words size none in (t, then-changed shared number t.tenant shared after (opened None words size 0) (begins shared number t.tenant t.owner) is)
+
 -- under a serial that wasn't given no job lives
 not-live : (jobs : List Job) (frames : Tree) (first root bound : ℕ) → AreLiveRootsThere frames jobs → ((serial : ℕ) → has_frame frames serial ≡ true → serial < root) → number_from first root jobs ≡ 0
 not-live [] frames first root bound live below = refl
@@ -54,14 +63,6 @@ not-live (Cancelled ∷ jobs) frames first root bound live below = not-live jobs
 
 pub fresh-root : (tenant : Tenant) → IsShaped tenant → job_under (tenant.serials + 1) tenant.jobs ≡ 0
 fresh-root tenant shape = not-live tenant.jobs tenant.frames 1 (tenant.serials + 1) 0 shape.live (λ serial there. below-found tenant.frames (tenant.serials + 1) serial shape.given there)
-
--- no tenant is there under a number that wasn't taken
-tenant_in-new : (newest n : ℕ) (es : List (ℕ × Tenant)) → newest < n → AreNumbersTaken newest es → tenant_in es n ≡ None
-tenant_in-new newest n [] lt all = refl
-tenant_in-new newest n (e ∷ es) lt all = grind (arith, nat_tests, tenant_in-new newest n es lt all.1, all.0)
-
-above : (number newest : ℕ) → ((number == 0) || nat_le number newest || nat_lt (2 ^ 62) number) ≡ false → newest < number
-above number newest is_new = grind (arith, nat_tests)
 
 -- Admit, taken
 pub admit-taken : {I A : Type 0} (functions : Functions I A) (shared after : CoreState) (number : ℕ) (quota : Quota) → AreNumbersGiven shared → None ≡ shared_refusal functions shared (Admit number quota) →

@@ -6,6 +6,7 @@ use Rattle.std.proofs.Math.Bool.{or-false}
 use Rattle.frame_tree.specs.declared.names.FrameId.{FrameId}
 use Rattle.frame_tree.specs.declared.names.State.TheVariants.{Running}
 use Rattle.frame_tree.specs.Frames.{Frame, frame_at, has_frame, is_ready}
+use Rattle.frame_tree.proofs.TreeLaws.{found-serial, missing as unfound}
 use Rattle.sched_rules.specs.declared.refusal.Refusal.{Refusal}
 use Rattle.sched_rules.specs.declared.refusal.Refusal.TheVariants.{NoTenant, NoFrame, NotReady, NotHere, NotRunning, NotComputing, NotReturned, Mismatch, NoSteps, BadAct, Busy}
 use Rattle.sched_rules.specs.declared.act.Act.{Act}
@@ -19,19 +20,6 @@ use Rattle.sched_core.specs.declared.engine.Seen.{Seen}
 use Rattle.sched_store.specs.Reads.{is_busy_among, AreAfter, AreTenantsRising, frames_in_core, sight_of, words_under}
 use Rattle.sched_core.specs.Seeing.{IsSeen, IsRunning, missing_in, missing}
 
--- no frame of a tenant that is there has a serial that isn't found
-unfound : (tenant : Tenant) (serial : ℕ) (found : Option (Frame (List ℕ))) → frame_at tenant.frames serial ≡ found → has_frame tenant.frames serial ≡ false → found ≡ None
-unfound tenant serial None is lacks = refl
-unfound tenant serial (Some frame) is lacks = absurd (there tenant.frames is lacks)
-  where
-    there : (frames : List (Frame (List ℕ))) → frame_at frames serial ≡ Some frame → has_frame frames serial ≡ false → ⊥
-    there [] is lacks = cc
-    there (other ∷ frames) is lacks =
-        elim (other.serial == serial) as (λ b. (other.serial == serial) ≡ b → ⊥) [
-          | true ↦ λ same. (let no : true ≡ false = rw same at lacks in cc)
-          | false ↦ λ different. there frames (rw different at is) (rw different at lacks)
-        ] refl
-
 -- a step that names a frame which isn't there is refused, by its tenant's want or its own
 lost-in : {I : Type 0} (busy : Bool) (owner : Option Tenant) (serial : ℕ) (alone : Option Tenant → Result (Outcome I) Refusal) (refusal : Refusal) →
     alone None ≡ Err NoTenant → ((tenant : Tenant) → frame_at tenant.frames serial ≡ None → alone (Some tenant) ≡ Err NoFrame) →
@@ -40,7 +28,7 @@ lost-in busy None serial alone refusal nobody nothing is = rw nobody is
 lost-in busy (Some tenant) serial alone refusal nobody nothing is =
     elim (has_frame tenant.frames serial) as (λ b. has_frame tenant.frames serial ≡ b → refusal_in (unless_busy busy (alone (Some tenant))) ≡ Some refusal) [
       | true ↦ λ there. absurd (let no : None ≡ Some refusal = rw there at is in cc)
-      | false ↦ λ lacks. rw (nothing tenant (unfound tenant serial (frame_at tenant.frames serial) refl lacks)) (rw lacks at is)
+      | false ↦ λ lacks. rw (nothing tenant (unfound tenant.frames serial lacks)) (rw lacks at is)
     ] refl
 
 pub lost : {I A : Type 0} (functions : Functions I A) (shared : CoreState) (step : StepOf A) (name : FrameId) (refusal : Refusal) →
@@ -178,20 +166,12 @@ pub told-on : {X : Type 0} (P : X → Type 0) (Q : Refusal → Type 0) (answer :
 told-on P Q answer told refusal is same right = rw (is, same) right
 
 -- what is seen of a frame
-pub seen-serial : (frames : List (Frame (List ℕ))) (serial : ℕ) (frame : Frame (List ℕ)) → frame_at frames serial ≡ Some frame → frame.serial ≡ serial
-seen-serial [] serial frame is = absurd cc
-seen-serial (other ∷ frames) serial frame is =
-    elim (other.serial == serial) as (λ b. (other.serial == serial) ≡ b → frame.serial ≡ serial) [
-      | true ↦ λ same. (let own : other ≡ frame = some-is other frame (rw same at is) in rw (← own) (grind (arith, nat_tests, same)))
-      | false ↦ λ different. seen-serial frames serial frame (rw different at is)
-    ] refl
-
 pub seen-words : (shared : CoreState) (name : FrameId) (tenant : Tenant) (frame : Frame (List ℕ)) (seen : Seen) → IsSeen shared name tenant frame seen → frame.value ≡ words_under shared name
 seen-words shared name tenant frame seen is = rw (is.owner, is.found) refl
 
 pub seen-child : (shared : CoreState) (name : FrameId) (tenant : Tenant) (frame : Frame (List ℕ)) (seen : Seen) → IsSeen shared name tenant frame seen →
     has_child tenant.frames frame.serial ≡ has_child (frames_in_core shared name.tenant) name.serial
-seen-child shared name tenant frame seen is = rw (seen-serial tenant.frames name.serial frame is.found, is.owner) refl
+seen-child shared name tenant frame seen is = rw (found-serial tenant.frames name.serial frame is.found, is.owner) refl
 
 -- Advance, where the worker runs the frame and a step is left, by the tests of the act
 pub advance-goes : {I A : Type 0} (functions : Functions I A) (shared : CoreState) (worker : ℕ) (name : FrameId) (tenant : Tenant) (frame : Frame (List ℕ)) (seen : Seen) (act : Act) (runs : Bool) (answer : Result (Unit {0}) Refusal) →

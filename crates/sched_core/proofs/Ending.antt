@@ -1,8 +1,8 @@
 -- A job that ends, with all its frames.
-use Rattle.std.proofs.Common.{◌≡◌, ℕ, ◌==◌, true, false, List, [], ◌∷◌, Option, Some, None, Ok, refl}
+use Rattle.std.proofs.Common.{◌≡◌, ℕ, false, List, [], ◌∷◌, Option, Some, None, Ok, refl}
 use Rattle.std.specs.Prelude.{IsSome, not}
 use Rattle.frame_tree.specs.declared.names.FrameId.{FrameId}
-use Rattle.frame_tree.specs.Frames.{Frame, frame_at, has_frame, path_in, root_of, IsTree}
+use Rattle.frame_tree.specs.Frames.{Frame, frame_at, path_in, root_of, IsTree}
 use Rattle.frame_tree.proofs.TreeLaws.{there-found}
 use Rattle.frame_tree.proofs.TreeChanges.{aborted-leaf}
 use Rattle.sched_rules.specs.declared.job.Job.TheVariants.{Live, Cancelled as CancelledJob}
@@ -16,6 +16,7 @@ use Rattle.sched_rules.specs.Changes.{on_tenant, without_under, with_change}
 use Rattle.sched_rules.specs.Views.{named, job_of}
 use Rattle.sched_rules.specs.Cores.{CoreState, tenant_in, step_result, shared_refusal, with_tenant}
 use Rattle.sched_laws.specs.Shapes.{AreShaped}
+use Rattle.sched_laws.proofs.Parts.{path-there}
 use Rattle.sched_laws.proofs.Answers.{shaped-in}
 use Rattle.sched_laws.proofs.Consequences.{live-root, root-above}
 use Rattle.sched_store.specs.Reads.{frames_in_core, words_under}
@@ -63,14 +64,6 @@ aborted-childless before now number serial tenant tree is =
     let there = is.there in let leaf = aborted-leaf serial tenant.frames tree in rw (there, leaf) refl
 
 -- a root whose path is known is there
-path-there : (frames : List (Frame (List ℕ))) (serial : ℕ) → path_in frames serial ≡ serial ∷ [] → has_frame frames serial ≡ true
-path-there [] serial is = absurd cc
-path-there (frame ∷ frames) serial is =
-    elim (frame.serial == serial) as (λ b. (frame.serial == serial) ≡ b → has_frame (frame ∷ frames) serial ≡ true) [
-      | true ↦ λ same. rw same refl
-      | false ↦ λ other. rw other (path-there frames serial (rw other at is))
-    ] refl
-
 pub root-found : (frames : List (Frame (List ℕ))) (serial : ℕ) → path_in frames serial ≡ serial ∷ [] → (frame : Frame (List ℕ)) × (frame_at frames serial ≡ Some frame)
 root-found frames serial is = there-found frames serial (path-there frames serial is)
 

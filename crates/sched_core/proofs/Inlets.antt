@@ -30,7 +30,8 @@ use Rattle.sched_core.specs.Seeing.{MayBeTakenIn, IsReturnedUnder}
 use Rattle.sched_core.specs.StepResults.{FollowsResult, staying_with}
 use Rattle.sched_core.proofs.Deciding.{some-is}
 use Rattle.sched_core.proofs.Parents.{inlet-told}
-use Rattle.sched_core.proofs.TakenStep.{AllPass, all-pass, IsWith, begins, then-changed, step-left}
+use Rattle.sched_laws.proofs.Shaped.{AllPass}
+use Rattle.sched_core.proofs.TakenStep.{all-pass, IsWith, begins, then-changed, step-left}
 use Rattle.sched_core.proofs.Acting.{not-false, held-at}
 
 -- what an inlet that is taken comes to

@@ -16,6 +16,8 @@ use Rattle.sched_rules.specs.Trees.{Tenant, left}
 use Rattle.sched_rules.specs.Lone.{Outcome, unless, lone, refusal_in, at_frame, take_tests, steal_tests, taken_by, in_state, counted}
 use Rattle.sched_rules.specs.Changes.{on_tenant, with_change}
 use Rattle.sched_rules.specs.Cores.{CoreState, tenant_in, with_tenant, unless_busy, step_result, shared_refusal, shared_with}
+use Rattle.sched_rules.proofs.Tenants.{tenant_in-with_tenant}
+use Rattle.sched_laws.proofs.Shaped.{AllPass}
 use Rattle.sched_store.specs.Reads.{TenantHasStepLeft}
 use Rattle.sched_core.specs.StepResults.{FollowsResult, IsAdmitted}
 use Rattle.sched_core.proofs.Changing.{with_change-there}
@@ -42,11 +44,7 @@ pub step_result-admission : {I A M E Done : Type 0} (functions : Functions I A) 
 step_result-admission functions before after step did answer (Ok memory) none told done stays step_result = inl (rw told (step_result done))
 step_result-admission functions before after step did answer (Err refused) none told done stays step_result = inr (sym none, told, stays)
 
--- no test of a list applies
-abbrev pub AllPass : List (Bool × Refusal) → Type 0
-AllPass [] = Unit {0}
-AllPass (test ∷ tests) = (test.0 ≡ false) × AllPass tests
-
+-- where it is taken no test of the list applies
 pub all-pass : {I : Type 0} (busy : Bool) (tests : List (Bool × Refusal)) (effect : Outcome I) → refusal_in (unless_busy busy (unless tests effect)) ≡ None →
     (unless_busy busy (unless tests effect) ≡ Ok effect) × AllPass tests
 all-pass true [] effect none = absurd cc
@@ -85,10 +83,6 @@ going {I = I} {A = A} functions shared step name busy tests effect at nobody som
 pub record IsWith (before : CoreState) (number : ℕ) (tenant : Tenant) (now : CoreState) : Type 0 where
   pub is : now ≡ record before { tenants = with_tenant number tenant before.tenants }
   pub there : tenant_in now.tenants number ≡ Some tenant
-
-tenant_in-with_tenant : (n : ℕ) (t : Tenant) (es : List (ℕ × Tenant)) → tenant_in (with_tenant n t es) n ≡ Some t
-tenant_in-with_tenant n t [] = grind (arith, nat_tests)
-tenant_in-with_tenant n t (e ∷ es) = grind (arith, nat_tests, tenant_in-with_tenant n t es)
 
 with_tenant-same : (n : ℕ) (t : Tenant) (es : List (ℕ × Tenant)) → tenant_in es n ≡ Some t → with_tenant n t es ≡ es
 with_tenant-same n t [] is = absurd cc

@@ -1,7 +1,7 @@
 -- Every answer leaves a core fitting, and so does every list of them.
-use Rattle.std.proofs.Common.{◌≡◌, ◌≢◌, ℕ, ◌<◌, ◌≤◌, ◌⊎◌, inl, inr, true, false, eqb, List, [], ◌∷◌, ◌++◌, Option, Some, None, Result, Ok, Err, refl, ap, sym, ◌∙◌, subst, arith, append_assoc, append-nil}
+use Rattle.std.proofs.Common.{◌≡◌, ◌≢◌, ℕ, ◌<◌, ◌≤◌, inl, inr, true, false, eqb, List, [], ◌∷◌, ◌++◌, Option, Some, None, Result, Ok, Err, refl, ap, sym, ◌∙◌, subst, arith, append_assoc, append-nil}
 use Rattle.std.specs.Prelude.{is_ok}
-use Rattle.std.proofs.lemmas.Bool.{cases_Bool, cases_eq, false≢true, eq-eqb, ne_eqb}
+use Rattle.std.proofs.lemmas.Bool.{cases_Bool, cases_eq, eq-eqb, ne_eqb}
 use Rattle.tenant_quota.specs.Quota.{Quota}
 use Rattle.frame_tree.specs.Frames.{root_of}
 use Rattle.sched_rules.specs.declared.job.Job.TheVariants.{Spent as SpentJob, Cancelled as CancelledJob}
@@ -18,10 +18,10 @@ use Rattle.sched_rules.specs.Runs.{tenant_of, only}
 use Rattle.sched_rules.specs.Cores.{CoreState, shared_by_nobody, tenant_in, with_outcome, meets_busy, admit_tests, step_result, newest_after, shared_with}
 use Rattle.sched_rules.specs.Headline.{is_admission, IsAnswerTo, AreAnswersTo, after_answer, after_answers, taken_steps, AreNumbersGiven}
 use Rattle.sched_rules.proofs.Tenants.{tenant_in-with_outcome, tenant_in_other-with_outcome, known-number}
-use Rattle.sched_rules.proofs.Isolation.{step-taken, there, more-there, above, newest-stays, step_result-step, shared-after-taken}
+use Rattle.sched_rules.proofs.Isolation.{step-taken, there, more-there, above, step_result-step, shared-after-taken}
 use Rattle.sched_laws.specs.Shapes.{IsShaped, AreShaped}
 use Rattle.sched_laws.specs.Fitted.{TenantFits, CoreFits, submits, origins_of, RootFits, RootsFit, origins_after, StaysFitting}
-use Rattle.sched_laws.proofs.Shaped.{unless-passed, came, first-passed, by-effects}
+use Rattle.sched_laws.proofs.Shaped.{unless-passed, came, by-effects}
 use Rattle.sched_laws.proofs.Consequences.{root-above, live-root}
 use Rattle.sched_laws.proofs.Answers.{shaped-in, not-busy, more-taken, shaped-answer}
 use Rattle.sched_laws.proofs.Holds.{Lists}
@@ -39,7 +39,7 @@ admitted-above : {I A : Type 0} (functions : Functions I A) (before : CoreState)
 admitted-above {I} functions before number quota outcome is =
     let effect : Outcome I = (Some (admitted_with quota), Admitted) in
     let p = unless-passed (admit_tests before number quota) effect outcome is in
-    (above number before.newest (first-passed _ _ p.0), p.1)
+    (above number before.newest p.0.0, p.1)
 
 -- a taken step that is no admission is taken alone
 pub taken-alone : {I A : Type 0} (functions : Functions I A) (before : CoreState) (step : StepOf A) (outcome : Outcome I) → is_admission step ≡ false → step_result functions before step ≡ Ok outcome → lone functions (tenant_in before.tenants (tenant_of step)) step ≡ Ok outcome
@@ -50,32 +50,13 @@ taken-alone functions before step outcome no_admission is =
 pub taken-more-there : {I A : Type 0} (functions : Functions I A) (before : CoreState) (number : ℕ) (quota : Quota) (outcome : Outcome I) → step_result {A = A} functions before (AdmitMore number quota) ≡ Ok outcome → tenant_in before.tenants number ≢ None
 taken-more-there {A = A} functions before number quota outcome is = more-there {A = A} functions (tenant_in before.tenants number) number quota outcome (more-taken {A = A} functions before number quota outcome is).1
 
--- an admission is of a new tenant, or of more for one that is there
-abbrev pub IsAdmit : {A : Type 0} → StepOf A → Type 0
-IsAdmit step = (number : ℕ) × (quota : Quota) × (step ≡ Admit number quota)
-
-abbrev pub IsAdmitMore : {A : Type 0} → StepOf A → Type 0
-IsAdmitMore step = (number : ℕ) × (quota : Quota) × (step ≡ AdmitMore number quota)
-
-pub admission : {A : Type 0} (step : StepOf A) → is_admission step ≡ true → IsAdmit step ⊎ IsAdmitMore step
-admission (Admit number quota) is = inl (number, quota, refl)
-admission (AdmitMore number quota) is = inr (number, quota, refl)
-admission _ is = absurd (false≢true is)
-
 -- the greatest number after a taken step: the step's tenant has one that is no greater, and it is no less than before
 numbers-after : {I A : Type 0} (functions : Functions I A) (before : CoreState) (step : StepOf A) (outcome : Outcome I) → AreNumbersGiven before → step_result functions before step ≡ Ok outcome → (tenant_of step ≤ newest_after before.newest step) × (before.newest ≤ newest_after before.newest step)
-numbers-after {A = A} functions before step outcome known is = elim (cases_Bool (is_admission step)) [
-  | inr no_admission ↦ (let le = known-number before.newest (tenant_of step) before.tenants known (there functions _ step outcome no_admission (taken-alone functions before step outcome no_admission is)) in
-      let same = newest-stays before.newest step no_admission in (omega (arith, le, same), omega (arith, same)))
-  | inl admits ↦ elim (admission step admits) [
-    | inl a ↦ (let p = admitted-above functions before a.0 a.1 outcome (ap (step_result functions before) (sym a.2) ∙ is) in
-        let own : tenant_of step ≡ a.0 = ap tenant_of a.2 in
-        let newest : newest_after before.newest step ≡ a.0 = ap (newest_after before.newest) a.2 in (omega (arith, own, newest), omega (arith, newest, p.0)))
-    | inr m ↦ (let le = known-number before.newest m.0 before.tenants known (taken-more-there {A = A} functions before m.0 m.1 outcome (ap (step_result functions before) (sym m.2) ∙ is)) in
-        let own : tenant_of step ≡ m.0 = ap tenant_of m.2 in
-        let newest : newest_after before.newest step ≡ before.newest = ap (newest_after before.newest) m.2 in (omega (arith, own, newest, le), omega (arith, newest)))
-  ]
-]
+numbers-after functions before (Admit number quota) outcome known is = (let p = admitted-above functions before number quota outcome is in (omega arith, omega (arith, p.0)))
+numbers-after {A = A} functions before (AdmitMore number quota) outcome known is =
+    (known-number before.newest number before.tenants known (taken-more-there {A = A} functions before number quota outcome is), omega arith)
+numbers-after functions before step outcome known is =
+    (known-number before.newest (tenant_of step) before.tenants known (there functions _ step outcome refl (taken-alone functions before step outcome refl is)), omega arith)
 
 -- whatever a step is answered
 pub known-answer : {I A : Type 0} (functions : Functions I A) (before : CoreState) (step : StepOf A) (answer : Result (DidOf I) Refusal) → AreNumbersGiven before → IsAnswerTo functions before step answer → AreNumbersGiven (after_answer functions before step answer)
@@ -117,7 +98,7 @@ module _ {I A : Type 0} (functions : Functions I A) (fits : Fitting) (rooted : R
     at_finish = λ worker serial f at passed. finished-fits I fits rooted origins tenant worker serial f shape fitting at passed;
     at_spend = λ serial f at. ended-fits fits rooted origins tenant (root_of f.path) SpentJob shape fitting (root-above tenant serial f shape at) (λ origin was. tt);
     at_cancel = λ number root at. ended-fits fits rooted origins tenant root CancelledJob shape fitting (live-root tenant number root shape at) (λ origin was. tt);
-    at_leave = tt;
+    at_leave = λ number leaves. tt;
   })
 
   -- every step
@@ -161,16 +142,10 @@ module _ {I A : Type 0} (functions : Functions I A) (fits : Fitting) (rooted : R
 
   taken-left : (origins : ℕ → Lists) (before : CoreState) (step : StepOf A) (outcome : Outcome I) → IsLawful functions fits rooted → AreShaped before.tenants → CoreFits fits rooted origins before →
       RootFits fits rooted step → step_result functions before step ≡ Ok outcome → LeftFits fits rooted (origins (tenant_of step) ++ submits step) outcome.0
-  taken-left origins before step outcome lawful shaped core root is = elim (cases_Bool (is_admission step)) [
-    | inr no_admission ↦ (let alone = taken-alone functions before step outcome no_admission is in
-        among-fits origins before step outcome lawful shaped core root (there functions _ step outcome no_admission alone) alone)
-    | inl admits ↦ elim (admission step admits) [
-      | inl a ↦ (let P : StepOf A → Type 0 = λ st. LeftFits fits rooted (origins (tenant_of st) ++ submits st) outcome.0 in
-          subst P (sym a.2) (admit-left origins before a.0 a.1 outcome core (ap (step_result functions before) (sym a.2) ∙ is)))
-      | inr m ↦ (let P : StepOf A → Type 0 = λ st. LeftFits fits rooted (origins (tenant_of st) ++ submits st) outcome.0 in
-          subst P (sym m.2) (more-left origins before m.0 m.1 outcome lawful shaped core (ap (step_result functions before) (sym m.2) ∙ is)))
-    ]
-  ]
+  taken-left origins before (Admit number quota) outcome lawful shaped core root is = admit-left origins before number quota outcome core is
+  taken-left origins before (AdmitMore number quota) outcome lawful shaped core root is = more-left origins before number quota outcome lawful shaped core is
+  taken-left origins before step outcome lawful shaped core root is =
+      let alone = taken-alone functions before step outcome refl is in among-fits origins before step outcome lawful shaped core root (there functions _ step outcome refl alone) alone
 
   -- a core after a taken step
   core-after : (origins : ℕ → Lists) (before : CoreState) (step : StepOf A) (did : DidOf I) (outcome : Outcome I) → IsLawful functions fits rooted → AreNumbersGiven before → AreShaped before.tenants → CoreFits fits rooted origins before →

@@ -1,5 +1,5 @@
 -- Every answer leaves a core fitting, and so does every list of them.
-use Rattle.std.proofs.Common.{◌≡◌, ℕ, inl, inr, Bool, true, false, not, ◌||◌, ◌&&◌, eqb, List, [], ◌∷◌, Some, refl, ap, sym, ◌∙◌, subst}
+use Rattle.std.proofs.Common.{◌≡◌, ℕ, inl, inr, Bool, true, false, not, ◌||◌, ◌&&◌, List, Some, refl, ap, sym, ◌∙◌, subst}
 use Rattle.std.proofs.lemmas.Bool.{cases_Bool, false≢true, not-false, or_parts}
 use Rattle.frame_tree.specs.declared.names.State.{State}
 use Rattle.frame_tree.specs.declared.names.State.TheVariants.{Ready, Running, Computing, Returned}
@@ -8,15 +8,14 @@ use Rattle.frame_tree.specs.Frames.{frame_at, parent_of, is_ready}
 use Rattle.frame_tree.proofs.TreeLaws.{there-found, found-serial, under-there, named-under}
 use Rattle.sched_rules.specs.declared.act.InletAct.{InletAct}
 use Rattle.sched_rules.specs.declared.job.Job.TheVariants.{Done}
-use Rattle.sched_rules.specs.declared.refusal.Refusal.TheVariants.{Mismatch, BadAct}
 use Rattle.sched_rules.specs.Functions.{Functions}
-use Rattle.sched_rules.specs.Trees.{Tenant, words_in, left, stored, is_outside, has_child, is_root, kept_words}
+use Rattle.sched_rules.specs.Trees.{Tenant, words_in, stored, is_outside, has_child, is_root, kept_words}
 use Rattle.sched_rules.specs.Laws.{Fitting, Rooting, Neither, Computes, HasReturned, mark_of_state}
-use Rattle.sched_rules.specs.Lone.{applies, no_step, not_free, counted, in_state, holding, ended, taken_by, is_run_by, is_computed_by, is_returned, act_by_sight, is_bad_act, act_tests, advance_tests, advanced, answer_tests, answered, inlet_tests, does_wait, staying, taken_in, finish_tests, finished}
+use Rattle.sched_rules.specs.Lone.{counted, in_state, holding, ended, taken_by, is_run_by, is_computed_by, is_returned, act_by_sight, advance_tests, advanced, answer_tests, answered, inlet_tests, does_wait, staying, taken_in, finish_tests, finished}
 use Rattle.sched_laws.specs.Shapes.{IsShaped}
 use Rattle.sched_laws.specs.Fitted.{TenantFits}
 use Rattle.sched_laws.proofs.Words.{frame_at-with_frame_words}
-use Rattle.sched_laws.proofs.Shaped.{run-free, returned-marked, returned-childless, staying-parent, inlet-stored-shaped}
+use Rattle.sched_laws.proofs.Shaped.{AllPass, run-free, returned-marked, returned-childless, staying-parent, inlet-stored-shaped}
 use Rattle.sched_laws.proofs.Holds.{Lists, F, found-same}
 use Rattle.sched_laws.proofs.Levels.{IsLawful, words-found, parent-neither}
 use Rattle.sched_laws.proofs.Fits.{LeftFits, fits-counted, fits-same-mark}
@@ -47,41 +46,26 @@ taken-fits I fits rooted origins tenant worker s f shape fitting at ready =
 
 -- Advance
 pub advanced-fits : {I A : Type 0} (functions : Functions I A) (fits : Fitting) (rooted : Rooting) (origins : Lists) (tenant : Tenant) (worker : ℕ) (name : FrameId) (f : F) → IsLawful functions fits rooted → IsShaped tenant → TenantFits fits rooted origins tenant →
-    frame_at tenant.frames name.serial ≡ Some f → applies (advance_tests tenant worker f (act_by_sight functions tenant f)) ≡ false → LeftFits fits rooted origins (advanced functions tenant worker name f (act_by_sight functions tenant f)).0
+    frame_at tenant.frames name.serial ≡ Some f → AllPass (advance_tests tenant worker f (act_by_sight functions tenant f)) → LeftFits fits rooted origins (advanced functions tenant worker name f (act_by_sight functions tenant f)).0
 advanced-fits functions fits rooted origins tenant worker name f lawful shape fitting at passed =
-    let act = act_by_sight functions tenant f in
-    let p = or_parts (not (is_run_by worker f.state)) (applies (no_step tenant ∷ act_tests tenant f act)) passed in
-    let q = or_parts (eqb (left tenant).steps 0) (applies (act_tests tenant f act)) p.1 in
-    advance-fits functions fits rooted origins tenant worker name f lawful shape fitting at (run-free worker f.state (not-false (is_run_by worker f.state) p.0)) (first (is_bad_act f.value (has_child tenant.frames f.serial) act) _ q.1)
-  where
-    first : (a b : Bool) → (a || b) ≡ false → a ≡ false
-    first a b e = (or_parts a b e).0
+    advance-fits functions fits rooted origins tenant worker name f lawful shape fitting at (run-free worker f.state (not-false (is_run_by worker f.state) passed.0)) passed.1.1.0
 
 -- Answer
 pub answered-fits : {I A : Type 0} (functions : Functions I A) (fits : Fitting) (rooted : Rooting) (origins : Lists) (tenant : Tenant) (worker s : ℕ) (f : F) (answer : A) → IsLawful functions fits rooted → IsShaped tenant → TenantFits fits rooted origins tenant →
-    frame_at tenant.frames s ≡ Some f → applies (answer_tests functions tenant worker f answer) ≡ false → LeftFits fits rooted origins (answered functions tenant worker f answer).0
+    frame_at tenant.frames s ≡ Some f → AllPass (answer_tests functions tenant worker f answer) → LeftFits fits rooted origins (answered functions tenant worker f answer).0
 answered-fits functions fits rooted origins tenant worker s f answer lawful shape fitting at passed =
-    let outside = is_outside (functions.accept f.value answer) f.value in
     let same = functions.same (functions.asked answer) (functions.input f.value) in
-    let p = or_parts (not (is_computed_by worker f.state)) (applies ((not same, Mismatch) ∷ no_step tenant ∷ (outside, BadAct) ∷ [])) passed in
-    let q = or_parts (not same) (applies (no_step tenant ∷ (outside, BadAct) ∷ [])) p.1 in
-    let r = or_parts (eqb (left tenant).steps 0) (applies ((outside, BadAct) ∷ [])) q.1 in
-    let last = or_parts outside false r.1 in
-    let marked = computes-marked worker f.state (not-false (is_computed_by worker f.state) p.0) in
+    let marked = computes-marked worker f.state (not-false (is_computed_by worker f.state) passed.0) in
     let leaf = returned-childless tenant s f shape at (λ e. let both : Neither ≡ Computes = sym e ∙ marked in absurd cc) in
-    answer-fits functions fits rooted origins tenant worker s f answer lawful shape fitting at marked leaf (not-false same q.0) last.0
+    answer-fits functions fits rooted origins tenant worker s f answer lawful shape fitting at marked leaf (not-false same passed.1.0) passed.1.1.1.0
 
 -- Inlet
 pub inlet-fits : {I A : Type 0} (functions : Functions I A) (fits : Fitting) (rooted : Rooting) (origins : Lists) (tenant : Tenant) (worker : ℕ) (name : FrameId) (f : F) (parent : ℕ) → IsLawful functions fits rooted → IsShaped tenant → TenantFits fits rooted origins tenant →
-    frame_at tenant.frames name.serial ≡ Some f → parent_of f.path ≡ Some parent → applies (inlet_tests tenant worker f parent (functions.inlet (words_in tenant.frames parent) f.value)) ≡ false →
+    frame_at tenant.frames name.serial ≡ Some f → parent_of f.path ≡ Some parent → AllPass (inlet_tests tenant worker f parent (functions.inlet (words_in tenant.frames parent) f.value)) →
     LeftFits fits rooted origins (taken_in {I = I} tenant worker name parent (functions.inlet (words_in tenant.frames parent) f.value)).0
 inlet-fits {I} functions fits rooted origins tenant worker name f parent lawful shape fitting at named passed =
     let act = functions.inlet (words_in tenant.frames parent) f.value in
-    let outside = is_outside act.stores (words_in tenant.frames parent) in
-    let p = or_parts (not (is_returned f.state)) (applies (no_step tenant ∷ (outside, BadAct) ∷ not_free tenant worker ∷ [])) passed in
-    let q = or_parts (eqb (left tenant).steps 0) (applies ((outside, BadAct) ∷ not_free tenant worker ∷ [])) p.1 in
-    let r = or_parts outside (applies (not_free tenant worker ∷ [])) q.1 in
-    let returned = not-false (is_returned f.state) p.0 in
+    let returned = not-false (is_returned f.state) passed.0 in
     let tree = tenant.frames in
     let g = there-found tree parent (under-there tree name.serial parent f shape.tree at named) in
     let u = named-under tree name.serial parent f shape.tree at named in
@@ -90,7 +74,7 @@ inlet-fits {I} functions fits rooted origins tenant worker name f parent lawful 
     let free : mark_of_state g.0.state ≡ Neither = ap (λ (y : F). mark_of_state y.state) (sym above_same) ∙ parent-neither tree name.serial f shape.tree shape.childless at u.0 in
     let own : words_in tree parent ≡ g.0.value = words-found tree parent g.0 g.1 in
     let same : act ≡ functions.inlet g.0.value f.value = ap (λ (w : List ℕ). functions.inlet w f.value) own in
-    let inside : is_outside (functions.inlet g.0.value f.value).stores g.0.value ≡ false = sym (ap (λ (w : List ℕ). is_outside (functions.inlet w f.value).stores w) own) ∙ r.0 in
+    let inside : is_outside (functions.inlet g.0.value f.value).stores g.0.value ≡ false = sym (ap (λ (w : List ℕ). is_outside (functions.inlet w f.value).stores w) own) ∙ passed.1.1.0 in
     let got = inlet-law functions fits rooted origins tenant name.serial parent f g.0 lawful shape fitting at g.1 u.0 u.1 leaf (has-returned f.state returned) free inside in
     let fit = taken-in-fits fits rooted origins tenant name.serial parent f g.0 (stored (functions.inlet g.0.value f.value).stores g.0.value) (functions.inlet g.0.value f.value).abort shape fitting at g.1 u.0 u.1 leaf free got.1 got.0 in
     let W : List ℕ → Type 0 = λ w. TenantFits fits rooted origins (holding parent (stored (functions.inlet g.0.value f.value).stores w) (record tenant { frames = staying tree name.serial parent (functions.inlet g.0.value f.value).abort })) in
@@ -109,11 +93,10 @@ inlet-fits {I} functions fits rooted origins tenant worker name f parent lawful 
     ]
 
 -- Finish
-pub finished-fits : (I : Type 0) (fits : Fitting) (rooted : Rooting) (origins : Lists) (tenant : Tenant) (worker s : ℕ) (f : F) → IsShaped tenant → TenantFits fits rooted origins tenant → frame_at tenant.frames s ≡ Some f → applies (finish_tests tenant worker f) ≡ false →
+pub finished-fits : (I : Type 0) (fits : Fitting) (rooted : Rooting) (origins : Lists) (tenant : Tenant) (worker s : ℕ) (f : F) → IsShaped tenant → TenantFits fits rooted origins tenant → frame_at tenant.frames s ≡ Some f → AllPass (finish_tests tenant worker f) →
     LeftFits fits rooted origins (finished {I = I} tenant f).0
 finished-fits I fits rooted origins tenant worker s f shape fitting at passed =
-    let p = or_parts (not (is_returned f.state) || not (is_root f.path)) (applies (no_step tenant ∷ not_free tenant worker ∷ [])) passed in
-    let both = or_parts (not (is_returned f.state)) (not (is_root f.path)) p.0 in
+    let both = or_parts (not (is_returned f.state)) (not (is_root f.path)) passed.0 in
     let returned = not-false (is_returned f.state) both.0 in
     let leaf = returned-childless tenant s f shape at (returned-marked f.state returned) in
     fits-counted fits rooted origins (ended f.serial (Done (kept_words f.value)) tenant)

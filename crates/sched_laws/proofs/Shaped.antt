@@ -17,14 +17,14 @@ use Rattle.sched_rules.specs.declared.act.Continuation.TheVariants.{Grow, Spawn,
 use Rattle.sched_rules.specs.declared.job.Job.{Job}
 use Rattle.sched_rules.specs.declared.job.Job.TheVariants.{Live, Done, Spent as SpentJob, Cancelled as CancelledJob}
 use Rattle.sched_rules.specs.declared.refusal.Refusal.{Refusal}
-use Rattle.sched_rules.specs.declared.refusal.Refusal.TheVariants.{Mismatch, NotReturned, NoSegments, NoNodes, NoJobsLeft, BadAct, NotSpent, NoJob, OldTenant, Lower}
+use Rattle.sched_rules.specs.declared.refusal.Refusal.TheVariants.{NotReturned, NotSpent, NoJob, OldTenant, Lower}
 use Rattle.sched_rules.specs.declared.step.StepOf.{StepOf}
 use Rattle.sched_rules.specs.declared.step.StepOf.TheVariants.{Admit, AdmitMore, Submit, Take, Steal, Advance, Answer, Inlet, Finish, Spend, Cancel, Leave}
 use Rattle.sched_rules.specs.declared.step.DidOf.TheVariants.{Cancelled, Left}
 use Rattle.sched_rules.specs.Functions.{Functions}
-use Rattle.sched_rules.specs.Trees.{Tree, Tenant, admitted_with, frame_words, words_in, charged_for, left, is_root, stored, is_outside, has_child, job_at, kept_words}
+use Rattle.sched_rules.specs.Trees.{Tree, Tenant, admitted_with, frame_words, words_in, charged_for, left, stored, is_outside, has_child, job_at, kept_words}
 use Rattle.sched_rules.specs.Laws.{Neither, mark_of_state}
-use Rattle.sched_rules.specs.Lone.{Outcome, unless, applies, lone_step, no_step, not_free, is_lower, raised, counted, in_state, holding, ended, is_frame_size, submit_tests, submitted, take_tests, steal_tests, taken_by, is_run_by, is_computed_by, is_returned, act_by_sight, is_bad_then, is_bad_act, is_spawn, segments_for, act_tests, advance_tests, then_done, advanced, answer_tests, answered, inlet_tests, does_wait, staying, taken_in, inlet_under, finish_tests, finished, is_spendable, spent, cancelled, at_frame}
+use Rattle.sched_rules.specs.Lone.{Outcome, unless, lone_step, is_lower, raised, counted, in_state, holding, ended, is_frame_size, submit_tests, submitted, take_tests, steal_tests, taken_by, is_run_by, is_returned, act_by_sight, is_bad_then, is_spawn, segments_for, advance_tests, then_done, advanced, answer_tests, answered, inlet_tests, does_wait, staying, taken_in, inlet_under, finish_tests, finished, is_spendable, spent, cancelled, at_frame}
 use Rattle.sched_laws.specs.Shapes.{IsShaped}
 use Rattle.sched_laws.proofs.Words.{length-stored, frame_at-with_frame_words, charged-with_frame_words}
 use Rattle.sched_laws.proofs.Parts.{childless-at, no-child, has_child-with_frame_words, words-at}
@@ -35,12 +35,17 @@ abbrev pub LeftShaped : Option Tenant → Type 0
 LeftShaped None = Unit {0}
 LeftShaped (Some tenant) = IsShaped tenant
 
+-- no test of a list applies
+abbrev pub AllPass : List (Bool × Refusal) → Type 0
+AllPass [] = Unit {0}
+AllPass (test ∷ tests) = (test.0 ≡ false) × AllPass tests
+
 -- a taken step passed its tests
-pub unless-passed : {X : Type 0} (tests : List (Bool × Refusal)) (effect outcome : X) → unless tests effect ≡ Ok outcome → (applies tests ≡ false) × (effect ≡ outcome)
-unless-passed {X} [] effect outcome is = (refl, (let e : ◌≡◌ {A = Result X Refusal} (Ok effect) (Ok outcome) = is in cc))
+pub unless-passed : {X : Type 0} (tests : List (Bool × Refusal)) (effect outcome : X) → unless tests effect ≡ Ok outcome → AllPass tests × (effect ≡ outcome)
+unless-passed {X} [] effect outcome is = (tt, (let e : ◌≡◌ {A = Result X Refusal} (Ok effect) (Ok outcome) = is in cc))
 unless-passed {X} (test ∷ tests) effect outcome is = elim (cases_Bool test.0) [
   | inl applied ↦ (let e : ◌≡◌ {A = Result X Refusal} (Err test.1) (Ok outcome) = rw applied at is in absurd cc)
-  | inr passed ↦ (let rest = unless-passed tests effect outcome (rw passed at is) in (rw (passed, rest.0) refl, rest.1))
+  | inr passed ↦ (let rest = unless-passed tests effect outcome (rw passed at is) in ((passed, rest.0), rest.1))
 ]
 
 -- what a step at a frame found
@@ -59,42 +64,35 @@ came {I} P effect outcome is holds = let Q : Outcome I → Type 0 = λ o. P o.0 
 -- P holds of what each effect of a step leaves, where its tests passed
 pub record HoldsOfEach {I A : Type 0} (functions : Functions I A) (tenant : Tenant) (step : StepOf A) (P : Option Tenant → Type 0) : Type 0 where
   pub at_raise : (number : ℕ) (quota : Quota) → step ≡ AdmitMore number quota → is_lower tenant.reserve quota ≡ false → P (raised {I = I} tenant quota).0
-  pub at_submit : (number : ℕ) (words : List ℕ) (size : ℕ) → step ≡ Submit number words size → applies (submit_tests tenant words size) ≡ false → P (submitted {I = I} tenant number words size).0
+  pub at_submit : (number : ℕ) (words : List ℕ) (size : ℕ) → step ≡ Submit number words size → AllPass (submit_tests tenant words size) → P (submitted {I = I} tenant number words size).0
   pub at_take : (worker s : ℕ) (f : Frame (List ℕ)) → frame_at tenant.frames s ≡ Some f → not (is_ready f.state) ≡ false → eqb (left tenant).steps 0 ≡ false → P (taken_by {I = I} tenant worker f).0
-  pub at_advance : (worker : ℕ) (name : FrameId) (f : Frame (List ℕ)) → frame_at tenant.frames name.serial ≡ Some f → applies (advance_tests tenant worker f (act_by_sight functions tenant f)) ≡ false →
+  pub at_advance : (worker : ℕ) (name : FrameId) (f : Frame (List ℕ)) → frame_at tenant.frames name.serial ≡ Some f → AllPass (advance_tests tenant worker f (act_by_sight functions tenant f)) →
       P (advanced functions tenant worker name f (act_by_sight functions tenant f)).0
-  pub at_answer : (worker s : ℕ) (f : Frame (List ℕ)) (answer : A) → frame_at tenant.frames s ≡ Some f → applies (answer_tests functions tenant worker f answer) ≡ false → P (answered functions tenant worker f answer).0
+  pub at_answer : (worker s : ℕ) (f : Frame (List ℕ)) (answer : A) → frame_at tenant.frames s ≡ Some f → AllPass (answer_tests functions tenant worker f answer) → P (answered functions tenant worker f answer).0
   pub at_inlet : (worker : ℕ) (name : FrameId) (f : Frame (List ℕ)) (parent : ℕ) → frame_at tenant.frames name.serial ≡ Some f → parent_of f.path ≡ Some parent →
-      applies (inlet_tests tenant worker f parent (functions.inlet (words_in tenant.frames parent) f.value)) ≡ false → P (taken_in {I = I} tenant worker name parent (functions.inlet (words_in tenant.frames parent) f.value)).0
-  pub at_finish : (worker s : ℕ) (f : Frame (List ℕ)) → frame_at tenant.frames s ≡ Some f → applies (finish_tests tenant worker f) ≡ false → P (finished {I = I} tenant f).0
+      AllPass (inlet_tests tenant worker f parent (functions.inlet (words_in tenant.frames parent) f.value)) → P (taken_in {I = I} tenant worker name parent (functions.inlet (words_in tenant.frames parent) f.value)).0
+  pub at_finish : (worker s : ℕ) (f : Frame (List ℕ)) → frame_at tenant.frames s ≡ Some f → AllPass (finish_tests tenant worker f) → P (finished {I = I} tenant f).0
   pub at_spend : (s : ℕ) (f : Frame (List ℕ)) → frame_at tenant.frames s ≡ Some f → P (spent {I = I} tenant f).0
   pub at_cancel : (number root : ℕ) → job_at tenant.jobs number ≡ Some (Live root) → P (Some (ended root CancelledJob tenant))
-  pub at_leave : P None
-
--- the first and the third of four tests
-pub first-passed : (a b : Bool) → (a || b) ≡ false → a ≡ false
-first-passed a b e = (or_parts a b e).0
-
-third-passed : (a b c d : Bool) → (a || (b || (c || (d || false)))) ≡ false → c ≡ false
-third-passed a b c d e = (or_parts c (d || false) (or_parts b (c || (d || false)) (or_parts a (b || (c || (d || false))) e).1).1).0
+  pub at_leave : (number : ℕ) → step ≡ Leave number → P None
 
 -- so it holds of what a step of a tenant that has the core to itself leaves
 pub by-effects : {I A : Type 0} (functions : Functions I A) (tenant : Tenant) (step : StepOf A) (outcome : Outcome I) (P : Option Tenant → Type 0) → lone_step functions tenant step ≡ Ok outcome → HoldsOfEach functions tenant step P → P outcome.0
 by-effects {I} functions tenant (Admit number quota) outcome P is each = (let e : ◌≡◌ {A = Result (Outcome I) Refusal} (Err OldTenant) (Ok outcome) = is in absurd cc)
 by-effects {I} functions tenant (AdmitMore number quota) outcome P is each =
     let p = unless-passed ((is_lower tenant.reserve quota, Lower) ∷ []) (raised {I = I} tenant quota) outcome is in
-    came P (raised tenant quota) outcome p.1 (each.at_raise number quota refl (or_parts (is_lower tenant.reserve quota) false p.0).0)
+    came P (raised tenant quota) outcome p.1 (each.at_raise number quota refl p.0.0)
 by-effects {I} functions tenant (Submit number words size) outcome P is each =
     let p = unless-passed (submit_tests tenant words size) (submitted {I = I} tenant number words size) outcome is in
     came P (submitted tenant number words size) outcome p.1 (each.at_submit number words size refl p.0)
 by-effects {I} functions tenant (Take worker name) outcome P is each =
     let f = frame-found tenant.frames name.serial (λ frame. unless (take_tests tenant worker frame) (taken_by tenant worker frame)) outcome is in
     let p = unless-passed (take_tests tenant worker f.0) (taken_by {I = I} tenant worker f.0) outcome f.2 in
-    came P (taken_by tenant worker f.0) outcome p.1 (each.at_take worker name.serial f.0 f.1 (first-passed (not (is_ready f.0.state)) _ p.0) (third-passed _ _ (eqb (left tenant).steps 0) _ p.0))
+    came P (taken_by tenant worker f.0) outcome p.1 (each.at_take worker name.serial f.0 f.1 p.0.0 p.0.1.1.0)
 by-effects {I} functions tenant (Steal worker from name) outcome P is each =
     let f = frame-found tenant.frames name.serial (λ frame. unless (steal_tests tenant worker from frame) (taken_by tenant worker frame)) outcome is in
     let p = unless-passed (steal_tests tenant worker from f.0) (taken_by {I = I} tenant worker f.0) outcome f.2 in
-    came P (taken_by tenant worker f.0) outcome p.1 (each.at_take worker name.serial f.0 f.1 (first-passed (not (is_ready f.0.state)) _ p.0) (third-passed _ _ (eqb (left tenant).steps 0) _ p.0))
+    came P (taken_by tenant worker f.0) outcome p.1 (each.at_take worker name.serial f.0 f.1 p.0.0 p.0.1.1.0)
 by-effects {I} functions tenant (Advance worker name) outcome P is each =
     let f = frame-found tenant.frames name.serial (λ frame. unless (advance_tests tenant worker frame (act_by_sight functions tenant frame)) (advanced functions tenant worker name frame (act_by_sight functions tenant frame))) outcome is in
     let act = act_by_sight functions tenant f.0 in
@@ -138,7 +136,42 @@ by-effects {I} functions tenant (Cancel number job) outcome P is each = by (job_
     by (Some CancelledJob) at e = none e
 by-effects {I} functions tenant (Leave number) outcome P is each =
     let e : ◌≡◌ {A = Result (Outcome I) Refusal} (Ok (None, Left)) (Ok outcome) = is in
-    let own : ◌≡◌ {A = Outcome I} (None, Left) outcome = cc in came P (None, Left) outcome own each.at_leave
+    let own : ◌≡◌ {A = Outcome I} (None, Left) outcome = cc in came P (None, Left) outcome own (each.at_leave number refl)
+
+-- P holds of what each kind of step leaves. Those of workers but Finish count one more step, and change only frames and serials
+pub record HoldsOfKinds {A : Type 0} (tenant : Tenant) (step : StepOf A) (P : Option Tenant → Type 0) : Type 0 where
+  pub at_raise : (number : ℕ) (quota : Quota) → step ≡ AdmitMore number quota → P (Some (record tenant { reserve = quota }))
+  pub at_submit : (serials root : ℕ) (frames : Tree) → P (Some (record tenant { serials = serials; jobs = tenant.jobs ++ Live root ∷ []; frames = frames }))
+  pub at_work : (serials : ℕ) (frames : Tree) → P (Some (record (counted tenant) { serials = serials; frames = frames }))
+  pub at_finish : (root : ℕ) (words : List ℕ) → P (Some (counted (ended root (Done words) tenant)))
+  pub at_spend : (s : ℕ) (f : Frame (List ℕ)) → frame_at tenant.frames s ≡ Some f → P (Some (ended (root_of f.path) SpentJob tenant))
+  pub at_cancel : (number root : ℕ) → job_at tenant.jobs number ≡ Some (Live root) → P (Some (ended root CancelledJob tenant))
+  pub at_leave : (number : ℕ) → step ≡ Leave number → P None
+
+-- what an act leaves
+then-works : {I A : Type 0} (functions : Functions I A) (t : Tenant) (worker : ℕ) (name : FrameId) (path words : List ℕ) (after : Continuation) (P : Option Tenant → Type 0) →
+    ((serials : ℕ) (frames : Tree) → P (Some (record t { serials = serials; frames = frames }))) → P (then_done functions t worker name path words after).0
+then-works functions t worker name path words Wait P each = elim (cases_Bool (has_child t.frames name.serial)) [ inl some ↦ rw some (each _ _) | inr none ↦ rw none (each _ _) ]
+then-works functions t worker name path words Return P each = elim (cases_Bool (has_child t.frames name.serial)) [ inl some ↦ rw some (each _ _) | inr none ↦ rw none (each _ _) ]
+then-works functions t worker name path words _ P each = each _ _
+
+-- so it holds of what a step leaves
+pub by-kinds : {I A : Type 0} (functions : Functions I A) (tenant : Tenant) (step : StepOf A) (outcome : Outcome I) (P : Option Tenant → Type 0) → lone_step functions tenant step ≡ Ok outcome → HoldsOfKinds tenant step P → P outcome.0
+by-kinds functions tenant step outcome P is each = by-effects functions tenant step outcome P is (record {
+  at_raise = λ number quota raises enough. each.at_raise number quota raises;
+  at_submit = λ number words size submits passed. each.at_submit _ _ _;
+  at_take = λ worker s f at ready some. each.at_work _ _;
+  at_advance = λ worker name f at passed. then-works functions (counted (holding f.serial _ tenant)) worker name f.path _ (act_by_sight functions tenant f).after P (λ serials frames. each.at_work serials frames);
+  at_answer = λ worker s f answer at passed. each.at_work _ _;
+  at_inlet = λ worker name f parent at named passed.
+      let act = functions.inlet (words_in tenant.frames parent) f.value in
+      let frames = staying tenant.frames name.serial parent act.abort in
+      elim (cases_Bool (does_wait (frame_at frames parent) && (act.abort || act.wake || not (has_child frames parent)))) [ inl woken ↦ rw woken (each.at_work _ _) | inr sleeps ↦ rw sleeps (each.at_work _ _) ];
+  at_finish = λ worker s f at passed. each.at_finish f.serial _;
+  at_spend = each.at_spend;
+  at_cancel = each.at_cancel;
+  at_leave = each.at_leave;
+})
 
 -- a step that is left
 step-left : (tenant : Tenant) → (eqb (left tenant).steps 0) ≡ false → tenant.steps < 16 * tenant.reserve.nodes
@@ -159,15 +192,11 @@ size-parts words size is =
     (leb-true 1 size first.0, leb-true size 128 first.1, leb-true (length words) size all.1)
 
 -- Submit
-submit-shaped : (I : Type 0) (tenant : Tenant) (number : ℕ) (words : List ℕ) (size : ℕ) → applies (submit_tests tenant words size) ≡ false → IsShaped tenant → LeftShaped (submitted {I = I} tenant number words size).0
+submit-shaped : (I : Type 0) (tenant : Tenant) (number : ℕ) (words : List ℕ) (size : ℕ) → AllPass (submit_tests tenant words size) → IsShaped tenant → LeftShaped (submitted {I = I} tenant number words size).0
 submit-shaped I tenant number words size passed s =
-    let p = or_parts (not (is_frame_size words size)) (applies ((leb 256 (length tenant.jobs), NoJobsLeft) ∷ (eqb (left tenant).nodes 0, NoNodes) ∷ (ltb (left tenant).segments (charge size), NoSegments) ∷ [])) passed in
-    let q = or_parts (leb 256 (length tenant.jobs)) (applies ((eqb (left tenant).nodes 0, NoNodes) ∷ (ltb (left tenant).segments (charge size), NoSegments) ∷ [])) p.1 in
-    let r = or_parts (eqb (left tenant).nodes 0) (applies ((ltb (left tenant).segments (charge size), NoSegments) ∷ [])) q.1 in
-    let last = or_parts (ltb (left tenant).segments (charge size)) false r.1 in
-    let fits = size-parts words size p.0 in
-    shaped-root words size 0 tenant (leb-false 256 (length tenant.jobs) q.0)
-    (record { some = fits.0; few = fits.1; fewer = fits.2; node = node-left tenant r.0; segments = segments-left tenant (charge size) s.charged last.0 }) s
+    let fits = size-parts words size passed.0 in
+    shaped-root words size 0 tenant (leb-false 256 (length tenant.jobs) passed.1.0)
+    (record { some = fits.0; few = fits.1; fewer = fits.2; node = node-left tenant passed.1.1.0; segments = segments-left tenant (charge size) s.charged passed.1.1.1.0 }) s
 
 -- Take and Steal
 taken-shaped : (I : Type 0) (tenant : Tenant) (worker : ℕ) (f : Frame (List ℕ)) → eqb (left tenant).steps 0 ≡ false → IsShaped tenant → LeftShaped (taken_by {I = I} tenant worker f).0
@@ -237,30 +266,22 @@ then-shaped functions t worker name path words Return g at is free good node roo
 
 -- Advance
 advance-shaped : {I A : Type 0} (functions : Functions I A) (tenant : Tenant) (worker : ℕ) (name : FrameId) (f : Frame (List ℕ)) (act : Act) → frame_at tenant.frames name.serial ≡ Some f →
-    applies (advance_tests tenant worker f act) ≡ false → IsShaped tenant → LeftShaped (advanced functions tenant worker name f act).0
+    AllPass (advance_tests tenant worker f act) → IsShaped tenant → LeftShaped (advanced functions tenant worker name f act).0
 advance-shaped functions tenant worker name f act at passed s =
-    let p = or_parts (not (is_run_by worker f.state)) (applies (no_step tenant ∷ act_tests tenant f act)) passed in
-    let q = or_parts (eqb (left tenant).steps 0) (applies (act_tests tenant f act)) p.1 in
-    let bad = is_bad_act f.value (has_child tenant.frames f.serial) act in
-    let nodes = is_spawn act.after && eqb (left tenant).nodes 0 in
-    let segments = ltb (left tenant).segments (segments_for f act.after) in
-    let r = or_parts bad (applies ((nodes, NoNodes) ∷ (segments, NoSegments) ∷ [])) q.1 in
-    let u = or_parts nodes (applies ((segments, NoSegments) ∷ [])) r.1 in
-    let v = or_parts segments false u.1 in
-    let good = (or_parts (is_outside act.stores f.value) (is_bad_then (length f.value) (has_child tenant.frames f.serial) act.after) r.0).1 in
+    let good = (or_parts (is_outside act.stores f.value) (is_bad_then (length f.value) (has_child tenant.frames f.serial) act.after) passed.1.1.0).1 in
     let own = found-serial tenant.frames name.serial f at in
     let words = stored act.stores f.value in
     let long : length words ≡ length f.value = length-stored act.stores f.value in
     let t = holding f.serial words tenant in
     let at_own : frame_at tenant.frames f.serial ≡ Some f = ap (frame_at tenant.frames) own ∙ at in
-    let st = shaped-counted t (step-left tenant q.0) (shaped-stored f.serial words tenant f at_own long s) in
+    let st = shaped-counted t (step-left tenant passed.1.0) (shaped-stored f.serial words tenant f at_own long s) in
     let g : Frame (List ℕ) = record f { value = words } in
     let at_g : frame_at t.frames name.serial ≡ Some g = ap (frame_at t.frames) (sym own) ∙ frame_at-with_frame_words f.serial words tenant.frames f at_own in
     let child : has_child t.frames name.serial ≡ has_child tenant.frames f.serial = ap (has_child t.frames) (sym own) ∙ has_child-with_frame_words f.serial words tenant.frames f.serial s.tree in
-    then-shaped functions (counted t) worker name f.path words act.after g at_g refl (run-free worker f.state (not-false (is_run_by worker f.state) p.0))
+    then-shaped functions (counted t) worker name f.path words act.after g at_g refl (run-free worker f.state (not-false (is_run_by worker f.state) passed.0))
     (ap (λ (n : ℕ). is_bad_then n (has_child t.frames name.serial) act.after) long ∙ ap (λ (b : Bool). is_bad_then (length f.value) b act.after) child ∙ good)
-    (λ spawn. node-left tenant (node (is_spawn act.after) (eqb (left tenant).nodes 0) spawn u.0))
-    (room act.after (segments-left tenant (segments_for f act.after) s.charged v.0)
+    (λ spawn. node-left tenant (node (is_spawn act.after) (eqb (left tenant).nodes 0) spawn passed.1.1.1.0))
+    (room act.after (segments-left tenant (segments_for f act.after) s.charged passed.1.1.1.1.0)
     (same (charged_for t.frames) (charge (length f.value)) (charged_for tenant.frames) (charge (length words)) (ap charge long) (charged-with_frame_words f.serial words tenant.frames f (tree-rising tenant.frames s.tree) at_own)) g long)
     st
   where
@@ -280,17 +301,12 @@ advance-shaped functions tenant worker name f act at passed s =
 
 -- Answer
 answer-shaped : {I A : Type 0} (functions : Functions I A) (tenant : Tenant) (worker : ℕ) (s : ℕ) (f : Frame (List ℕ)) (answer : A) → frame_at tenant.frames s ≡ Some f →
-    applies (answer_tests functions tenant worker f answer) ≡ false → IsShaped tenant → LeftShaped (answered functions tenant worker f answer).0
+    AllPass (answer_tests functions tenant worker f answer) → IsShaped tenant → LeftShaped (answered functions tenant worker f answer).0
 answer-shaped functions tenant worker s f answer at passed shape =
-    let outside = is_outside (functions.accept f.value answer) f.value in
-    let other = not (functions.same (functions.asked answer) (functions.input f.value)) in
-    let p = or_parts (not (is_computed_by worker f.state)) (applies ((other, Mismatch) ∷ no_step tenant ∷ (outside, BadAct) ∷ [])) passed in
-    let q = or_parts other (applies (no_step tenant ∷ (outside, BadAct) ∷ [])) p.1 in
-    let r = or_parts (eqb (left tenant).steps 0) (applies ((outside, BadAct) ∷ [])) q.1 in
     let at_own : frame_at tenant.frames f.serial ≡ Some f = ap (frame_at tenant.frames) (found-serial tenant.frames s f at) ∙ at in
     let words = stored (functions.accept f.value answer) f.value in
     let t = holding f.serial words tenant in
-    shaped-counted (in_state f.serial (Running worker) t) (step-left tenant r.0)
+    shaped-counted (in_state f.serial (Running worker) t) (step-left tenant passed.1.1.0)
     (shaped-in_state f.serial (Running worker) t (inl refl) (shaped-stored f.serial words tenant f at_own (length-stored (functions.accept f.value answer) f.value) shape))
 
 -- Inlet: the frames that stay, with the parent among them
@@ -307,22 +323,19 @@ staying-parent tenant n parent f g false at named at_g s =
     frame_at_other-without n tenant.frames parent (λ e. omega (arith, e, below)) ∙ at_g
 
 pub inlet-stored-shaped : (tenant : Tenant) (worker n : ℕ) (f : Frame (List ℕ)) (parent : ℕ) (act : InletAct) → frame_at tenant.frames n ≡ Some f → parent_of f.path ≡ Some parent →
-    applies (inlet_tests tenant worker f parent act) ≡ false → IsShaped tenant →
+    AllPass (inlet_tests tenant worker f parent act) → IsShaped tenant →
     IsShaped (counted (holding parent (stored act.stores (words_in (staying tenant.frames n parent act.abort) parent)) (record tenant { frames = staying tenant.frames n parent act.abort })))
 inlet-stored-shaped tenant worker n f parent act at named passed s =
-    let outside = is_outside act.stores (words_in tenant.frames parent) in
-    let p = or_parts (not (is_returned f.state)) (applies (no_step tenant ∷ (outside, BadAct) ∷ not_free tenant worker ∷ [])) passed in
-    let q = or_parts (eqb (left tenant).steps 0) (applies ((outside, BadAct) ∷ not_free tenant worker ∷ [])) p.1 in
-    let leaf = returned-childless tenant n f s at (returned-marked f.state (not-false (is_returned f.state) p.0)) in
+    let leaf = returned-childless tenant n f s at (returned-marked f.state (not-false (is_returned f.state) passed.0)) in
     let g = there-found tenant.frames parent (under-there tenant.frames n parent f s.tree at named) in
     let frames = staying tenant.frames n parent act.abort in
     let at_g : frame_at frames parent ≡ Some g.0 = staying-parent tenant n parent f g.0 act.abort at named g.1 s in
     let words = stored act.stores (words_in frames parent) in
     let long : length words ≡ length g.0.value = length-stored act.stores (words_in frames parent) ∙ ap (λ o. length (frame_words o)) at_g in
-    shaped-counted (holding parent words (record tenant { frames = frames })) (step-left tenant q.0) (shaped-stored parent words (record tenant { frames = frames }) g.0 at_g long (staying-shaped tenant n parent f act.abort at named leaf s))
+    shaped-counted (holding parent words (record tenant { frames = frames })) (step-left tenant passed.1.0) (shaped-stored parent words (record tenant { frames = frames }) g.0 at_g long (staying-shaped tenant n parent f act.abort at named leaf s))
 
 inlet-shaped : (I : Type 0) (tenant : Tenant) (worker : ℕ) (name : FrameId) (f : Frame (List ℕ)) (parent : ℕ) (act : InletAct) → frame_at tenant.frames name.serial ≡ Some f → parent_of f.path ≡ Some parent →
-    applies (inlet_tests tenant worker f parent act) ≡ false → IsShaped tenant → LeftShaped (taken_in {I = I} tenant worker name parent act).0
+    AllPass (inlet_tests tenant worker f parent act) → IsShaped tenant → LeftShaped (taken_in {I = I} tenant worker name parent act).0
 inlet-shaped I tenant worker name f parent act at named passed s =
     let frames = staying tenant.frames name.serial parent act.abort in
     let after = counted (holding parent (stored act.stores (words_in frames parent)) (record tenant { frames = frames })) in
@@ -333,11 +346,9 @@ inlet-shaped I tenant worker name f parent act at named passed s =
     ]
 
 -- Finish and Spend
-finish-shaped : (I : Type 0) (tenant : Tenant) (worker : ℕ) (f : Frame (List ℕ)) → applies (finish_tests tenant worker f) ≡ false → IsShaped tenant → LeftShaped (finished {I = I} tenant f).0
+finish-shaped : (I : Type 0) (tenant : Tenant) (worker : ℕ) (f : Frame (List ℕ)) → AllPass (finish_tests tenant worker f) → IsShaped tenant → LeftShaped (finished {I = I} tenant f).0
 finish-shaped I tenant worker f passed s =
-    let p = or_parts (not (is_returned f.state) || not (is_root f.path)) (applies (no_step tenant ∷ not_free tenant worker ∷ [])) passed in
-    let q = or_parts (eqb (left tenant).steps 0) (applies (not_free tenant worker ∷ [])) p.1 in
-    shaped-counted (ended f.serial (Done (kept_words f.value)) tenant) (step-left tenant q.0) (shaped-ended f.serial (Done (kept_words f.value)) tenant (λ root. refl) s)
+    shaped-counted (ended f.serial (Done (kept_words f.value)) tenant) (step-left tenant passed.1.0) (shaped-ended f.serial (Done (kept_words f.value)) tenant (λ root. refl) s)
 
 spend-shaped : (I : Type 0) (tenant : Tenant) (f : Frame (List ℕ)) → IsShaped tenant → LeftShaped (spent {I = I} tenant f).0
 spend-shaped I tenant f s = shaped-ended (root_of f.path) SpentJob tenant (λ root. refl) s
@@ -367,7 +378,7 @@ step-shaped {I} functions tenant step outcome is s = by-effects functions tenant
   at_finish = λ worker serial f at passed. finish-shaped I tenant worker f passed s;
   at_spend = λ serial f at. spend-shaped I tenant f s;
   at_cancel = λ number root at. shaped-ended root CancelledJob tenant (λ r. refl) s;
-  at_leave = tt;
+  at_leave = λ number leaves. tt;
 })
 
 -- from nothing: an admission

@@ -1,15 +1,10 @@
 -- What all tenants have reserved and are charged, under each answer.
-use Rattle.std.proofs.Common.{◌≡◌, ◌↔◌, ℕ, ◌+◌, ◌*◌, ◌≤◌, inl, inr, Bool, false, not, ◌||◌, ◌&&◌, eqb, ltb, leb, List, [], ◌∷◌, Option, Some, None, Result, Ok, Err, length, refl, ap, sym, ◌∙◌, subst, arith}
+use Rattle.std.proofs.Common.{◌≡◌, ◌↔◌, ℕ, ◌+◌, ◌*◌, ◌≤◌, inl, inr, false, ◌||◌, eqb, ltb, leb, List, [], ◌∷◌, Option, Some, None, Result, Ok, Err, length, refl, ap, sym, ◌∙◌, subst, arith}
 use Rattle.std.proofs.lemmas.List.Sums.{sum_by-cons}
 use Rattle.std.proofs.lemmas.Bool.{cases_Bool, false≢true, ltb-false, le-ltb, or_parts}
 use Rattle.tenant_quota.specs.Quota.{Quota}
 use Rattle.tenant_quota.specs.Accounts.{reserved_segments, reserved_nodes}
 use Rattle.tenant_quota.specs.declared.account.Account.{Account}
-use Rattle.frame_tree.specs.declared.names.FrameId.{FrameId}
-use Rattle.frame_tree.specs.Frames.{frame_at}
-use Rattle.sched_rules.specs.declared.act.InletAct.{InletAct}
-use Rattle.sched_rules.specs.declared.act.Continuation.{Continuation}
-use Rattle.sched_rules.specs.declared.act.Continuation.TheVariants.{Wait, Return}
 use Rattle.sched_rules.specs.declared.refusal.Refusal.{Refusal}
 use Rattle.sched_rules.specs.declared.refusal.Refusal.TheVariants.{NoTenant, Lower}
 use Rattle.sched_rules.specs.declared.step.StepOf.{StepOf}
@@ -17,16 +12,16 @@ use Rattle.sched_rules.specs.declared.step.StepOf.TheVariants.{Admit, AdmitMore}
 use Rattle.sched_rules.specs.declared.step.DidOf.{DidOf}
 use Rattle.sched_rules.specs.declared.step.DidOf.TheVariants.{Admitted}
 use Rattle.sched_rules.specs.Functions.{Functions}
-use Rattle.sched_rules.specs.Trees.{Tenant, admitted_with, account_in, charged_for, words_in, left, has_child}
-use Rattle.sched_rules.specs.Lone.{Outcome, lone, lone_step, is_lower, raised, counted, holding, act_by_sight, then_done, does_wait, staying, taken_in}
+use Rattle.sched_rules.specs.Trees.{Tenant, admitted_with, account_in, charged_for, left}
+use Rattle.sched_rules.specs.Lone.{Outcome, lone, lone_step, is_lower, raised}
 use Rattle.sched_rules.specs.Runs.{tenant_of}
 use Rattle.sched_rules.specs.Views.{free_in}
 use Rattle.sched_rules.specs.Cores.{CoreState, tenant_in, with_tenant, without_tenant, with_outcome, accounts_in, reservations_in, is_full, reserved_by, is_beyond, admit_tests, step_result, shared_after, charged_in}
 use Rattle.sched_rules.specs.Headline.{is_admission, after_answer, after_answers}
 use Rattle.sched_rules.proofs.Isolation.{there}
 use Rattle.sched_laws.specs.Shapes.{IsShaped, AreShaped, IsReservedWithin, IsCovered}
-use Rattle.sched_laws.proofs.Shaped.{unless-passed, by-effects}
-use Rattle.sched_laws.proofs.FitAnswers.{taken-alone, admission}
+use Rattle.sched_laws.proofs.Shaped.{unless-passed, by-kinds}
+use Rattle.sched_laws.proofs.FitAnswers.{taken-alone}
 use Rattle.sched_laws.proofs.Answers.{more-taken}
 
 abbrev Entries : Type 0
@@ -77,29 +72,16 @@ abbrev pub KeepsReserve : Quota → Option Tenant → Type 0
 KeepsReserve quota None = Unit {0}
 KeepsReserve quota (Some tenant) = tenant.reserve ≡ quota
 
-then-reserve : {I A : Type 0} (functions : Functions I A) (t : Tenant) (worker : ℕ) (name : FrameId) (path words : List ℕ) (after : Continuation) → KeepsReserve t.reserve (then_done functions t worker name path words after).0
-then-reserve functions t worker name path words Wait = elim (cases_Bool (has_child t.frames name.serial)) [ inl some ↦ rw some refl | inr none ↦ rw none refl ]
-then-reserve functions t worker name path words Return = elim (cases_Bool (has_child t.frames name.serial)) [ inl some ↦ rw some refl | inr none ↦ rw none refl ]
-then-reserve functions t worker name path words _ = refl
-
-inlet-reserve : (I : Type 0) (tenant : Tenant) (worker : ℕ) (name : FrameId) (parent : ℕ) (act : InletAct) → KeepsReserve tenant.reserve (taken_in {I = I} tenant worker name parent act).0
-inlet-reserve I tenant worker name parent act =
-    let frames = staying tenant.frames name.serial parent act.abort in
-    elim (cases_Bool (does_wait (frame_at frames parent) && (act.abort || act.wake || not (has_child frames parent)))) [ inl woken ↦ rw woken refl | inr sleeps ↦ rw sleeps refl ]
-
 -- every step but an admission of more
 pub step-reserve : {I A : Type 0} (functions : Functions I A) (tenant : Tenant) (step : StepOf A) (outcome : Outcome I) → is_admission step ≡ false → lone_step functions tenant step ≡ Ok outcome → KeepsReserve tenant.reserve outcome.0
-step-reserve {I} functions tenant step outcome no_admission is = by-effects functions tenant step outcome (KeepsReserve tenant.reserve) is (record {
-  at_raise = λ number quota more enough. absurd (false≢true (sym no_admission ∙ ap is_admission more));
-  at_submit = λ number words size _ passed. refl;
-  at_take = λ worker serial f found ready some. refl;
-  at_advance = λ worker name f found passed. then-reserve functions (counted (holding f.serial _ tenant)) worker name f.path _ (act_by_sight functions tenant f).after;
-  at_answer = λ worker serial f answer found passed. refl;
-  at_inlet = λ worker name f parent found named passed. inlet-reserve I tenant worker name parent (functions.inlet (words_in tenant.frames parent) f.value);
-  at_finish = λ worker serial f found passed. refl;
+step-reserve functions tenant step outcome no_admission is = by-kinds functions tenant step outcome (KeepsReserve tenant.reserve) is (record {
+  at_raise = λ number quota more. absurd (false≢true (sym no_admission ∙ ap is_admission more));
+  at_submit = λ serials root frames. refl;
+  at_work = λ serials frames. refl;
+  at_finish = λ root words. refl;
   at_spend = λ serial f found. refl;
   at_cancel = λ number root found. refl;
-  at_leave = tt;
+  at_leave = λ number leaves. tt;
 })
 
 -- a number that goes by what is reserved, after a tenant came to this
@@ -117,7 +99,7 @@ admit-within {I} functions before number quota outcome is within =
     let book = reservations_in before in
     let full = is_full book quota in
     let p = unless-passed (admit_tests before number quota) effect outcome is in
-    let none : full ≡ false = second _ full p.0 in
+    let none : full ≡ false = p.0.1.0 in
     let first = or_parts (leb 64 (length book.accounts) || ltb book.segments (reserved_segments book.accounts + quota.segments)) (ltb book.nodes (reserved_nodes book.accounts + quota.nodes)) none in
     let inner = or_parts (leb 64 (length book.accounts)) (ltb book.segments (reserved_segments book.accounts + quota.segments)) first.0 in
     let segments = ltb-false book.segments (reserved_segments book.accounts + quota.segments) inner.1 in
@@ -126,9 +108,6 @@ admit-within {I} functions before number quota outcome is within =
     let all_nodes = nodes-total before.tenants in
     let P : Outcome I → Type 0 = λ o. WithinAfter before number o.0 in
     subst P p.1 (room (λ q. q.segments) number quota before.tenants before.totals.segments (omega (arith, segments, all_segments)), room (λ q. q.nodes) number quota before.tenants before.totals.nodes (omega (arith, nodes, all_nodes)))
-  where
-    second : (a b : Bool) → (a || (b || false)) ≡ false → b ≡ false
-    second a b e = (or_parts b false (or_parts a (b || false) e).1).0
 
 -- the totals with a further reservation in the place of the tenant's own
 further : (m : Quota → ℕ) (number : ℕ) (old : Tenant) (quota : Quota) (es : Entries) → tenant_in es number ≡ Some old →
@@ -220,17 +199,15 @@ step-within functions before step outcome no_admission is within = by (tenant_in
         let e = segments-total before.tenants in let f = nodes-total before.tenants in
         (omega (arith, a, c, e), omega (arith, b, d, f))
 
+taken-within : {I A : Type 0} (functions : Functions I A) (before : CoreState) (step : StepOf A) (outcome : Outcome I) → step_result functions before step ≡ Ok outcome → IsReservedWithin before → WithinAfter before (tenant_of step) outcome.0
+taken-within functions before (Admit number quota) outcome is within = admit-within functions before number quota outcome is within
+taken-within functions before (AdmitMore number quota) outcome is within = more-within functions before number quota outcome is within
+taken-within functions before step outcome is within = step-within functions before step outcome refl is within
+
 after-within : {I A : Type 0} (functions : Functions I A) (before : CoreState) (step : StepOf A) (came_to : Result (Outcome I) Refusal) → step_result functions before step ≡ came_to → IsReservedWithin before → IsReservedWithin (shared_after before step came_to)
 after-within functions before step (Err refusal) is within = within
-after-within {I} {A} functions before step (Ok outcome) is within =
-    let both = elim (cases_Bool (is_admission step)) as (λ _. WithinAfter before (tenant_of step) outcome.0) [
-      | inr no_admission ↦ step-within functions before step outcome no_admission is within
-      | inl admits ↦ (let P : StepOf A → Type 0 = λ st. WithinAfter before (tenant_of st) outcome.0 in
-          elim (admission step admits) as (λ _. P step) [
-            | inl a ↦ subst P (sym a.2) (admit-within functions before a.0 a.1 outcome (ap (step_result functions before) (sym a.2) ∙ is) within)
-            | inr m ↦ subst P (sym m.2) (more-within functions before m.0 m.1 outcome (ap (step_result functions before) (sym m.2) ∙ is) within)
-          ])
-    ] in
+after-within functions before step (Ok outcome) is within =
+    let both = taken-within functions before step outcome is within in
     let e = segments-total (with_outcome (tenant_of step) outcome.0 before.tenants) in
     let f = nodes-total (with_outcome (tenant_of step) outcome.0 before.tenants) in
     record { segments = omega (arith, both.0, e); nodes = omega (arith, both.1, f) }

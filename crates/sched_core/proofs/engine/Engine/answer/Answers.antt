@@ -1,6 +1,6 @@
 use Rattle.std.proofs.Common.{refl}
 use Rattle.sched_rules.specs.declared.step.StepOf.TheVariants.{Answer}
-use Rattle.sched_core.proofs.Deciding.{seen-serial}
+use Rattle.frame_tree.proofs.TreeLaws.{found-serial}
 use Rattle.sched_core.proofs.TakenStep.{step_result-taken, then-run, step-left}
 use Rattle.sched_core.proofs.Ending.{with-named}
 use Rattle.sched_core.proofs.Acting.{IsAnswered, is-answered, not-false, computes-holds, may-hold}
@@ -31,4 +31,4 @@ pub returns-clause-step_result : goal.returns-clause-step_result
 returns-clause-step_result g c =
     let a = accepted g (goal.at.returns-clause-step_result g c).After-store_all in
     step_result-taken (g.P.Procedure.functions c.args.self.now.procedure) c.args.self.now.store (Answer c.args.worker c.args.name c.args.answer.now) _ _ _ a.going.among refl
-    (rw (seen-serial a.going.tenant.frames c.args.name.serial a.going.frame a.going.found) (then-run _ _ _ _ _ _ _ a.has_words c.run.ensures.ran).is)
+    (rw (found-serial a.going.tenant.frames c.args.name.serial a.going.frame a.going.found) (then-run _ _ _ _ _ _ _ a.has_words c.run.ensures.ran).is)

@@ -3,7 +3,7 @@ use Rattle.sched_rules.specs.declared.job.Job.TheVariants.{Done}
 use Rattle.sched_rules.specs.declared.step.StepOf.TheVariants.{Finish}
 use Rattle.sched_rules.specs.Trees.{kept_words}
 use Rattle.sched_rules.specs.Lone.{ended, counted}
-use Rattle.sched_core.proofs.Deciding.{seen-serial}
+use Rattle.frame_tree.proofs.TreeLaws.{found-serial}
 use Rattle.sched_core.proofs.TakenStep.{step_result-taken, begins, then-changed, step-left}
 use Rattle.sched_core.proofs.Ending.{finish-going, named-words}
 use Rattle.sched_core.proofs.engine.Engine.finish.Goals as goal
@@ -23,5 +23,5 @@ returns-clause-step_result g c =
     let w2 = then-changed _ _ _ _ c.count_step.new.self counted w1 c.count_step.ensures in
     let words = named-words c.args.self.now.store c.args.name t.tenant t.frame t.owner t.found in
     let kept : c.of-kept.result ≡ kept_words t.frame.value = c.of-kept.ensures ∙ rw (c.own.ensures, words) refl in
-    let serial = seen-serial t.tenant.frames c.args.name.serial t.frame t.found in
+    let serial = found-serial t.tenant.frames c.args.name.serial t.frame t.found in
     step_result-taken (g.P.Procedure.functions c.args.self.now.procedure) c.args.self.now.store (Finish c.args.worker c.args.name) _ _ _ t.among (rw (serial, c.job_under-job.ensures, t.owner) refl) (rw (serial, ← kept) w2.is)

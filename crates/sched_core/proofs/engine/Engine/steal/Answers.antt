@@ -1,7 +1,7 @@
 use Rattle.std.proofs.Common.{refl}
 use Rattle.std.proofs.lemmas.Result.{err_from_is_err_and}
 use Rattle.sched_rules.specs.declared.step.StepOf.TheVariants.{Steal}
-use Rattle.sched_core.proofs.Deciding.{seen-serial}
+use Rattle.frame_tree.proofs.TreeLaws.{found-serial}
 use Rattle.sched_core.proofs.TakenStep.{step_result-taken, step_result-refused, steal-going, begins, then-run, step-left}
 use Rattle.sched_core.proofs.engine.Engine.steal.Goals as goal
 
@@ -19,4 +19,4 @@ pub returns-clause-step_result : goal.returns-clause-step_result
 returns-clause-step_result g c =
     let t = steal-going (g.P.Procedure.functions c.args.self.now.procedure) c.args.self.now.store c.args.worker c.args.from c.args.name c.in_ok-may_steal.ensures.refusal in
     let w = begins c.args.self.now.store c.args.name.tenant t.tenant t.owner in
-    step_result-taken (g.P.Procedure.functions c.args.self.now.procedure) c.args.self.now.store (Steal c.args.worker c.args.from c.args.name) _ _ _ t.among refl (rw (seen-serial t.tenant.frames c.args.name.serial t.frame t.found) (then-run _ _ _ _ _ _ _ w c.run.ensures.ran).is)
+    step_result-taken (g.P.Procedure.functions c.args.self.now.procedure) c.args.self.now.store (Steal c.args.worker c.args.from c.args.name) _ _ _ t.among refl (rw (found-serial t.tenant.frames c.args.name.serial t.frame t.found) (then-run _ _ _ _ _ _ _ w c.run.ensures.ran).is)

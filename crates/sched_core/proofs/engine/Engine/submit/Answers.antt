@@ -1,14 +1,13 @@
-use Rattle.std.proofs.Common.{◌≡◌, ◌+◌, None, refl, arith}
+use Rattle.std.proofs.Common.{◌≡◌, ◌+◌, refl, arith}
 use Rattle.std.proofs.lemmas.Result.{err_from_is_err_and}
 use Rattle.std.proofs.lemmas.Bool.Decides.{nat_tests}
 use Rattle.sched_rules.specs.declared.job.Job.TheVariants.{Live}
 use Rattle.sched_rules.specs.declared.step.StepOf.TheVariants.{Submit}
 use Rattle.sched_rules.specs.Changes.{on_tenant, with_job}
-use Rattle.sched_rules.specs.Lone.{opened}
 use Rattle.sched_laws.proofs.Answers.{shaped-in}
-use Rattle.sched_core.proofs.TakenStep.{step_result-refused, step_result-taken, begins, then-changed}
+use Rattle.sched_core.proofs.TakenStep.{step_result-refused, step_result-taken, then-changed}
 use Rattle.sched_core.proofs.Ending.{with-there}
-use Rattle.sched_core.proofs.Beginning.{submit-going, fresh-root}
+use Rattle.sched_core.proofs.Beginning.{submit-opens, fresh-root}
 use Rattle.sched_core.proofs.engine.Engine.submit.Goals as goal
 
 pub returns-in_err-may_submit-clause-step_result : goal.returns-in_err-may_submit-clause-step_result
@@ -18,32 +17,24 @@ returns-in_err-may_submit-clause-step_result g c =
 
 pub begin_job-requires-clause-there : goal.begin_job-requires-clause-there
 begin_job-requires-clause-there g c =
-    let t = submit-going (g.P.Procedure.functions c.args.self.now.procedure) c.args.self.now.store c.args.number c.args.words.now c.args.size c.in_ok-may_submit.ensures.refusal in
-    let w = begins c.args.self.now.store c.args.number t.tenant t.owner in
-    let w1 = then-changed _ _ _ _ c.open-root.new.self (opened None c.args.words.now c.args.size 0) w c.open-root.ensures.opened in
-    with-there _ _ _ _ w1
+    let o = submit-opens (g.P.Procedure.functions c.args.self.now.procedure) _ _ c.args.number c.args.words.now c.args.size c.in_ok-may_submit.ensures.refusal c.open-root.ensures.opened in
+    with-there _ _ _ _ o.1
 
 pub begin_job-requires-clause-room : goal.begin_job-requires-clause-room
 begin_job-requires-clause-room g c =
-    let t = submit-going (g.P.Procedure.functions c.args.self.now.procedure) c.args.self.now.store c.args.number c.args.words.now c.args.size c.in_ok-may_submit.ensures.refusal in
-    let w = begins c.args.self.now.store c.args.number t.tenant t.owner in
-    let w1 = then-changed _ _ _ _ c.open-root.new.self (opened None c.args.words.now c.args.size 0) w c.open-root.ensures.opened in
-    rw w1.there (grind (arith, nat_tests, t.passes.1.0))
+    let o = submit-opens (g.P.Procedure.functions c.args.self.now.procedure) _ _ c.args.number c.args.words.now c.args.size c.in_ok-may_submit.ensures.refusal c.open-root.ensures.opened in
+    rw o.1.there (grind (arith, nat_tests, o.0.passes.1.0))
 
 pub begin_job-requires-clause-fresh : goal.begin_job-requires-clause-fresh
 begin_job-requires-clause-fresh g c =
-    let t = submit-going (g.P.Procedure.functions c.args.self.now.procedure) c.args.self.now.store c.args.number c.args.words.now c.args.size c.in_ok-may_submit.ensures.refusal in
-    let w = begins c.args.self.now.store c.args.number t.tenant t.owner in
-    let w1 = then-changed _ _ _ _ c.open-root.new.self (opened None c.args.words.now c.args.size 0) w c.open-root.ensures.opened in
-    let fresh = fresh-root t.tenant (shaped-in c.args.number c.args.self.now.store.tenants t.tenant c.requires t.owner) in
-    rw (w1.there, c.open-root.ensures.name, t.owner) fresh
+    let o = submit-opens (g.P.Procedure.functions c.args.self.now.procedure) _ _ c.args.number c.args.words.now c.args.size c.in_ok-may_submit.ensures.refusal c.open-root.ensures.opened in
+    let fresh = fresh-root o.0.tenant (shaped-in c.args.number c.args.self.now.store.tenants o.0.tenant c.requires o.0.owner) in
+    rw (o.1.there, c.open-root.ensures.name, o.0.owner) fresh
 
 pub returns-clause-step_result : goal.returns-clause-step_result
 returns-clause-step_result g c =
-    let t = submit-going (g.P.Procedure.functions c.args.self.now.procedure) c.args.self.now.store c.args.number c.args.words.now c.args.size c.in_ok-may_submit.ensures.refusal in
-    let w = begins c.args.self.now.store c.args.number t.tenant t.owner in
-    let w1 = then-changed _ _ _ _ c.open-root.new.self (opened None c.args.words.now c.args.size 0) w c.open-root.ensures.opened in
-    let name : c.open-root.result ≡ record { tenant = c.args.number; serial = t.tenant.serials + 1 } = rw t.owner at c.open-root.ensures.name in
-    let begun : c.begin_job.new.self ≡ on_tenant c.args.number (with_job (Live (t.tenant.serials + 1))) c.open-root.new.self = rw name at c.begin_job.ensures in
-    let w2 = then-changed _ _ _ _ c.begin_job.new.self (with_job (Live (t.tenant.serials + 1))) w1 begun in
-    step_result-taken (g.P.Procedure.functions c.args.self.now.procedure) c.args.self.now.store (Submit c.args.number c.args.words.now c.args.size) _ _ _ t.among (rw (name, c.job_count.ensures.count, t.owner) refl) w2.is
+    let o = submit-opens (g.P.Procedure.functions c.args.self.now.procedure) _ _ c.args.number c.args.words.now c.args.size c.in_ok-may_submit.ensures.refusal c.open-root.ensures.opened in
+    let name : c.open-root.result ≡ record { tenant = c.args.number; serial = o.0.tenant.serials + 1 } = rw o.0.owner at c.open-root.ensures.name in
+    let begun : c.begin_job.new.self ≡ on_tenant c.args.number (with_job (Live (o.0.tenant.serials + 1))) c.open-root.new.self = rw name at c.begin_job.ensures in
+    let w2 = then-changed _ _ _ _ c.begin_job.new.self (with_job (Live (o.0.tenant.serials + 1))) o.1 begun in
+    step_result-taken (g.P.Procedure.functions c.args.self.now.procedure) c.args.self.now.store (Submit c.args.number c.args.words.now c.args.size) _ _ _ o.0.among (rw (name, c.job_count.ensures.count, o.0.owner) refl) w2.is
