@@ -13,6 +13,7 @@
 use crate::books::book_of;
 use crate::turns::Player;
 use customer_book::{Ask, Book, Grant, Refusal, Who};
+use gate_rules::{Said, read_answer};
 use gate_session::{Books, Note, Servers, serve_session};
 use line_io::{Line, LineCutter, ReadFailed, Sink, Source, WriteFailed};
 use line_relay::{Judge, Peer, Verdict, relay_lines};
@@ -182,7 +183,20 @@ impl Books for Lone<'_> {
         note(self.log, b"! fades\n");
     }
 
-    fn note(&self, _note: Note<'_>) {}
+    fn note(&self, told: Note<'_>) {
+        if let Note::Answer(answer) = told {
+            note_job(self.log, read_answer(answer));
+        }
+    }
+}
+
+/// Notes what an answer says of a job that has ended, as a gate counts it.
+fn note_job(log: &Log, said: Said) {
+    match said {
+        Said::Done => note(log, b"! a job is done\n"),
+        Said::Spent => note(log, b"! a job is spent\n"),
+        _ => {}
+    }
 }
 
 /// Refuses RESERVE, ends at STOP, and cuts tokens. Counts the answers that it hears.
