@@ -636,8 +636,9 @@ def try_deaf():
             resource.prlimit(process.pid, resource.RLIMIT_NOFILE, (3, 3))
             with contextlib.suppress(OSError), socket.create_connection(("127.0.0.1", proxy.inner), 5):
                 stage.until("it has ended", lambda: process.poll() is not None, 10)
-            said = process.stderr.read().strip()
-            check(process.returncode == 1 and said, f"status {process.returncode}: {said}")
+            # (it may have ended before the connection was there)
+            said, status = process.stderr.read().strip(), process.wait(10)
+            check(status == 1 and said, f"status {status}: {said}")
     print(f"  a gate without a descriptor for its listener ends at once with status 1: {said.splitlines()[-1]}")
 
 
