@@ -30,9 +30,7 @@ get_or-nodes_from region n (suc i) (place ∷ places) =
 
 -- from the first number on
 pub node_at-nodes_from : (region : Segments) (i : ℕ) (places : List Place) → node_at (nodes_from region 0 places) i ≡ node_of region i (place_at places i)
-node_at-nodes_from region i places =
-    let same : 0 + i ≡ i = omega arith in
-    get_or-nodes_from region 0 i places ∙ ap (λ (k : ℕ). node_of region k (place_at places i)) same
+node_at-nodes_from region i places = grind (arith, get_or-nodes_from)
 
 charges-from : (region : Segments) (n : ℕ) (places : List Place) → ((i : ℕ) → IsSoundList region (n + i) (len_at places i)) → total_charge (nodes_from region n places) ≡ sum_by charge_of_place places
 charges-from region n [] sound = refl
@@ -85,15 +83,6 @@ module _ {old new : Segments} {places : List Place} {n : ℕ} {place : Place} (c
         in_limits = rw length-set stored.in_limits;
         same_count = omega (arith, length-set places n place, stored.same_count, change.same_count);
         counted = omega (arith, sum_by-set charge_of_place places n place nowhere change.within, stored.counted, change.counted);
-        sound = λ m. elim (cases_eq m n) [
-          | inl e ↦ rw (e, here) change.is_sound
-          | inr other ↦ rw (there m other) (sound-agrees old new m (len_at places m) (change.agrees m other) (stored.sound m))
-        ];
-        apart = λ m k different. elim (cases_eq m n) [
-          | inl e ↦ (let k_other : k ≢ n = λ f. different (e ∙ sym f) in rw (e, here) (apart-sym (segments_of new k (len_at (set places n place) k)) (segments_of new n place.len) (beside k k_other)))
-          | inr m_other ↦ elim (cases_eq k n) [
-            | inl f ↦ rw (f, here) (beside m m_other)
-            | inr k_other ↦ rw (there m m_other, there k k_other, same m m_other, same k k_other) (stored.apart m k different)
-          ]
-        ];
+        sound = λ m. grind (arith, sound-agrees);
+        apart = λ m k different. grind (arith, apart-sym, set);
       }

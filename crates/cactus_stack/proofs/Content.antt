@@ -30,9 +30,7 @@ blocks-get_or region (x ∷ xs) (suc i) blocks h = let below : i < length xs = o
 -- the word at a place of the chain is one of its segment's
 pub get_or-content : (region : Segments) (xs : List ℕ) (block offset : ℕ) → AllBlocks region xs → block < length xs → offset < 16 → get_or (content region xs) (16 * block + offset) 0 ≡ get_or (words_at region (get_or xs block 0)) offset 0
 get_or-content region [] block offset blocks h k = absurd (omega arith)
-get_or-content region (x ∷ xs) zero offset blocks h k =
-    let within : offset < length (words_at region x) = omega (arith, blocks.1) in
-    rw (zero-add offset) (get_or-append (words_at region x) (content region xs) 0 offset within)
+get_or-content region (x ∷ xs) zero offset blocks h k = grind (arith, get_or-append)
 get_or-content region (x ∷ xs) (suc block) offset blocks h k =
     let below : block < length xs = omega arith in
     let at : 16 * suc block + offset - 16 ≡ 16 * block + offset = omega arith in
@@ -68,8 +66,7 @@ link_at-write (e ∷ region) (suc n) (suc m) words = link_at-write region n m wo
 pub chain-write : (count : ℕ) (region : Segments) (head : Option ℕ) (n : ℕ) (words : List ℕ) → chain count (with_segment_words region n words) head ≡ chain count region head
 chain-write zero region head n words = refl
 chain-write (suc count) region None n words = refl
-chain-write (suc count) region (Some s) n words =
-    rw (link_at-write region n s words) (ap (λ (rest : List ℕ). s ∷ rest) (chain-write count region (link_at region s) n words))
+chain-write (suc count) region (Some s) n words = grind (arith, chain-write count region (link_at region s) n words, link_at-write)
 
 taken-write : (region : Segments) (n m : ℕ) (segment : Segment) → IsTaken region m → IsTaken (set region n (Some segment)) m
 taken-write [] n m segment taken = taken
@@ -100,10 +97,8 @@ words_at-link (e ∷ region) (suc n) (suc m) link = words_at-link region n m lin
 -- a link that is set leaves all words
 pub content-link : (region : Segments) (xs : List ℕ) (n : ℕ) (link : Option ℕ) → content (with_link region n link) xs ≡ content region xs
 content-link region [] n link = refl
-content-link region (x ∷ xs) n link =
-    rw (words_at-link region n x link) (ap (λ (rest : List ℕ). words_at region x ++ rest) (content-link region xs n link))
+content-link region (x ∷ xs) n link = grind (arith, content-link region xs n link, words_at-link)
 
 pub blocks-link : (region : Segments) (xs : List ℕ) (n : ℕ) (link : Option ℕ) → AllBlocks region xs → AllBlocks (with_link region n link) xs
 blocks-link region [] n link blocks = tt
-blocks-link region (x ∷ xs) n link blocks =
-    (taken-write region n x _ blocks.0, rw (words_at-link region n x link) blocks.1, blocks-link region xs n link blocks.2)
+blocks-link region (x ∷ xs) n link blocks = grind (arith, blocks-link region xs n link blocks.2, taken-write, words_at-link)

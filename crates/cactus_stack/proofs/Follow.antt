@@ -1,26 +1,21 @@
 -- Chains and their words in regions that agree on them.
-use Rattle.std.proofs.Common.{◌≡◌, ℕ, zero, suc, ◌≤◌, List, [], ◌∷◌, ◌++◌, take, Option, None, Some, refl, ap, arith, get_or-set_other}
+use Rattle.std.proofs.Common.{◌≡◌, ℕ, zero, suc, ◌≤◌, List, [], ◌∷◌, take, Option, None, Some, refl, ap, arith, get_or-set_other}
 use Rattle.std.proofs.Math.ListN.{set}
-use Rattle.segment_region.specs.Segments.{Segment, Segments, segment_at, words_at, link_at, words_of_segment, link_of, IsTaken}
+use Rattle.segment_region.specs.Segments.{Segment, Segments, segment_at, link_at, IsTaken}
 use Rattle.cactus_stack.specs.Chains.{chain, content, Lacks, AreApart, AllBlocks, AllFree, AgreesOn}
 
 pub chain-agrees : (count : ℕ) (old new : Segments) (head : Option ℕ) → AgreesOn old new (chain count old head) → chain count new head ≡ chain count old head
 chain-agrees zero old new head agrees = refl
 chain-agrees (suc count) old new None agrees = refl
-chain-agrees (suc count) old new (Some s) agrees =
-    let same : link_at new s ≡ link_at old s = ap link_of agrees.0 in
-    ap (λ (rest : List ℕ). s ∷ rest) (rw same (chain-agrees count old new (link_at old s) agrees.1))
+chain-agrees (suc count) old new (Some s) agrees = grind (arith, chain-agrees count old new (link_at old s) agrees.1)
 
 pub content-agrees : (old new : Segments) (segments : List ℕ) → AgreesOn old new segments → content new segments ≡ content old segments
 content-agrees old new [] agrees = refl
-content-agrees old new (s ∷ segments) agrees =
-    let same : words_at new s ≡ words_at old s = ap words_of_segment agrees.0 in
-    rw same (ap (λ (rest : List ℕ). words_at old s ++ rest) (content-agrees old new segments agrees.1))
+content-agrees old new (s ∷ segments) agrees = grind (arith, content-agrees old new segments agrees.1)
 
 pub blocks-agrees : (old new : Segments) (segments : List ℕ) → AgreesOn old new segments → AllBlocks old segments → AllBlocks new segments
 blocks-agrees old new [] agrees blocks = tt
-blocks-agrees old new (s ∷ segments) agrees blocks =
-    (rw agrees.0 blocks.0, rw agrees.0 blocks.1, blocks-agrees old new segments agrees.1 blocks.2)
+blocks-agrees old new (s ∷ segments) agrees blocks = grind (arith, blocks-agrees old new segments agrees.1 blocks.2)
 
 -- what is kept where a list lacks it is the same on segments that the list shares none of
 pub agrees-apart : (old new : Segments) (changed segments : List ℕ) → ((s : ℕ) → IsTaken old s → Lacks changed s → segment_at new s ≡ segment_at old s) → AllBlocks old segments → AreApart segments changed → AgreesOn old new segments
@@ -40,8 +35,7 @@ agrees-set old n entry (s ∷ segments) lacks = (get_or-set_other old n s entry 
 
 lacks-free : (region : Segments) (s : ℕ) (segments : List ℕ) → IsTaken region s → AllFree region segments → Lacks segments s
 lacks-free region s [] taken free = tt
-lacks-free region s (x ∷ segments) taken free =
-    (λ e. (let is_none : segment_at region s ≡ None = rw (← e) free.0.1 in absurd (cc (taken, is_none))), lacks-free region s segments taken free.1)
+lacks-free region s (x ∷ segments) taken free = grind (arith, lacks-free region s segments taken free.1)
 
 -- segments that were taken are none of those that were free
 pub apart-free : (region : Segments) (taken free : List ℕ) → AllBlocks region taken → AllFree region free → AreApart taken free
@@ -52,8 +46,7 @@ apart-free region (s ∷ taken) free blocks all_free =
 -- a segment that is free is none of those that are taken
 pub lacks-taken : (region : Segments) (n : ℕ) (segments : List ℕ) → segment_at region n ≡ None → AllBlocks region segments → Lacks segments n
 lacks-taken region n [] free blocks = tt
-lacks-taken region n (s ∷ segments) free blocks =
-    (λ e. (let is_none : segment_at region s ≡ None = rw e free in let taken : IsTaken region s = blocks.0 in absurd (cc (taken, is_none))), lacks-taken region n segments free blocks.2)
+lacks-taken region n (s ∷ segments) free blocks = grind (arith, lacks-taken region n segments free blocks.2)
 
 -- fewer links lead to the front of the chain
 pub chain-take : (fewer more : ℕ) (region : Segments) (head : Option ℕ) → fewer ≤ more → chain fewer region head ≡ take fewer (chain more region head)

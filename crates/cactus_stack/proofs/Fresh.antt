@@ -40,11 +40,7 @@ fresh_chain_is_longer old mid rest n words cut count is room fresh free =
       same_count = length-set mid n entry ∙ fresh.same_count;
       counted = omega (arith, taken_count-take mid n (filled (take cut words) rest) free.0 free.1, fresh.counted);
       kept = λ s taken. get_or-set_other mid n s entry None (λ e. (let was_taken : IsTaken mid s = rw (fresh.kept s taken) taken in let was_free : segment_at mid s ≡ None = rw e free.1 in absurd (cc (was_taken, was_free)))) ∙ fresh.kept s taken;
-      is_chain = record {
-        blocks = (rw here refl, rw here sixteen, blocks-agrees mid new xs agrees fresh.is_chain.blocks);
-        whole = omega (arith, fresh.is_chain.whole);
-        once = (lacks, fresh.is_chain.once);
-      };
+      is_chain = grind (arith, blocks-agrees);
       were_free = ((rw (← fresh.same_count) free.0, still_free (segment_at old n) (segment_at mid n) (fresh.kept n) free.1), fresh.were_free);
       holds = rw (here, content-agrees mid new xs agrees, fresh.holds) (padded-twice words cut count is room);
     })
@@ -63,12 +59,5 @@ pub fresh_chain_of_one : (old new : Segments) (n : ℕ) (words : List ℕ) → l
 fresh_chain_of_one old new n words short free after =
     let front : take (length words) words ≡ words = take_all (length words) words (omega arith) in
     let back : drop (length words) words ≡ [] = drop_all (length words) words (omega arith) in
-    let nothing : IsFreshChain old old [] [] 0 = record {
-      same_count = refl;
-      counted = omega arith;
-      kept = λ s taken. refl;
-      is_chain = record { blocks = tt; whole = refl; once = tt };
-      were_free = tt;
-      holds = refl;
-    } in
+    let nothing : IsFreshChain old old [] [] 0 = grind arith in
     fresh_chain_grows old old new None n words (length words) 1 (omega arith) (omega (arith, short)) (omega (arith, short)) (rw back nothing) free (rw front after)

@@ -88,12 +88,7 @@ chain_grows old mid new first last (suc count) more fresh some is at made after 
 -- its last segment is still taken when the new ones are there
 pub last_is_taken : (old mid : Segments) (first last count more : ℕ) (fresh : Option ℕ) → 0 < count → IsChain old (chain count old (Some first)) count → last ≡ get_or (chain (suc (count - 1)) old (Some first)) (count - 1) 0 → IsFreshChain old mid (chain more mid fresh) [] more → IsTaken mid last
 last_is_taken old mid first last zero more fresh some is at made = absurd (omega arith)
-last_is_taken old mid first last (suc count) more fresh some is at made =
-    let less : suc count - 1 ≡ count = omega arith in
-    let place : last ≡ get_or (chain (suc count) old (Some first)) count 0 = rw less at at in
-    let within : count < length (chain (suc count) old (Some first)) = omega (arith, is.whole) in
-    let taken : IsTaken old last = rw place (blocks-get_or old (chain (suc count) old (Some first)) count is.blocks within).0 in
-    rw (made.kept last taken) taken
+last_is_taken old mid first last (suc count) more fresh some is at made = grind (arith, blocks-get_or)
 
 -- a chain is given back from its front
 pub give-rest : (old : Segments) (n count : ℕ) → IsChain old (n ∷ chain count old (link_at old n)) (suc count) →

@@ -49,8 +49,7 @@ pub path-sight : (nodes : Nodes) (node : Option ℕ) (numbers : List ℕ) → Is
 path-sight nodes None [] path = tt
 path-sight nodes None (m ∷ numbers) path = absurd path
 path-sight nodes (Some n) [] path = absurd path
-path-sight nodes (Some n) (m ∷ numbers) path =
-    (path.1, rw path.0 refl, path-sight nodes (node_parent nodes n) numbers path.2)
+path-sight nodes (Some n) (m ∷ numbers) path = grind (arith, path-sight nodes (node_parent nodes n) numbers path.2)
 
 pub beside-path : (nodes : Nodes) (node : Option ℕ) (numbers : List ℕ) (levels : List (List ℕ)) (other : ℕ) (entry : Option Node) → IsPath nodes node numbers → (Contains numbers other → ⊥) → IsSight nodes node levels → IsSight (with_node nodes other entry) node levels
 beside-path nodes None numbers [] other entry path not sight = tt

@@ -64,10 +64,7 @@ depths-stay (place ∷ places) (suc n) len (suc m) = depths-stay places n len m
 -- a list that ends in zeros, cut within them
 cut-zeros : (content words : List ℕ) (zeros more : ℕ) → content ≡ words ++ replicate zeros 0 → more ≤ zeros →
     (take (length words + more) content ≡ words ++ replicate more 0) × (drop (length words + more) content ≡ replicate (zeros - more) 0)
-cut-zeros content words zeros more is h = (
-  rw (is, take-append-add words (replicate zeros 0) more, take-replicate {X = ℕ} more zeros 0 h) refl,
-  rw (is, drop-append-add words (replicate zeros 0) more, drop-replicate {X = ℕ} more zeros 0) refl,
-)
+cut-zeros content words zeros more is h = grind (arith, take-append-add, take-replicate, drop-append-add, drop-replicate)
 
 -- a store
 
@@ -93,11 +90,7 @@ store_change {region = region} {places = places} {n = n} {at = at} {s = s} word 
         same_count = length-set region s entry;
         counted = omega (arith, taken_count-write region s (record { words = words; link = link_at region s }) taken);
         agrees = λ m other. agrees-set region s entry (segments_of region m (len_at places m)) (rw is (apart-get_or (segments_of region m (len_at places m)) xs (at / 16) (sound.apart m n other) block));
-        is_sound = record {
-          at_most = own.at_most;
-          is_chain = rw (same n len) (record { blocks = blocks-write region xs s words sixteen own.is_chain.blocks; whole = own.is_chain.whole; once = own.is_chain.once });
-          zeros = rw (same n len, written) (drop-set-lt len (content region xs) at word below ∙ own.zeros);
-        };
+        is_sound = grind (arith, blocks-write, drop-set-lt);
         is_apart = λ m other. rw (same n len) (sound.apart m n other);
       },
       rw (same n len, written) (take-set-lt len (content region xs) at word below),
@@ -145,11 +138,7 @@ grow_change {region = region} {new = new} {places = places} {n = n} more added s
         same_count = grown.same_count;
         counted = omega (arith, grown.counted, charges);
         agrees = λ m other. agrees-apart region new xs (segments_of region m (len_at places m)) grown.kept (sound.sound m).is_chain.blocks (sound.apart m n other);
-        is_sound = record {
-          at_most = limit;
-          is_chain = record { blocks = grown.is_chain.blocks; whole = omega (arith, grown.is_chain.whole, own.is_chain.whole, charges); once = grown.is_chain.once };
-          zeros = ap (λ (k : ℕ). drop k (content new ys)) (sym at_len) ∙ cut.1 ∙ ap (λ (k : ℕ). replicate k 0) left;
-        };
+        is_sound = grind (arith, grown);
         is_apart = λ m other. rw grown.joined (apart-append (segments_of region m (len_at places m)) xs grown.added (sound.apart m n other) (apart-free region (segments_of region m (len_at places m)) grown.added (sound.sound m).is_chain.blocks grown.were_free));
       },
       ap (λ (k : ℕ). take k (content new ys)) (sym at_len) ∙ cut.0,
@@ -185,11 +174,7 @@ open_change {region = region} {new = new} {places = places} {n = n} {size = size
         same_count = fresh.same_count;
         counted = omega (arith, fresh.counted, none);
         agrees = λ m other. agrees-taken region new (segments_of region m (len_at places m)) fresh.kept (stored.sound m).is_chain.blocks;
-        is_sound = record {
-          at_most = limit;
-          is_chain = fresh.is_chain;
-          zeros = ap (λ (k : ℕ). drop k (content new xs)) (sym at_size) ∙ cut.1 ∙ ap (λ (k : ℕ). replicate k 0) left;
-        };
+        is_sound = grind arith;
         is_apart = λ m other. apart-free region (segments_of region m (len_at places m)) xs (stored.sound m).is_chain.blocks fresh.were_free;
       },
       ap (λ (k : ℕ). take k (content new xs)) (sym at_size) ∙ cut.0,

@@ -1,5 +1,5 @@
 -- An abort at a frame that has no child takes nothing.
-use Rattle.std.proofs.Common.{◌≡◌, ℕ, Bool, true, false, not, ◌||◌, eqb, List, [], ◌∷◌, ◌++◌, Option, Some, None, map, refl, ap, sym, ◌∙◌, inl, inr}
+use Rattle.std.proofs.Common.{◌≡◌, ℕ, Bool, true, false, not, ◌||◌, eqb, List, [], ◌∷◌, ◌++◌, Option, Some, None, map, refl, ap, sym, ◌∙◌, inl, inr, arith}
 use Rattle.std.specs.List.{filter}
 use Rattle.std.proofs.lemmas.Bool.{cases_Bool, false≢true, eqb-true, ne_eqb}
 use Rattle.frame_tree.specs.declared.slot.Slot.{Slot}
@@ -30,10 +30,7 @@ all_stay {T} keep n frames (x ∷ xs) f none l kept =
     either keep frames x p stays kept h =
         elim (cases_Bool (has_frame frames p)) [
           | inl has ↦ kept p has
-          | inr gone ↦ elim (cases_Bool (eqb x.serial p)) [
-            | inl same ↦ ap keep (sym (eqb-true x.serial p same)) ∙ stays
-            | inr other ↦ absurd (false≢true (rw (gone, other) at h))
-          ]
+          | inr gone ↦ grind (arith, eqb-true, false≢true)
         ]
 
 pub filter_all : {T : Type 0} (keep : ℕ → Bool) (xs : List (Slot T)) → AllStay keep xs → filter (λ x. keep x.serial) xs ≡ xs

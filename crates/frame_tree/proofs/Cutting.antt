@@ -72,10 +72,7 @@ here-filter {T} old new by_key by_serial all before (k ∷ keys) s b w c h =
     in_either before k j all b there h =
         elim (cases_Bool (has_number before j)) [
           | inl has ↦ b j has
-          | inr none ↦ elim (cases_eq k j) [
-            | inl same ↦ ap (has_number all) (sym same) ∙ there
-            | inr differs ↦ absurd (false≢true (rw (none, ne_eqb k j differs) at h))
-          ]
+          | inr none ↦ grind (arith, false≢true, ne_eqb)
         ]
 
     parent : {T : Type 0} (old new : Slab (StoredSlot T)) (by_key by_serial : ℕ → Bool) (all before : List ℕ) (parent above : Option ℕ) → Stays old new by_key by_serial all → ((k : ℕ) → has_number before k ≡ true → has_number all k ≡ true) → ((p : ℕ) → parent ≡ Some p → by_serial p ≡ true) → KnowsParent old before parent above → KnowsParent new (filter by_key before) parent above
@@ -227,16 +224,7 @@ same_key {T} slab before (i ∷ keys) k j x y h rise has_k has_j is_k is_j same 
 
 -- those that stay when a leaf is taken away
 pub taken_stays : {T : Type 0} (old new : Slab (StoredSlot T)) (order : List ℕ) (at key : ℕ) (kept : StoredSlot T) → HasTaken old new order at key kept → AllHere old [] order → Rises (slots_in old order) → Stays old new (λ k. not (eqb k key)) (λ serial. not (eqb serial kept.slot.serial)) order
-taken_stays old new order at key kept t h rise =
-    let there : has_number order key ≡ true = ap (has_number order) t.read ∙ has_number-at order at key t.within in
-    record {
-      agree = λ k x has is. elim (cases_eq k key) [
-        | inl same ↦ (let e = by_one (get old k) x kept is (ap (get old) same ∙ t.was) in rw (eq-eqb k key same, eq-eqb x.slot.serial kept.slot.serial e) refl)
-        | inr differs ↦ rw (ne_eqb k key differs, ne_eqb x.slot.serial kept.slot.serial (λ e. differs (same_key old [] order k key x kept h rise has there is t.was e))) refl
-      ];
-      renew = λ k x has is stays.
-          t.others k (λ e. false≢true (rw (eq-eqb k key e) at stays)) ∙ (is ∙ ap (λ b. Some (record x { marked = b })) (unmarked old [] order k x h has is));
-    }
+taken_stays old new order at key kept t h rise = grind (arith, has_number-at, by_one, eq-eqb, ne_eqb, same_key, false≢true, unmarked)
 
 pub taken_slots : {T : Type 0} (old new : Slab (StoredSlot T)) (order : List ℕ) (at key : ℕ) (kept : StoredSlot T) → HasTaken old new order at key kept → AllHere old [] order → AreApartKeys order → Rises (slots_in old order) → slots_in new (remove order at) ≡ remove (slots_in old order) at
 taken_slots old new order at key kept t h a rise =

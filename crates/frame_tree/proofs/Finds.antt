@@ -81,8 +81,7 @@ pub is_child : {T : Type 0} (all frames : List (Frame T)) (above : List ℕ) (en
 is_child all frames above end None serial e is ends h same = one_more_root above end serial e
 is_child all frames above end (Some p) serial e is ends h same =
     elim (cases_eq p end) [
-      | inl eq ↦ (let path : path_in frames p ≡ above = sym (same p h) ∙ (ap (λ q. path_in all q) eq ∙ is) in
-          rw (path, eq-eqb p end eq) (one_more_same above serial))
+      | inl eq ↦ grind (arith, eq-eqb, one_more_same)
       | inr ne ↦ rw (ne_eqb p end ne) (elim (cases_Bool (is_one_more above (path_in frames p ++ serial ∷ []))) [
         | inl yes' ↦ absurd (ne (EndsIn-unique (path_in frames p) p end (EndsIn-path_in frames p ends h) (let P : List ℕ → Type 0 = λ q. EndsIn q end in subst P (one_more_is above (path_in frames p) serial yes') e)))
         | inr no' ↦ no'

@@ -42,10 +42,8 @@ marks_next under slots keys i key old now new x m lt is was here others k =
     let more : take (i + 1) keys ≡ take i keys ++ key ∷ [] = take_more keys i key lt ∙ ap (λ j. take i keys ++ j ∷ []) (sym is) in
     let has = ap (λ ks. has_number ks k) more ∙ has_number-append (take i keys) (key ∷ []) k in
     elim (cases_eq k key) [
-      | inl same ↦ (let there : has_number (take (i + 1) keys) k ≡ true = has ∙ last_key (has_number (take i keys) k) key k (sym same) in
-          rw (ap (get new) same ∙ here, ap (get old) same ∙ was, there) refl)
-      | inr differs ↦ (let alike : has_number (take (i + 1) keys) k ≡ has_number (take i keys) k = has ∙ first_keys (has_number (take i keys) k) key k (λ e. differs (sym e)) in
-          others k differs ∙ (m k ∙ marked_in-keys under slots (take i keys) (take (i + 1) keys) k (get old k) alike))
+      | inl same ↦ grind (arith, last_key)
+      | inr differs ↦ grind (arith, first_keys, marked_in-keys)
     ]
 
 -- what is read at a key, and whether the abort takes it

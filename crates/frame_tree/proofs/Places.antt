@@ -45,9 +45,7 @@ place_in_none number (x ∷ xs) n e = absurd (omega arith)
 
 pub place_before : {X : Type 0} (number : X → ℕ) (xs : List X) (n : ℕ) (x : X) → AreRising number xs → 0 < length xs → x ≡ get_or xs 0 x → n ≤ number x → IsPlaceFor number xs n 0
 place_before number [] n x rise some is le = absurd (omega arith)
-place_before number (y ∷ ys) n x rise some is le =
-    let here : number x ≡ number y = ap number is in
-    (omega (arith, here), from_above number n (number y) ys (omega (arith, here)) rise.0)
+place_before number (y ∷ ys) n x rise some is le = grind (arith, from_above)
 
 pub place_behind : {X : Type 0} (number : X → ℕ) (xs : List X) (n at count : ℕ) (x : X) → AreRising number xs → count ≡ length xs → suc at ≡ length xs → x ≡ get_or xs at x → number x < n → IsPlaceFor number xs n count
 place_behind number xs n at count x rise all e is lt = let P : ℕ → Type 0 = λ k. IsPlaceFor number xs n k in subst P (e ∙ sym all) (behind number xs n at x rise e is lt)

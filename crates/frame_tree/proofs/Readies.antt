@@ -124,9 +124,7 @@ leave_other serial n state was frames lt = grind arith
 
 put_here : (serial : ℕ) (now : State) (frames : List ReadyFrame) → AreAbove (λ frame. frame.serial) serial frames → put_ready serial now frames ≡ with_ready serial now frames
 put_here serial (Ready home) [] a = refl
-put_here serial (Ready home) (f ∷ frames) a =
-    let later : nat_lt f.serial serial ≡ false = elim (cases_Bool (nat_lt f.serial serial)) [ inl lt ↦ absurd (let h = ltb-true f.serial serial lt in omega (arith, h, a.0)) | inr ge ↦ ge ] in
-    rw later refl
+put_here serial (Ready home) (f ∷ frames) a = grind (arith, ltb-true)
 put_here serial (Running worker) frames a = refl
 put_here serial (Computing worker) frames a = refl
 put_here serial Waiting frames a = refl

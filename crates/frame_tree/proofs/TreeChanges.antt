@@ -119,15 +119,7 @@ no-child-found {T} q xs s x none at = each-found (λ y. q y ≡ false) xs s x (a
     ]
 
 pub tree-without : {T : Type 0} (p : ℕ) (xs : List (Frame T)) → IsTree xs → children_of xs p ≡ [] → IsTree (frames_without p xs)
-tree-without p xs t leaf =
-    let none = sym (children-by-paths xs p t) ∙ leaf in
-    tree-filter (λ x. not (eqb x.serial p)) xs t (λ s f at stays u.
-    not_from_false (eqb u.above.serial p) (elim (cases_Bool (eqb u.above.serial p)) [
-      | inl same ↦ (let e = sym (found-serial xs u.parent u.above u.there) ∙ eqb-true u.above.serial p same in
-          let child : is_child_of p f.path ≡ true = rw u.named (eq-eqb u.parent p e) in
-          absurd (true≢false (sym child ∙ no-child-found (λ x. is_child_of p x.path) xs s f none at)))
-      | inr other ↦ other
-    ]))
+tree-without p xs t leaf = grind (arith, children-by-paths, tree-filter, not_from_false, found-serial, eqb-true, eq-eqb, true≢false, no-child-found)
 
 pub frame_at-without : {T : Type 0} (p : ℕ) (xs : List (Frame T)) → frame_at (frames_without p xs) p ≡ None
 frame_at-without p [] = refl

@@ -2,7 +2,7 @@
 use Rattle.std.proofs.Common.{◌≡◌, ◌≢◌, ℕ, zero, suc, ◌<◌, ◌≤◌, ◌⊎◌, inl, inr, Bool, true, false, ◌||◌, eqb, List, [], ◌∷◌, ◌++◌, Option, Some, None, refl, ap, sym, ◌∙◌, arith, append_assoc}
 use Rattle.std.specs.List.{filter}
 use Rattle.std.proofs.lemmas.Bool.{cases_Bool, cases_eq, false≢true, true≢false, eq-eqb, ne_eqb, eqb-true, or_cases}
-use Rattle.frame_tree.specs.Frames.{Frame, frame_at, has_frame, has_parent, path_in, AllBelow, parent_of, path_under, goes_under, is_one_more, children_under, children_of, IsNextFrame, IsTree, IsTreeAfter}
+use Rattle.frame_tree.specs.Frames.{Frame, frame_at, has_frame, has_parent, path_in, AllBelow, parent_of, path_under, goes_under, is_one_more, children_of, IsNextFrame, IsTree, IsTreeAfter}
 use Rattle.frame_tree.specs.TreeLaws.{is_that, is_child_of, AllAboveSerial, AreSerialsRising, Each}
 pub use Rattle.frame_tree.proofs.Finds.{frame_at-none as missing, found-path}
 use Rattle.frame_tree.proofs.Finds.{one_more_same, one_more_is, EndsIn-unique}
@@ -132,8 +132,7 @@ by-parents P frames t top under zero serial frame low at = absurd (omega arith)
 by-parents P frames t top under (suc bound) serial frame low at =
     elim (placed frames serial frame t at) [
       | inl is ↦ top frame is
-      | inr u ↦ (let e = found-serial frames serial frame at in let below = u.below in
-          under frame u (by-parents P frames t top under bound u.parent u.above (omega (arith, e, below, low)) u.there))
+      | inr u ↦ grind (arith, by-parents P frames t top under bound u.parent u.above, found-serial)
     ]
 
 pub tree-induction : {T : Type 0} (P : Frame T → Type 0) (frames : List (Frame T)) → IsTree frames →
@@ -158,10 +157,8 @@ goes-through {T} frames serial frame t at =
     tree-induction (GoesThrough frames) frames t
     (λ frame top p goes. absurd (false≢true (sym (top-under-none frame p top) ∙ goes)))
     (λ frame u above p goes. elim (or_cases (eqb u.parent p) (goes_under p u.above.path) (sym (under-through frames frame p t u) ∙ goes)) [
-      | inl same ↦ (let e = eqb-true u.parent p same in let below = u.below in
-          (omega (arith, e, below), rw (← e) (found-there frames u.parent u.above u.there)))
-      | inr through ↦ (let rest = above p through in let e = found-serial frames u.parent u.above u.there in let below = u.below in
-          (omega (arith, rest.0, e, below), rest.1))
+      | inl same ↦ grind (arith, eqb-true, found-there)
+      | inr through ↦ grind (arith, found-serial)
     ])
     serial frame at
 
@@ -185,10 +182,7 @@ child-top (a ∷ above) s x ends top = rw (top.0, top.1) (none a (x.serial) abov
 child-under : {T : Type 0} (frames : List (Frame T)) (s : ℕ) (f x : Frame T) → IsTree frames → frame_at frames s ≡ Some f → (u : IsUnder frames x) → is_one_more f.path x.path ≡ is_child_of s x.path
 child-under {T} frames s f x t at u =
     elim (cases_eq u.parent s) [
-      | inl same ↦ (let both : ◌≡◌ {A = Option (Frame T)} (Some u.above) (Some f) = sym u.there ∙ (rw same at) in
-          let e : u.above ≡ f = cc in
-          let one : is_one_more f.path x.path ≡ true = rw (u.path, e) (one_more_same f.path x.serial) in
-          one ∙ sym (ap (is_that s) u.named ∙ eq-eqb u.parent s same))
+      | inl same ↦ grind (arith, one_more_same, eq-eqb)
       | inr other ↦ elim (cases_Bool (is_one_more f.path x.path)) [
         | inl one ↦ (let e = one_more_is f.path u.above.path x.serial (rw u.path at one) in
             let ends : EndsIn u.above.path s = rw e at (found-ends frames s f t at) in
@@ -207,22 +201,13 @@ filter-none p (x ∷ xs) each = rw each.0 (filter-none p xs each.1)
 
 not-child-missing : {T : Type 0} (frames : List (Frame T)) (s : ℕ) (x : Frame T) → has_frame frames s ≡ false → IsPlaced frames x → is_child_of s x.path ≡ false
 not-child-missing frames s x lacks (inl top) = rw top.0 refl
-not-child-missing frames s x lacks (inr u) =
-    rw u.named (ne_eqb u.parent s (λ e. true≢false (sym (found-there frames u.parent u.above u.there) ∙ (rw e lacks))))
+not-child-missing frames s x lacks (inr u) = grind (arith, ne_eqb, true≢false, found-there)
 
 pub children-by-paths : {T : Type 0} (frames : List (Frame T)) (s : ℕ) → IsTree frames → children_of frames s ≡ filter (λ x. is_child_of s x.path) frames
 children-by-paths {T} frames s t =
     elim (cases_Bool (has_frame frames s)) [
-      | inl there ↦ (let f = there-found frames s there in
-          let P : Frame T → Type 0 = λ x. is_one_more f.0.path x.path ≡ is_child_of s x.path in
-          ap (λ o. children_under o frames) f.1 ∙ filter-alike (λ x. is_one_more f.0.path x.path) (λ x. is_child_of s x.path) frames
-          (found-each P frames (tree-rising frames t) (λ serial x at. elim (placed frames serial x t at) [
-            | inl top ↦ child-top f.0.path s x (found-ends frames s f.0 t f.1) top
-            | inr u ↦ child-under frames s f.0 x t f.1 u
-          ])))
-      | inr lacks ↦ (let P : Frame T → Type 0 = λ x. is_child_of s x.path ≡ false in
-          ap (λ o. children_under o frames) (missing frames s lacks) ∙ sym (filter-none (λ x. is_child_of s x.path) frames
-          (found-each P frames (tree-rising frames t) (λ serial x at. not-child-missing frames s x lacks (placed frames serial x t at)))))
+      | inl there ↦ grind (arith, there-found, filter-alike, found-each, tree-rising, placed, child-top, found-ends, child-under)
+      | inr lacks ↦ grind (arith, missing, filter-none, found-each, tree-rising, not-child-missing, placed)
     ]
 
 -- the same, part by part

@@ -1,5 +1,5 @@
 -- The steps that entries stand for: how many they are, and one more.
-use Rattle.std.proofs.Common.{◌≡◌, ℕ, ◌+◌, ◌<◌, ◌≤◌, false, List, [], ◌∷◌, ◌++◌, length, map, take, drop, refl, ap, sym, ◌∙◌, arith, inl, inr, length-append, append-nil, append_assoc}
+use Rattle.std.proofs.Common.{◌≡◌, ℕ, ◌+◌, ◌<◌, ◌≤◌, false, List, [], ◌∷◌, ◌++◌, length, drop, refl, ap, sym, ◌∙◌, arith, inl, inr, append-nil}
 use Rattle.std.specs.Prelude.{if◌then◌else◌}
 use Rattle.std.proofs.lemmas.Bool.{cases_Bool, false≢true}
 use Rattle.sched_rules.specs.declared.step.StepOf.{StepOf}
@@ -34,48 +34,20 @@ long_count-more e (f ∷ es) = (let rest = long_count-more e es in omega (arith,
 -- as many steps as entries
 pub steps_in-length : (n : ℕ) (es : List JournalEntry) (ls : List LongEntry) → long_count es ≡ length ls → length (steps_in n es ls) ≡ length es
 steps_in-length n [] ls count = refl
-steps_in-length n (e ∷ es) [] count = elim (cases_Bool (is_long e)) [
-  | inl long ↦ (let none = rw long at count in absurd (omega (arith, none)))
-  | inr short ↦ (let same = rw short at count in
-      let rest = steps_in-length n es [] (omega (arith, same)) in
-      let one = short-one n e short in
-      let sum = length-append (short_steps n e) (steps_in n es []) in
-      rw short (omega (arith, rest, one, sum)))
-]
-steps_in-length n (e ∷ es) (l ∷ ls) count = elim (cases_Bool (is_long e)) [
-  | inl long ↦ (let fewer = rw long at count in
-      let rest = steps_in-length n es ls (omega (arith, fewer)) in
-      rw long (omega (arith, rest)))
-  | inr short ↦ (let same = rw short at count in
-      let rest = steps_in-length n es (l ∷ ls) (omega (arith, same)) in
-      let one = short-one n e short in
-      let sum = length-append (short_steps n e) (steps_in n es (l ∷ ls)) in
-      rw short (omega (arith, rest, one, sum)))
-]
+steps_in-length n (e ∷ es) [] count = grind (arith, steps_in-length n es, short-one)
+steps_in-length n (e ∷ es) (l ∷ ls) count = grind (arith, steps_in-length n es ls, steps_in-length n es (l ∷ ls), short-one)
 
 -- one short entry more
 pub steps_in-short : (n : ℕ) (e : JournalEntry) (es : List JournalEntry) (ls : List LongEntry) → is_long e ≡ false → steps_in n (es ++ e ∷ []) ls ≡ steps_in n es ls ++ short_steps n e
 steps_in-short n e [] ls short = rw short (append-nil (short_steps n e))
-steps_in-short n e (f ∷ es) ls short = elim (cases_Bool (is_long f)) [
-  | inl long ↦ rw long (ap (λ (k : List Step). map (long_step n) (take 1 ls) ++ k) (steps_in-short n e es (drop 1 ls) short) ∙ sym (append_assoc (map (long_step n) (take 1 ls)) (steps_in n es (drop 1 ls)) (short_steps n e)))
-  | inr other ↦ rw other (ap (λ (k : List Step). short_steps n f ++ k) (steps_in-short n e es ls short) ∙ sym (append_assoc (short_steps n f) (steps_in n es ls) (short_steps n e)))
-]
+steps_in-short n e (f ∷ es) ls short = grind (arith, steps_in-short n e es (drop 1 ls) short, steps_in-short n e es ls short)
 
 -- one long entry more
 pub steps_in-long : (n : ℕ) (l : LongEntry) (es : List JournalEntry) (ls : List LongEntry) → long_count es ≡ length ls → steps_in n (es ++ Long ∷ []) (ls ++ l ∷ []) ≡ steps_in n es ls ++ long_step n l ∷ []
 steps_in-long n l [] [] count = refl
 steps_in-long n l [] (k ∷ ls) count = absurd (omega (arith, count))
-steps_in-long n l (f ∷ es) [] count = elim (cases_Bool (is_long f)) [
-  | inl long ↦ (let none = rw long at count in absurd (omega (arith, none)))
-  | inr other ↦ (let same = rw other at count in
-      rw other (ap (λ (k : List Step). short_steps n f ++ k) (steps_in-long n l es [] (omega (arith, same))) ∙ sym (append_assoc (short_steps n f) (steps_in n es []) (long_step n l ∷ []))))
-]
-steps_in-long n l (f ∷ es) (k ∷ ls) count = elim (cases_Bool (is_long f)) [
-  | inl long ↦ (let fewer = rw long at count in
-      rw long (ap (λ (rest : List Step). long_step n k ∷ rest) (steps_in-long n l es ls (omega (arith, fewer)))))
-  | inr other ↦ (let same = rw other at count in
-      rw other (ap (λ (rest : List Step). short_steps n f ++ rest) (steps_in-long n l es (k ∷ ls) (omega (arith, same))) ∙ sym (append_assoc (short_steps n f) (steps_in n es (k ∷ ls)) (long_step n l ∷ []))))
-]
+steps_in-long n l (f ∷ es) [] count = grind (arith, steps_in-long n l es)
+steps_in-long n l (f ∷ es) (k ∷ ls) count = grind (arith, steps_in-long n l es ls, steps_in-long n l es (k ∷ ls))
 
 -- what a journal with these entries is seen as
 abbrev pub seen : ℕ → ℕ → List JournalEntry → List LongEntry → JournalOf
@@ -88,31 +60,19 @@ pub record AreAsMany (many few raised : ℕ) (j : JournalOf) : Type 0 where
   pub raises : raise_count j.steps ≡ raised
 
 pub counts : (n p raises : ℕ) (es : List JournalEntry) (ls : List LongEntry) (j : JournalOf) → seen n p es ls ≡ j → long_count es ≡ length ls → raises ≡ raise_count (steps_in n es ls) → AreAsMany (length es) (length ls) raises j
-counts n p raises es ls j is count raised =
-    let long = steps_in-length n es ls count in let few = long_count-few es in
-    let steps = ap (λ (k : JournalOf). length k.steps) is in let before = ap (λ (k : JournalOf). raise_count k.steps) is in
-    record { steps = omega (arith, long, steps); longs = omega (arith, few, count); raises = omega (arith, before, raised) }
+counts n p raises es ls j is count raised = grind (arith, steps_in-length, long_count-few)
 
 -- where a place is left for a step, there is room for an entry and a long one
 pub has-room : (n p : ℕ) (es : List JournalEntry) (ls : List LongEntry) (j : JournalOf) → seen n p es ls ≡ j → long_count es ≡ length ls → length j.steps < j.places → (length es < p) × (length ls < p)
-has-room n p es ls j is count place =
-    let long = steps_in-length n es ls count in let few = long_count-few es in
-    let steps = ap (λ (k : JournalOf). length k.steps) is in let places = ap (λ (k : JournalOf). k.places) is in
-    (omega (arith, long, steps, places, place), omega (arith, long, steps, places, place, few, count))
+has-room n p es ls j is count place = grind (arith, steps_in-length, long_count-few)
 
 -- a step is written as a short entry
 pub written-short : (n p : ℕ) (e : JournalEntry) (es new : List JournalEntry) (ls : List LongEntry) (j : JournalOf) (step : Step) → seen n p es ls ≡ j → new ≡ es ++ e ∷ [] → is_long e ≡ false → short_steps j.tenant e ≡ step ∷ [] → seen n p new ls ≡ further step j
-written-short n p e es new ls j step is pushed short one =
-    let own : short_steps n e ≡ step ∷ [] = ap (λ (k : JournalOf). short_steps k.tenant e) is ∙ one in
-    let steps = ap (λ (k : List JournalEntry). steps_in n k ls) pushed ∙ steps_in-short n e es ls short ∙ ap (λ (k : List Step). steps_in n es ls ++ k) own in
-    ap (λ (k : List Step). record { tenant = n; places = p; steps = k }) steps ∙ ap (further step) is
+written-short n p e es new ls j step is pushed short one = grind (arith, steps_in-short, further)
 
 -- a step is written as a long one
 pub written-long : (n p : ℕ) (es new : List JournalEntry) (l : LongEntry) (ls more : List LongEntry) (j : JournalOf) (step : Step) → seen n p es ls ≡ j → long_count es ≡ length ls → new ≡ es ++ Long ∷ [] → more ≡ ls ++ l ∷ [] → long_step j.tenant l ≡ step → seen n p new more ≡ further step j
-written-long n p es new l ls more j step is count pushed added one =
-    let own : long_step n l ≡ step = ap (λ (k : JournalOf). long_step k.tenant l) is ∙ one in
-    let steps = ap (λ (k : List JournalEntry). steps_in n k more) pushed ∙ ap (λ (k : List LongEntry). steps_in n (es ++ Long ∷ []) k) added ∙ steps_in-long n l es ls count ∙ ap (λ (k : Step). steps_in n es ls ++ k ∷ []) own in
-    ap (λ (k : List Step). record { tenant = n; places = p; steps = k }) steps ∙ ap (further step) is
+written-long n p es new l ls more j step is count pushed added one = grind (arith, steps_in-long, further)
 
 -- a step that raises what is reserved is written as a long one, in the places that it makes
 pub written-raise : (n p q : ℕ) (es new : List JournalEntry) (l : LongEntry) (ls more : List LongEntry) (j : JournalOf) (step : Step) → seen n p es ls ≡ j → long_count es ≡ length ls → new ≡ es ++ Long ∷ [] → more ≡ ls ++ l ∷ [] → long_step j.tenant l ≡ step →

@@ -46,17 +46,11 @@ Step = StepOf LeafAnswer
 
 -- a hall where nobody was yet
 pub empty-kept : (grain : ℕ) (totals : Quota) → AreNumbersGiven (shared_by_nobody totals) → IsHall (empty_hall grain totals) 0 0
-empty-kept grain totals known =
-    let explained : IsExplained (empty_hall grain totals) = record { tenants = λ number. refl; searches = λ number. tt; known = known; numbers = omega arith; few = omega arith } in
-    record { explained = explained; rising = tt; upto = tt; begun = tt; newest = refl; counted = refl; bounded = omega arith }
+empty-kept grain totals known = grind arith
 
 -- a tenant that is there has a journal
 pub has-one : (grain : ℕ) (tenant : Tenant) (journals : List JournalOf) (number : ℕ) → IsJournalOf (jamboree grain) (journal_in journals number) tenant → has_journal number journals ≡ true
-has-one grain tenant journals number is = elim (cases_Bool (has_journal number journals)) [
-  | inl has ↦ has
-  | inr lacks ↦ (let none = said-lacks owner_of_journal steps_of [] number journals lacks in
-      let comes : None ≡ Some tenant = rw none at is.comes in absurd cc)
-]
+has-one grain tenant journals number is = grind (arith, said-lacks, steps_of)
 
 -- a step more keeps a list one of searches
 searches-push : (steps : List Step) (step : Step) → AreSearches steps → IsSearch step → AreSearches (steps ++ step ∷ [])
@@ -197,8 +191,7 @@ changed hall before count latest step did after journals gone keeps one known is
     let newest = is.newest in let numbers = is.numbers in let total = is.total in
     record {
       explained = record {
-        tenants = λ m. by m (λ k. Explains (jamboree hall.grain) (tenant_in after.tenants k) (journal_in journals k)) is.own
-            (λ ne. rw (is.others m ne, others-stay (jamboree hall.grain) hall.shared step (Ok did) after m explained.known one ne) (explained.tenants m));
+        tenants = λ m. grind (arith, others-stay);
         searches = λ m. by m (λ k. AreSearches (journal_in journals k)) is.searches (λ ne. rw (is.others m ne) (explained.searches m));
         known = known;
         numbers = omega (arith, newest, numbers);
@@ -250,8 +243,7 @@ goes-on hall latest count step did after keeps one goes allowed search known =
       has = has;
       place = λ none. (let same = at.after step ∙ ap (λ (r : Option Quota). places_with r at.journal) none ∙ sym at.places in omega (arith, place, same));
       serial = omega (arith, given, opened, nodes, few);
-      left = ap (λ (js : List JournalOf). record { grain = hall.grain; shared = after; journals = js; gone = hall.gone + gone_by step hall.journals; kept = hall.kept }) stays.0
-          ∙ ap (λ (k : ℕ). record { grain = hall.grain; shared = after; journals = journals; gone = k; kept = hall.kept }) (let none = stays.1 in omega (arith, none));
+      left = grind arith;
       keeps = changed hall latest count latest step did after journals hall.gone keeps one known (record {
         own = some-explained hall.grain _ went.next _ went.is (rw more on);
         searches = rw more (searches-push (journal_in hall.journals n) step (explained.searches n) search);
@@ -296,8 +288,7 @@ admitted hall latest count number quota did after keeps one none limit known =
       others = λ m ne. push-other m journal hall.journals ne;
       rising = push-rising latest journal hall.journals keeps.upto above keeps.rising;
       upto = push-upto latest journal hall.journals keeps.upto above;
-      begun = all-push IsBegun journal hall.journals
-          (record { quota = quota; later = []; begins = refl; places = omega arith; segments = limit.segments_within; nodes = limit.nodes_within; raised = omega arith; within = omega arith }) keeps.begun;
+      begun = grind (arith, all-push);
       newest = sym (newest-after hall.grain hall.shared after (Admit number quota) did known_before one);
       numbers = passed.1;
       total = omega (arith, total);

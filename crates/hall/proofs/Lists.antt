@@ -79,11 +79,7 @@ places-with (Some quota) j now places = refl
 
 pub longer-places : (step : Step) (j : JournalOf) → is_appended step ≡ true → j.places ≡ places_for (reserved_in j.steps) + raise_count j.steps →
     places_with (raise_in step) j ≡ places_for (reserved_in (j.steps ++ step ∷ [])) + raise_count (j.steps ++ step ∷ [])
-longer-places step j goes places =
-    let with_it = places-with (raise_in step) j (reserved_in j.steps) places in
-    let nodes = ap (λ (q : Quota). q.nodes) (raised-after step j.steps goes) in
-    let count = raise-more j.steps step in
-    omega (arith, with_it, nodes, count)
+longer-places step j goes places = grind (arith, places-with, raised-after, raise-more)
 
 -- what is reserved stays within the limits, and above the count of raises
 limits-with : (r : Option Quota) (now : Quota) (count : ℕ) → IsAllowed r → Brings r now → now.segments ≤ 4096 → now.nodes ≤ 65536 → count ≤ now.segments + now.nodes →
@@ -147,27 +143,21 @@ without-total n (j ∷ js) = elim (cases_Bool (eqb j.tenant n)) [
 -- one more, of a tenant above all others
 pub push-own : (m : ℕ) (j : JournalOf) (js : Js) → AreUpTo m js → m < j.tenant → journal_in (js ++ j ∷ []) j.tenant ≡ j.steps
 push-own m j [] upto below = rw (eq-eqb j.tenant j.tenant refl) refl
-push-own m j (i ∷ js) upto below =
-    let first : i.tenant ≤ m = upto.0 in rw (ne_eqb i.tenant j.tenant (λ e. omega (arith, e, below, first))) (push-own m j js upto.1 below)
+push-own m j (i ∷ js) upto below = grind (arith, push-own m j js upto.1 below, ne_eqb)
 
 pub push-other : (n : ℕ) (j : JournalOf) (js : Js) → j.tenant ≢ n → journal_in (js ++ j ∷ []) n ≡ journal_in js n
 push-other n j [] ne = rw (ne_eqb j.tenant n ne) refl
-push-other n j (i ∷ js) ne = elim (cases_Bool (eqb i.tenant n)) [
-  | inl same ↦ rw same refl
-  | inr other ↦ rw other (push-other n j js ne)
-]
+push-other n j (i ∷ js) ne = grind (arith, push-other n j js ne)
 
 pub push-total : (j : JournalOf) (js : Js) → total_length (js ++ j ∷ []) ≡ total_length js + length j.steps
 push-total j [] = omega arith
 push-total j (i ∷ js) = (let rest = push-total j js in omega (arith, rest))
 
 pub push-rising : (m : ℕ) (j : JournalOf) (js : Js) → AreUpTo m js → m < j.tenant → AreRising owner_of_journal js → AreRising owner_of_journal (js ++ j ∷ [])
-push-rising m j js upto below rising =
-    rising-push owner_of_journal j js (all-map (λ (i : JournalOf). i.tenant ≤ m) (λ (i : JournalOf). i.tenant < j.tenant) (λ i first. omega (arith, below, first)) js upto) rising
+push-rising m j js upto below rising = grind (arith, rising-push, all-map)
 
 pub push-upto : (m : ℕ) (j : JournalOf) (js : Js) → AreUpTo m js → m < j.tenant → AreUpTo j.tenant (js ++ j ∷ [])
-push-upto m j js upto below =
-    all-push (λ (i : JournalOf). i.tenant ≤ j.tenant) j js (omega arith) (all-map (λ (i : JournalOf). i.tenant ≤ m) (λ (i : JournalOf). i.tenant ≤ j.tenant) (λ i first. omega (arith, below, first)) js upto)
+push-upto m j js upto below = grind (arith, all-push, all-map)
 
 -- no journal is longer than its places, of which there are at most 1,118,978
 pub total-within : (js : Js) → AreBegun js → total_length js ≤ length js * 1118978

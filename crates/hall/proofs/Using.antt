@@ -1,5 +1,5 @@
 -- Each taken step of a tenant uses one of what it may do, so a journal stays within its places.
-use Rattle.std.proofs.Common.{◌≡◌, ℕ, ◌+◌, ◌*◌, ◌<◌, ◌≤◌, inl, inr, Bool, false, true, eqb, List, [], ◌∷◌, ◌++◌, length, Option, Some, None, Result, Ok, Err, refl, subst, ap, sym, ◌∙◌, arith, length-append}
+use Rattle.std.proofs.Common.{◌≡◌, ℕ, ◌+◌, ◌*◌, ◌<◌, ◌≤◌, inl, inr, Bool, false, true, eqb, List, [], ◌∷◌, ◌++◌, length, Option, Some, None, Result, Ok, Err, refl, ap, sym, ◌∙◌, arith, length-append}
 use Rattle.std.proofs.lemmas.Bool.{cases_Bool, eqb-true}
 use Rattle.std.proofs.lemmas.Bool.Decides.{nat_tests}
 use Rattle.tenant_quota.specs.Quota.{Quota}
@@ -7,12 +7,11 @@ use Rattle.frame_tree.specs.Frames.{AllBelow, Frame, frame_at, root_of, path_in}
 use Rattle.sched_rules.specs.declared.job.Job.{Job}
 use Rattle.sched_rules.specs.declared.job.Job.TheVariants.{Live, Done, Spent as SpentJob, Cancelled as CancelledJob}
 use Rattle.sched_rules.specs.declared.refusal.Refusal.{Refusal}
-use Rattle.sched_rules.specs.declared.refusal.Refusal.TheVariants.{Lower}
 use Rattle.sched_rules.specs.declared.step.StepOf.{StepOf}
 use Rattle.sched_rules.specs.declared.step.StepOf.TheVariants.{Admit, AdmitMore, Take, Steal, Advance, Answer, Inlet, Finish, Spend}
 use Rattle.sched_rules.specs.Functions.{Functions}
-use Rattle.sched_rules.specs.Trees.{Tree, Tenant, admitted_with, is_root, with_ended}
-use Rattle.sched_rules.specs.Lone.{Outcome, at_frame, lone_step, is_lower, raised, counted, ended}
+use Rattle.sched_rules.specs.Trees.{Tree, Tenant, admitted_with, with_ended}
+use Rattle.sched_rules.specs.Lone.{Outcome, at_frame, lone_step, is_lower, counted, ended}
 use Rattle.sched_rules.specs.Runs.{state_after, alone_from}
 use Rattle.jamboree_core.specs.sched_laws.Ended.{HasEnded}
 use Rattle.jamboree_core.specs.sched_laws.Shapes.{IsShaped, AreRootsLive, live_count}
@@ -65,26 +64,20 @@ ended-more root end (_ ∷ jobs) has = (let rest = ended-more root end jobs has 
 one-lives : (jobs : List Job) (xs : Tree) (root : ℕ) → AreRootsLive jobs xs → path_in xs root ≡ root ∷ [] → live_count root jobs ≡ 1
 one-lives jobs [] root roots at = absurd cc
 one-lives jobs (x ∷ xs) root roots at = elim (cases_Bool (eqb x.serial root)) [
-  | inl same ↦ (let path : x.path ≡ root ∷ [] = rw same at at in
-      ap (λ (n : ℕ). live_count n jobs) (sym (eqb-true x.serial root same)) ∙ roots.0 (ap is_root path))
+  | inl same ↦ grind (arith, eqb-true)
   | inr other ↦ one-lives jobs xs root roots.1 (rw other at at)
 ]
 
 -- a tenant whose job under a root ended
 job-ended : (root : ℕ) (end : Job) (tenant : Tenant) → HasEnded end → IsShaped tenant → path_in tenant.frames root ≡ root ∷ [] → HasUsed true None tenant (Some (ended root end tenant))
-job-ended root end tenant has shape at =
-    let one = one-lives tenant.jobs tenant.frames root shape.roots at in
-    let more = ended-more root end tenant.jobs has in
-    let same = length-with_ended root end tenant.jobs in
-    (omega (arith, one, more, same), refl)
+job-ended root end tenant has shape at = grind (arith, one-lives, ended-more, length-with_ended)
 
 submit-used : (tenant : Tenant) (root : ℕ) → length tenant.jobs + 1 + ended_count tenant.jobs ≤ length (tenant.jobs ++ Live root ∷ []) + ended_count (tenant.jobs ++ Live root ∷ [])
 submit-used tenant root =
     let one = length-append tenant.jobs (Live root ∷ []) in let same = ended-append root tenant.jobs in omega (arith, one, same)
 
 finish-used : (tenant : Tenant) (root : ℕ) (words : List ℕ) → uses tenant + 1 ≤ uses (counted (ended root (Done words) tenant))
-finish-used tenant root words =
-    let more = ended-more root (Done words) tenant.jobs tt in let same = length-with_ended root (Done words) tenant.jobs in omega (arith, more, same)
+finish-used tenant root words = grind (arith, ended-more, length-with_ended)
 
 -- each taken step but a raise
 others-used : {I A : Type 0} (functions : Functions I A) (tenant : Tenant) (step : StepOf A) (outcome : Outcome I) → raise_in step ≡ None → lone_step functions tenant step ≡ Ok outcome → IsShaped tenant → HasUsed (is_appended step) None tenant outcome.0
@@ -100,9 +93,7 @@ others-used functions tenant step outcome none is shape = by-kinds functions ten
 
 -- each taken step
 pub step-used : {I A : Type 0} (functions : Functions I A) (tenant : Tenant) (step : StepOf A) (outcome : Outcome I) → lone_step functions tenant step ≡ Ok outcome → IsShaped tenant → HasUsed (is_appended step) (raise_in step) tenant outcome.0
-step-used {I} functions tenant (AdmitMore number quota) outcome is shape =
-    let p = unless-passed ((is_lower tenant.reserve quota, Lower) ∷ []) (raised {I = I} tenant quota) outcome is in
-    let P : Outcome I → Type 0 = λ o. HasUsed true (Some quota) tenant o.0 in subst P p.1 (omega arith, refl)
+step-used {I} functions tenant (AdmitMore number quota) outcome is shape = grind (arith, unless-passed)
 step-used functions tenant step outcome is shape = others-used functions tenant step outcome refl is shape
 
 -- a frame's serial is below what all are below
@@ -115,9 +106,7 @@ serial-below n (x ∷ xs) s f below at = elim (cases_Bool (eqb x.serial s)) [
 
 -- a step at a frame that was found is at a serial that was given
 frame-given : {X : Type 0} (tenant : Tenant) (s : ℕ) (step : Frame (List ℕ) → Result X Refusal) (outcome : X) → at_frame (frame_at tenant.frames s) step ≡ Ok outcome → IsShaped tenant → s ≤ tenant.serials
-frame-given tenant s step outcome is shape =
-    let f = frame-found tenant.frames s step outcome is in
-    let below = serial-below (tenant.serials + 1) tenant.frames s f.0 shape.given f.1 in omega (arith, below)
+frame-given tenant s step outcome is shape = grind (arith, frame-found, serial-below)
 
 -- a taken step names no serial that wasn't given
 pub serial-given : {I A : Type 0} (functions : Functions I A) (tenant : Tenant) (step : StepOf A) (outcome : Outcome I) → lone_step functions tenant step ≡ Ok outcome → IsShaped tenant → serial_in step ≤ tenant.serials
@@ -141,8 +130,7 @@ not-lower : (now quota : Quota) → is_lower now quota ≡ false → now.segment
 not-lower now quota is = grind (arith, nat_tests)
 
 pub step-brings : {I A : Type 0} (functions : Functions I A) (tenant : Tenant) (step : StepOf A) (outcome : Outcome I) → lone_step functions tenant step ≡ Ok outcome → Brings (raise_in step) tenant.reserve
-step-brings {I} functions tenant (AdmitMore number quota) outcome is =
-    let p = unless-passed ((is_lower tenant.reserve quota, Lower) ∷ []) (raised {I = I} tenant quota) outcome is in not-lower tenant.reserve quota p.0.0
+step-brings {I} functions tenant (AdmitMore number quota) outcome is = grind (arith, unless-passed, not-lower)
 step-brings functions tenant _ outcome is = tt
 
 -- a step that was taken of a tenant that is there reserves what it raises
@@ -158,9 +146,7 @@ record HasGone (before : Tenant) (steps raises : ℕ) (reserve : Quota) (after :
 
 used-from : {I A : Type 0} (functions : Functions I A) (before tenant : Tenant) (steps : List (StepOf A)) → AreTakenFrom functions (Some before) steps → alone_from functions (Some before) steps ≡ Some tenant → IsShaped before →
     HasGone before (length steps) (raise_count steps) (reserved_after before.reserve steps) tenant
-used-from functions before tenant [] taken comes shape =
-    let same : before ≡ tenant = cc in
-    let P : Tenant → Type 0 = λ t. HasGone before 0 0 before.reserve t in subst P same (record { used = omega arith; same = refl; shape = shape })
+used-from functions before tenant [] taken comes shape = grind arith
 used-from {I} {A} functions before tenant (step ∷ steps) taken comes shape =
     by (λ next on to well. used-from functions next tenant steps on to well) (lone_step functions before step) refl taken.0 taken.1 comes
   where

@@ -1,5 +1,5 @@
 -- Journals: what a tenant of searches comes to by its own taken steps, and how a journal grows.
-use Rattle.std.proofs.Common.{◌≡◌, ◌≢◌, ℕ, List, [], ◌∷◌, ◌++◌, Option, Some, None, Result, Ok, Err, refl, ap, sym, ◌∙◌, subst, append_assoc, append-nil}
+use Rattle.std.proofs.Common.{◌≡◌, ◌≢◌, ℕ, List, [], ◌∷◌, ◌++◌, Option, Some, None, Result, Ok, Err, refl, ap, sym, ◌∙◌, subst, append_assoc, append-nil, arith}
 use Rattle.tenant_quota.specs.Quota.{Quota}
 use Rattle.sched_rules.specs.declared.refusal.Refusal.{Refusal}
 use Rattle.sched_rules.specs.declared.refusal.Refusal.TheVariants.{NoTenant, OldTenant}
@@ -35,11 +35,7 @@ Came = Result (Outcome Leaf) Refusal
 
 -- from nothing only an admission is taken, and it leaves a tenant without jobs
 begun-fits : (grain : ℕ) (step : StepOf LeafAnswer) (outcome : Outcome Leaf) → lone (jamboree grain) None step ≡ Ok outcome → LeftFits AreFitting IsRoot (submits step) outcome.0
-begun-fits grain (Admit number quota) outcome is =
-    let both : ◌≡◌ {A = Came} (Ok (Some (admitted_with quota), Admitted)) (Ok outcome) = is in
-    let own : ◌≡◌ {A = Outcome Leaf} (Some (admitted_with quota), Admitted) outcome = cc in
-    let P : Outcome Leaf → Type 0 = λ o. LeftFits AreFitting IsRoot [] o.0 in
-    subst P own (record { frames = tt; jobs = tt })
+begun-fits grain (Admit number quota) outcome is = grind arith
 begun-fits grain _ outcome is = (let no : ◌≡◌ {A = Came} (Err NoTenant) (Ok outcome) = is in absurd cc)
 
 -- a tenant of searches after one of its own steps; where it wasn't there, no words were submitted
@@ -81,18 +77,12 @@ journal-searches grain journal tenant is searches =
 
 -- a journal that goes on with a taken step, after which its tenant is still there
 stays : {I : Type 0} (came : Result (Outcome I) Refusal) (outcome : Outcome I) (next : Tenant) → came ≡ Ok outcome → outcome.0 ≡ Some next → StaysTaken came
-stays {I} came outcome next is left =
-    let P : Result (Outcome I) Refusal → Type 0 = λ c. StaysTaken c in
-    let there : StaysTaken {I = I} (Ok (Some next, outcome.1)) = tt in
-    let Q : Option Tenant → Type 0 = λ own. StaysTaken {I = I} (Ok (own, outcome.1)) in
-    subst P (sym is) (subst Q (sym left) there)
+stays {I} came outcome next is left = grind arith
 
 longer : {I A : Type 0} (functions : Functions I A) (before : Option Tenant) (steps : List (StepOf A)) (tenant next : Tenant) (step : StepOf A) (outcome : Outcome I) →
     AreTakenFrom functions before steps → alone_from functions before steps ≡ Some tenant → lone functions (Some tenant) step ≡ Ok outcome → outcome.0 ≡ Some next →
     AreTakenFrom functions before (steps ++ step ∷ []) × (alone_from functions before (steps ++ step ∷ []) ≡ Some next)
-longer functions before [] tenant next step outcome taken comes is left =
-    let own : lone functions before step ≡ Ok outcome = ap (λ (o : Option Tenant). lone functions o step) comes ∙ is in
-    ((stays (lone functions before step) outcome next own left, tt), ap (state_after before) own ∙ left)
+longer functions before [] tenant next step outcome taken comes is left = grind (arith, stays)
 longer functions before (first ∷ steps) tenant next step outcome taken comes is left =
     let rest = longer functions (state_after before (lone functions before first)) steps tenant next step outcome taken.1 comes is left in
     ((taken.0, rest.0), rest.1)
@@ -129,6 +119,4 @@ journal-begins {I} {A} functions before number quota did after known one =
 pub others-stay : {I A : Type 0} (functions : Functions I A) (before : CoreState) (step : StepOf A) (answer : Result (DidOf I) Refusal) (after : CoreState) (number : ℕ) → AreNumbersGiven before →
     IsOneStep functions before step answer after → tenant_of step ≢ number → tenant_in after.tenants number ≡ tenant_in before.tenants number
 others-stay functions before step (Err refusal) after number known one other = ap (λ (s : CoreState). tenant_in s.tenants number) one.left
-others-stay functions before step (Ok did) after number known one other =
-    let t = step-taken functions before step did known one.answered in
-    ap (λ (s : CoreState). tenant_in s.tenants number) (one.left ∙ shared-after-taken functions before step did t) ∙ tenant_in_other-with_outcome number (tenant_of step) t.outcome.0 before.tenants other
+others-stay functions before step (Ok did) after number known one other = grind (arith, step-taken, shared-after-taken, tenant_in_other-with_outcome)

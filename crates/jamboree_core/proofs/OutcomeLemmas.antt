@@ -1,5 +1,5 @@
 -- What has become of a tenant's job, and what it was submitted with.
-use Rattle.std.proofs.Common.{◌≡◌, ℕ, inl, inr, eqb, List, [], ◌∷◌, Option, Some, None, refl, ap, sym, ◌∙◌, subst}
+use Rattle.std.proofs.Common.{◌≡◌, ℕ, inl, inr, eqb, List, [], ◌∷◌, Option, Some, None, refl, ap, sym, ◌∙◌, subst, arith}
 use Rattle.std.specs.Prelude.{◌-◌, option_and_then}
 use Rattle.std.proofs.lemmas.Bool.{cases_Bool}
 use Rattle.sched_rules.specs.declared.job.Job.{Job}
@@ -19,7 +19,7 @@ use Rattle.jamboree_core.specs.declared.outcomes.Outcome.{Outcome}
 use Rattle.jamboree_core.specs.declared.outcomes.Outcome.TheVariants.{Pending, Done as DoneWith, Spent, Cancelled}
 use Rattle.jamboree_core.specs.Journals.{IsJournalOf}
 use Rattle.jamboree_core.specs.Searching.{TenantSearches, ServesSearches, origin_at}
-use Rattle.jamboree_core.specs.Outcomes.{IsOfSearch, IsReplyOn, IsOutcomeOf, IsOutcomeIn, IsTo, AnswersTo}
+use Rattle.jamboree_core.specs.Outcomes.{IsOfSearch, IsOutcomeOf, IsOutcomeIn, IsTo, AnswersTo}
 use Rattle.jamboree_core.proofs.Serving.{tenant-replies}
 
 -- a job of a tenant of searches is one
@@ -65,9 +65,7 @@ none-at (origin ∷ origins) (first ∷ jobs) number are is = elim (cases_Bool (
 -- an outcome of a job that holds the reply to what was submitted
 is-to : (origin : List ℕ) (job : Job) (outcome : Outcome) → HoldsReply origin job → IsOutcomeOf job outcome → IsTo origin outcome
 is-to origin (Live root) outcome holds is = subst (IsTo origin) (sym is) tt
-is-to origin (Done words) outcome holds is =
-    let to : IsReplyOn origin is.0 = record { own = is.2.on.own ∙ holds.own; opp = is.2.on.opp ∙ holds.opp; depth = is.2.on.depth ∙ holds.depth } in
-    subst (IsTo origin) (sym is.1) to
+is-to origin (Done words) outcome holds is = grind arith
 is-to origin SpentJob outcome holds is = subst (IsTo origin) (sym is) tt
 is-to origin CancelledJob outcome holds is = subst (IsTo origin) (sym is) tt
 
@@ -106,7 +104,4 @@ same-in (Some job) first second a b = same-table job first second a b
 -- what a tenant's job has come to is a function of the tenant's own taken steps
 pub own-table : (grain : ℕ) (journal : List (StepOf LeafAnswer)) (one other : Tenant) (number : ℕ) (first second : Reply) → IsJournalOf (jamboree grain) journal one → IsJournalOf (jamboree grain) journal other →
     IsOutcomeIn (job_at one.jobs number) (Some (DoneWith first)) → IsOutcomeIn (job_at other.jobs number) (Some (DoneWith second)) → table_of first ≡ table_of second
-own-table grain journal one other number first second is is_other a b =
-    let both : Some one ≡ Some other = sym is.comes ∙ is_other.comes in
-    let same : one ≡ other = cc in
-    same-in (job_at other.jobs number) first second (subst (λ (t : Tenant). IsOutcomeIn (job_at t.jobs number) (Some (DoneWith first))) same a) b
+own-table grain journal one other number first second is is_other a b = grind (arith, same-in)

@@ -1,5 +1,5 @@
 -- What a tenant of searches does can be done: none of its steps but a Submit is refused by BadAct.
-use Rattle.std.proofs.Common.{◌≡◌, ◌≢◌, ℕ, inl, inr, Bool, true, false, not, List, [], ◌∷◌, Option, Some, None, Result, Ok, Err, refl, ap, sym, ◌∙◌, subst, ◌⊎◌}
+use Rattle.std.proofs.Common.{◌≡◌, ◌≢◌, ℕ, inl, inr, Bool, true, false, not, List, [], ◌∷◌, Option, Some, None, Result, Ok, Err, refl, ap, sym, ◌∙◌, subst, ◌⊎◌, arith}
 use Rattle.std.proofs.lemmas.Bool.{cases_Bool, false≢true, not-false, eq-eqb}
 use Rattle.frame_tree.specs.Frames.{frame_at, parent_of, values_of}
 use Rattle.frame_tree.specs.TreeLaws.{is_that}
@@ -11,12 +11,11 @@ use Rattle.sched_rules.specs.declared.refusal.Refusal.TheVariants.{NotSpent, Bad
 use Rattle.sched_rules.specs.declared.step.StepOf.{StepOf}
 use Rattle.sched_rules.specs.declared.step.StepOf.TheVariants.{Admit, AdmitMore, Submit, Take, Steal, Advance, Answer, Inlet, Finish, Spend, Cancel, Leave}
 use Rattle.sched_rules.specs.declared.step.DidOf.{DidOf}
-use Rattle.sched_rules.specs.declared.step.DidOf.TheVariants.{Admitted}
 use Rattle.tenant_quota.specs.Quota.{Quota}
 use Rattle.sched_rules.specs.Runs.{tenant_of, answer_of}
-use Rattle.sched_rules.specs.Cores.{CoreState, tenant_in, meets_busy, admit_tests, shared_refusal, reservations_in, reserved_by, is_beyond, unless_beyond, step_result}
+use Rattle.sched_rules.specs.Cores.{CoreState, tenant_in, meets_busy, shared_refusal, reservations_in, reserved_by, is_beyond, unless_beyond, step_result}
 use Rattle.sched_rules.specs.Headline.{IsAnswerTo, IsAnswerToStep, IsAnswerToAdmit}
-use Rattle.sched_rules.specs.Trees.{Tree, Tenant, admitted_with, sight, words_in, is_outside, has_child, job_at}
+use Rattle.sched_rules.specs.Trees.{Tree, Tenant, sight, words_in, is_outside, has_child, job_at}
 use Rattle.sched_rules.specs.Laws.{Mark, Neither, Computes, HasReturned, mark_of_state, ParentFits}
 use Rattle.sched_rules.specs.Lone.{Outcome, unless, refusal_in, lone, first_step, lone_step, is_lower, raised, at_frame, is_run_by, is_computed_by, is_returned, is_bad_act, act_by_sight, take_tests, steal_tests, advance_tests, answer_tests, inlet_tests, inlet_under, taken_in, finish_tests, is_spendable, cancelled}
 use Rattle.sched_laws.specs.Shapes.{IsShaped, AreShaped}
@@ -142,9 +141,7 @@ Told answer busy came =
     ((refusal : Refusal) → refusal_in came ≡ Some refusal → answer ≡ Err refusal) × (refusal_in came ≡ None → busy ≡ true → answer ≡ Err Busy) × (refusal_in came ≡ None → busy ≡ false → answer ≡ answer_of came)
 
 own-none-bad : (answer : Result (DidOf Leaf) Refusal) (busy : Bool) (came : Result (Outcome Leaf) Refusal) → Told answer busy came → refusal_in came ≢ Some BadAct → answer ≢ Err BadAct
-own-none-bad answer busy (Err refusal) told none = λ e.
-    let said : ◌≡◌ {A = Result (DidOf Leaf) Refusal} (Err refusal) (Err BadAct) = sym (told.0 refusal refl) ∙ e in
-    let is : refusal ≡ BadAct = cc in none (ap (λ (r : Refusal). Some r) is)
+own-none-bad answer busy (Err refusal) told none = grind arith
 own-none-bad answer true (Ok outcome) told none = λ e. let said : ◌≡◌ {A = Result (DidOf Leaf) Refusal} (Err Busy) (Err BadAct) = sym (told.1 refl refl) ∙ e in absurd cc
 own-none-bad answer false (Ok outcome) told none = λ e. let said : ◌≡◌ {A = Result (DidOf Leaf) Refusal} (Ok outcome.1) (Err BadAct) = sym (told.2 refl refl) ∙ e in absurd cc
 
@@ -183,8 +180,7 @@ admission-none-bad grain before step answer none right = by (shared_refusal (jam
 
 -- an admission is refused by OldTenant or Full
 admit-none-bad : (grain : ℕ) (before : CoreState) (number : ℕ) (quota : Quota) → shared_refusal {A = LeafAnswer} (jamboree grain) before (Admit number quota) ≢ Some BadAct
-admit-none-bad grain before number quota =
-    not-bad {X = Outcome Leaf} (admit_tests before number quota) (Some (admitted_with quota), Admitted) ((λ e. absurd cc), λ n. ((λ e. absurd cc), λ n. tt))
+admit-none-bad grain before number quota = grind (arith, not-bad)
 
 -- a further reservation by NoTenant, Lower or Full
 more-none-bad : (grain : ℕ) (before : CoreState) (number : ℕ) (quota : Quota) → shared_refusal {A = LeafAnswer} (jamboree grain) before (AdmitMore number quota) ≢ Some BadAct

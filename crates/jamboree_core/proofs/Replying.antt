@@ -1,5 +1,5 @@
 -- A done job kept a returned root, which holds what it was asked.
-use Rattle.std.proofs.Common.{◌≡◌, ℕ, List, [], ◌∷◌, Some, Result, refl, sym, ◌∙◌, subst}
+use Rattle.std.proofs.Common.{◌≡◌, ℕ, List, [], ◌∷◌, Some, Result, refl, sym, ◌∙◌, subst, arith}
 use Rattle.tenant_quota.specs.Quota.{Quota}
 use Rattle.frame_tree.specs.Frames.{Frame as TreeFrame, children_of, values_of}
 use Rattle.sched_rules.specs.declared.job.Job.{Job}
@@ -63,8 +63,7 @@ searched grain totals steps answers number tenant right searches at =
     core.tenants number tenant at
 
 same-table : (own opp depth : ℕ) (bounds : List Bound) (f : Frame) → f.own ≡ own → f.opp ≡ opp → f.depth ≡ depth → IsTable f.depth (board f) bounds → IsTable depth (cells_of own opp) bounds
-same-table own opp depth bounds f o p d table =
-    subst (λ (n : ℕ). IsTable n (cells_of own opp) bounds) d (subst (λ (w : ℕ). IsTable f.depth (cells_of own w) bounds) p (subst (λ (w : ℕ). IsTable f.depth (cells_of w f.opp) bounds) o table))
+same-table own opp depth bounds f o p d table = grind arith
 
 -- a returned root holds the reply
 root-replies : (origin all : List ℕ) → AreFitting all [] HasReturned → IsRoot origin all → IsReplyTo origin all

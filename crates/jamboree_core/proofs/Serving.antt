@@ -1,5 +1,5 @@
 -- Cores of searches: what follows from each frame fitting and each job holding what it was asked.
-use Rattle.std.proofs.Common.{◌≡◌, ℕ, inl, inr, true, eqb, List, [], ◌∷◌, ◌++◌, Option, Some, None, Result, Ok, Err, refl}
+use Rattle.std.proofs.Common.{◌≡◌, ℕ, inl, inr, true, eqb, List, [], ◌∷◌, ◌++◌, Option, Some, None, Result, Ok, Err, refl, arith}
 use Rattle.std.specs.Prelude.{is_ok, OnOk}
 use Rattle.std.proofs.lemmas.Bool.{cases_Bool}
 use Rattle.tenant_quota.specs.Quota.{Quota}
@@ -91,10 +91,7 @@ only-searches number (step ∷ steps) are = elim (cases_Bool (eqb (tenant_of ste
 
 searches-after-run : (origins : ℕ → List (List ℕ)) (before after : CoreState) (steps : List (StepOf LeafAnswer)) → CoreSearches origins before → AreSearches steps →
     CoreFits AreFitting IsRoot (submitted_to origins steps) after → CoreSearches (submitted_to origins steps) after
-searches-after-run origins before after steps core searches fits = record {
-  fits = fits;
-  asked = λ number. asked-append (origins number) (origins_of (only number steps)) (core.asked number) (searches-asked (only number steps) (only-searches number steps searches));
-}
+searches-after-run origins before after steps core searches fits = grind (arith, asked-append, searches-asked, only-searches)
 
 -- the headline in full, from what a run says
 pub headline-in-full : (grain : ℕ) (before : CoreState) (steps : List (StepOf LeafAnswer)) (answered : List (Result (DidOf Leaf) Refusal)) (after : CoreState) → IsHeadline (jamboree grain) before steps answered after →

@@ -30,19 +30,7 @@ abbrev pub answered_frame : Frame → LeafAnswer → Frame
 answered_frame f answer = record f { phase = 4; best = answer.score; choice = coded answer.choice }
 
 answered-form : (f : Frame) (answer : LeafAnswer) → IsFrame f → f.phase ≡ 1 → IsFrame (answered_frame f answer)
-answered-form f answer form phase =
-    let low : negsuc 127999 ≤ℤ answer.score = answer.low in
-    let high : answer.score ≤ℤ pos 128000 = answer.high in
-    record {
-      leaf = form.leaf;
-      role = form.role;
-      phase = omega arith;
-      choice = choice-small answer;
-      spawned = form.spawned;
-      early = λ (e : 4 ≤ 1). absurd (omega arith);
-      late = λ _. (omega (arith, ints), omega (arith, ints));
-      counts = ⊎_elim (λ (e : 4 ≡ 2). absurd (omega arith)) (λ (e : 4 ≡ 3). absurd (omega arith));
-    }
+answered-form f answer form phase = grind (arith, choice-small, ints)
 
 answer-good : (own : List ℕ) (answer : LeafAnswer) → IsFormed own → (frame_of own).phase ≡ 1 → IsGoodStore own (changes_of_answer answer) (answered_frame (frame_of own) answer)
 answer-good own answer form phase =
@@ -56,13 +44,7 @@ answered-done own answer form phase alike =
     let f : Frame = frame_of own in
     let there : Has (leaf_in own) f.own f.opp f.depth f.alpha f.beta = has-from f.own f.opp f.depth f.alpha f.beta form.frame.leaf in
     let asked : Has answer.leaf (leaf_in own).board.own (leaf_in own).board.opp (leaf_in own).depth (leaf_in own).alpha (leaf_in own).beta = same-has answer.leaf (leaf_in own) alike in
-    let has : Has answer.leaf f.own f.opp f.depth f.alpha f.beta = record {
-      own_is = asked.own_is ∙ there.own_is;
-      opp_is = asked.opp_is ∙ there.opp_is;
-      depth_is = asked.depth_is ∙ there.depth_is;
-      alpha_is = asked.alpha_is ∙ there.alpha_is;
-      beta_is = asked.beta_is ∙ there.beta_is;
-    } in
+    let has : Has answer.leaf f.own f.opp f.depth f.alpha f.beta = grind arith in
     let early = form.frame.early (omega arith) in
     let none : length f.statuses ≡ 0 = status-count own form ∙ early.1 in
     record {
@@ -113,13 +95,7 @@ accept-possible own answer fits =
 -- ---- roots
 
 root-form : (own opp depth : ℕ) → bit_and own opp ≡ 0 → depth ≤ 12 → IsFormed (padded (root_words own opp depth) frame_size)
-root-form own opp depth apart shallow = record {
-  places = refl;
-  entries = refl;
-  frame =
-      new-form (frame_of (padded (root_words own opp depth) frame_size)) (record { disjoint = apart; shallow = shallow; low = omega (arith, ints); window = omega (arith, ints); high = omega (arith, ints) })
-      (omega arith) refl (omega arith) refl refl refl;
-}
+root-form own opp depth apart shallow = grind (arith, new-form, ints)
 
 -- a new root fits, and belongs to the words that it was submitted with
 pub root-fits : (own opp depth : ℕ) → bit_and own opp ≡ 0 → depth ≤ 12 → AreFitting (padded (root_words own opp depth) frame_size) [] Neither × IsRoot (root_words own opp depth) (padded (root_words own opp depth) frame_size)
@@ -150,14 +126,7 @@ below-beta s m bound high = by_lt_z s greatest (λ h. h) (λ h. let u : s ≤ℤ
 -- a returned root holds the minimax value and the best choice of its board to its depth, where that value lies within 128,000
 pub root-holds : (origin words : List ℕ) → negsuc 127999 ≤ℤ value (frame_of words) → value (frame_of words) ≤ℤ pos 128000 → AreFitting words [] HasReturned → IsRoot origin words →
     ((frame_of words).best ≡ value (frame_of words)) × ((frame_of words).choice ≡ coded (best_choice (frame_of words).depth (board (frame_of words))))
-root-holds origin words low high fits root =
-    let f : Frame = frame_of words in
-    let done = fits.frame.done fits.frame.marked in
-    let bound : IsBound least greatest f.best (value f) = rw (root.alpha_is, root.beta_is) at done.bound in
-    let over : least <ℤ f.best = above-alpha f.best (value f) bound low in
-    let under : f.best <ℤ greatest = below-beta f.best (value f) bound high in
-    let named : least <ℤ f.best → f.best <ℤ greatest → f.choice ≡ coded (best_choice f.depth (board f)) = rw (root.alpha_is, root.beta_is) at done.named in
-    (sym (bound.exact over under), named over under)
+root-holds origin words low high fits root = grind (arith, above-alpha, below-beta)
 
 -- its score lies inside the full window, which is its own
 pub root-inside : (origin words : List ℕ) → AreFitting words [] HasReturned → IsRoot origin words → ((frame_of words).alpha <ℤ (frame_of words).best) × ((frame_of words).best <ℤ (frame_of words).beta)

@@ -150,12 +150,7 @@ act-goes false false false true grain origin own above older younger children e0
           (record { settled = open-settled st; inside = open-inside st }) refl refl refl (is-told (frame_of own).phase 3 e3) form fits,
       known-board origin own above older younger (isn't-told (frame_of own).phase 0 e0) parent,
     )
-act-goes false false false false grain origin own above older younger children e0 e1 e2 e3 form fits parent = (
-  (frame_of own).own,
-  (frame_of own).opp,
-  done-good own children (last-phase (frame_of own).phase form.frame.phase e0 e2 e3 fits.marked) form fits,
-  known-board origin own above older younger (isn't-told (frame_of own).phase 0 e0) parent,
-)
+act-goes false false false false grain origin own above older younger children e0 e1 e2 e3 form fits parent = grind (arith, done-good, last-phase, known-board, isn't-told)
 
 chosen-act : (formed placed : Bool) (act other : Act) → formed ≡ true → placed ≡ true → act ≡ (if formed && placed then act else other)
 chosen-act formed placed act other ef ep = rw (ef, ep) refl

@@ -1,7 +1,7 @@
 -- The inlets keep that a frame fits.
 use Rattle.std.specs.Prelude.{◌≡◌, ◌≢◌, ℕ, ◌+◌, ◌<◌, ◌≤◌, ◌⊎◌, ℤ, pos, neg_ℤ, ◌<ℤ◌, ◌≤ℤ◌, ◌+ℤ◌, List, [], ◌∷◌, ◌++◌, length, refl, slice_index, slice_set}
 use Rattle.std.specs.Int.{int_max}
-use Rattle.std.proofs.Common.{sym, ◌∙◌, ap, subst, arith, inr, ⊎_elim}
+use Rattle.std.proofs.Common.{sym, ◌∙◌, ap, arith, inr, ⊎_elim}
 use Rattle.std.proofs.lemmas.Grind.{common_steps}
 use Rattle.std.proofs.lemmas.Int.{ints, clamps, by_lt_z}
 use Rattle.othello_moves.specs.Choices.{after}
@@ -350,30 +350,9 @@ pub record IsSameGoal (p c c' : Frame) : Type 0 where
   pub known : c'.phase ≢ 0 → board c' ≡ after (board p) (choice_at p c.number)
 
 role-same : (p c c' : Frame) → IsSameGoal p c c' → IsInRole p c → IsInRole p c'
-role-same p c c' g (First r) = First (record {
-  role = g.role ∙ r.role;
-  phase = r.phase;
-  number = g.number ∙ r.number;
-  status = ap (λ (i : ℕ). slice_index p.statuses i) g.number ∙ r.status;
-  low = g.alpha ∙ r.low;
-  high = g.beta ∙ r.high;
-})
-role-same p c c' g (Test r) = Test (record {
-  role = g.role ∙ r.role;
-  phase = r.phase;
-  status = ap (λ (i : ℕ). slice_index p.statuses i) g.number ∙ r.status;
-  low = g.alpha ∙ r.low ∙ ap (λ (b : ℤ). neg_ℤ (neg_ℤ b +ℤ pos 1)) (sym g.beta);
-  least = rw g.beta r.least;
-  most = rw g.beta r.most;
-})
-role-same p c c' g (Again r) = Again (record {
-  role = g.role ∙ r.role;
-  phase = r.phase;
-  status = ap (λ (i : ℕ). slice_index p.statuses i) g.number ∙ r.status;
-  low = g.alpha ∙ r.low;
-  high = g.beta ∙ r.high;
-  earlier = λ k below. r.earlier k (subst (λ (n : ℕ). k < n) g.number below);
-})
+role-same p c c' g (First r) = grind arith
+role-same p c c' g (Test r) = grind arith
+role-same p c c' g (Again r) = grind arith
 
 pub child-same : (p c c' : Frame) → IsSameGoal p c c' → IsChildOf p c → IsChildOf p c'
 child-same p c c' g kin = grind (arith, role-same)

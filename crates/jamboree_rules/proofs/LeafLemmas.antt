@@ -49,8 +49,7 @@ named-leaf answer over under =
     ∥∥₁_elim answer.best prop (λ h. ap coded (h over under))
 
 pub named-by : (answer : LeafAnswer) (own opp depth : ℕ) (alpha beta : ℤ) → Has answer.leaf own opp depth alpha beta → alpha <ℤ answer.score → answer.score <ℤ beta → coded answer.choice ≡ coded (best_choice depth (cells_of own opp))
-named-by answer own opp depth alpha beta has =
-    rw (has.own_is, has.opp_is, has.depth_is, has.alpha_is, has.beta_is) at (λ (o : answer.leaf.alpha <ℤ answer.score) (u : answer.score <ℤ answer.leaf.beta). named-leaf answer o u)
+named-by answer own opp depth alpha beta has = grind (arith, named-leaf)
 
 pub choice-small : (answer : LeafAnswer) → coded answer.choice ≤ 65
 choice-small answer =

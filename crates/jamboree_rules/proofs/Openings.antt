@@ -10,7 +10,7 @@ use Rattle.leaf_search.specs.othello_eval.Tables.{entered}
 use Rattle.sched_rules.specs.Laws.{Neither, Computes}
 use Rattle.jamboree_rules.proofs.Searching.{set_there, set_beside, set_length}
 use Rattle.jamboree_rules.specs.Frames.{Frame, choice_at, rest_at, value_at, unscored, floor}
-use Rattle.jamboree_rules.specs.Fits.{First, Test, Again, IsSearchingFrame, IsDoneFrame, Fits}
+use Rattle.jamboree_rules.specs.Fits.{First, IsSearchingFrame, IsDoneFrame, Fits}
 use Rattle.jamboree_rules.proofs.Kinship.{spawned-child}
 use Rattle.jamboree_rules.proofs.Tabling.{zero-at, tabled-zeros, tabled-none, entered-deep}
 
@@ -74,14 +74,7 @@ next-again f children j fits phase inside failed earlier =
             inside = rw (set_length f.statuses j 4) inside;
             shallower = refl;
             known = λ there. absurd (there refl);
-            in_role = Again (record {
-              role = refl;
-              phase = phase;
-              status = set_there f.statuses j 4 inside;
-              low = refl;
-              high = refl;
-              earlier = λ k under. set_beside f.statuses j 4 k (λ (e : k ≡ j). omega arith) ∙ earlier k under;
-            });
+            in_role = grind (arith, set_there, set_beside);
           }),
       new-child-fits f 3 j (neg_ℤ f.beta) (neg_ℤ (floor f)) (omega (arith, ints, clamps)),
     )
@@ -101,14 +94,7 @@ next-test f children fits phase inside =
             inside = rw (set_length f.statuses f.spawned 1) inside;
             shallower = refl;
             known = λ there. absurd (there refl);
-            in_role = Test (record {
-              role = refl;
-              phase = phase;
-              status = set_there f.statuses f.spawned 1 inside;
-              low = ap (λ (x : ℤ). neg_ℤ (x +ℤ pos 1)) (sym twice);
-              least = rw twice (omega (arith, ints, clamps));
-              most = rw twice (omega (arith, ints, clamps));
-            });
+            in_role = grind (arith, set_there, ints, clamps);
           }),
       new-child-fits f 2 f.spawned (neg_ℤ (floor f +ℤ pos 1)) (neg_ℤ (floor f)) (omega (arith, ints, clamps)),
     )

@@ -42,21 +42,7 @@ set-first w k x early long = grind (arith, put-is, drop-set-lt)
 
 -- words with the same first places have the same frame but for its entries
 frame-alike : (w v : List ℕ) → ((j : ℕ) → j < 12 → slice_index v j ≡ slice_index w j) → frame_of v ≡ record (frame_of w) { statuses = map status_of (drop 12 v); rests = map entry_rest (drop 12 v) }
-frame-alike w v same =
-    rw (
-      same 0 (omega arith),
-      same 1 (omega arith),
-      same 2 (omega arith),
-      same 3 (omega arith),
-      same 4 (omega arith),
-      same 5 (omega arith),
-      same 6 (omega arith),
-      same 7 (omega arith),
-      same 8 (omega arith),
-      same 9 (omega arith),
-      same 10 (omega arith),
-      same 11 (omega arith),
-    )
+frame-alike w v same = grind arith
 
 set-entry : (w : List ℕ) (i x : ℕ) → frame_of (slice_set w (12 + i) x) ≡ record (frame_of w) { statuses = slice_set (map status_of (drop 12 w)) i (status_of x); rests = slice_set (map entry_rest (drop 12 w)) i (entry_rest x) }
 set-entry w i x =

@@ -91,10 +91,7 @@ whole-of f fits root over under worth =
       places = long ∙ same;
       kinds = kinds;
       holds = λ i below. fits.table.holds i (kind_numbered (kind_in (rest_at f i))) (numbered (kind_in (rest_at f i)) (kinds i below) (few-kinds (rest_at f i)));
-      best = λ i below is.
-          let deep : 0 < f.depth = deep-there f.depth i (board f) (omega arith) in
-          let all : length (entered f.depth (board f)) ≡ length (choices (board f)) = ap (λ (cs : List Choice). length cs) (entered-deep f.depth (board f) deep) in
-          best-exact f i deep (same ∙ all) (omega arith) worth (done.found over under (omega arith)) is;
+      best = λ i below is. grind (arith, deep-there, entered-deep, best-exact);
     }
 
 table-of : (f : Frame) → IsWhole f → IsTable f.depth (board f) (bounds_of f)

@@ -1,8 +1,7 @@
 -- A frame that fits is sound.
-use Rattle.std.specs.Prelude.{◌≡◌, ℕ, ◌<◌, ◌≤◌, ◌⊎◌, neg_ℤ, List, [], ◌∷◌, map, length, slice_index}
-use Rattle.std.proofs.Common.{arith, ⊎_elim}
+use Rattle.std.specs.Prelude.{◌≡◌, ℕ, ◌<◌, ◌⊎◌, neg_ℤ, List, [], ◌∷◌, map, length}
+use Rattle.std.proofs.Common.{arith}
 use Rattle.std.proofs.lemmas.Int.{ints}
-use Rattle.std.proofs.lemmas.Bool.{cases_lt}
 use Rattle.std.proofs.lemmas.List.{get_or_past}
 use Rattle.sched_rules.specs.Laws.{Mark}
 use Rattle.jamboree_rules.specs.Frames.{Frame}
@@ -32,10 +31,7 @@ goals-of f (c ∷ cs) searching kin =
 
 -- a settled choice is one of the choices
 settled-inside : (f : Frame) (i : ℕ) → IsSettled f i → i < length f.statuses
-settled-inside f i h =
-    ⊎_elim (λ (below : i < length f.statuses). below)
-    (λ (past : length f.statuses ≤ i). let none : slice_index f.statuses i ≡ 0 = get_or_past f.statuses i 0 past in absurd (omega (arith, none, h)))
-    (cases_lt i (length f.statuses))
+settled-inside f i h = grind (arith, get_or_past)
 
 frame-sound : (f : Frame) (cs : List Frame) (mark : Mark) → Fits f cs mark → IsSound f cs
 frame-sound f cs mark fits = record {

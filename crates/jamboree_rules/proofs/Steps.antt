@@ -304,16 +304,7 @@ opening-good false own children o p deep over apart phase form fits =
     let done = next-opened f (map frame_of children) o p fits phase form.frame.leaf.low d.0 d.1 in
     let is : frame_of (stored (pairs_of (opened_changes o p n)) own ++ replicate n 0) ≡ opened_frame f o p n = opened-is own o p n len in
     let same : length (stored (pairs_of (opened_changes o p n)) own) ≡ 12 = length-stored (pairs_of (opened_changes o p n)) own ∙ len in
-    let frame : IsFrame (opened_frame f o p n) = record {
-      leaf = record { disjoint = apart; shallow = form.frame.leaf.shallow; low = form.frame.leaf.low; window = form.frame.leaf.window; high = form.frame.leaf.high };
-      role = form.frame.role;
-      phase = omega arith;
-      choice = omega arith;
-      spawned = omega arith;
-      early = λ (e : 2 ≤ 1). absurd (omega arith);
-      late = λ _. (omega (arith, ints), omega (arith, ints));
-      counts = λ _. (d.0, d.1, refl);
-    } in
+    let frame : IsFrame (opened_frame f o p n) = grind (arith, ints) in
     let act : Act = record { stores = pairs_of (opened_changes o p n); after = Grow n } in
     subst (λ (cs : List (List ℕ)). IsGoodAct own cs o p act) (no-children children done.0)
     (good-by own [] o p act (opened_frame f o p n) is

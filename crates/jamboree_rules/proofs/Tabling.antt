@@ -58,9 +58,7 @@ above-told x y h = grind (arith, ints)
 
 -- inside its window it is exact
 pub found-exact : (c : Frame) → neg_ℤ c.beta <ℤ seen c → seen c <ℤ neg_ℤ c.alpha → IsOfKind (found_rest c) Exact
-found-exact c over under =
-    kind-read (kind_of (neg_ℤ c.beta) (neg_ℤ c.alpha) (seen c)) (seen c)
-    ∙ kind-exact (int_le (seen c) (neg_ℤ c.beta)) (int_le (neg_ℤ c.alpha) (seen c)) (above-told (seen c) (neg_ℤ c.beta) over) (above-told (neg_ℤ c.alpha) (seen c) under)
+found-exact c over under = grind (arith, kind-read, kind-exact, above-told)
 
 pub found-passes : (c : Frame) → least ≤ℤ c.best → c.best ≤ℤ greatest → is_rest (found_rest c) ≡ true
 found-passes c low high = rest-passes (kind_of (neg_ℤ c.beta) (neg_ℤ c.alpha) (seen c)) (seen c) (omega (arith, ints)) (omega (arith, ints))
@@ -86,8 +84,7 @@ tabled-set v st rests i x rest inside holds said t = record {
     said-set : (st rests : List ℕ) (i x rest k : ℕ) → i < length st → i < length rests → (x ≡ 2 → kind_in rest ≢ 0) → (slice_index st k ≡ 2 → kind_in (slice_index rests k) ≢ 0) →
         slice_index (slice_set st i x) k ≡ 2 → kind_in (slice_index (slice_set rests i rest) k) ≢ 0
     said-set st rests i x rest k inside within here there is = elim (cases_eq k i) [
-      | inl same ↦ subst (λ (r : ℕ). kind_in r ≢ 0) (sym (ap (λ (j : ℕ). slice_index (slice_set rests i rest) j) same ∙ set_there rests i rest within))
-          (here (sym (ap (λ (j : ℕ). slice_index (slice_set st i x) j) same ∙ set_there st i x inside) ∙ is))
+      | inl same ↦ grind (arith, set_there)
       | inr other ↦ subst (λ (r : ℕ). kind_in r ≢ 0) (sym (set_beside rests i rest k other)) (there (sym (set_beside st i x k other) ∙ is))
     ]
 

@@ -91,13 +91,7 @@ seen-ranged : (c : Frame) → IsRanged c → (least ≤ℤ seen c) × (seen c �
 seen-ranged c r = grind arith
 
 best-ranged : (f c : Frame) → IsRanged f → IsRanged c → (least ≤ℤ int_max f.best (seen c)) × (int_max f.best (seen c) ≤ℤ greatest)
-best-ranged f c rf rc =
-    let low : least ≤ℤ f.best = rf.low in
-    let high : f.best ≤ℤ greatest = rf.high in
-    let child = seen-ranged c rc in
-    let child_low : least ≤ℤ seen c = child.0 in
-    let child_high : seen c ≤ℤ greatest = child.1 in
-    (omega (arith, ints, clamps), omega (arith, ints, clamps))
+best-ranged f c rf rc = grind (arith, seen-ranged, ints, clamps)
 
 taken-by : (cuts test low higher : Bool) (f c : Frame) → IsFrame f → (f.phase ≡ 2) ⊎ (f.phase ≡ 3) → c.number < f.count → IsRanged f → IsRanged c → AreTaken f c (changes_by cuts test low higher f c) (frame_by cuts test low higher f c)
 taken-by true test low higher f c form phase inside rf rc =

@@ -180,24 +180,10 @@ exact_bound alpha beta score value same = grind arith
 
 -- what a bound says of the value, by where the score lies
 pub bound_below : (a z s m : ℤ) → s ≤ℤ a → a <ℤ z → IsBound a z s m ↔ (m ≤ℤ s)
-bound_below a z s m low window = (
-  (λ bound. bound.upper low),
-  λ under. record {
-    upper = λ _. under;
-    lower = λ (high : z ≤ℤ s). absurd (omega (arith, ints));
-    exact = λ (higher : a <ℤ s) _. absurd (omega (arith, ints));
-  },
-)
+bound_below a z s m low window = grind (arith, ints)
 
 pub bound_above : (a z s m : ℤ) → z ≤ℤ s → a <ℤ z → IsBound a z s m ↔ (s ≤ℤ m)
-bound_above a z s m high window = (
-  (λ bound. bound.lower high),
-  λ over. record {
-    upper = λ (low : s ≤ℤ a). absurd (omega (arith, ints));
-    lower = λ _. over;
-    exact = λ _ (lower : s <ℤ z). absurd (omega (arith, ints));
-  },
-)
+bound_above a z s m high window = grind (arith, ints)
 
 pub bound_inside : (a z s m : ℤ) → a <ℤ s → s <ℤ z → IsBound a z s m ↔ (m ≡ s)
 bound_inside a z s m higher lower = ((λ bound. bound.exact higher lower), λ same. exact_bound a z s m same)

@@ -64,15 +64,13 @@ onto-first raw b parts = grind (arith, append_assoc)
 
 -- all lines, with an LF next
 all-lf : (raw bs : List ℕ) (s : List ℕ) (ss : List (List ℕ)) → slice_split (λ b. eqb b 10) bs ≡ s ∷ ss → ended_within (held []) bs ++ option_to_list (last_line (held_after (held []) bs)) ≡ map line_text (lines_of_parts (onto [] (slice_split (λ b. eqb b 10) bs))) → ended_line (held raw) ∷ (ended_within (Some []) bs ++ option_to_list (last_line (held_after (Some []) bs))) ≡ map line_text (lines_of_parts (onto raw ([] ∷ slice_split (λ b. eqb b 10) bs)))
-all-lf raw bs s ss e ih =
-    ap (λ z. z ∷ (ended_within (Some []) bs ++ option_to_list (last_line (held_after (Some []) bs)))) (ended_line-held raw) ∙ (ap (λ z. line_text (strip_carriage_return raw) ∷ z) (ih ∙ ap (λ z. map line_text (lines_of_parts (onto [] z))) e) ∙ (ap (λ z. line_text (strip_carriage_return z) ∷ map line_text (lines_of_parts (s ∷ ss))) (sym (append-nil raw)) ∙ ap (λ z. map line_text (lines_of_parts ((raw ++ []) ∷ z))) (sym e)))
+all-lf raw bs s ss e ih = grind (arith, ended_line-held, append-nil)
 
 all-step : (t : Bool) (raw : List ℕ) (b : ℕ) (bs : List ℕ) → ended_within (held []) bs ++ option_to_list (last_line (held_after (held []) bs)) ≡ map line_text (lines_of_parts (onto [] (slice_split (λ b. eqb b 10) bs))) → ended_within (held (raw ++ b ∷ [])) bs ++ option_to_list (last_line (held_after (held (raw ++ b ∷ [])) bs)) ≡ map line_text (lines_of_parts (onto (raw ++ b ∷ []) (slice_split (λ b. eqb b 10) bs))) → cond t (ended_line (held raw) ∷ ended_within (Some []) bs) (ended_within (with_byte (held raw) b) bs) ++ option_to_list (last_line (held_after (cond t (Some []) (with_byte (held raw) b)) bs)) ≡ map line_text (lines_of_parts (onto raw (cond t ([] ∷ slice_split (λ b. eqb b 10) bs) (onto_first b (slice_split (λ b. eqb b 10) bs)))))
 all-step true raw b bs ih ih' =
     let p = split_some bs in
     all-lf raw bs p.0 p.1 p.2 ih
-all-step false raw b bs ih ih' =
-    ap (λ h. ended_within h bs ++ option_to_list (last_line (held_after h bs))) (with_byte-held raw b) ∙ (ih' ∙ ap (λ z. map line_text (lines_of_parts z)) (onto-first raw b (slice_split (λ b. eqb b 10) bs)))
+all-step false raw b bs ih ih' = grind (arith, with_byte-held, onto-first)
 
 all-onto : (raw bs : List ℕ) → ended_within (held raw) bs ++ option_to_list (last_line (held_after (held raw) bs)) ≡ map line_text (lines_of_parts (onto raw (slice_split (λ b. eqb b 10) bs)))
 all-onto raw [] = last_line-held raw ∙ ap (λ z. map line_text (lines_of_parts (z ∷ []))) (sym (append-nil raw))

@@ -46,8 +46,7 @@ module _ {S K A : Type 0} (gives : S → ReadAnswer → S → Type 0) (takes : K
 
   -- the lines of one more block
   pub lines-more : (blocks : List (List ℕ)) (block : List ℕ) (h : Option (List ℕ)) → h ≡ held_after (Some []) (concat blocks) → ended_within (Some []) (concat blocks) ++ ended_within h block ≡ ended_within (Some []) (concat (blocks ++ block ∷ []))
-  lines-more blocks block h e =
-      ap (λ z. ended_within (Some []) (concat blocks) ++ ended_within z block) e ∙ (sym (ended_within-append (Some []) (concat blocks) block) ∙ ap (ended_within (Some [])) (sym (concat-more blocks block)))
+  lines-more blocks block h e = grind (arith, ended_within-append, concat-more)
 
   abbrev pub Run-more : (total : ℕ) (s' : S) (k' : K) (a' : A) (h : Option (List ℕ)) (block : List ℕ) (s'' : S) (k'' : K) (a'' : A) (h' : Option (List ℕ)) (u : Unit {0}) (count : ℕ) → RunSoFar gives takes answers s k a total s' k' a' h → gives s' (Gave block) s'' → count ≡ length block → LinesAnswered takes answers k' a' (ended_within h block) k'' a'' (Ok u) → h' ≡ held_after h block → RunSoFar gives takes answers s k a (total + count) s'' k'' a'' h'
   Run-more total s' k' a' h block s'' k'' a'' h' u count x r n y e =

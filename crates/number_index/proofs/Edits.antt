@@ -91,8 +91,7 @@ found-none number_of say none n xs (Some x) is = tt
 -- none is there where all are above
 pub has-above : {X : Type 0} (number_of : X → ℕ) (n m : ℕ) (xs : List X) → n ≤ m → AreAbove number_of m xs → has_by_number number_of n xs ≡ false
 has-above number_of n m [] le above = refl
-has-above number_of n m (x ∷ xs) le above =
-    let lt : m < number_of x = above.0 in rw (ne_eqb (number_of x) n (λ e. omega (arith, e, lt, le))) (has-above number_of n m xs le above.1)
+has-above number_of n m (x ∷ xs) le above = grind (arith, has-above number_of n m xs le above.1, ne_eqb)
 
 -- a thing that is there is above what all are above
 below-own : {X : Type 0} (number_of : X → ℕ) (n m : ℕ) (xs : List X) → AreAbove number_of m xs → has_by_number number_of n xs ≡ true → m < n
@@ -107,8 +106,7 @@ below-own number_of n m (x ∷ xs) above there = elim (cases_Bool (eqb (number_o
 pub place-there : {X : Type 0} (number_of : X → ℕ) (n : ℕ) (xs : List X) → AreRising number_of xs → has_by_number number_of n xs ≡ true → IsAt number_of n xs (count_below number_of n xs)
 place-there number_of n [] rising there = absurd (false≢true there)
 place-there number_of n (x ∷ xs) rising there = elim (cases_Bool (eqb (number_of x) n)) [
-  | inl same ↦ (let e = eqb-true (number_of x) n same in
-      count_below-cases number_of n x xs (λ at. IsAt number_of n (x ∷ xs) at) (λ below. absurd (omega (arith, e, below))) (λ above. e))
+  | inl same ↦ grind (arith, eqb-true, count_below-cases)
   | inr other ↦ (let later : has_by_number number_of n xs ≡ true = rw other at there in
       let lt = below-own number_of n (number_of x) xs rising.0 later in
       count_below-cases number_of n x xs (λ at. IsAt number_of n (x ∷ xs) at) (λ below. (eqb-false (number_of x) n other, place-there number_of n xs rising.1 later)) (λ above. absurd (omega (arith, lt, above))))
@@ -157,8 +155,7 @@ put-changed number_of n change (z ∷ zs) x y is new = elim (cases_Bool (eqb (nu
 -- put back as it was
 pub with-same : {X : Type 0} (number_of : X → ℕ) (n : ℕ) (xs : List X) → change_by_number number_of n (λ x. x) xs ≡ xs
 with-same number_of n [] = refl
-with-same number_of n (x ∷ xs) =
-    elim (cases_Bool (eqb (number_of x) n)) [ inl same ↦ rw same refl | inr other ↦ rw other (ap (λ (rest : List _). x ∷ rest) (with-same number_of n xs)) ]
+with-same number_of n (x ∷ xs) = grind (arith, with-same number_of n xs)
 
 pub put-same : {X : Type 0} (number_of : X → ℕ) (n : ℕ) (xs : List X) (x : X) → find_by_number number_of n xs ≡ Some x → change_by_number number_of n (λ was. x) xs ≡ xs
 put-same number_of n xs x is = put-changed number_of n (λ y. y) xs x x is refl ∙ with-same number_of n xs
@@ -173,50 +170,33 @@ at-removed number_of n (x ∷ xs) (suc i) at = rw (ne_eqb (number_of x) n at.0) 
 
 pub place-inserted : {X : Type 0} (number_of : X → ℕ) (new : X) (xs : List X) → insert xs (count_below number_of (number_of new) xs) new ≡ inserted number_of new xs
 place-inserted number_of new [] = refl
-place-inserted number_of new (x ∷ xs) =
-    elim (ltb (number_of x) (number_of new)) as (λ b. insert (x ∷ xs) (cond b (suc (count_below number_of (number_of new) xs)) 0) new ≡ cond b (x ∷ inserted number_of new xs) (new ∷ x ∷ xs)) [
-      | true ↦ ap (λ (rest : List _). x ∷ rest) (place-inserted number_of new xs)
-      | false ↦ refl
-    ]
+place-inserted number_of new (x ∷ xs) = grind (arith, place-inserted number_of new xs)
 
 pub inserted-read : {X : Type 0} (number_of : X → ℕ) (n : ℕ) (new : X) (xs read : List X) (at : ℕ) → read ≡ xs → n ≡ number_of new → at ≡ count_below number_of n read → (at ≤ length xs) × (insert xs at new ≡ inserted number_of new xs)
-inserted-read number_of n new xs read at same own is =
-    rw (is, own, same) (count_below-le-length number_of (number_of new) xs, place-inserted number_of new xs)
+inserted-read number_of n new xs read at same own is = grind (arith, count_below-le-length, place-inserted)
 
 -- one thing changed, to one of the same number
 
 pub said-with_own : {X Y : Type 0} (number_of : X → ℕ) (say : X → Y) (none : Y) (after : Y → Y) (n : ℕ) (change : X → X) (xs : List X) → ((x : X) → number_of x ≡ n → number_of (change x) ≡ n) → ((x : X) → say (change x) ≡ after (say x)) →
     (has_by_number number_of n xs ≡ false → after none ≡ none) → read_by_number number_of say none n (change_by_number number_of n change xs) ≡ after (read_by_number number_of say none n xs)
 said-with_own number_of say none after n change [] keeps changes gone = sym (gone refl)
-said-with_own number_of say none after n change (x ∷ xs) keeps changes gone = elim (cases_Bool (eqb (number_of x) n)) [
-  | inl same ↦ rw (same, eq-eqb (number_of (change x)) n (keeps x (eqb-true (number_of x) n same))) (changes x)
-  | inr other ↦ rw (other, other) (said-with_own number_of say none after n change xs keeps changes (λ lacks. gone (rw other lacks)))
-]
+said-with_own number_of say none after n change (x ∷ xs) keeps changes gone = grind (arith, said-with_own number_of say none after n change xs keeps changes, eq-eqb, eqb-true)
 
 pub said-with_other : {X Y : Type 0} (number_of : X → ℕ) (say : X → Y) (none : Y) (m n : ℕ) (change : X → X) (xs : List X) → n ≢ m → ((x : X) → number_of x ≡ n → number_of (change x) ≡ n) →
     read_by_number number_of say none m (change_by_number number_of n change xs) ≡ read_by_number number_of say none m xs
 said-with_other number_of say none m n change [] differs keeps = refl
-said-with_other number_of say none m n change (x ∷ xs) differs keeps = elim (cases_Bool (eqb (number_of x) n)) [
-  | inl same ↦ (let own = eqb-true (number_of x) n same in
-      rw (same, ne_eqb (number_of (change x)) m (λ e. differs (sym (keeps x own) ∙ e)), ne_eqb (number_of x) m (λ e. differs (sym own ∙ e))) refl)
-  | inr other ↦ rw other (ap (λ (rest : _). cond (eqb (number_of x) m) (say x) rest) (said-with_other number_of say none m n change xs differs keeps))
-]
+said-with_other number_of say none m n change (x ∷ xs) differs keeps = grind (arith, said-with_other number_of say none m n change xs differs keeps, eqb-true, ne_eqb)
 
 pub thing-with : {X : Type 0} (number_of : X → ℕ) (n : ℕ) (change : X → X) (xs : List X) (x : X) → ((x : X) → number_of x ≡ n → number_of (change x) ≡ n) → find_by_number number_of n xs ≡ Some x → find_by_number number_of n (change_by_number number_of n change xs) ≡ Some (change x)
 thing-with number_of n change [] x keeps is = absurd cc
 thing-with number_of n change (y ∷ ys) x keeps is = elim (cases_Bool (eqb (number_of y) n)) [
-  | inl same ↦ (let here : Some y ≡ Some x = rw same at is in
-      let own : y ≡ x = cc in
-      rw (same, eq-eqb (number_of (change y)) n (keeps y (eqb-true (number_of y) n same))) (ap (λ (z : _). Some (change z)) own))
+  | inl same ↦ grind (arith, eq-eqb, eqb-true)
   | inr other ↦ rw (other, other) (thing-with number_of n change ys x keeps (rw other at is))
 ]
 
 pub all-with : {X : Type 0} (P : X → Type 0) (number_of : X → ℕ) (n : ℕ) (change : X → X) (xs : List X) → AllByRecursion P xs → ((x : X) → P x → find_by_number number_of n xs ≡ Some x → P (change x)) → AllByRecursion P (change_by_number number_of n change xs)
 all-with P number_of n change [] all step = tt
-all-with P number_of n change (x ∷ xs) all step = elim (cases_Bool (eqb (number_of x) n)) [
-  | inl same ↦ rw same (step x all.0 (rw same refl), all.1)
-  | inr other ↦ rw other (all.0, all-with P number_of n change xs all.1 (λ y p is. step y p (rw other is)))
-]
+all-with P number_of n change (x ∷ xs) all step = grind (arith, all-with P number_of n change xs all.1)
 
 pub rising-with : {X : Type 0} (number_of : X → ℕ) (n : ℕ) (change : X → X) (xs : List X) → ((x : X) → number_of x ≡ n → number_of (change x) ≡ n) → AreRising number_of xs → AreRising number_of (change_by_number number_of n change xs)
 rising-with number_of n change [] keeps rising = tt
@@ -230,17 +210,12 @@ rising-with number_of n change (x ∷ xs) keeps rising = elim (cases_Bool (eqb (
 
 pub length-with : {X : Type 0} (number_of : X → ℕ) (n : ℕ) (change : X → X) (xs : List X) → length (change_by_number number_of n change xs) ≡ length xs
 length-with number_of n change [] = refl
-length-with number_of n change (x ∷ xs) =
-    elim (cases_Bool (eqb (number_of x) n)) [ inl same ↦ rw same refl | inr other ↦ rw other (ap (λ (k : ℕ). suc k) (length-with number_of n change xs)) ]
+length-with number_of n change (x ∷ xs) = grind (arith, length-with number_of n change xs)
 
 pub sum_by-with : {X : Type 0} (g : X → ℕ) (number_of : X → ℕ) (n : ℕ) (change : X → X) (x : X) (xs : List X) → find_by_number number_of n xs ≡ Some x → sum_by g (change_by_number number_of n change xs) + g x ≡ sum_by g xs + g (change x)
 sum_by-with g number_of n change x [] is = absurd cc
 sum_by-with g number_of n change x (y ∷ ys) is = elim (cases_Bool (eqb (number_of y) n)) [
-  | inl same ↦ (let here : Some y ≡ Some x = rw same at is in
-      let own : y ≡ x = cc in
-      let before = ap g own in
-      let after = ap (λ (z : _). g (change z)) own in
-      rw same (omega (arith, before, after, sum_by-cons g y ys, sum_by-cons g (change y) ys)))
+  | inl same ↦ grind (arith, sum_by-cons)
   | inr other ↦ (let rest = sum_by-with g number_of n change x ys (rw other at is) in
       rw other (omega (arith, rest, sum_by-cons g y ys, sum_by-cons g y (change_by_number number_of n change ys))))
 ]
@@ -257,29 +232,19 @@ sum_by-with_same g number_of n change (x ∷ xs) keeps = elim (cases_Bool (eqb (
 
 pub said-without_own : {X Y : Type 0} (number_of : X → ℕ) (say : X → Y) (none : Y) (n : ℕ) (xs : List X) → AreRising number_of xs → read_by_number number_of say none n (remove_by_number number_of n xs) ≡ none
 said-without_own number_of say none n [] rising = refl
-said-without_own number_of say none n (x ∷ xs) rising = elim (cases_Bool (eqb (number_of x) n)) [
-  | inl same ↦ (let own = eqb-true (number_of x) n same in rw same (said-lacks number_of say none n xs (has-above number_of n (number_of x) xs (omega (arith, own)) rising.0)))
-  | inr other ↦ rw (other, other) (said-without_own number_of say none n xs rising.1)
-]
+said-without_own number_of say none n (x ∷ xs) rising = grind (arith, said-without_own number_of say none n xs rising.1, eqb-true, said-lacks, has-above)
 
 pub said-without_other : {X Y : Type 0} (number_of : X → ℕ) (say : X → Y) (none : Y) (m n : ℕ) (xs : List X) → n ≢ m → read_by_number number_of say none m (remove_by_number number_of n xs) ≡ read_by_number number_of say none m xs
 said-without_other number_of say none m n [] differs = refl
-said-without_other number_of say none m n (x ∷ xs) differs = elim (cases_Bool (eqb (number_of x) n)) [
-  | inl same ↦ rw (same, ne_eqb (number_of x) m (λ e. differs (sym (eqb-true (number_of x) n same) ∙ e))) refl
-  | inr other ↦ rw other (ap (λ (rest : _). cond (eqb (number_of x) m) (say x) rest) (said-without_other number_of say none m n xs differs))
-]
+said-without_other number_of say none m n (x ∷ xs) differs = grind (arith, said-without_other number_of say none m n xs differs, ne_eqb, eqb-true)
 
 pub all-without : {X : Type 0} (P : X → Type 0) (number_of : X → ℕ) (n : ℕ) (xs : List X) → AllByRecursion P xs → AllByRecursion P (remove_by_number number_of n xs)
 all-without P number_of n [] all = tt
-all-without P number_of n (x ∷ xs) all =
-    elim (cases_Bool (eqb (number_of x) n)) [ inl same ↦ rw same all.1 | inr other ↦ rw other (all.0, all-without P number_of n xs all.1) ]
+all-without P number_of n (x ∷ xs) all = grind (arith, all-without P number_of n xs all.1)
 
 pub rising-without : {X : Type 0} (number_of : X → ℕ) (n : ℕ) (xs : List X) → AreRising number_of xs → AreRising number_of (remove_by_number number_of n xs)
 rising-without number_of n [] rising = tt
-rising-without number_of n (x ∷ xs) rising = elim (cases_Bool (eqb (number_of x) n)) [
-  | inl same ↦ rw same rising.1
-  | inr other ↦ rw other (all-without (λ y. number_of x < number_of y) number_of n xs rising.0, rising-without number_of n xs rising.1)
-]
+rising-without number_of n (x ∷ xs) rising = grind (arith, rising-without number_of n xs rising.1, all-without)
 
 pub length-without : {X : Type 0} (number_of : X → ℕ) (n : ℕ) (xs : List X) → has_by_number number_of n xs ≡ true → length (remove_by_number number_of n xs) + 1 ≡ length xs
 length-without number_of n [] there = absurd (false≢true there)
@@ -325,10 +290,7 @@ rising-inserted number_of new (x ∷ xs) rising lacks =
     let parts = or_parts (eqb (number_of x) (number_of new)) (has_by_number number_of (number_of new) xs) lacks in
     elim (cases_Bool (ltb (number_of x) (number_of new))) [
       | inl less ↦ (let lt = ltb-true (number_of x) (number_of new) less in rw less (all-inserted (λ y. number_of x < number_of y) number_of new xs lt rising.0, rising-inserted number_of new xs rising.1 parts.1))
-      | inr not_less ↦ (let from = ltb-false (number_of x) (number_of new) not_less in
-          let differs = eqb-false (number_of x) (number_of new) parts.0 in
-          let above : number_of new < number_of x = omega arith in
-          rw not_less ((above, all-map (λ y. number_of x < number_of y) (λ y. number_of new < number_of y) (λ y lt. omega (arith, lt, above)) xs rising.0), rising))
+      | inr not_less ↦ grind (arith, ltb-false, eqb-false, all-map)
     ]
 
 pub length-inserted : {X : Type 0} (number_of : X → ℕ) (new : X) (xs : List X) → length (inserted number_of new xs) ≡ length xs + 1
@@ -353,10 +315,6 @@ sum_by-le_with g h number_of n x [] is all = absurd cc
 sum_by-le_with g h number_of n x (y ∷ ys) is all =
     let first : g y ≤ h y = all.0 in
     elim (cases_Bool (eqb (number_of y) n)) [
-      | inl same ↦ (let here : Some y ≡ Some x = rw same at is in
-          let own : y ≡ x = cc in
-          let g_is = ap g own in
-          let h_is = ap h own in
-          omega (arith, first, g_is, h_is, sum_by-cons g y ys, sum_by-cons h y ys, sum_by-le g h ys all.1))
+      | inl same ↦ grind (arith, sum_by-cons, sum_by-le)
       | inr other ↦ omega (arith, first, sum_by-cons g y ys, sum_by-cons h y ys, sum_by-le_with g h number_of n x ys (rw other at is) all.1)
     ]

@@ -1,4 +1,4 @@
-use Rattle.std.proofs.Common.{◌≡◌, ℕ, ◌+◌, ◌-◌, ◌%◌, ◌^◌, ◌<◌, List, length, get_or, bit_and, arith, ◌∙◌, length-set}
+use Rattle.std.proofs.Common.{◌≡◌, ℕ, ◌+◌, ◌-◌, ◌%◌, ◌^◌, ◌<◌, List, length, get_or, bit_and, arith, length-set}
 use Rattle.std.specs.Int.{IsPowerOfTwo}
 use Rattle.std.proofs.Math.Nat.{mod-lt, mod-eq_of_lt}
 use Rattle.std.proofs.lemmas.Nat.{and_mask}
@@ -17,8 +17,7 @@ low_bits place = and_mask place 32
 
 -- what stands at the remainder is the guess
 pub guessed : (places : List ℕ) (number found : ℕ) → 0 < length places → found ≡ get_or places (number % length places) found → found ≡ guess_of places number
-guessed places number found some h =
-    h ∙ get_or_default places (number % length places) found 0 (mod-lt number some)
+guessed places number found some h = grind (arith, get_or_default, mod-lt)
 
 -- what is put down for a number is its guess
 pub found_again : (places : List ℕ) (number place : ℕ) → 0 < length places → place < 2 ^ 32 → guess_of (with_guess places number place) number ≡ place

@@ -1,5 +1,5 @@
 -- Where the thing of a number stands in a list that rises.
-use Rattle.std.proofs.Common.{◌≡◌, ◌≢◌, ℕ, zero, suc, ◌<◌, ◌≤◌, true, false, cond, ltb, List, [], ◌∷◌, length, get_or, Some, None, refl, ap, sym, ◌∙◌, arith}
+use Rattle.std.proofs.Common.{◌≡◌, ◌≢◌, ℕ, zero, suc, ◌<◌, ◌≤◌, true, false, ltb, List, [], ◌∷◌, length, get_or, Some, None, refl, ap, arith}
 use Rattle.std.proofs.lemmas.Bool.{ltb-true, ltb-false, lt-ltb, eq-eqb, ne_eqb}
 use Rattle.std.proofs.lemmas.List.{get_or_default}
 use Rattle.std.specs.List.Sorted.{IsPartitionedBy, IsPartitionPoint}
@@ -12,11 +12,7 @@ above-at number_of n (x ∷ xs) (suc k) d above lt = above-at number_of n xs k d
 
 -- the first number is below this one, or it is not
 pub count_below-cases : {X : Type 0} (number_of : X → ℕ) (n : ℕ) (x : X) (xs : List X) (P : ℕ → Type 0) → (number_of x < n → P (suc (count_below number_of n xs))) → (n ≤ number_of x → P 0) → P (count_below number_of n (x ∷ xs))
-count_below-cases number_of n x xs P below above =
-    elim (ltb (number_of x) n) as (λ b. ltb (number_of x) n ≡ b → P (cond b (suc (count_below number_of n xs)) 0)) [
-      | true ↦ λ is. below (ltb-true (number_of x) n is)
-      | false ↦ λ is. above (ltb-false (number_of x) n is)
-    ] refl
+count_below-cases number_of n x xs P below above = grind (arith, ltb-true, ltb-false)
 
 pub count_below-le-length : {X : Type 0} (number_of : X → ℕ) (n : ℕ) (xs : List X) → count_below number_of n xs ≤ length xs
 count_below-le-length number_of n [] = omega arith
@@ -26,10 +22,7 @@ count_below-le-length number_of n (x ∷ xs) = count_below-cases number_of n x x
 pub partitioned-rising : {X : Type 0} (number_of : X → ℕ) (n : ℕ) (xs : List X) → AreRising number_of xs → IsPartitionedBy (λ x. ltb (number_of x) n) xs
 partitioned-rising number_of n [] rising i j d before within low = absurd (omega arith)
 partitioned-rising number_of n (x ∷ xs) rising zero zero d before within low = low
-partitioned-rising number_of n (x ∷ xs) rising zero (suc j) d before within low =
-    let first : number_of x < number_of (get_or xs j d) = above-at number_of (number_of x) xs j d rising.0 (omega (arith, within)) in
-    let below : number_of (get_or xs j d) < n = ltb-true (number_of (get_or xs j d)) n low in
-    lt-ltb (number_of x) n (omega arith)
+partitioned-rising number_of n (x ∷ xs) rising zero (suc j) d before within low = grind (arith, above-at, ltb-true, lt-ltb)
 partitioned-rising number_of n (x ∷ xs) rising (suc i) zero d before within low = absurd (omega (arith, before))
 partitioned-rising number_of n (x ∷ xs) rising (suc i) (suc j) d before within low =
     partitioned-rising number_of n xs rising.1 i j d (omega (arith, before)) (omega (arith, within)) low
@@ -51,27 +44,18 @@ point-is_count_below number_of n (x ∷ xs) (suc i) point within =
 pub count_below-found : {X : Type 0} (number_of : X → ℕ) (n : ℕ) (xs : List X) (i : ℕ) (d : X) → AreRising number_of xs → i < length xs → number_of (get_or xs i d) ≡ n → i ≡ count_below number_of n xs
 count_below-found number_of n [] i d rising within own = absurd (omega arith)
 count_below-found number_of n (x ∷ xs) zero d rising within own = count_below-cases number_of n x xs (λ k. 0 ≡ k) (λ below. absurd (omega arith)) (λ above. refl)
-count_below-found number_of n (x ∷ xs) (suc i) d rising within own =
-    let first : number_of x < number_of (get_or xs i d) = above-at number_of (number_of x) xs i d rising.0 (omega (arith, within)) in
-    count_below-cases number_of n x xs (λ k. suc i ≡ k)
-    (λ below. ap suc (count_below-found number_of n xs i d rising.1 (omega (arith, within)) own))
-    (λ above. absurd (omega arith))
+count_below-found number_of n (x ∷ xs) (suc i) d rising within own = grind (arith, count_below-found number_of n xs i d rising.1, above-at, count_below-cases)
 
 -- a thing of this number that stands there is the one that is found
 pub find_by_number-found : {X : Type 0} (number_of : X → ℕ) (n : ℕ) (xs : List X) (i : ℕ) (x : X) → AreRising number_of xs → i < length xs → x ≡ get_or xs i x → number_of x ≡ n → find_by_number number_of n xs ≡ Some x
 find_by_number-found number_of n [] i x rising within at own = absurd (omega arith)
-find_by_number-found number_of n (y ∷ ys) zero x rising within at own =
-    let own' : number_of y ≡ n = ap number_of (sym at) ∙ own in rw (eq-eqb (number_of y) n own') (ap Some (sym at))
-find_by_number-found number_of n (y ∷ ys) (suc i) x rising within at own =
-    let first : number_of y < number_of (get_or ys i x) = above-at number_of (number_of y) ys i x rising.0 (omega (arith, within)) in
-    let here : number_of x ≡ number_of (get_or ys i x) = ap number_of at in
-    rw (ne_eqb (number_of y) n (omega arith)) (find_by_number-found number_of n ys i x rising.1 (omega (arith, within)) at own)
+find_by_number-found number_of n (y ∷ ys) zero x rising within at own = grind (arith, eq-eqb)
+find_by_number-found number_of n (y ∷ ys) (suc i) x rising within at own = grind (arith, find_by_number-found number_of n ys i x rising.1, above-at, ne_eqb)
 
 -- what is above a number is not of it
 find_by_number-above : {X : Type 0} (number_of : X → ℕ) (n m : ℕ) (xs : List X) → n ≤ m → AreAbove number_of m xs → find_by_number number_of n xs ≡ None
 find_by_number-above number_of n m [] le above = refl
-find_by_number-above number_of n m (x ∷ xs) le above =
-    let lt : m < number_of x = above.0 in rw (ne_eqb (number_of x) n (omega arith)) (find_by_number-above number_of n m xs le above.1)
+find_by_number-above number_of n m (x ∷ xs) le above = grind (arith, find_by_number-above number_of n m xs le above.1, ne_eqb)
 
 -- where another thing stands at the place, or none, there is none of this number
 pub find_by_number-absent : {X : Type 0} (number_of : X → ℕ) (n : ℕ) (xs : List X) → AreRising number_of xs → ((d : X) → count_below number_of n xs < length xs → number_of (get_or xs (count_below number_of n xs) d) ≢ n) → find_by_number number_of n xs ≡ None
@@ -84,13 +68,10 @@ find_by_number-absent number_of n (x ∷ xs) rising other =
 -- what was read at the place
 
 pub find_by_number-read : {X : Type 0} (number_of : X → ℕ) (n : ℕ) (xs : List X) (i : ℕ) (x again : X) → AreRising number_of xs → i < length xs → x ≡ get_or xs i x → again ≡ get_or xs i again → number_of x ≡ n → Some again ≡ find_by_number number_of n xs
-find_by_number-read number_of n xs i x again rising within at at_again own =
-    let same : x ≡ again = at ∙ get_or_default xs i x again within ∙ sym at_again in
-    sym (find_by_number-found number_of n xs i again rising within at_again (ap number_of (sym same) ∙ own))
+find_by_number-read number_of n xs i x again rising within at at_again own = grind (arith, get_or_default, find_by_number-found)
 
 pub find_by_number-other : {X : Type 0} (number_of : X → ℕ) (n : ℕ) (xs : List X) (i : ℕ) (x : X) → AreRising number_of xs → i ≡ count_below number_of n xs → i < length xs → x ≡ get_or xs i x → number_of x ≢ n → find_by_number number_of n xs ≡ None
-find_by_number-other number_of n xs i x rising place within at other =
-    find_by_number-absent number_of n xs rising (λ d below own. other (ap number_of (at ∙ get_or_default xs i x d within ∙ ap (λ k. get_or xs k d) place) ∙ own))
+find_by_number-other number_of n xs i x rising place within at other = grind (arith, find_by_number-absent, get_or_default)
 
 pub find_by_number-past : {X : Type 0} (number_of : X → ℕ) (n : ℕ) (xs : List X) (i : ℕ) → AreRising number_of xs → i ≡ count_below number_of n xs → length xs ≤ i → find_by_number number_of n xs ≡ None
 find_by_number-past number_of n xs i rising place past = find_by_number-absent number_of n xs rising (λ d below own. absurd (omega arith))

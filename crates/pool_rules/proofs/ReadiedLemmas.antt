@@ -1,8 +1,8 @@
 -- Each frame that a worker's step makes ready is named by what the step did.
-use Rattle.std.proofs.Common.{◌≡◌, ℕ, ◌==◌, Bool, true, false, List, [], ◌∷◌, ◌++◌, not, ◌&&◌, ◌||◌, Option, Some, None, Result, Err, IfOk, inl, inr, if◌then◌else◌, refl, sym, subst, replicate}
+use Rattle.std.proofs.Common.{◌≡◌, ℕ, ◌==◌, Bool, true, false, List, [], ◌∷◌, ◌++◌, not, Option, Some, None, Result, Err, IfOk, inl, inr, if◌then◌else◌, refl, sym, subst, replicate, arith}
 use Rattle.frame_tree.specs.declared.names.FrameId.{FrameId}
-use Rattle.frame_tree.specs.declared.names.State.TheVariants.{Ready, Running, Computing, Waiting, Returned}
-use Rattle.frame_tree.specs.Frames.{Frame, frame_at, parent_of, root_of, IsReadyAt, IsTree}
+use Rattle.frame_tree.specs.declared.names.State.TheVariants.{Running, Computing, Waiting, Returned}
+use Rattle.frame_tree.specs.Frames.{Frame, frame_at, root_of, IsReadyAt, IsTree}
 use Rattle.sched_rules.specs.declared.act.Act.{Act}
 use Rattle.sched_rules.specs.declared.act.InletAct.{InletAct}
 use Rattle.sched_rules.specs.declared.act.Continuation.{Continuation}
@@ -11,11 +11,11 @@ use Rattle.sched_rules.specs.declared.refusal.Refusal.{Refusal}
 use Rattle.sched_rules.specs.declared.refusal.Refusal.TheVariants.{NotSpent}
 use Rattle.sched_rules.specs.declared.step.StepOf.{StepOf}
 use Rattle.sched_rules.specs.declared.step.StepOf.TheVariants.{Take, Steal, Spend}
-use Rattle.sched_rules.specs.declared.step.DidOf.TheVariants.{Went, Waited, Returned as HasReturned, TakenIn}
+use Rattle.sched_rules.specs.declared.step.DidOf.TheVariants.{Went, Waited, Returned as HasReturned}
 use Rattle.sched_rules.specs.Functions.{Functions}
-use Rattle.sched_rules.specs.Trees.{Tree, Tenant, with_frame_words, has_child, words_in, stored, is_root}
+use Rattle.sched_rules.specs.Trees.{Tree, Tenant, has_child, words_in, is_root}
 use Rattle.sched_rules.specs.Runs.{tenant_of}
-use Rattle.sched_rules.specs.Lone.{Outcome, unless, at_frame, lone_step, take_tests, steal_tests, taken_by, act_by_sight, advance_tests, advanced, then_done, holding, in_state, counted, does_wait, aborted_beside, answer_tests, answered, inlet_tests, inlet_under, taken_in, staying, finish_tests, finished, spent, is_spendable}
+use Rattle.sched_rules.specs.Lone.{Outcome, unless, at_frame, lone_step, take_tests, steal_tests, taken_by, act_by_sight, advance_tests, advanced, then_done, in_state, answer_tests, answered, inlet_tests, inlet_under, taken_in, staying, finish_tests, finished, spent, is_spendable}
 use Rattle.jamboree_rules.specs.declared.leaf.Leaf.{Leaf}
 use Rattle.jamboree_rules.specs.declared.leaf.LeafAnswer.{LeafAnswer}
 use Rattle.pool_rules.specs.declared.turn.Action.{Action}
@@ -74,17 +74,11 @@ then-names functions first before worker name path words Return none serial home
 
 -- Advance
 advanced-names : (functions : Functions Leaf LeafAnswer) (before : Tenant) (worker : ℕ) (name : FrameId) (frame : Frame (List ℕ)) (act : Act) → Names before.frames name.tenant worker (advanced functions before worker name frame act)
-advanced-names functions before worker name frame act =
-    let words = stored act.stores frame.value in
-    then-names functions before.frames (counted (holding frame.serial words before)) worker name frame.path words act.after
-    (λ serial home ready. ready-with_frame_words frame.serial words before.frames serial home ready)
+advanced-names functions before worker name frame act = grind (arith, then-names, ready-with_frame_words)
 
 -- Answer
 answered-names : (functions : Functions Leaf LeafAnswer) (before : Tenant) (tenant worker : ℕ) (frame : Frame (List ℕ)) (answer : LeafAnswer) → Names before.frames tenant worker (answered functions before worker frame answer)
-answered-names functions before tenant worker frame answer serial home ready =
-    let words = stored (functions.accept frame.value answer) frame.value in
-    inl (ready-with_frame_words frame.serial words before.frames serial home
-    (ready-with_other frame.serial (Running worker) (with_frame_words frame.serial words before.frames) serial home refl ready))
+answered-names functions before tenant worker frame answer serial home ready = grind (arith, ready-with_frame_words, ready-with_other)
 
 -- the frames that stay at an inlet
 staying-names : (before : Tree) (child parent : ℕ) (abort : Bool) → IsTree before → NoneMore before (staying before child parent abort)
@@ -93,23 +87,7 @@ staying-names before child parent false tree serial home ready = ready-without c
 
 -- Inlet
 inlet-names : (before : Tenant) (worker : ℕ) (name : FrameId) (parent : ℕ) (act : InletAct) → IsTree before.frames → Names before.frames name.tenant worker (taken_in before worker name parent act)
-inlet-names before worker name parent act tree =
-    let frames = staying before.frames name.serial parent act.abort in
-    let is_woken = does_wait (frame_at frames parent) && (act.abort || act.wake || not (has_child frames parent)) in
-    let words = stored act.stores (words_in frames parent) in
-    let after : Tenant = counted (holding parent words (record before { frames = frames })) in
-    let gone = aborted_beside before.frames name.serial parent act.abort in
-    let same : NoneMore before.frames after.frames = λ serial home ready. staying-names before.frames name.serial parent act.abort tree serial home (ready-with_frame_words parent words frames serial home ready) in
-    let N : Bool → Type 0 = λ b. Names before.frames name.tenant worker (if b then (Some (in_state parent (Ready worker) after), TakenIn (Some (record name { serial = parent })) gone) else (Some after, TakenIn None gone)) in
-    elim is_woken as N [
-      | true ↦
-          (λ serial home ready.
-          elim (ready-with_state parent (Ready worker) after.frames serial home ready) [
-            | inl was ↦ inl (same serial home was)
-            | inr now ↦ inr (let own = now.0 in let here = now.1 in cc)
-          ])
-      | false ↦ (λ serial home ready. inl (same serial home ready))
-    ]
+inlet-names before worker name parent act tree = grind (arith, staying-names, ready-with_frame_words, ready-with_state)
 
 -- Inlet, by the frame's parent
 under-names : (functions : Functions Leaf LeafAnswer) (before : Tenant) (worker : ℕ) (name : FrameId) (frame : Frame (List ℕ)) (parent : Option ℕ) → IsTree before.frames →
@@ -146,8 +124,7 @@ action-names functions before worker (Bring name answer) tree =
     let N = Names before.frames name.tenant worker in
     frame-taken N (frame_at before.frames name.serial) _ (λ frame.
     unless-taken N (answer_tests functions before worker frame answer) (answered functions before worker frame answer) (answered-names functions before name.tenant worker frame answer))
-action-names functions before worker (TakeIn name) tree =
-    frame-taken (Names before.frames name.tenant worker) (frame_at before.frames name.serial) _ (λ frame. under-names functions before worker name frame (parent_of frame.path) tree)
+action-names functions before worker (TakeIn name) tree = grind (arith, frame-taken, under-names)
 action-names functions before worker (Finish name) tree =
     let N = Names before.frames name.tenant worker in
     frame-taken N (frame_at before.frames name.serial) _ (λ frame.
@@ -163,8 +140,7 @@ spend-names functions before name tree =
 
 -- whose step it is
 pub tenant_of-step_of : (worker : ℕ) (action : Action) → tenant_of (step_of worker action) ≡ (frame_of_action action).tenant
-tenant_of-step_of worker (Get task) =
-    elim (task.home == worker) as (λ own. tenant_of {A = LeafAnswer} (if own then Take worker task.frame else Steal worker task.home task.frame) ≡ task.frame.tenant) [ true ↦ refl | false ↦ refl ]
+tenant_of-step_of worker (Get task) = grind arith
 tenant_of-step_of worker (Run name) = refl
 tenant_of-step_of worker (Bring name answer) = refl
 tenant_of-step_of worker (TakeIn name) = refl

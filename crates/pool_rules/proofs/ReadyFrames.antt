@@ -1,9 +1,9 @@
 -- Which frames are ready after a change of a tenant's frames.
-use Rattle.std.proofs.Common.{true, ◌≡◌, ℕ, eqb, Bool, false, List, [], ◌∷◌, ◌++◌, Option, Some, None, ◌⊎◌, inl, inr, refl, sym, ap, ◌∙◌, subst, not}
+use Rattle.std.proofs.Common.{true, ◌≡◌, ℕ, eqb, Bool, false, List, [], ◌∷◌, ◌++◌, Option, Some, None, ◌⊎◌, inl, inr, refl, sym, subst, arith}
 use Rattle.std.proofs.lemmas.Bool.{cases_Bool, eq-eqb, eqb-true}
 use Rattle.frame_tree.specs.declared.names.State.{State}
 use Rattle.frame_tree.specs.declared.names.State.TheVariants.{Ready}
-use Rattle.frame_tree.specs.Frames.{Frame, frame_at, has_frame, IsReadyAt, IsTree, AllBelow, with_state, is_ready, goes_under, aborted, frames_without, new_frame}
+use Rattle.frame_tree.specs.Frames.{Frame, frame_at, IsReadyAt, IsTree, AllBelow, with_state, is_ready, aborted, frames_without, new_frame}
 use Rattle.frame_tree.specs.TreeLaws.{if_kept}
 use Rattle.frame_tree.proofs.TreeLaws.{frame_at-left, frame_at-right, frame_at-push}
 use Rattle.frame_tree.proofs.TreeChanges.{frame_at-without, frame_at_other-without, frame_at-aborted}
@@ -13,50 +13,20 @@ use Rattle.sched_rules.specs.Lone.{does_wait}
 -- another state in a frame: it is ready where it was, or it is that frame, and the state is Ready
 pub ready-with_state : (n : ℕ) (state : State) (xs : Tree) (s home : ℕ) → IsReadyAt (frame_at (with_state n state xs) s) home → IsReadyAt (frame_at xs s) home ⊎ ((n ≡ s) × (state ≡ Ready home))
 ready-with_state n state [] s home ready = absurd ready
-ready-with_state n state (x ∷ xs) s home ready = elim (cases_Bool (eqb x.serial n)) [
-  | inl same ↦
-      elim (cases_Bool (eqb x.serial s)) [
-        | inl here ↦ inr (sym (eqb-true x.serial n same) ∙ eqb-true x.serial s here, rw (same, here) at ready)
-        | inr gone ↦ rw gone (ready-with_state n state xs s home (rw (same, gone) at ready))
-      ]
-  | inr other ↦
-      elim (cases_Bool (eqb x.serial s)) [
-        | inl here ↦ rw here (inl (rw (other, here) at ready))
-        | inr gone ↦ rw gone (ready-with_state n state xs s home (rw (other, gone) at ready))
-      ]
-]
+ready-with_state n state (x ∷ xs) s home ready = grind (arith, ready-with_state n state xs s home, eqb-true)
 
 -- a state that isn't Ready makes none ready
 pub ready-with_other : (n : ℕ) (state : State) (xs : Tree) (s home : ℕ) → is_ready state ≡ false → IsReadyAt (frame_at (with_state n state xs) s) home → IsReadyAt (frame_at xs s) home
-ready-with_other n state xs s home never ready = elim (ready-with_state n state xs s home ready) [
-  | inl before ↦ before
-  | inr now ↦ absurd (let was = now.1 in cc (ap is_ready was))
-]
+ready-with_other n state xs s home never ready = grind (arith, ready-with_state)
 
 -- other words make none ready
 pub ready-with_frame_words : (n : ℕ) (words : List ℕ) (xs : Tree) (s home : ℕ) → IsReadyAt (frame_at (with_frame_words n words xs) s) home → IsReadyAt (frame_at xs s) home
 ready-with_frame_words n words [] s home ready = ready
-ready-with_frame_words n words (x ∷ xs) s home ready = elim (cases_Bool (eqb x.serial n)) [
-  | inl same ↦
-      elim (cases_Bool (eqb x.serial s)) [
-        | inl here ↦ rw here (rw (same, here) at ready)
-        | inr gone ↦ rw gone (ready-with_frame_words n words xs s home (rw (same, gone) at ready))
-      ]
-  | inr other ↦
-      elim (cases_Bool (eqb x.serial s)) [
-        | inl here ↦ rw here (rw (other, here) at ready)
-        | inr gone ↦ rw gone (ready-with_frame_words n words xs s home (rw (other, gone) at ready))
-      ]
-]
+ready-with_frame_words n words (x ∷ xs) s home ready = grind (arith, ready-with_frame_words n words xs s home)
 
 -- nor does the removal of a frame
 pub ready-without : (p : ℕ) (xs : Tree) (s home : ℕ) → IsReadyAt (frame_at (frames_without p xs) s) home → IsReadyAt (frame_at xs s) home
-ready-without p xs s home ready =
-    let R : Option (Frame (List ℕ)) → Type 0 = λ found. IsReadyAt found home in
-    elim (cases_Bool (eqb p s)) [
-      | inl same ↦ absurd (let here = subst (λ (n : ℕ). R (frame_at (frames_without p xs) n)) (sym (eqb-true p s same)) ready in subst R (frame_at-without p xs) here)
-      | inr other ↦ subst R (frame_at_other-without p xs s (λ e. let t = eq-eqb p s e in absurd cc)) ready
-    ]
+ready-without p xs s home ready = grind (arith, eqb-true, frame_at-without, frame_at_other-without, eq-eqb)
 
 -- what is kept of a ready frame was ready
 kept-ready : (keep : Frame (List ℕ) → Bool) (found : Option (Frame (List ℕ))) (home : ℕ) → IsReadyAt (if_kept keep found) home → IsReadyAt found home
@@ -65,9 +35,7 @@ kept-ready keep (Some frame) home ready = elim (cases_Bool (keep frame)) [ inl k
 
 -- nor does an abort
 pub ready-aborted : (p : ℕ) (xs : Tree) (s home : ℕ) → IsTree xs → IsReadyAt (frame_at (aborted p xs) s) home → IsReadyAt (frame_at xs s) home
-ready-aborted p xs s home tree ready =
-    let R : Option (Frame (List ℕ)) → Type 0 = λ found. IsReadyAt found home in
-    kept-ready (λ frame. not (goes_under p frame.path)) (frame_at xs s) home (subst R (frame_at-aborted p xs s tree) ready)
+ready-aborted p xs s home tree ready = grind (arith, kept-ready, frame_at-aborted)
 
 -- nor does the end of a job
 pub ready-without_job : (root : ℕ) (xs : Tree) (s home : ℕ) → IsTree xs → IsReadyAt (frame_at (without_job root xs) s) home → IsReadyAt (frame_at xs s) home
@@ -75,25 +43,12 @@ ready-without_job root xs s home tree ready = ready-aborted root xs s home tree 
 
 -- one frame more: what is ready was so before, or is that frame
 pub ready-push : (xs : Tree) (y : Frame (List ℕ)) (s home : ℕ) → IsReadyAt (frame_at (xs ++ y ∷ []) s) home → IsReadyAt (frame_at xs s) home ⊎ ((y.serial ≡ s) × (y.state ≡ Ready home))
-ready-push xs y s home ready =
-    let R : Option (Frame (List ℕ)) → Type 0 = λ found. IsReadyAt found home in
-    elim (cases_Bool (has_frame xs s)) [
-      | inl there ↦ inl (subst R (frame_at-left xs (y ∷ []) s there) ready)
-      | inr new ↦
-          let last = subst R (frame_at-right xs (y ∷ []) s new) ready in
-          elim (cases_Bool (eqb y.serial s)) [
-            | inl here ↦ inr (eqb-true y.serial s here, rw here at last)
-            | inr gone ↦ absurd (rw gone at last)
-          ]
-    ]
+ready-push xs y s home ready = grind (arith, frame_at-left, frame_at-right, eqb-true)
 
 -- where all serials are below one, they are so with other words
 pub below-with_frame_words : (top n : ℕ) (words : List ℕ) (xs : Tree) → AllBelow top xs → AllBelow top (with_frame_words n words xs)
 below-with_frame_words top n words [] below = tt
-below-with_frame_words top n words (x ∷ xs) below = elim (cases_Bool (eqb x.serial n)) [
-  | inl same ↦ rw same (below.0, below-with_frame_words top n words xs below.1)
-  | inr other ↦ rw other (below.0, below-with_frame_words top n words xs below.1)
-]
+below-with_frame_words top n words (x ∷ xs) below = grind (arith, below-with_frame_words top n words xs below.1)
 
 -- the frame that is woken is ready, whatever its words became
 pub ready-woken : (p home : ℕ) (words : List ℕ) (xs : Tree) → does_wait (frame_at xs p) ≡ true → IsReadyAt (frame_at (with_state p (Ready home) (with_frame_words p words xs)) p) home

@@ -1,8 +1,8 @@
 -- The task of a worker's turn is of a frame that is ready.
-use Rattle.std.proofs.Common.{◌≡◌, ℕ, ◌+◌, ◌==◌, ◌&&◌, ◌||◌, not, Bool, true, false, List, [], ◌∷◌, Option, Some, None, IfOk, if◌then◌else◌, refl, sym, subst}
+use Rattle.std.proofs.Common.{◌≡◌, ℕ, ◌+◌, ◌==◌, ◌&&◌, not, Bool, true, false, List, [], ◌∷◌, Option, Some, None, IfOk, if◌then◌else◌, refl, sym, subst, arith}
 use Rattle.frame_tree.specs.declared.names.FrameId.{FrameId}
 use Rattle.frame_tree.specs.declared.names.State.TheVariants.{Ready, Waiting, Returned}
-use Rattle.frame_tree.specs.Frames.{Frame, frame_at, parent_of, AllBelow}
+use Rattle.frame_tree.specs.Frames.{Frame, frame_at, AllBelow}
 use Rattle.sched_rules.specs.declared.act.InletAct.{InletAct}
 use Rattle.sched_rules.specs.declared.act.Continuation.{Continuation}
 use Rattle.sched_rules.specs.declared.act.Continuation.TheVariants.{Grow, Spawn, Go, Wait, Compute, Return}
@@ -13,7 +13,7 @@ use Rattle.sched_rules.specs.declared.step.DidOf.TheVariants.{Went, Waited, Retu
 use Rattle.sched_rules.specs.Functions.{Functions}
 use Rattle.sched_rules.specs.Trees.{Tenant, has_child, words_in, stored, is_root}
 use Rattle.sched_rules.specs.Runs.{tenant_of}
-use Rattle.sched_rules.specs.Lone.{Outcome, lone_step, take_tests, steal_tests, taken_by, act_by_sight, advance_tests, advanced, then_done, holding, in_state, counted, does_wait, aborted_beside, answer_tests, answered, inlet_tests, inlet_under, taken_in, staying, finish_tests, finished, spent, is_spendable}
+use Rattle.sched_rules.specs.Lone.{Outcome, lone_step, take_tests, steal_tests, taken_by, act_by_sight, advance_tests, advanced, then_done, holding, in_state, counted, does_wait, answer_tests, answered, inlet_tests, inlet_under, taken_in, staying, finish_tests, finished, spent, is_spendable}
 use Rattle.jamboree_rules.specs.declared.leaf.Leaf.{Leaf}
 use Rattle.jamboree_rules.specs.declared.leaf.LeafAnswer.{LeafAnswer}
 use Rattle.pool_rules.specs.declared.turn.Action.{Action}
@@ -53,9 +53,7 @@ woken-ready before worker name parent gone act false others is = tt
 
 -- Inlet
 inlet-ready : (before : Tenant) (worker : ℕ) (name : FrameId) (parent : ℕ) (act : InletAct) → IsTasked name.tenant worker (taken_in before worker name parent act)
-inlet-ready before worker name parent act =
-    let frames = staying before.frames name.serial parent act.abort in
-    woken-ready before worker name parent (aborted_beside before.frames name.serial parent act.abort) act (does_wait (frame_at frames parent)) (act.abort || act.wake || not (has_child frames parent)) refl
+inlet-ready before worker name parent act = grind (arith, woken-ready)
 
 -- Inlet, by the frame's parent
 under-ready : (functions : Functions Leaf LeafAnswer) (before : Tenant) (worker : ℕ) (name : FrameId) (frame : Frame (List ℕ)) (parent : Option ℕ) → IfOk (inlet_under functions before worker name frame parent) (IsTasked name.tenant worker)
@@ -84,8 +82,7 @@ action-ready functions before worker (Run name) below =
 action-ready functions before worker (Bring name answer) below =
     let R = IsTasked name.tenant worker in
     frame-taken R (frame_at before.frames name.serial) _ (λ frame. unless-taken R (answer_tests functions before worker frame answer) (answered functions before worker frame answer) tt)
-action-ready functions before worker (TakeIn name) below =
-    frame-taken (IsTasked name.tenant worker) (frame_at before.frames name.serial) _ (λ frame. under-ready functions before worker name frame (parent_of frame.path))
+action-ready functions before worker (TakeIn name) below = grind (arith, frame-taken, under-ready)
 action-ready functions before worker (Finish name) below =
     let R = IsTasked name.tenant worker in
     frame-taken R (frame_at before.frames name.serial) _ (λ frame. unless-taken R (finish_tests before worker frame) (finished before frame) tt)

@@ -1,6 +1,6 @@
 -- A list with all other tenants' steps removed.
 use Rattle.std.proofs.Common.{◌≡◌, ℕ, true, false, ◌==◌, List, [], ◌∷◌, Option, Some, None, Result, Ok, Err, refl, sym, ap, ◌∙◌, subst, arith}
-use Rattle.std.specs.Prelude.{if◌then◌else◌, is_ok}
+use Rattle.std.specs.Prelude.{is_ok}
 use Rattle.std.proofs.lemmas.Bool.Decides.{nat_tests}
 use Rattle.tenant_quota.specs.Quota.{Quota}
 use Rattle.sched_rules.specs.declared.refusal.Refusal.{Refusal}
@@ -32,19 +32,11 @@ AreOnly number (entry ∷ entries) = (entry.0 ≡ number) × AreOnly number entr
 
 only-with_tenant : (n : ℕ) (t : Tenant) (es : Entries) → AreOnly n es → AreOnly n (with_tenant n t es)
 only-with_tenant n t [] only = (refl, tt)
-only-with_tenant n t (e ∷ es) only =
-    elim (e.0 == n) as (λ b. AreOnly n (if b then (n, t) ∷ es else e ∷ with_tenant n t es)) [
-      | true ↦ (refl, only.1)
-      | false ↦ (only.0, only-with_tenant n t es only.1)
-    ]
+only-with_tenant n t (e ∷ es) only = grind (arith, only-with_tenant n t es only.1)
 
 only-without_tenant : (n : ℕ) (es : Entries) → AreOnly n es → AreOnly n (without_tenant n es)
 only-without_tenant n [] only = tt
-only-without_tenant n (e ∷ es) only =
-    elim (e.0 == n) as (λ b. AreOnly n (if b then without_tenant n es else e ∷ without_tenant n es)) [
-      | true ↦ only-without_tenant n es only.1
-      | false ↦ (only.0, only-without_tenant n es only.1)
-    ]
+only-without_tenant n (e ∷ es) only = grind (arith, only-without_tenant n es only.1)
 
 only-with_outcome : (n : ℕ) (t : Option Tenant) (es : Entries) → AreOnly n es → AreOnly n (with_outcome n t es)
 only-with_outcome n None es only = only-without_tenant n es only
@@ -71,11 +63,7 @@ own_answers-ok : (number : ℕ) (steps : List SearchStep) (answers : List Search
 own_answers-ok number [] answers = tt
 own_answers-ok number (step ∷ steps) [] = tt
 own_answers-ok number (step ∷ steps) (Err refusal ∷ answers) = own_answers-ok number steps answers
-own_answers-ok number (step ∷ steps) (Ok did ∷ answers) =
-    elim (tenant_of step == number) as (λ b. AreAllOk (if b then Ok did ∷ own_answers number steps answers else own_answers number steps answers)) [
-      | true ↦ (refl, own_answers-ok number steps answers)
-      | false ↦ own_answers-ok number steps answers
-    ]
+own_answers-ok number (step ∷ steps) (Ok did ∷ answers) = grind (arith, own_answers-ok number steps answers)
 
 abbrev AreAllOf : ℕ → List SearchStep → Type 0
 AreAllOf number [] = Unit {0}
@@ -83,16 +71,11 @@ AreAllOf number (step ∷ steps) = (tenant_of step ≡ number) × AreAllOf numbe
 
 only-all-of : (number : ℕ) (steps : List SearchStep) → AreAllOf number (only number steps)
 only-all-of number [] = tt
-only-all-of number (step ∷ steps) =
-    elim (tenant_of step == number) as (λ b. (tenant_of step == number) ≡ b → AreAllOf number (if b then step ∷ only number steps else only number steps)) [
-      | true ↦ λ own. (grind (arith, nat_tests), only-all-of number steps)
-      | false ↦ λ other. only-all-of number steps
-    ] refl
+only-all-of number (step ∷ steps) = grind (arith, only-all-of number steps, nat_tests)
 
 only-same : (number : ℕ) (steps : List SearchStep) → AreAllOf number steps → only number steps ≡ steps
 only-same number [] all = refl
-only-same number (step ∷ steps) all =
-    let own : (tenant_of step == number) ≡ true = (let is : tenant_of step ≡ number = all.0 in grind (arith, nat_tests)) in rw own (ap (λ (l : List SearchStep). step ∷ l) (only-same number steps all.1))
+only-same number (step ∷ steps) all = grind (arith, only-same number steps all.1, nat_tests)
 
 -- ---- one step
 

@@ -1,5 +1,5 @@
 -- What explains a tenant of a hall, and what its replies are to.
-use Rattle.std.proofs.Common.{◌≡◌, ℕ, ◌≤◌, ℤ, List, Option, Some, None, refl, sym, ap, ◌∙◌, subst}
+use Rattle.std.proofs.Common.{◌≡◌, ℕ, ◌≤◌, ℤ, List, Option, Some, None, refl, sym, ap, ◌∙◌, subst, arith}
 use Rattle.std.specs.Prelude.{IfSome, slice_get, slice_index}
 use Rattle.othello_board.specs.Words.{cells_of}
 use Rattle.othello_eval.specs.othello_moves.declared.choices.Choice.{Choice}
@@ -41,8 +41,7 @@ same-journals one other number this that grain journal =
 
 -- the words of a root, by what is read at their places
 root-places : (origin : List ℕ) (own opp depth : ℕ) (root : AreRootWords origin) → own ≡ slice_index origin 0 → opp ≡ slice_index origin 1 → depth ≡ slice_index origin 2 → (root.own ≡ own) × (root.opp ≡ opp) × (root.depth ≡ depth)
-root-places origin own opp depth root o p d =
-    (sym (o ∙ ap (λ (ws : List ℕ). slice_index ws 0) root.are), sym (p ∙ ap (λ (ws : List ℕ). slice_index ws 1) root.are), sym (d ∙ ap (λ (ws : List ℕ). slice_index ws 2) root.are))
+root-places origin own opp depth root o p d = grind arith
 
 -- a reply is to what was submitted under its number
 pub asked-by : (journal : List SearchStep) (job : ℕ) (reply : Reply) → AreSearches journal → AnswersTo (origin_at (origins_of journal) job) (Some (Done reply)) →
@@ -61,8 +60,7 @@ asked-by journal job reply searches answers = by (origin_at (origins_of journal)
 
 pub value-of : (journal : List SearchStep) (job : ℕ) (reply : Reply) (value : ℤ) (choice : Option Choice) → AreSearches journal → AnswersTo (origin_at (origins_of journal) job) (Some (Done reply)) →
     value ≡ minimax (depth_of reply) (cells_of (board_of reply).own (board_of reply).opp) → choice ≡ best_choice (depth_of reply) (cells_of (board_of reply).own (board_of reply).opp) → IsValueOfSubmit journal job value choice
-value-of journal job reply value choice searches answers value_is choice_is =
-    record { own = (board_of reply).own; opp = (board_of reply).opp; depth = depth_of reply; asked = asked-by journal job reply searches answers; value_is = value_is; choice_is = choice_is }
+value-of journal job reply value choice searches answers value_is choice_is = grind (arith, asked-by)
 
 pub entry-of-submit : (journal : List SearchStep) (job : ℕ) (reply : Reply) (entries : List Bound) (i : ℕ) (entry : Bound) → AreSearches journal → AnswersTo (origin_at (origins_of journal) job) (Some (Done reply)) →
     IsTable (depth_of reply) (cells_of (board_of reply).own (board_of reply).opp) entries → slice_get entries i ≡ Some entry → IsEntryOfSubmit journal job i entry

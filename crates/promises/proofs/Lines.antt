@@ -1,6 +1,6 @@
 -- What the words of a line are, by what it asks for.
-use Rattle.std.proofs.Common.{◌≡◌, ◌⊎◌, ℕ, ◌≤◌, inl, inr, Bool, true, false, List, [], ◌∷◌, ◌++◌, Option, Some, None, Result, Ok, Err, refl, ap, subst, ◌∙◌, arith}
-use Rattle.std.specs.Prelude.{◌&&◌, codes, if◌then◌else◌, unwrap_or}
+use Rattle.std.proofs.Common.{◌≡◌, ℕ, inl, inr, Bool, true, false, List, [], ◌∷◌, ◌++◌, Option, Some, None, Result, Ok, Err, refl, ap, subst, ◌∙◌, arith}
+use Rattle.std.specs.Prelude.{◌&&◌, codes, if◌then◌else◌}
 use Rattle.std.specs.Option.{option_map, is_none}
 use Rattle.std.specs.Str.{bytes_eq}
 use Rattle.std.proofs.lemmas.Bool.Decides.{eqb_tells, nat_tests}
@@ -19,24 +19,17 @@ use Rattle.promises.specs.Sessions.{IsOfNumber, IsOfQuota}
 -- ---- what stands before the first space of a line, and after it
 
 some-pair : (a b c d : List ℕ) → ◌≡◌ {A = Option (List ℕ × List ℕ)} (Some (a, b)) (Some (c, d)) → (a ≡ c) × (b ≡ d)
-some-pair a b c d e =
-    let nothing : List ℕ × List ℕ = ([], []) in
-    (ap (λ (o : Option (List ℕ × List ℕ)). (unwrap_or o nothing).0) e, ap (λ (o : Option (List ℕ × List ℕ)). (unwrap_or o nothing).1) e)
+some-pair a b c d e = grind arith
 
 split-later : (b : ℕ) (bs first rest : List ℕ) (found : Option (List ℕ × List ℕ)) → ((front back : List ℕ) → found ≡ Some (front, back) → bs ≡ front ++ 32 ∷ back) → option_map {U = List ℕ × List ℕ} (λ p. (b ∷ p.0, p.1)) found ≡ Some (first, rest) → b ∷ bs ≡ first ++ 32 ∷ rest
 split-later b bs first rest None later f = absurd cc
-split-later b bs first rest (Some (front, back)) later f =
-    let parts = some-pair (b ∷ front) back first rest f in
-    rw (← parts.0, ← parts.1) (ap (λ (l : List ℕ). b ∷ l) (later front back refl))
+split-later b bs first rest (Some (front, back)) later f = grind (arith, some-pair)
 
 pub split-is : (line first rest : List ℕ) → split_at_space line ≡ Some (first, rest) → line ≡ first ++ 32 ∷ rest
 split-is [] first rest e = absurd cc
 split-is (b ∷ bs) first rest e =
     elim (eqb_tells b 32) [
-      | inl same ↦
-          let found : ◌≡◌ {A = Option (List ℕ × List ℕ)} (Some ([], bs)) (Some (first, rest)) = rw same.0 at e in
-          let parts = some-pair [] bs first rest found in
-          rw (← parts.0, ← parts.1, same.1) refl
+      | inl same ↦ grind (arith, some-pair)
       | inr other ↦ split-later b bs first rest (split_at_space bs) (λ front back at. split-is bs front back at) (rw other.0 at e)
     ]
 
@@ -152,11 +145,7 @@ quota-line : (call : Quota → Call) (command bytes : List ℕ) → ((quota : Qu
     → HasTwo command bytes (λ first second. (word_number first ≡ segments) × (word_number second ≡ nodes)) → Asks-so (quota_request call (quota_of segments nodes)) (Whole bytes)
 quota-line call command bytes make None nodes reads = tt
 quota-line call command bytes make (Some segments) None reads = tt
-quota-line call command bytes make (Some segments) (Some nodes) reads =
-    elim (is_within segments nodes) as (λ b. is_within segments nodes ≡ b → Asks-so (quota_request call (if b then Some (record { segments = segments; nodes = nodes }) else None)) (Whole bytes)) [
-      | true ↦ λ inside. make (record { segments = segments; nodes = nodes }) (record { first = reads.first; second = reads.second; is = ap (λ (l : List ℕ). Whole l) reads.is; segments = reads.holds.0; nodes = reads.holds.1; within = within-limits segments nodes inside })
-      | false ↦ λ outside. tt
-    ] refl
+quota-line call command bytes make (Some segments) (Some nodes) reads = grind (arith, within-limits)
 
 job-line : (made : ℕ → Request) (command bytes : List ℕ) → ((job : ℕ) → IsOfNumber command (Whole bytes) job → Asks-so (made job) (Whole bytes)) → (job : Option ℕ) → HasOne command bytes job → Asks-so (job_request made job) (Whole bytes)
 job-line made command bytes make None reads = tt
@@ -169,9 +158,7 @@ ask-by depth text bytes (Err fault) is at = tt
 seated-line : (form : Form) (bytes : List ℕ) → Reads form bytes → Asks-so (seated_request form) (Whole bytes)
 seated-line (HelloOf segments nodes) bytes reads = tt
 seated-line (ReserveOf segments nodes) bytes reads = quota-line Reserve (codes "RESERVE") bytes (λ quota is. is) segments nodes reads
-seated-line (AskOf depth text) bytes reads =
-    let is : bytes ≡ codes "ASK" ++ 32 ∷ (depth ++ 32 ∷ text) = rw (← reads.holds.0, ← reads.holds.1) reads.is in
-    ask-by depth text bytes (question depth text) is refl
+seated-line (AskOf depth text) bytes reads = grind (arith, ask-by)
 seated-line (GetOf job) bytes reads = job-line (λ k. Makes (Get k)) (codes "GET") bytes (λ k is. is) job reads
 seated-line (WaitOf job) bytes reads = job-line (λ k. Makes (Wait k)) (codes "WAIT") bytes (λ k is. is) job reads
 seated-line (CancelOf job) bytes reads = job-line (λ k. Makes (Cancel k)) (codes "CANCEL") bytes (λ k is. is) job reads

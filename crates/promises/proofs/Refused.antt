@@ -1,6 +1,6 @@
 -- What a step that is no admission is refused for.
-use Rattle.std.proofs.Common.{◌≡◌, ◌≢◌, ℕ, ◌⊎◌, inl, inr, Bool, true, false, ◌==◌, List, [], ◌∷◌, ◌++◌, length, Option, Some, None, Result, Ok, Err, refl, sym, ap, ◌∙◌, subst, arith}
-use Rattle.std.specs.Prelude.{if◌then◌else◌, not, ◌&&◌, ◌||◌}
+use Rattle.std.proofs.Common.{◌≡◌, ◌≢◌, ℕ, ◌⊎◌, inl, inr, Bool, true, false, ◌==◌, List, [], ◌∷◌, ◌++◌, length, Option, Some, None, Result, Ok, Err, refl, sym, ap, ◌∙◌, arith}
+use Rattle.std.specs.Prelude.{not, ◌&&◌, ◌||◌}
 use Rattle.std.proofs.lemmas.Bool.Decides.{nat_tests}
 use Rattle.tenant_quota.specs.Quota.{Quota}
 use Rattle.sched_rules.specs.declared.refusal.Refusal.{Refusal}
@@ -12,7 +12,7 @@ use Rattle.sched_rules.specs.Functions.{Functions}
 use Rattle.sched_rules.specs.Trees.{Tenant, is_busy_in}
 use Rattle.sched_rules.specs.Lone.{Outcome, lone, lone_refusal, refusal_in}
 use Rattle.sched_rules.specs.Runs.{tenant_of, answer_of}
-use Rattle.sched_rules.specs.Cores.{CoreState, shared_by_nobody, tenant_in, with_tenant, without_tenant, with_outcome, is_busy_elsewhere, meets_busy, step_result, shared_after}
+use Rattle.sched_rules.specs.Cores.{CoreState, tenant_in, with_tenant, without_tenant, with_outcome, is_busy_elsewhere, meets_busy, step_result, shared_after}
 use Rattle.sched_rules.specs.Headline.{IsAnswerTo, IsAnswerToStep, AreAnswersTo, after_answer, after_answers}
 use Rattle.sched_rules.proofs.Isolation.{headline}
 use Rattle.sched_rules.proofs.Tenants.{tenant_in_other-with_tenant, tenant_in_other-without_tenant}
@@ -32,19 +32,11 @@ AreApart (entry ∷ entries) = (tenant_in entries entry.0 ≡ None) × AreApart 
 
 apart-with_tenant : (n : ℕ) (t : Tenant) (es : Entries) → AreApart es → AreApart (with_tenant n t es)
 apart-with_tenant n t [] apart = (refl, tt)
-apart-with_tenant n t (e ∷ es) apart =
-    elim (e.0 == n) as (λ b. (e.0 == n) ≡ b → AreApart (if b then (n, t) ∷ es else e ∷ with_tenant n t es)) [
-      | true ↦ λ same. (let is : e.0 ≡ n = grind (arith, nat_tests) in let P : ℕ → Type 0 = λ m. tenant_in es m ≡ None in subst P is apart.0, apart.1)
-      | false ↦ λ differs. (tenant_in_other-with_tenant e.0 n t es (λ is. let same : (e.0 == n) ≡ true = grind (arith, nat_tests) in cc) ∙ apart.0, apart-with_tenant n t es apart.1)
-    ] refl
+apart-with_tenant n t (e ∷ es) apart = grind (arith, apart-with_tenant n t es apart.1, nat_tests, tenant_in_other-with_tenant)
 
 apart-without_tenant : (n : ℕ) (es : Entries) → AreApart es → AreApart (without_tenant n es)
 apart-without_tenant n [] apart = tt
-apart-without_tenant n (e ∷ es) apart =
-    elim (e.0 == n) as (λ b. (e.0 == n) ≡ b → AreApart (if b then without_tenant n es else e ∷ without_tenant n es)) [
-      | true ↦ λ same. apart-without_tenant n es apart.1
-      | false ↦ λ differs. (tenant_in_other-without_tenant e.0 n es (λ is. let same : (e.0 == n) ≡ true = grind (arith, nat_tests) in cc) ∙ apart.0, apart-without_tenant n es apart.1)
-    ] refl
+apart-without_tenant n (e ∷ es) apart = grind (arith, apart-without_tenant n es apart.1, tenant_in_other-without_tenant, nat_tests)
 
 apart-with_outcome : (n : ℕ) (t : Option Tenant) (es : Entries) → AreApart es → AreApart (with_outcome n t es)
 apart-with_outcome n None es apart = apart-without_tenant n es apart
@@ -71,11 +63,7 @@ record IsBusyThere (worker number : ℕ) (es : Entries) : Type 0 where
   busy : is_busy_in worker tenant.frames ≡ true
 
 there-later : (e : ℕ × Tenant) (es : Entries) (another : ℕ) (tenant : Tenant) → tenant_in es e.0 ≡ None → tenant_in es another ≡ Some tenant → tenant_in (e ∷ es) another ≡ Some tenant
-there-later e es another tenant apart there =
-    elim (e.0 == another) as (λ b. (e.0 == another) ≡ b → (if b then Some e.1 else tenant_in es another) ≡ Some tenant) [
-      | true ↦ λ same. let is : e.0 ≡ another = grind (arith, nat_tests) in let P : ℕ → Type 0 = λ m. tenant_in es m ≡ None in let none = subst P is apart in absurd cc
-      | false ↦ λ differs. there
-    ] refl
+there-later e es another tenant apart there = grind (arith, nat_tests)
 
 busy-there : (worker number : ℕ) (es : Entries) → AreApart es → is_busy_elsewhere worker number es ≡ true → IsBusyThere worker number es
 busy-there worker number [] apart busy = absurd cc
@@ -148,13 +136,4 @@ refused-there grain at before said step refusal own apart right =
     ]
 
 pub refused-for-these : (grain : ℕ) (totals : Quota) (steps : List SearchStep) (answers : List SearchAnswer) (after : CoreState) → IsHeadlineFromNew grain totals steps answers after → AreRefusedForThese grain steps answers
-refused-for-these grain totals steps answers after whole before later said more step refusal steps_are answers_are len no_admission =
-    let f = jamboree grain in
-    let nobody = shared_by_nobody totals in
-    let right = rw (steps_are, answers_are) at whole.tenants.refused in
-    let both = split-answers f nobody before later said more step (Err refusal) len right in
-    let first = headline f nobody before said tt both.0 in
-    refused-there grain (after_answers f nobody before said) before said step refusal
-    (λ number. (first.undisturbed number).state)
-    (apart-after f nobody before said tt)
-    (both.1.1 no_admission)
+refused-for-these grain totals steps answers after whole before later said more step refusal steps_are answers_are len no_admission = grind (arith, split-answers, headline, refused-there, apart-after)

@@ -1,7 +1,6 @@
 -- Each job that is done replies to what was asked under its number.
-use Rattle.std.proofs.Common.{◌≡◌, ℕ, ℤ, ◌≤ℤ◌, ◌==◌, ◌-◌, true, false, List, [], ◌∷◌, length, map, Option, Some, refl, sym, ap, ◌∙◌, subst}
+use Rattle.std.proofs.Common.{◌≡◌, ℕ, ℤ, ◌≤ℤ◌, ◌==◌, ◌-◌, true, false, List, [], ◌∷◌, length, map, Some, refl, sym, ap, ◌∙◌, subst, arith}
 use Rattle.std.specs.Prelude.{if◌then◌else◌, slice_get, get_or}
-use Rattle.std.specs.Option.{option_map}
 use Rattle.std.proofs.lemmas.Option.{slice_get-map, slice_get_within, get_or_from_slice_get}
 use Rattle.std.proofs.lemmas.List.{length-map}
 use Rattle.othello_board.specs.declared.cells.Cell.{Cell}
@@ -17,7 +16,7 @@ use Rattle.sched_rules.specs.declared.job.Job.TheVariants.{Done}
 use Rattle.sched_rules.specs.Trees.{Tenant, job_at}
 use Rattle.sched_rules.specs.Cores.{CoreState, tenant_in}
 use Rattle.jamboree_core.specs.jamboree_rules.Places.{root_words}
-use Rattle.jamboree_core.specs.Replies.{AreRootWords, IsReplyTo, HoldsReply, AreReplies}
+use Rattle.jamboree_core.specs.Replies.{AreRootWords, IsReplyTo, AreReplies}
 use Rattle.jamboree_core.specs.Searching.{AreAllRootWords, CoreSearches, origin_at}
 use Rattle.jamboree_core.specs.NewRuns.{IsHeadlineFromNew, submitted_by}
 use Rattle.promises.specs.Tenants.{SearchStep, SearchAnswer, own_steps}
@@ -35,8 +34,7 @@ exact-says kind score value says is = rw is at says
 
 -- an entry of a table is of its choice
 entry-of : (cs : List Choice) (entries : List Bound) (i : ℕ) (entry : Bound) → map (λ b. b.choice) entries ≡ cs → slice_get entries i ≡ Some entry → slice_get cs i ≡ Some entry.choice
-entry-of cs entries i entry each at =
-    ap (λ (l : List Choice). slice_get l i) (sym each) ∙ slice_get-map (λ (b : Bound). b.choice) entries i ∙ ap (λ (o : Option Bound). option_map (λ (b : Bound). b.choice) o) at
+entry-of cs entries i entry each at = grind (arith, slice_get-map)
 
 pub true-table : (depth : ℕ) (board : List Cell) (entries : List Bound) → IsTable depth board entries → IsTrueTable depth board entries
 true-table depth board entries table = record {
@@ -67,11 +65,7 @@ reply-at [] (j ∷ jobs) job words replies at = absurd replies
 reply-at (origin ∷ origins) [] job words replies at = absurd replies
 reply-at (origin ∷ origins) (j ∷ jobs) job words replies at =
     elim (job == 1) as (λ b. (job == 1) ≡ b → (if b then Some j else job_at jobs (job - 1)) ≡ Some (Done words) → HasReply (origin ∷ origins) job words) [
-      | true ↦ λ first is. record {
-        origin = origin;
-        at = rw first refl;
-        reply = let same : j ≡ Done words = cc in let P : Job → Type 0 = λ k. HoldsReply origin k in subst P same replies.0;
-      }
+      | true ↦ grind arith
       | false ↦ λ later is.
           let rest = reply-at origins jobs (job - 1) words replies.1 is in record { origin = rest.origin; at = rw later rest.at; reply = rest.reply }
     ] refl at

@@ -322,9 +322,7 @@ after-bye before asks false line lines replies later counted dones all = later (
 line-true : (q : Request) (before : List Exchange) (asks : List Asked) (seated : Bool) (line : LineText) (lines : List LineText) (replies : List OfficeReply) → request seated line ≡ q → LaterTrue lines → seated ≡ is_seated before → AreJobsCounted before →
     EachDoneIsTrue before (line ∷ lines) (next_turns q seated lines replies) → AllTrue asks (calls_in seated (next_turns q seated lines replies)) → AreTrueTexts before (exchanges_of (line ∷ lines) (next_turns q seated lines replies))
 unfolding exchanges_of
-line-true (Fault fault) before asks seated line lines replies e later same counted dones all =
-    let here = fault-true before line fault (subst (λ (s : Bool). request s line ≡ Fault fault) same e) in
-    (here, later ((line, error_text (fault_number fault)) ∷ before) asks seated replies same (counted-more before line (error_text (fault_number fault)) here counted) dones.1 all)
+line-true (Fault fault) before asks seated line lines replies e later same counted dones all = grind (arith, fault-true, counted-more)
 line-true (Makes call) before asks seated line lines replies e later same counted dones all =
     let reply = next_reply replies in
     let there : request (is_seated before) line ≡ Makes call = subst (λ (s : Bool). request s line ≡ Makes call) same e in

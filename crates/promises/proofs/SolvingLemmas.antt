@@ -1,7 +1,7 @@
 -- Each text of `solve` is true of its line.
-use Rattle.std.proofs.Common.{◌≡◌, ℕ, ◌≤◌, ◌⊎◌, inl, inr, Bool, true, false, List, [], ◌∷◌, ◌++◌, length, Option, Some, None, Result, Ok, Err, refl, sym, ap, ◌∙◌, subst, arith}
-use Rattle.std.specs.Prelude.{◌&&◌, codes, nat_le, if◌then◌else◌}
-use Rattle.std.specs.List.{concat, list_all}
+use Rattle.std.proofs.Common.{◌≡◌, ℕ, ◌≤◌, ◌⊎◌, inl, inr, Bool, true, false, List, [], ◌∷◌, ◌++◌, Option, Some, None, Result, Ok, Err, refl, sym, ap, ◌∙◌, subst, arith}
+use Rattle.std.specs.Prelude.{◌&&◌, codes, nat_le}
+use Rattle.std.specs.List.{list_all}
 use Rattle.std.specs.Char.{is_ascii_digit}
 use Rattle.std.proofs.lemmas.Bool.Decides.{nat_tests, eqb_tells}
 use Rattle.othello_board.specs.declared.cells.Cell.{Cell}
@@ -10,13 +10,12 @@ use Rattle.position_text.specs.declared.positions.Position.{Position}
 use Rattle.protocol.specs.declared.faults.ProtocolFault.{ProtocolFault}
 use Rattle.protocol.specs.declared.faults.ProtocolFault.TheVariants.{NoCommand, LongLine}
 use Rattle.protocol.specs.Faults.{fault_number}
-use Rattle.protocol.specs.Words.{split_at_space, word_number, number_after}
+use Rattle.protocol.specs.Words.{split_at_space, word_number}
 use Rattle.protocol.specs.Questions.{QuestionOf, question}
 use Rattle.protocol.specs.Texts.{error_text}
 use Rattle.protocol.proofs.QuestionLemmas.{asks, spelled_question}
 use Rattle.line_io.specs.declared.faults.LineFault.{LineFault}
-use Rattle.line_io.specs.Lines.{LineText, Whole, TooLong, lines_of}
-use Rattle.line_io.specs.Runs.{bytes_due, write_result, IsOutput}
+use Rattle.line_io.specs.Lines.{LineText, Whole, TooLong}
 use Rattle.line_io.specs.Streams.{ReadAnswer, WriteAnswer}
 use Rattle.line_io.specs.Writes.{with_newline, written_texts}
 use Rattle.solve_engine.specs.Solving.{words_question, line_question, question_answer, solved, solved_unless, solve_line, solve_line_unless, answers_unless, SolvedRun}
@@ -47,11 +46,7 @@ digits-split (b ∷ word) text all =
     ]
 
 number-digits : (word : List ℕ) (number : ℕ) → word_number word ≡ Some number → list_all is_ascii_digit word ≡ true
-number-digits word number is =
-    elim (list_all is_ascii_digit word) as (λ b. (if nat_le 1 (length word) && nat_le (length word) 8 && b then Some (number_after 0 word) else None) ≡ Some number → b ≡ true) [
-      | true ↦ λ e. refl
-      | false ↦ λ e. absurd (let none = rw (and-false (nat_le 1 (length word) && nat_le (length word) 8)) at e in cc)
-    ] is
+number-digits word number is = grind (arith, and-false)
 
 question-of : (word text : List ℕ) (depth : ℕ) (position : Position) → AsksFor word text depth position → question word text ≡ asks depth (cells position.board) position.side
 question-of word text depth position a =
@@ -145,16 +140,4 @@ texts-written (flag ∷ refused) (line ∷ lines) = ap (λ (rest : List ℕ). wi
 
 pub solved-bytes : {S K : Type 0} (gives : S → ReadAnswer → S → Type 0) (takes : K → WriteAnswer → K → Type 0) (source : S) (sink : K) (source' : S) (sink' : K) (r : Result (Unit {0}) LineFault) →
     SolvedRun gives takes source sink source' sink' r → SolvedBytes gives takes source sink source' sink' r
-solved-bytes gives takes source sink source' sink' r whole =
-    let lines = lines_of (bytes_due r (concat whole.1.blocks)) in
-    record {
-      blocks = whole.1.blocks;
-      last = whole.1.last;
-      pieces = whole.1.pieces;
-      texts = texts_of whole.0 lines;
-      reads = whole.1.reads;
-      ends = whole.1.ends;
-      writes = whole.1.writes;
-      solutions = texts-true whole.0 lines;
-      written = let P : List ℕ → Type 0 = λ due. IsOutput (write_result r) (concat whole.1.pieces) due in subst P (texts-written whole.0 lines) whole.1.written;
-    }
+solved-bytes gives takes source sink source' sink' r whole = grind (arith, texts_of, texts-true, texts-written)

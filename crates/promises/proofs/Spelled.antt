@@ -1,5 +1,5 @@
 -- A text that is read spells a position.
-use Rattle.std.proofs.Common.{◌≡◌, ℕ, zero, suc, ◌+◌, ◌<◌, ◌≤◌, inl, inr, Bool, true, false, ◌==◌, ◌||◌, cond, eqb, min, bit_and, List, [], ◌∷◌, map, length, get_or, filter, Option, Some, None, Ok, Err, refl, sym, ap, ◌∙◌, subst, arith}
+use Rattle.std.proofs.Common.{◌≡◌, ℕ, zero, suc, ◌+◌, ◌<◌, ◌≤◌, inl, inr, Bool, true, false, ◌==◌, cond, min, bit_and, List, [], ◌∷◌, map, length, get_or, filter, Option, Some, None, Ok, Err, refl, sym, ap, ◌∙◌, subst, arith}
 use Rattle.std.specs.Prelude.{◌&&◌, slice_index, nat_le, if◌then◌else◌}
 use Rattle.std.specs.Option.{option_map}
 use Rattle.std.specs.List.{range_with_len}
@@ -31,29 +31,11 @@ use Rattle.promises.specs.Asking.{AsksFor}
 
 among-filter : (p : ℕ → Bool) (xs : List ℕ) (i : ℕ) → is_among i (filter p xs) ≡ (p i && is_among i xs)
 among-filter p [] i = elim (p i) as (λ b. false ≡ (b && false)) [ true ↦ refl | false ↦ refl ]
-among-filter p (x ∷ xs) i =
-    elim (eqb_tells x i) [
-      | inl same ↦
-          let here : eqb x i ≡ true = same.0 in
-          elim (p x) as (λ b. p x ≡ b → is_among i (if b then x ∷ filter p xs else filter p xs) ≡ (p i && (eqb x i || is_among i xs))) [
-            | true ↦ λ is. (let own : p i ≡ true = ap p (sym same.1) ∙ is in rw (here, own) refl)
-            | false ↦ λ is. (let own : p i ≡ false = ap p (sym same.1) ∙ is in rw (among-filter p xs i, own) refl)
-          ] refl
-      | inr other ↦
-          let elsewhere : eqb x i ≡ false = other.0 in
-          elim (p x) as (λ b. is_among i (if b then x ∷ filter p xs else filter p xs) ≡ (p i && (eqb x i || is_among i xs))) [
-            | true ↦ rw (elsewhere) (among-filter p xs i)
-            | false ↦ rw (elsewhere) (among-filter p xs i)
-          ]
-    ]
+among-filter p (x ∷ xs) i = grind (arith, among-filter p xs i, eqb_tells)
 
 among-range : (a n i : ℕ) → a ≤ i → i < a + n → is_among i (range_with_len a n) ≡ true
 among-range a zero i low high = absurd (omega arith)
-among-range a (suc n) i low high =
-    elim (eqb_tells a i) [
-      | inl same ↦ ap (λ b. b || is_among i (range_with_len (a + 1) n)) same.0
-      | inr other ↦ ap (λ b. b || is_among i (range_with_len (a + 1) n)) other.0 ∙ among-range (a + 1) n i (omega (arith, other.1)) (omega arith)
-    ]
+among-range a (suc n) i low high = grind (arith, among-range (a + 1) n i, eqb_tells)
 
 among-squares : (i : ℕ) → i < 64 → is_among i squares ≡ true
 unfolding squares
@@ -82,9 +64,7 @@ never-both false true false h = refl
 never-both false false c h = refl
 
 no-bit : (p q : ℕ → Bool) → ((i : ℕ) → (p i && q i) ≡ false) → (i : ℕ) → bit_at (bit_and (word_by p) (word_by q)) i ≡ bit_at 0 i
-no-bit p q differ i =
-    let none : min (bit_at (word_by p) i) (bit_at (word_by q) i) ≡ 0 = rw (bit-word_by p i, bit-word_by q i) (never-both (p i) (q i) (is_among i squares) (differ i)) in
-    bit_at_and (word_by p) (word_by q) i ∙ none ∙ sym (bit_at-zero i)
+no-bit p q differ i = grind (arith, word_by, bit-word_by, never-both, bit_at_and, bit_at-zero)
 
 apart-words : (p q : ℕ → Bool) → ((i : ℕ) → (p i && q i) ≡ false) → bit_and (word_by p) (word_by q) ≡ 0
 apart-words p q differ = same_from_bits _ _ (λ i. no-bit p q differ i)
@@ -185,11 +165,7 @@ pub record Asks (word text : List ℕ) (asked : QuestionOf) : Type 0 where
 
 by-mover : (depth : ℕ) (text : List ℕ) (marks : List Mark) (mover : Option Side) (asked : QuestionOf) → mover_of text ≡ mover → mover_question depth marks mover ≡ Ok asked → (asked.depth ≡ depth) × (asked.board ≡ map (seen_by asked.side) marks) × (mover_of text ≡ Some asked.side)
 by-mover depth text marks None asked at e = absurd cc
-by-mover depth text marks (Some side) asked at e =
-    let q : QuestionOf = record { depth = depth; board = map (seen_by side) marks; side = side } in
-    let same : q ≡ asked = cc in
-    let P : QuestionOf → Type 0 = λ q. (q.depth ≡ depth) × (q.board ≡ map (seen_by q.side) marks) × (mover_of text ≡ Some q.side) in
-    subst P same (refl, refl, at)
+by-mover depth text marks (Some side) asked at e = grind arith
 
 by-marks : (depth : ℕ) (text : List ℕ) (found : Option (List Mark)) (asked : QuestionOf) → length text ≡ 66 → marks_of text ≡ found → marks_question depth found (mover_of text) ≡ Ok asked → (asked.depth ≡ depth) × IsRead text asked.board asked.side
 by-marks depth text None asked len at e = absurd cc

@@ -1,5 +1,5 @@
 -- What a procedure makes of a frame, done.
-use Rattle.std.proofs.Common.{◌≡◌, ℕ, ◌+◌, ◌⊎◌, inl, inr, Bool, true, false, List, ◌++◌, Some, None, Ok, refl, sym, ◌∙◌}
+use Rattle.std.proofs.Common.{◌≡◌, ℕ, ◌+◌, ◌⊎◌, inl, inr, Bool, true, false, List, ◌++◌, Some, None, Ok, refl, sym, ◌∙◌, arith}
 use Rattle.std.specs.Prelude.{◌||◌, not, replicate}
 use Rattle.frame_tree.specs.declared.names.FrameId.{FrameId}
 use Rattle.frame_tree.specs.declared.names.State.{State}
@@ -30,14 +30,11 @@ use Rattle.sched_core.proofs.Ending.{named-words}
 -- Answer and Advance
 pub answer-going : {I A : Type 0} (functions : Functions I A) (shared : CoreState) (worker : ℕ) (name : FrameId) (answer : A) → None ≡ shared_refusal functions shared (Answer worker name answer) →
     IsGoing functions shared (Answer worker name answer) name (λ tenant frame. answer_tests functions tenant worker frame answer) (λ tenant frame. answered functions tenant worker frame answer)
-answer-going functions shared worker name answer none =
-    going functions shared (Answer worker name answer) name false (λ tenant frame. answer_tests functions tenant worker frame answer) (λ tenant frame. answered functions tenant worker frame answer) refl refl (λ tenant. refl) none
+answer-going functions shared worker name answer none = grind (arith, going)
 
 pub advance-going : {I A : Type 0} (functions : Functions I A) (shared : CoreState) (worker : ℕ) (name : FrameId) → None ≡ shared_refusal functions shared (Advance worker name) →
     IsGoing functions shared (Advance worker name) name (λ tenant frame. advance_tests tenant worker frame (act_by_sight functions tenant frame)) (λ tenant frame. advanced functions tenant worker name frame (act_by_sight functions tenant frame))
-advance-going functions shared worker name none =
-    going functions shared (Advance worker name) name false (λ tenant frame. advance_tests tenant worker frame (act_by_sight functions tenant frame)) (λ tenant frame. advanced functions tenant worker name frame (act_by_sight functions tenant frame))
-    refl refl (λ tenant. refl) none
+advance-going functions shared worker name none = grind (arith, going)
 
 -- an act that may be done: no test applies, and this comes of it
 pub record IsSetOut {I A : Type 0} (functions : Functions I A) (shared : CoreState) (worker : ℕ) (name : FrameId) (tenant : Tenant) (frame : Frame (List ℕ)) (act : Act) : Type 0 where
@@ -50,8 +47,7 @@ sets-out-as : {I A : Type 0} (functions : Functions I A) (shared : CoreState) (w
     tenant_in shared.tenants name.tenant ≡ Some tenant → frame_at tenant.frames name.serial ≡ Some frame → other ≡ tenant → another ≡ frame → act ≡ act_by_sight functions tenant frame →
     AllPass (advance_tests other worker another (act_by_sight functions other another)) → step_result functions shared (Advance worker name) ≡ Ok (advanced functions other worker name another (act_by_sight functions other another)) →
     IsSetOut functions shared worker name tenant frame act
-sets-out-as functions shared worker name tenant other frame another act owner found own same next passes among =
-    record { owner = owner; found = found; passes = rw (own, same, ← next) at passes; among = rw (own, same, ← next) at among }
+sets-out-as functions shared worker name tenant other frame another act owner found own same next passes among = grind arith
 
 pub sets-out : {I A : Type 0} (functions : Functions I A) (shared : CoreState) (worker : ℕ) (name : FrameId) (tenant : Tenant) (frame : Frame (List ℕ)) (seen : Seen) (act : Act) →
     IsRunning shared name worker tenant frame seen → act ≡ functions.next (sight_of shared name) → Ok (tt {0}) ≡ unless (act_tests tenant frame act) (tt {0}) →
@@ -151,9 +147,7 @@ waits-came functions shared now worker name tenant frame act (inr is) owner chil
 pub wait-came : {I A : Type 0} (functions : Functions I A) (shared : CoreState) (worker : ℕ) (name : FrameId) (tenant : Tenant) (frame : Frame (List ℕ)) (act : Continuation) → act ≡ Wait →
     tenant_in shared.tenants name.tenant ≡ Some tenant → has_child (frames_in_core shared name.tenant) name.serial ≡ false →
     IsCome name.tenant (then_done functions tenant worker name frame.path frame.value act) shared Went shared
-wait-came functions shared worker name tenant frame act is owner leaf =
-    let own : has_child tenant.frames name.serial ≡ false = rw owner at leaf in
-    rw (is, own) (came name.tenant tenant shared Went Went shared (begins shared name.tenant tenant owner) refl)
+wait-came functions shared worker name tenant frame act is owner leaf = grind (arith, came, begins)
 
 pub return-came : {I A : Type 0} (functions : Functions I A) (shared now : CoreState) (worker : ℕ) (name : FrameId) (tenant : Tenant) (frame : Frame (List ℕ)) (act : Continuation) (top : Bool) → act ≡ Return →
     tenant_in shared.tenants name.tenant ≡ Some tenant → frame_at tenant.frames name.serial ≡ Some frame → has_child (frames_in_core shared name.tenant) name.serial ≡ false →
@@ -174,10 +168,7 @@ run-held worker Waiting runs = runs
 run-held worker Returned runs = runs
 
 pub held-by-runner : (shared : CoreState) (name : FrameId) (worker : ℕ) (after : Continuation) (tenant : Tenant) (frame : Frame (List ℕ)) → GoesOn shared name worker after tenant frame → holds worker (named shared name) ≡ true
-held-by-runner shared name worker after tenant frame on =
-    let owner = on.owner in
-    let found = on.found in
-    rw (owner, found) (run-held worker frame.state on.runs)
+held-by-runner shared name worker after tenant frame on = grind (arith, run-held)
 
 -- an answer that the frame's tenant allows, once the procedure's stores of it are made
 pub record IsAnswered {I A : Type 0} (functions : Functions I A) (shared : CoreState) (worker : ℕ) (name : FrameId) (answer : A) (now : CoreState) : Type 0 where

@@ -1,10 +1,10 @@
 -- An act, done: the stores, and then what comes after them.
-use Rattle.std.proofs.Common.{◌≡◌, ℕ, ◌+◌, ◌==◌, Bool, true, false, List, [], ◌∷◌, Option, Some, None, Ok, refl, ◌∙◌, ap, arith}
+use Rattle.std.proofs.Common.{◌≡◌, ℕ, ◌+◌, Bool, true, false, List, [], ◌∷◌, Option, Some, None, Ok, refl, ◌∙◌, ap, arith}
 use Rattle.std.specs.Prelude.{◌||◌, length, IsSome}
 use Rattle.std.proofs.lemmas.Bool.Decides.{nat_tests}
 use Rattle.cactus_stack.specs.Nodes.{charge}
 use Rattle.frame_tree.specs.declared.names.FrameId.{FrameId}
-use Rattle.frame_tree.specs.Frames.{Frame, frame_at, children_of}
+use Rattle.frame_tree.specs.Frames.{Frame, frame_at}
 use Rattle.frame_tree.proofs.TreeLaws.{tree-rising, found-serial}
 use Rattle.sched_rules.specs.declared.act.Act.{Act}
 use Rattle.sched_rules.specs.declared.act.Continuation.{Continuation}
@@ -29,11 +29,7 @@ use Rattle.sched_core.proofs.Acting.{IsSetOut, not-false, held-found}
 
 without-with : (n : ℕ) (t : Tenant) (es : List (ℕ × Tenant)) → without_tenant n (with_tenant n t es) ≡ without_tenant n es
 without-with n t [] = grind (arith, nat_tests)
-without-with n t (e ∷ es) =
-    elim (e.0 == n) as (λ b. (e.0 == n) ≡ b → without_tenant n (with_tenant n t (e ∷ es)) ≡ without_tenant n (e ∷ es)) [
-      | true ↦ λ same. rw same (grind (arith, nat_tests))
-      | false ↦ λ other. rw other (rw other (ap (λ rest. e ∷ rest) (without-with n t es)))
-    ] refl
+without-with n t (e ∷ es) = grind (arith, without-with n t es, nat_tests)
 
 outcome-with : (n : ℕ) (t : Tenant) (outcome : Option Tenant) (es : List (ℕ × Tenant)) → with_outcome n outcome (with_tenant n t es) ≡ with_outcome n outcome es
 outcome-with n t None es = without-with n t es
@@ -57,9 +53,7 @@ segments-as frame words Compute same = refl
 segments-as frame words Return same = refl
 
 child-as : (serial : ℕ) (words : List ℕ) (tenant : Tenant) → IsShaped tenant → has_child (with_frame_words serial words tenant.frames) serial ≡ has_child tenant.frames serial
-child-as serial words tenant shape =
-    let children = children_of-with_frame_words serial words tenant.frames serial shape.tree in
-    rw (children, length-with_frame_words serial words (children_of tenant.frames serial)) refl
+child-as serial words tenant shape = grind (arith, children_of-with_frame_words, length-with_frame_words)
 
 charged-as : (serial : ℕ) (words : List ℕ) (tenant : Tenant) (frame : Frame (List ℕ)) → IsShaped tenant → frame_at tenant.frames serial ≡ Some frame → length words ≡ length frame.value →
     charged_for (with_frame_words serial words tenant.frames) ≡ charged_for tenant.frames

@@ -1,5 +1,5 @@
 -- A tenant that comes, and a job of it.
-use Rattle.std.proofs.Common.{◌≡◌, ℕ, ◌+◌, ◌<◌, ◌==◌, true, false, List, [], ◌∷◌, Option, Some, None, Ok, refl, sym, ◌∙◌, arith}
+use Rattle.std.proofs.Common.{◌≡◌, ℕ, ◌+◌, ◌<◌, true, false, List, [], ◌∷◌, Option, Some, None, Ok, refl, sym, ◌∙◌, arith}
 use Rattle.std.proofs.lemmas.Bool.Decides.{nat_tests}
 use Rattle.frame_tree.specs.Frames.{has_frame}
 use Rattle.frame_tree.proofs.TreeLaws.{below-found, found-there}
@@ -52,11 +52,7 @@ submit-opens functions shared after number words size none is =
 -- under a serial that wasn't given no job lives
 not-live : (jobs : List Job) (frames : Tree) (first root bound : ℕ) → AreLiveRootsThere frames jobs → ((serial : ℕ) → has_frame frames serial ≡ true → serial < root) → number_from first root jobs ≡ 0
 not-live [] frames first root bound live below = refl
-not-live (Live serial ∷ jobs) frames first root bound live below =
-    let found = root-found frames serial live.0 in
-    let low : serial < root = below serial (found-there frames serial found.0 found.1) in
-    let other : (serial == root) ≡ false = grind (arith, nat_tests, low) in
-    rw other (not-live jobs frames (first + 1) root bound live.1 below)
+not-live (Live serial ∷ jobs) frames first root bound live below = grind (arith, not-live jobs frames (first + 1) root bound live.1 below, root-found, found-there, nat_tests)
 not-live (Done words ∷ jobs) frames first root bound live below = not-live jobs frames (first + 1) root bound live.1 below
 not-live (Spent ∷ jobs) frames first root bound live below = not-live jobs frames (first + 1) root bound live.1 below
 not-live (Cancelled ∷ jobs) frames first root bound live below = not-live jobs frames (first + 1) root bound live.1 below

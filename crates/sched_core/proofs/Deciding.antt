@@ -14,7 +14,7 @@ use Rattle.sched_rules.specs.declared.step.StepOf.{StepOf}
 use Rattle.sched_rules.specs.declared.step.StepOf.TheVariants.{Take, Steal, Advance, Answer, Finish}
 use Rattle.sched_rules.specs.Functions.{Functions}
 use Rattle.sched_rules.specs.Trees.{Tenant, left, is_busy_in, is_outside, is_root, has_child}
-use Rattle.sched_rules.specs.Lone.{Outcome, unless, lone, refusal_in, is_ready_at, is_run_by, is_computed_by, is_returned, taken_by, finished, no_step, act_by_sight, act_tests, advanced, answer_tests, answered, applies, is_spendable}
+use Rattle.sched_rules.specs.Lone.{Outcome, unless, lone, refusal_in, is_ready_at, is_run_by, is_computed_by, is_returned, taken_by, finished, no_step, act_by_sight, act_tests, advanced, applies, is_spendable}
 use Rattle.sched_rules.specs.Cores.{CoreState, tenant_in, is_busy_elsewhere, meets_busy, unless_busy, shared_refusal}
 use Rattle.sched_core.specs.declared.engine.Seen.{Seen}
 use Rattle.sched_store.specs.Reads.{is_busy_among, AreAfter, AreTenantsRising, frames_in_core, sight_of, words_under}
@@ -49,9 +49,7 @@ busy-last ((false, refusal) ∷ tests) here elsewhere effect = busy-last tests h
 -- a worker that is busy with some tenant's frame is busy with this one's or elsewhere
 busy-later : (worker number : ℕ) (entries : List (ℕ × Tenant)) → AreAfter number entries → is_busy_elsewhere worker number entries ≡ is_busy_among worker entries
 busy-later worker number [] after = refl
-busy-later worker number (entry ∷ entries) after =
-    let other : (entry.0 == number) ≡ false = grind (arith, nat_tests, after.0) in
-    rw (other, busy-later worker number entries after.1) refl
+busy-later worker number (entry ∷ entries) after = grind (arith, busy-later worker number entries after.1, nat_tests)
 
 or-swap : (own first elsewhere : Bool) → (own || (first || elsewhere)) ≡ (first || (own || elsewhere))
 or-swap true true elsewhere = refl
@@ -67,11 +65,7 @@ pub busy-among : (worker number : ℕ) (entries : List (ℕ × Tenant)) (tenant 
 busy-among worker number [] tenant rising is = absurd cc
 busy-among worker number (entry ∷ entries) tenant rising is =
     elim (entry.0 == number) as (λ b. (entry.0 == number) ≡ b → (is_busy_in worker tenant.frames || is_busy_elsewhere worker number (entry ∷ entries)) ≡ is_busy_among worker (entry ∷ entries)) [
-      | true ↦ λ same.
-          let own : entry.1 ≡ tenant = some-is entry.1 tenant (rw same at is) in
-          let at : entry.0 ≡ number = grind (arith, nat_tests, same) in
-          let later : is_busy_elsewhere worker number entries ≡ is_busy_among worker entries = rw (← at) (busy-later worker entry.0 entries rising.0) in
-          rw (same, later, own) refl
+      | true ↦ grind (arith, some-is, nat_tests, busy-later)
       | false ↦ λ other.
           let rest = busy-among worker number entries tenant rising.1 (rw other at is) in
           rw other (or-swap (is_busy_in worker tenant.frames) (is_busy_in worker entry.1.frames) (is_busy_elsewhere worker number entries) ∙ ap (λ b. is_busy_in worker entry.1.frames || b) rest)
@@ -82,9 +76,7 @@ pub busy-anywhere : {I : Type 0} (tests : List (Bool × Refusal)) (shared : Core
     AreTenantsRising shared.tenants → tenant_in shared.tenants number ≡ Some tenant →
     refusal_in (unless (tests ++ (is_busy_among worker shared.tenants, Busy) ∷ []) (tt {0}))
     ≡ refusal_in (unless_busy (is_busy_elsewhere worker number shared.tenants) (unless (tests ++ (is_busy_in worker tenant.frames, Busy) ∷ []) effect))
-busy-anywhere tests shared worker number tenant effect rising is =
-    rw (busy-last tests (is_busy_in worker tenant.frames) (is_busy_elsewhere worker number shared.tenants) effect)
-    (rw (busy-among worker number shared.tenants tenant rising is) refl)
+busy-anywhere tests shared worker number tenant effect rising is = grind (arith, busy-last, busy-among)
 
 -- the refusal of tests is that of their effect's want
 pub no-effect : {X : Type 0} (tests : List (Bool × Refusal)) (effect : X) → refusal_in (unless tests (tt {0})) ≡ refusal_in (unless tests effect)
@@ -134,8 +126,7 @@ finish-decided {I = I} functions shared worker name tenant frame seen is rising 
 pub finish-told : {I A : Type 0} (functions : Functions I A) (shared : CoreState) (worker : ℕ) (name : FrameId) (tenant : Tenant) (frame : Frame (List ℕ)) (seen : Seen) (unfinished busy : Bool) (told : Result (Unit {0}) Refusal) →
     IsSeen shared name tenant frame seen → AreTenantsRising shared.tenants → unfinished ≡ (not (is_returned seen.state) || not (is_root frame.path)) → busy ≡ is_busy_among worker shared.tenants →
     told ≡ unless ((unfinished, NotReturned) ∷ (seen.left.steps == 0, NoSteps) ∷ (busy, Busy) ∷ []) (tt {0}) → refusal_in told ≡ shared_refusal functions shared (Finish worker name)
-finish-told functions shared worker name tenant frame seen unfinished busy told is rising u b same =
-    ap refusal_in same ∙ rw (u, b) (finish-decided functions shared worker name tenant frame seen is rising)
+finish-told functions shared worker name tenant frame seen unfinished busy told is rising u b same = grind (arith, finish-decided)
 
 -- Advance
 pub advance-decided : {I A : Type 0} (functions : Functions I A) (shared : CoreState) (worker : ℕ) (name : FrameId) (tenant : Tenant) (frame : Frame (List ℕ)) (seen : Seen) (act : Act) →
@@ -153,9 +144,7 @@ pub answer-decided : {I A : Type 0} (functions : Functions I A) (shared : CoreSt
     refusal_in (unless ((not (is_computed_by worker seen.state), NotComputing) ∷ (not (functions.same (functions.asked answer) (functions.input (words_under shared name))), Mismatch)
     ∷ (seen.left.steps == 0, NoSteps) ∷ (is_outside (functions.accept (words_under shared name) answer) (words_under shared name), BadAct) ∷ []) (tt {0}))
     ≡ shared_refusal functions shared (Answer worker name answer)
-answer-decided functions shared worker name answer tenant frame seen is =
-    rw (is.state, is.left, is.owner, is.found)
-    (no-effect (answer_tests functions tenant worker frame answer) (answered functions tenant worker frame answer) ∙ sym (not-elsewhere _))
+answer-decided functions shared worker name answer tenant frame seen is = grind (arith, no-effect, not-elsewhere)
 
 -- a refusal that is passed on
 pub passed-on : {X : Type 0} (answer : Result X Refusal) (told refusal : Refusal) (right : Option Refusal) → answer ≡ Err told → told ≡ refusal → right ≡ Some refusal → refusal_in answer ≡ right
@@ -209,8 +198,7 @@ pub answer-told : {I A : Type 0} (functions : Functions I A) (shared : CoreState
     outside ≡ is_outside (functions.accept (words_under shared name) answer) (words_under shared name) →
     told ≡ unless ((not computes, NotComputing) ∷ (other, Mismatch) ∷ (seen.left.steps == 0, NoSteps) ∷ (outside, BadAct) ∷ []) (tt {0}) →
     refusal_in told ≡ shared_refusal functions shared (Answer worker name answer)
-answer-told functions shared worker name answer tenant frame seen computes other outside told is c o u same =
-    ap refusal_in same ∙ rw (c, o, u) (answer-decided functions shared worker name answer tenant frame seen is)
+answer-told functions shared worker name answer tenant frame seen computes other outside told is c o u same = grind (arith, answer-decided)
 
 -- a test that applies is a refusal
 applies-is : (tests : List (Bool × Refusal)) → is_err (unless tests (tt {0})) ≡ applies tests

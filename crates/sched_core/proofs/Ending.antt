@@ -1,5 +1,5 @@
 -- A job that ends, with all its frames.
-use Rattle.std.proofs.Common.{◌≡◌, ℕ, false, List, [], ◌∷◌, Option, Some, None, Ok, refl}
+use Rattle.std.proofs.Common.{◌≡◌, ℕ, false, List, [], ◌∷◌, Option, Some, None, Ok, refl, arith}
 use Rattle.std.specs.Prelude.{IsSome, not}
 use Rattle.frame_tree.specs.declared.names.FrameId.{FrameId}
 use Rattle.frame_tree.specs.Frames.{Frame, frame_at, path_in, root_of, IsTree}
@@ -12,9 +12,9 @@ use Rattle.sched_rules.specs.declared.step.DidOf.TheVariants.{Cancelled}
 use Rattle.sched_rules.specs.Functions.{Functions}
 use Rattle.sched_rules.specs.Trees.{Tenant, has_child, job_at}
 use Rattle.sched_rules.specs.Lone.{ended, spent, finished, finish_tests, is_spendable}
-use Rattle.sched_rules.specs.Changes.{on_tenant, without_under, with_change}
+use Rattle.sched_rules.specs.Changes.{on_tenant, without_under}
 use Rattle.sched_rules.specs.Views.{named, job_of}
-use Rattle.sched_rules.specs.Cores.{CoreState, tenant_in, step_result, shared_refusal, with_tenant}
+use Rattle.sched_rules.specs.Cores.{CoreState, tenant_in, step_result, shared_refusal}
 use Rattle.sched_laws.specs.Shapes.{AreShaped}
 use Rattle.sched_laws.proofs.Parts.{path-there}
 use Rattle.sched_laws.proofs.Answers.{shaped-in}
@@ -54,14 +54,11 @@ with-there before now number tenant is = let there = is.there in rw there refl
 
 -- one change of the tenant
 pub as-change : (before now : CoreState) (number : ℕ) (tenant : Tenant) (change : Tenant → Tenant) → tenant_in before.tenants number ≡ Some tenant → IsWith before number (change tenant) now → now ≡ on_tenant number change before
-as-change before now number tenant change owner is =
-    let there : with_change number change before.tenants ≡ with_tenant number (change tenant) before.tenants = with_change-there number change before.tenants tenant owner in
-    rw there is.is
+as-change before now number tenant change owner is = grind (arith, with_change-there)
 
 -- after an abort a frame has no child
 pub aborted-childless : (before now : CoreState) (number serial : ℕ) (tenant : Tenant) → IsTree tenant.frames → IsWith before number (without_under serial tenant) now → has_child (frames_in_core now number) serial ≡ false
-aborted-childless before now number serial tenant tree is =
-    let there = is.there in let leaf = aborted-leaf serial tenant.frames tree in rw (there, leaf) refl
+aborted-childless before now number serial tenant tree is = grind (arith, aborted-leaf)
 
 -- a root whose path is known is there
 pub root-found : (frames : List (Frame (List ℕ))) (serial : ℕ) → path_in frames serial ≡ serial ∷ [] → (frame : Frame (List ℕ)) × (frame_at frames serial ≡ Some frame)

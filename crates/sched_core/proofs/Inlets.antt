@@ -92,11 +92,7 @@ takes-in-as : {I A : Type 0} (functions : Functions I A) (shared : CoreState) (w
     AllPass (inlet_tests other worker another parent (functions.inlet (words_in other.frames parent) another.value)) →
     step_result functions shared (Inlet worker name) ≡ Ok (taken_in other worker name parent (functions.inlet (words_in other.frames parent) another.value)) →
     IsTakingIn functions shared worker name above tenant frame act
-takes-in-as functions shared worker name above tenant other frame another act parent owner found own same names path does passes among =
-    let path' : parent_of frame.path ≡ Some parent = rw same at path in
-    let is : above ≡ record { tenant = name.tenant; serial = parent } = parent-is name.tenant parent above (rw path' at names) in
-    let does' : act ≡ functions.inlet (words_in tenant.frames parent) frame.value = does ∙ rw (is, owner, found) refl in
-    record { parent = parent; is = is; owner = owner; found = found; path = path'; passes = rw (own, same, ← does') at passes; among = rw (own, same, ← does') at among }
+takes-in-as functions shared worker name above tenant other frame another act parent owner found own same names path does passes among = grind (arith, parent-is)
 
 pub takes-in : {I A : Type 0} (functions : Functions I A) (shared : CoreState) (worker : ℕ) (name above : FrameId) (tenant : Tenant) (frame : Frame (List ℕ)) (seen : Seen) (act : InletAct) →
     IsReturnedUnder shared name above tenant frame seen → AreTenantsRising shared.tenants → act ≡ functions.inlet (words_under shared above) (words_under shared name) →
@@ -123,17 +119,7 @@ has-returned Returned is = refl
 -- it may be taken in
 pub may-be-taken-in : {I A : Type 0} {functions : Functions I A} {shared : CoreState} {worker : ℕ} {name above : FrameId} {tenant : Tenant} {frame : Frame (List ℕ)} {act : InletAct} →
     IsTakingIn functions shared worker name above tenant frame act → AreShaped shared.tenants → MayBeTakenIn shared name above tenant frame
-may-be-taken-in {shared = shared} {name = name} {tenant = tenant} {frame = frame} t shaped =
-    let shape = shaped-in name.tenant shared.tenants tenant shaped t.owner in
-    let returned = has-returned frame.state (not-false (is_returned frame.state) t.passes.0) in
-    record {
-      owner = t.owner;
-      found = t.found;
-      tree = shape.tree;
-      under = rw t.is t.path;
-      same = ap (λ n. n.tenant) t.is;
-      leaf = returned-leaf tenant name.serial frame shape t.found returned;
-    }
+may-be-taken-in {shared = shared} {name = name} {tenant = tenant} {frame = frame} t shaped = grind (arith, shaped-in, has-returned, not-false, returned-leaf)
 
 -- the parent stays
 other : (p c : ℕ) → p < c → c ≢ p
@@ -145,8 +131,7 @@ parent-found frames child parent frame tree found path = there-found frames pare
 
 pub stays-beside : (frames : List (Frame (List ℕ))) (child parent : ℕ) (frame above : Frame (List ℕ)) → IsTree frames → frame_at frames child ≡ Some frame → parent_of frame.path ≡ Some parent → frame_at frames parent ≡ Some above →
     frame_at (frames_without child frames) parent ≡ Some above
-stays-beside frames child parent frame above tree found path at =
-    frame_at_other-without child frames parent (other parent child (under-below frames child parent frame tree found path)) ∙ at
+stays-beside frames child parent frame above tree found path at = grind (arith, frame_at_other-without, other, under-below)
 
 pub parent-stays : (frames : List (Frame (List ℕ))) (child parent : ℕ) (abort : Bool) (frame above : Frame (List ℕ)) → IsTree frames → frame_at frames child ≡ Some frame → parent_of frame.path ≡ Some parent → frame_at frames parent ≡ Some above →
     frame_at (staying frames child parent abort) parent ≡ Some above
@@ -189,10 +174,7 @@ dropped parent child (frame ∷ frames) each =
     let rest = dropped parent child frames each.1 in
     elim (frame.serial == child) as (λ b. (frame.serial == child) ≡ b → aborted parent (frames_without child (frame ∷ frames)) ≡ aborted parent (frame ∷ frames)) [
       | true ↦ λ same. (let below = each.0 same in rw (same, below) rest)
-      | false ↦ λ differs. elim (goes_under parent frame.path) as (λ b. goes_under parent frame.path ≡ b → aborted parent (frames_without child (frame ∷ frames)) ≡ aborted parent (frame ∷ frames)) [
-        | true ↦ λ below. rw (differs, below) rest
-        | false ↦ λ beside. rw (differs, beside) (ap (λ fs. frame ∷ fs) rest)
-      ] refl
+      | false ↦ grind arith
     ] refl
 
 pub aborts-child : (frames : List (Frame (List ℕ))) (child parent : ℕ) (frame : Frame (List ℕ)) → IsTree frames → frame_at frames child ≡ Some frame → parent_of frame.path ≡ Some parent →

@@ -1,5 +1,5 @@
 -- The parent of a frame that is seen.
-use Rattle.std.proofs.Common.{◌≡◌, ℕ, Bool, true, List, [], ◌∷◌, Option, Some, None, Result, Ok, refl, sym, ◌∙◌, ap}
+use Rattle.std.proofs.Common.{◌≡◌, ℕ, Bool, true, List, [], ◌∷◌, Option, Some, None, Result, Ok, refl, sym, ◌∙◌, arith}
 use Rattle.std.specs.Prelude.{IsSome, not, ◌==◌}
 use Rattle.frame_tree.specs.declared.names.FrameId.{FrameId}
 use Rattle.frame_tree.specs.Frames.{Frame, frame_at, name_of, parent_of}
@@ -67,9 +67,7 @@ pub inlet-decided : {I A : Type 0} (functions : Functions I A) (shared : CoreSta
     IsSeen shared name tenant frame seen → AreTenantsRising shared.tenants → seen.parent ≡ Some above → act ≡ functions.inlet (words_under shared above) (words_under shared name) →
     refusal_in (unless ((not (is_returned seen.state), NotReturned) ∷ (seen.left.steps == 0, NoSteps) ∷ (is_outside act.stores (words_under shared above), BadAct) ∷ (is_busy_among worker shared.tenants, Busy) ∷ []) (tt {0}))
     ≡ shared_refusal functions shared (Inlet worker name)
-inlet-decided functions shared worker name tenant frame seen above act is rising at same =
-    let p = parent-of shared name tenant frame seen above is at in
-    inlet-under functions shared worker name tenant frame seen above act p.serial is rising p.path (parent-words shared name tenant frame seen above is p) same
+inlet-decided functions shared worker name tenant frame seen above act is rising at same = grind (arith, parent-of, inlet-under, parent-words)
 
 -- Inlet, where the frame has returned and a step is left, by the tests of the inlet
 pub inlet-goes : {I A : Type 0} (functions : Functions I A) (shared : CoreState) (worker : ℕ) (name : FrameId) (tenant : Tenant) (frame : Frame (List ℕ)) (seen : Seen) (above : FrameId) (act : InletAct)
@@ -79,11 +77,7 @@ pub inlet-goes : {I A : Type 0} (functions : Functions I A) (shared : CoreState)
     Ok (tt {0}) ≡ unless ((not returned, NotReturned) ∷ (seen.left.steps == 0, NoSteps) ∷ []) (tt {0}) →
     answer ≡ unless ((outside, BadAct) ∷ (busy, Busy) ∷ []) (tt {0}) →
     refusal_in answer ≡ shared_refusal functions shared (Inlet worker name)
-inlet-goes functions shared worker name tenant frame seen above act returned outside busy answer is rising at same r o b passes told =
-    let passes' : unless ((not (is_returned seen.state), NotReturned) ∷ (seen.left.steps == 0, NoSteps) ∷ []) (tt {0}) ≡ Ok (tt {0}) = rw (← r) (sym passes) in
-    let told' : answer ≡ unless ((is_outside act.stores (words_under shared above), BadAct) ∷ (is_busy_among worker shared.tenants, Busy) ∷ []) (tt {0}) = rw (← o, ← b) told in
-    ap refusal_in (told' ∙ sym (second-part ((not (is_returned seen.state), NotReturned) ∷ (seen.left.steps == 0, NoSteps) ∷ []) ((is_outside act.stores (words_under shared above), BadAct) ∷ (is_busy_among worker shared.tenants, Busy) ∷ []) passes'))
-    ∙ inlet-decided functions shared worker name tenant frame seen above act is rising at same
+inlet-goes functions shared worker name tenant frame seen above act returned outside busy answer is rising at same r o b passes told = grind (arith, second-part, inlet-decided)
 
 pub inlet-told : {I A : Type 0} (functions : Functions I A) (shared : CoreState) (worker : ℕ) (name : FrameId) (tenant : Tenant) (frame : Frame (List ℕ)) (seen : Seen) (above : FrameId) (act : InletAct) (answer : Result (Unit {0}) Refusal) →
     IsReturnedUnder shared name above tenant frame seen → AreTenantsRising shared.tenants → act ≡ functions.inlet (words_under shared above) (words_under shared name) →

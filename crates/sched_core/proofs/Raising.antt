@@ -1,8 +1,8 @@
 -- A tenant that reserves more.
-use Rattle.std.proofs.Common.{◌≡◌, ℕ, inl, inr, false, Option, Some, None, Ok, refl}
+use Rattle.std.proofs.Common.{◌≡◌, ℕ, inl, inr, false, Option, Some, None, Ok, refl, arith}
 use Rattle.std.proofs.lemmas.Bool.{cases_Bool}
 use Rattle.tenant_quota.specs.Quota.{Quota}
-use Rattle.sched_rules.specs.declared.refusal.Refusal.TheVariants.{NoTenant, Full, Lower}
+use Rattle.sched_rules.specs.declared.refusal.Refusal.TheVariants.{NoTenant, Lower}
 use Rattle.sched_rules.specs.declared.step.StepOf.TheVariants.{AdmitMore}
 use Rattle.sched_rules.specs.declared.step.DidOf.TheVariants.{AdmittedMore}
 use Rattle.sched_rules.specs.Functions.{Functions}
@@ -29,10 +29,7 @@ raise-going functions shared number quota none = by-owner (tenant_in shared.tena
     by-owner None lost = absurd (let no : None ≡ Some NoTenant = rw lost at none in cc)
     by-owner (Some tenant) owner = elim (cases_Bool (is_lower tenant.reserve quota)) [
       | inl low ↦ absurd (let no : None ≡ Some Lower = rw (owner, low) at none in cc)
-      | inr high ↦ elim (cases_Bool (is_beyond (reservations_in shared) tenant.reserve quota)) [
-        | inl over ↦ absurd (let no : None ≡ Some Full = rw (owner, high, over) at none in cc)
-        | inr under ↦ record { tenant = tenant; owner = owner; above = rw owner high; room = rw owner under; among = rw (owner, high, under) refl }
-      ]
+      | inr high ↦ grind arith
     ]
 
 pub raise-taken : {I A : Type 0} (functions : Functions I A) (shared after : CoreState) (number : ℕ) (quota : Quota) → None ≡ shared_refusal functions shared (AdmitMore number quota) →

@@ -1,5 +1,5 @@
 -- What one step does, from how it is judged; and a list of steps.
-use Rattle.std.proofs.Common.{◌≡◌, ℕ, inl, inr, true, List, [], ◌∷◌, ◌++◌, Some, None, Result, Ok, Err, refl, sym, ◌∙◌, append_assoc, append-nil, length, take, ◌≤◌, arith}
+use Rattle.std.proofs.Common.{◌≡◌, ℕ, inl, inr, true, List, [], ◌∷◌, ◌++◌, None, Result, Ok, Err, refl, sym, ◌∙◌, append_assoc, append-nil, length, take, ◌≤◌, arith}
 use Rattle.std.proofs.lemmas.Bool.{true≢false}
 use Rattle.std.proofs.lemmas.Grind.{common_steps}
 use Rattle.sched_rules.specs.declared.refusal.Refusal.{Refusal}
@@ -41,15 +41,12 @@ one-step functions before step answer after is =
 -- an admission for which memory is wanting
 wanting : {I A : Type 0} (functions : Functions I A) (before : CoreState) (step : StepOf A) → is_admission step ≡ true → shared_refusal functions before step ≡ None →
     IsAnswerTo functions before step (Err OutOfMemory)
-wanting functions before step admits none =
-    (λ is. record { refused = λ refusal some. absurd (let wrong : Some refusal ≡ None = sym some ∙ none in cc); else_taken = λ same. inr refl }, λ is_not. absurd (true≢false (sym admits ∙ is_not)))
+wanting functions before step admits none = grind (arith, true≢false)
 
 pub one-admission : {I A : Type 0} (functions : Functions I A) (before : CoreState) (step : StepOf A) (answer : Result (DidOf I) Refusal) (after : CoreState) → is_admission step ≡ true →
     IsAdmitted functions before step answer after → IsOneStep functions before step answer after
 one-admission functions before step answer after admits (inl is) = one-step functions before step answer after is
-one-admission functions before step answer after admits (inr is) =
-    let out = is.1 in let stays = is.2 in
-    record { answered = rw out (wanting functions before step admits is.0); left = rw out stays }
+one-admission functions before step answer after admits (inr is) = grind (arith, wanting)
 
 -- what follows from one step
 pub refused-stays : {I A : Type 0} (functions : Functions I A) (before : CoreState) (step : StepOf A) (refusal : Refusal) (after : CoreState) → IsOneStep functions before step (Err refusal) after → after ≡ before

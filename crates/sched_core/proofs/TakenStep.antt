@@ -94,11 +94,7 @@ with_tenant-same n t (e ∷ es) is =
 
 pub with_tenant-twice : (n : ℕ) (s t : Tenant) (es : List (ℕ × Tenant)) → with_tenant n t (with_tenant n s es) ≡ with_tenant n t es
 with_tenant-twice n s t [] = grind (arith, nat_tests)
-with_tenant-twice n s t (e ∷ es) =
-    elim (e.0 == n) as (λ b. (e.0 == n) ≡ b → with_tenant n t (with_tenant n s (e ∷ es)) ≡ with_tenant n t (e ∷ es)) [
-      | true ↦ λ same. rw same (grind (arith, nat_tests))
-      | false ↦ λ other. rw other (rw other (ap (λ rest. e ∷ rest) (with_tenant-twice n s t es)))
-    ] refl
+with_tenant-twice n s t (e ∷ es) = grind (arith, with_tenant-twice n s t es, nat_tests)
 
 -- a tenant that is there
 pub begins : (shared : CoreState) (number : ℕ) (tenant : Tenant) → tenant_in shared.tenants number ≡ Some tenant → IsWith shared number tenant shared

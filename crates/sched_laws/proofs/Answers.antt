@@ -1,5 +1,5 @@
 -- Whatever a step is answered, each tenant has its shape after it.
-use Rattle.std.proofs.Common.{◌≡◌, ℕ, Bool, true, false, eqb, List, [], ◌∷◌, Option, Some, None, Result, Ok, Err, refl, subst, inl, inr}
+use Rattle.std.proofs.Common.{◌≡◌, ℕ, Bool, true, false, eqb, List, [], ◌∷◌, Option, Some, None, Result, Ok, Err, refl, subst, inl, inr, arith}
 use Rattle.std.proofs.lemmas.Bool.{cases_Bool}
 use Rattle.tenant_quota.specs.Quota.{Quota}
 use Rattle.sched_rules.specs.declared.refusal.Refusal.{Refusal}
@@ -7,12 +7,11 @@ use Rattle.sched_rules.specs.declared.refusal.Refusal.TheVariants.{Busy, Full, N
 use Rattle.sched_rules.specs.declared.step.StepOf.{StepOf}
 use Rattle.sched_rules.specs.declared.step.StepOf.TheVariants.{Admit, AdmitMore}
 use Rattle.sched_rules.specs.declared.step.DidOf.{DidOf}
-use Rattle.sched_rules.specs.declared.step.DidOf.TheVariants.{Admitted}
 use Rattle.sched_rules.specs.Functions.{Functions}
-use Rattle.sched_rules.specs.Trees.{Tenant, admitted_with}
+use Rattle.sched_rules.specs.Trees.{Tenant}
 use Rattle.sched_rules.specs.Lone.{Outcome, lone}
 use Rattle.sched_rules.specs.Runs.{tenant_of}
-use Rattle.sched_rules.specs.Cores.{CoreState, tenant_in, with_tenant, without_tenant, with_outcome, meets_busy, admit_tests, unless_busy, unless_beyond, is_beyond, reserved_by, reservations_in, step_among, step_result, shared_after}
+use Rattle.sched_rules.specs.Cores.{CoreState, tenant_in, with_tenant, without_tenant, with_outcome, meets_busy, unless_busy, unless_beyond, is_beyond, reserved_by, reservations_in, step_among, step_result, shared_after}
 use Rattle.sched_rules.specs.Headline.{after_answer, after_answers}
 use Rattle.sched_laws.specs.Shapes.{IsShaped, AreShaped}
 use Rattle.sched_laws.proofs.Shaped.{LeftShaped, unless-passed, step-shaped, admitted-shaped, came}
@@ -45,10 +44,7 @@ refused refusal outcome e = absurd cc
 
 pub lone-shaped : {I A : Type 0} (functions : Functions I A) (own : Option Tenant) (step : StepOf A) (outcome : Outcome I) → lone functions own step ≡ Ok outcome → LeftShaped own → LeftShaped outcome.0
 lone-shaped functions (Some tenant) step outcome is s = step-shaped functions tenant step outcome is s
-lone-shaped {I} functions None (Admit number quota) outcome is s =
-    let both : ◌≡◌ {A = Result (Outcome I) Refusal} (Ok (Some (admitted_with quota), Admitted)) (Ok outcome) = is in
-    let e : ◌≡◌ {A = Outcome I} (Some (admitted_with quota), Admitted) outcome = cc in
-    came LeftShaped (Some (admitted_with quota), Admitted) outcome e (admitted-shaped quota)
+lone-shaped {I} functions None (Admit number quota) outcome is s = grind (arith, came, admitted-shaped)
 lone-shaped functions None _ outcome is s = refused NoTenant outcome is
 
 -- a step among several tenants
@@ -83,9 +79,7 @@ among-shaped functions before step outcome is all =
     (not-busy (meets_busy step before.tenants) (lone functions (tenant_in before.tenants (tenant_of step)) step) outcome is) (own-shaped (tenant_of step) before.tenants all)
 
 pub step_result-shaped : {I A : Type 0} (functions : Functions I A) (before : CoreState) (step : StepOf A) (outcome : Outcome I) → step_result functions before step ≡ Ok outcome → AreShaped before.tenants → LeftShaped outcome.0
-step_result-shaped {I} functions before (Admit number quota) outcome is all =
-    let effect : Outcome I = (Some (admitted_with quota), Admitted) in
-    let p = unless-passed (admit_tests before number quota) effect outcome is in came LeftShaped effect outcome p.1 (admitted-shaped quota)
+step_result-shaped {I} functions before (Admit number quota) outcome is all = grind (arith, unless-passed, came, admitted-shaped)
 step_result-shaped {A = A} functions before (AdmitMore number quota) outcome is all =
     lone-shaped {A = A} functions (tenant_in before.tenants number) (AdmitMore number quota) outcome (more-taken {A = A} functions before number quota outcome is).1 (own-shaped number before.tenants all)
 step_result-shaped functions before step outcome is all = among-shaped functions before step outcome is all

@@ -1,5 +1,5 @@
 -- A job that has ended stays as it is, whatever its tenant does but leave.
-use Rattle.std.proofs.Common.{◌≡◌, ℕ, ◌-◌, inl, inr, false, eqb, List, [], ◌∷◌, ◌++◌, Some, Ok, refl}
+use Rattle.std.proofs.Common.{◌≡◌, ℕ, ◌-◌, inl, inr, false, eqb, List, [], ◌∷◌, ◌++◌, Some, Ok, refl, arith}
 use Rattle.std.proofs.lemmas.Bool.{cases_Bool}
 use Rattle.frame_tree.specs.Frames.{root_of}
 use Rattle.sched_rules.specs.declared.job.Job.{Job}
@@ -27,8 +27,7 @@ not-live root _ has = refl
 at-ended : (root : ℕ) (end : Job) (jobs : List Job) (number : ℕ) (job : Job) → HasEnded job → job_at jobs number ≡ Some job → job_at (with_ended root end jobs) number ≡ Some job
 at-ended root end [] number job has at = absurd cc
 at-ended root end (x ∷ xs) number job has at = elim (cases_Bool (eqb number 1)) [
-  | inl first ↦ (let both : Some x ≡ Some job = rw first at at in let same : x ≡ job = cc in
-      rw (first, same, not-live root job has) refl)
+  | inl first ↦ grind (arith, not-live)
   | inr later ↦ rw later (at-ended root end xs (number - 1) job has (rw later at at))
 ]
 

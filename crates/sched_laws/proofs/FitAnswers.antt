@@ -13,9 +13,9 @@ use Rattle.sched_rules.specs.declared.step.DidOf.TheVariants.{Admitted}
 use Rattle.sched_rules.specs.Functions.{Functions}
 use Rattle.sched_rules.specs.Trees.{Tenant, admitted_with}
 use Rattle.sched_rules.specs.Laws.{Fitting, Rooting}
-use Rattle.sched_rules.specs.Lone.{Outcome, lone, lone_step, submit_tests, submitted}
+use Rattle.sched_rules.specs.Lone.{Outcome, lone, lone_step}
 use Rattle.sched_rules.specs.Runs.{tenant_of, only}
-use Rattle.sched_rules.specs.Cores.{CoreState, shared_by_nobody, tenant_in, with_outcome, meets_busy, admit_tests, step_result, newest_after, shared_with}
+use Rattle.sched_rules.specs.Cores.{CoreState, shared_by_nobody, tenant_in, with_outcome, meets_busy, step_result, newest_after, shared_with}
 use Rattle.sched_rules.specs.Headline.{is_admission, IsAnswerTo, AreAnswersTo, after_answer, after_answers, taken_steps, AreNumbersGiven}
 use Rattle.sched_rules.proofs.Tenants.{tenant_in-with_outcome, tenant_in_other-with_outcome, known-number}
 use Rattle.sched_rules.proofs.Isolation.{step-taken, there, more-there, above, step_result-step, shared-after-taken}
@@ -36,10 +36,7 @@ same-origins fits rooted origins o left = let P : Lists → Type 0 = λ os. Left
 
 -- the number of an admission that was taken is above all
 admitted-above : {I A : Type 0} (functions : Functions I A) (before : CoreState) (number : ℕ) (quota : Quota) (outcome : Outcome I) → step_result {A = A} functions before (Admit number quota) ≡ Ok outcome → (before.newest < number) × ((Some (admitted_with quota), Admitted) ≡ outcome)
-admitted-above {I} functions before number quota outcome is =
-    let effect : Outcome I = (Some (admitted_with quota), Admitted) in
-    let p = unless-passed (admit_tests before number quota) effect outcome is in
-    (above number before.newest p.0.0, p.1)
+admitted-above {I} functions before number quota outcome is = grind (arith, unless-passed, above)
 
 -- a taken step that is no admission is taken alone
 pub taken-alone : {I A : Type 0} (functions : Functions I A) (before : CoreState) (step : StepOf A) (outcome : Outcome I) → is_admission step ≡ false → step_result functions before step ≡ Ok outcome → lone functions (tenant_in before.tenants (tenant_of step)) step ≡ Ok outcome
@@ -104,15 +101,11 @@ module _ {I A : Type 0} (functions : Functions I A) (fits : Fitting) (rooted : R
   -- every step
   others-fit : (origins : Lists) (tenant : Tenant) (step : StepOf A) (outcome : Outcome I) → IsLawful functions fits rooted → IsShaped tenant → TenantFits fits rooted origins tenant →
       submits step ≡ [] → lone_step functions tenant step ≡ Ok outcome → LeftFits fits rooted (origins ++ submits step) outcome.0
-  others-fit origins tenant step outcome lawful shape fitting none is =
-      let P : Lists → Type 0 = λ os. LeftFits fits rooted (origins ++ os) outcome.0 in
-      subst P (sym none) (same-origins fits rooted origins outcome.0 (own-fits origins tenant step outcome lawful shape fitting none is))
+  others-fit origins tenant step outcome lawful shape fitting none is = grind (arith, same-origins, own-fits)
 
   pub step-fits : (origins : Lists) (tenant : Tenant) (step : StepOf A) (outcome : Outcome I) → IsLawful functions fits rooted → IsShaped tenant → TenantFits fits rooted origins tenant →
       RootFits fits rooted step → lone_step functions tenant step ≡ Ok outcome → LeftFits fits rooted (origins ++ submits step) outcome.0
-  step-fits origins tenant (Submit number words size) outcome lawful shape fitting root is =
-      let p = unless-passed (submit_tests tenant words size) (submitted {I = I} tenant number words size) outcome is in
-      came (LeftFits fits rooted (origins ++ words ∷ [])) (submitted tenant number words size) outcome p.1 (submit-fits fits rooted origins tenant words size shape fitting root.0 root.1)
+  step-fits origins tenant (Submit number words size) outcome lawful shape fitting root is = grind (arith, unless-passed, came, submit-fits)
   step-fits origins tenant step outcome lawful shape fitting root is = others-fit origins tenant step outcome lawful shape fitting refl is
 
   -- among several tenants: a step of a tenant that is there
@@ -129,11 +122,7 @@ module _ {I A : Type 0} (functions : Functions I A) (fits : Fitting) (rooted : R
   -- a taken step: what its tenant comes to
   admit-left : (origins : ℕ → Lists) (before : CoreState) (number : ℕ) (quota : Quota) (outcome : Outcome I) → CoreFits fits rooted origins before →
       step_result {A = A} functions before (Admit number quota) ≡ Ok outcome → LeftFits fits rooted (origins number ++ []) outcome.0
-  admit-left origins before number quota outcome core is =
-      let p = admitted-above functions before number quota outcome is in
-      let none : origins number ++ [] ≡ [] = append-nil (origins number) ∙ core.unused number p.0 in
-      let P : Lists → Type 0 = λ os. LeftFits fits rooted os (Some (admitted_with quota)) in
-      came (LeftFits fits rooted (origins number ++ [])) (Some (admitted_with quota), Admitted) outcome p.1 (subst P (sym none) (record { frames = tt; jobs = tt }))
+  admit-left origins before number quota outcome core is = grind (arith, admitted-above, came)
 
   more-left : (origins : ℕ → Lists) (before : CoreState) (number : ℕ) (quota : Quota) (outcome : Outcome I) → IsLawful functions fits rooted → AreShaped before.tenants → CoreFits fits rooted origins before →
       step_result {A = A} functions before (AdmitMore number quota) ≡ Ok outcome → LeftFits fits rooted (origins number ++ []) outcome.0

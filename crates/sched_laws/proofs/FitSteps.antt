@@ -1,9 +1,7 @@
 -- Every step of a tenant leaves its frames fitting, and its jobs holding what they were asked: Advance and Answer.
-use Rattle.std.proofs.Common.{◌≡◌, ℕ, inl, inr, Bool, true, false, List, [], ◌∷◌, ◌++◌, Some, replicate, ap, sym, ◌∙◌, subst}
-use Rattle.std.specs.Prelude.{if◌then◌else◌}
-use Rattle.std.proofs.lemmas.Bool.{cases_Bool}
+use Rattle.std.proofs.Common.{◌≡◌, ℕ, Bool, true, false, List, [], ◌∷◌, ◌++◌, Some, replicate, ap, sym, ◌∙◌, subst, arith}
 use Rattle.frame_tree.specs.declared.names.State.{State}
-use Rattle.frame_tree.specs.declared.names.State.TheVariants.{Running, Computing, Waiting, Returned}
+use Rattle.frame_tree.specs.declared.names.State.TheVariants.{Running, Computing}
 use Rattle.frame_tree.specs.declared.names.FrameId.{FrameId}
 use Rattle.frame_tree.specs.Frames.{frame_at, children_of, with_state, values_of}
 use Rattle.frame_tree.proofs.TreeLaws.{found-serial}
@@ -12,7 +10,7 @@ use Rattle.sched_rules.specs.declared.act.Continuation.{Continuation}
 use Rattle.sched_rules.specs.declared.act.Continuation.TheVariants.{Grow, Spawn, Go, Wait, Compute, Return}
 use Rattle.sched_rules.specs.Functions.{Functions}
 use Rattle.sched_rules.specs.Trees.{Tree, Tenant, sight, with_frame_words, stored, is_outside, has_child}
-use Rattle.sched_rules.specs.Laws.{Fitting, Rooting, Mark, Neither, Computes, HasReturned, mark_of_state, has_one, grown, children_after, mark_after, ParentFits, NewChildFits, ActFits, EveryFrameFits}
+use Rattle.sched_rules.specs.Laws.{Fitting, Rooting, Mark, Neither, Computes, mark_of_state, has_one, grown, children_after, mark_after, ParentFits, NewChildFits, ActFits, EveryFrameFits}
 use Rattle.sched_rules.specs.Lone.{is_bad_act, act_by_sight, counted, in_state, holding, then_done, advanced, answered}
 use Rattle.sched_laws.specs.Shapes.{IsShaped}
 use Rattle.sched_laws.specs.Fitted.{JobsFit, TenantFits}
@@ -59,21 +57,9 @@ then-fits functions fits rooted origins tenant worker name path f words (Grow mo
 then-fits functions fits rooted origins tenant worker name path f words (Spawn given size) shape fitting at free own kept =
     fits-spawned fits rooted origins tenant f words given size worker shape fitting at free kept own.0 own.1
 then-fits functions fits rooted origins tenant worker name path f words Go shape fitting at free own kept = words-fits fits rooted origins tenant f words shape fitting at free kept own.0
-then-fits functions fits rooted origins tenant worker name path f words Wait shape fitting at free own kept =
-    elim (cases_Bool (has_child (with_frame_words f.serial words tenant.frames) f.serial)) [
-      | inl some ↦ rw some (state-fits fits rooted origins tenant f words Waiting shape fitting at kept own.0)
-      | inr none ↦ rw none (words-fits fits rooted origins tenant f words shape fitting at free kept own.0)
-    ]
+then-fits functions fits rooted origins tenant worker name path f words Wait shape fitting at free own kept = grind (arith, state-fits, words-fits)
 then-fits functions fits rooted origins tenant worker name path f words Compute shape fitting at free own kept = state-fits fits rooted origins tenant f words (Computing worker) shape fitting at kept own.0
-then-fits functions fits rooted origins tenant worker name path f words Return shape fitting at free own kept =
-    let tree = tenant.frames in
-    let same : has_one (kids tree f.serial) ≡ has_child (with_frame_words f.serial words tree) f.serial = has-one tree f.serial ∙ sym (has_child-with_frame_words f.serial words tree f.serial shape.tree) in
-    let P : Bool → Type 0 = λ b. fits words (kids tree f.serial) (if b then Neither else HasReturned) in
-    let fitting_mark = subst P same own.0 in
-    elim (cases_Bool (has_child (with_frame_words f.serial words tree) f.serial)) [
-      | inl some ↦ rw some (state-fits fits rooted origins tenant f words Waiting shape fitting at kept (rw some at fitting_mark))
-      | inr none ↦ rw none (state-fits fits rooted origins tenant f words Returned shape fitting at kept (rw none at fitting_mark))
-    ]
+then-fits functions fits rooted origins tenant worker name path f words Return shape fitting at free own kept = grind (arith, kids, has-one, has_child-with_frame_words, state-fits)
 
 -- Advance
 pub advance-fits : {I A : Type 0} (functions : Functions I A) (fits : Fitting) (rooted : Rooting) (origins : Lists) (tenant : Tenant) (worker : ℕ) (name : FrameId) (f : F) → IsLawful functions fits rooted →

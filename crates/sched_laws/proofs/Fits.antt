@@ -192,7 +192,7 @@ fits-spawned fits rooted origins tenant f words given size worker shape fitting 
     only s child = sym (eqb-true n s (sym (ap (is_that s) named) ∙ child))
 
     own_marked : fits words (kids tree n ++ padded given size ∷ []) (mark_of_state f.state)
-    own_marked = let R : Mark → Type 0 = λ m. fits words (kids tree n ++ padded given size ∷ []) m in subst R (sym free) own
+    own_marked = grind (arith, kids)
 
     left : (root : ℕ) → path_in tree root ≡ root ∷ [] → words_in (tree1 ++ new ∷ []) root ≡ words_in tree1 root
     left root is = ap frame_words (frame_at-left tree1 (new ∷ []) root (path-there tree1 root (path_in-alike tree tree1 root (with_frame_words-alike n words tree) ∙ is)))

@@ -62,7 +62,7 @@ holds-with_state Q n state tree t all s f at = elim (cases_eq s n) [
 ]
   where
     same : kids (with_state n state tree) s ≡ kids tree s
-    same = ap values_of (children_of-with_state n state tree s t) ∙ values_of-with_state n state (children_of tree s)
+    same = grind (arith, children_of-with_state, values_of-with_state)
 
     lacking : (xs : Tree) → has_frame xs n ≡ false → has_frame (with_state n state xs) n ≡ false
     lacking [] lacks = refl
@@ -98,17 +98,7 @@ without-missing n (x ∷ xs) lacks = grind (arith, without-missing n xs)
 pub among : (xs : Tree) (n : ℕ) (f : F) → AreSerialsRising xs → frame_at xs n ≡ Some f → IsAmong xs n f
 among [] n f rising at = absurd cc
 among (x ∷ xs) n f rising at = elim (cases_Bool (eqb x.serial n)) [
-  | inl same ↦ (let both : ◌≡◌ {A = Option F} (Some x) (Some f) = rw same at at in
-      let e : x ≡ f = cc in
-      let serial = eqb-true x.serial n same in
-      let lacks = above-missing xs x.serial n (omega (arith, serial)) rising.0 in
-      record {
-        older = [];
-        younger = xs;
-        all = ap (λ (y : F). y ∷ xs) e;
-        stored = λ words. rw same (ap (λ (ys : Tree). record x { value = words } ∷ ys) (with_frame_words-missing n words xs lacks) ∙ ap (λ (y : F). record y { value = words } ∷ xs) e);
-        removed = rw same (without-missing n xs lacks);
-      })
+  | inl same ↦ grind (arith, eqb-true, above-missing, with_frame_words-missing, without-missing)
   | inr other ↦ (let rest = among xs n f rising.1 (rw other at at) in
       record {
         older = x ∷ rest.older;
@@ -209,7 +199,7 @@ holds-push Q tree y t next apart leaf new all s f at = elim (cases_eq y.serial s
 ]
   where
     grown : kids (tree ++ y ∷ []) s ≡ values_of (children_of tree s ++ filter (λ x. is_child_of s x.path) (y ∷ []))
-    grown = ap values_of (children_of-push tree y s t next)
+    grown = grind (arith, children_of-push)
 
     more : is_child_of s y.path ≡ true → kids (tree ++ y ∷ []) s ≡ kids tree s ++ y.value ∷ []
     more child = grown ∙ (rw child (values-append (children_of tree s) (y ∷ [])))

@@ -1,6 +1,6 @@
 -- Which ready frame `newest_ready_of` finds.
-use Rattle.std.proofs.Common.{◌≡◌, ◌≢◌, ℕ, ◌<◌, inl, inr, true, false, List, [], ◌∷◌, Option, Some, None, refl, sym, ◌∙◌, subst, arith}
-use Rattle.std.proofs.lemmas.Bool.{cases_Bool, cases_eq, false≢true, eq-eqb, ne_eqb}
+use Rattle.std.proofs.Common.{◌≡◌, ◌≢◌, ℕ, ◌<◌, inl, inr, true, false, List, [], ◌∷◌, Option, Some, None, refl, sym, subst, arith}
+use Rattle.std.proofs.lemmas.Bool.{cases_Bool, false≢true, eq-eqb, ne_eqb}
 use Rattle.frame_tree.specs.declared.names.State.{State}
 use Rattle.frame_tree.specs.declared.names.FrameId.{FrameId}
 use Rattle.frame_tree.specs.Frames.{Frame, frame_at, has_frame, is_ready, ready_name, first_of_two, newest_ready_of, IsReadyAt}
@@ -67,10 +67,7 @@ newest-answers tenant (x ∷ xs) rising = by (newest_ready_of tenant xs) refl (n
             record {
               own = n.own;
               ready = subst R (sym (behind x xs serial (λ e. omega (arith, e, low)))) n.ready;
-              greatest = λ s f at ready. elim (cases_eq x.serial s) [
-                | inl same ↦ omega (arith, same, low)
-                | inr other ↦ n.greatest s f (sym (behind x xs s other) ∙ at) ready
-              ];
+              greatest = λ s f at ready. grind (arith, behind);
             }
 
 pub newest-found : (tenant : ℕ) (frames : Tree) (name : FrameId) (home : ℕ) → AreSerialsRising frames → newest_ready_of tenant frames ≡ Some (name, home) → IsNewestReady tenant frames name home

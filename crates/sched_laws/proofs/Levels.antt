@@ -107,13 +107,7 @@ holds-after-words Q fits rooted tree n f words t all every at kept own up =
     above : (s : ℕ) (h : F) → frame_at tree s ≡ Some h → s ≢ n → is_child_of s f.path ≡ true → (older younger : Lists) → kids tree s ≡ older ++ f.value ∷ younger → Q s h.value (older ++ words ∷ younger) (mark_of_state h.state)
     above s h at_s other child older younger split = elim (placed tree n f t at) [
       | inl top ↦ absurd (false≢true (sym (ap (is_that s) top.0) ∙ child))
-      | inr u ↦ (let parent : u.parent ≡ s = eqb-true u.parent s (sym (ap (is_that s) u.named) ∙ child) in
-          let e : u.above ≡ h = found-same tree u.parent s u.above h parent u.there at_s in
-          let fitting = kept.parent u older younger (ap (kids tree) parent ∙ split) in
-          let mark : Neither ≡ mark_of_state h.state = sym (parent-neither tree n f t all at u) ∙ ap (λ (y : F). mark_of_state y.state) e in
-          let P : F → Type 0 = λ y. fits y.value (older ++ words ∷ younger) Neither in
-          let R : Mark → Type 0 = λ m. fits h.value (older ++ words ∷ younger) m in
-          up s h.value (older ++ words ∷ younger) (mark_of_state h.state) other (subst R mark (subst P e fitting)))
+      | inr u ↦ grind (arith, eqb-true, found-same, kids, parent-neither)
     ]
 
 -- the jobs, where their roots still belong to their origins

@@ -131,8 +131,7 @@ childless-push tree y t next new free all = childless-from (tree ++ y ∷ []) (t
 
     at : (s : ℕ) (f : Frame (List ℕ)) → frame_at (tree ++ y ∷ []) s ≡ Some f → IsMarkedChildless (tree ++ y ∷ []) f
     at s f is = elim (cases_eq y.serial s) [
-      | inl same ↦ (let both : ◌≡◌ {A = Option (Frame (List ℕ))} (Some y) (Some f) = sym (frame_at-push tree y next.above) ∙ ap (frame_at (tree ++ y ∷ [])) same ∙ is in
-          let e : y ≡ f = cc in inl (ap (λ (z : Frame (List ℕ)). mark_of_state z.state) (sym e) ∙ new))
+      | inl same ↦ grind (arith, frame_at-push)
       | inr other ↦ old s f (sym (frame_at_other-push tree y s other) ∙ is)
     ]
 

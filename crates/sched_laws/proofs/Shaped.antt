@@ -1,11 +1,11 @@
 -- Every step keeps the shape of its tenant, and so every answer that of all tenants.
-use Rattle.std.proofs.Common.{◌≡◌, ◌≢◌, ℕ, ◌+◌, ◌-◌, ◌*◌, ◌<◌, ◌≤◌, inl, inr, Bool, true, false, not, ◌||◌, ◌&&◌, eqb, ltb, leb, List, [], ◌∷◌, ◌++◌, Option, Some, None, Result, Ok, Err, length, replicate, refl, ap, sym, ◌∙◌, subst, arith, length-append}
+use Rattle.std.proofs.Common.{◌≡◌, ◌≢◌, ℕ, ◌+◌, ◌-◌, ◌*◌, ◌<◌, ◌≤◌, inl, inr, Bool, true, false, not, ◌||◌, ◌&&◌, eqb, ltb, List, [], ◌∷◌, ◌++◌, Option, Some, None, Result, Ok, Err, length, replicate, refl, ap, sym, ◌∙◌, subst, arith, length-append}
 use Rattle.std.proofs.lemmas.List.{length-replicate}
 use Rattle.std.proofs.lemmas.Bool.{cases_Bool, false≢true, eqb-false, ltb-false, leb-true, leb-false, not-false, or_parts, and_parts}
 use Rattle.sched_rules.specs.cactus_stack.Nodes.{charge, growth_charge}
 use Rattle.tenant_quota.specs.Quota.{Quota}
 use Rattle.frame_tree.specs.declared.names.State.{State}
-use Rattle.frame_tree.specs.declared.names.State.TheVariants.{Ready, Running, Computing, Waiting, Returned}
+use Rattle.frame_tree.specs.declared.names.State.TheVariants.{Ready, Running, Computing, Returned}
 use Rattle.frame_tree.specs.declared.names.FrameId.{FrameId}
 use Rattle.frame_tree.specs.Frames.{Frame, frame_at, parent_of, root_of, children_of, is_ready}
 use Rattle.frame_tree.proofs.TreeLaws.{there-found, found-serial, tree-rising, under-there, under-below}
@@ -186,10 +186,7 @@ segments-left tenant n within is = let enough = ltb-false (left tenant).segments
 
 -- a frame of a size that can be opened
 size-parts : (words : List ℕ) (size : ℕ) → not (is_frame_size words size) ≡ false → (1 ≤ size) × (size ≤ 128) × (length words ≤ size)
-size-parts words size is =
-    let all = and_parts (leb 1 size && leb size 128) (leb (length words) size) (not-false (is_frame_size words size) is) in
-    let first = and_parts (leb 1 size) (leb size 128) all.0 in
-    (leb-true 1 size first.0, leb-true size 128 first.1, leb-true (length words) size all.1)
+size-parts words size is = grind (arith, and_parts, not-false, leb-true)
 
 -- Submit
 submit-shaped : (I : Type 0) (tenant : Tenant) (number : ℕ) (words : List ℕ) (size : ℕ) → AllPass (submit_tests tenant words size) → IsShaped tenant → LeftShaped (submitted {I = I} tenant number words size).0
@@ -214,11 +211,7 @@ returned-marked Returned is = λ e. cc
 returned-marked _ is = absurd (false≢true is)
 
 pub returned-childless : (tenant : Tenant) (s : ℕ) (f : Frame (List ℕ)) → IsShaped tenant → frame_at tenant.frames s ≡ Some f → mark_of_state f.state ≢ Neither → children_of tenant.frames s ≡ []
-returned-childless tenant s f shape at marked =
-    elim (childless-at tenant.frames s f shape.childless at) [
-      | inl neither ↦ absurd (marked neither)
-      | inr none ↦ no-child tenant.frames s (ap (has_child tenant.frames) (sym (found-serial tenant.frames s f at)) ∙ none)
-    ]
+returned-childless tenant s f shape at marked = grind (arith, childless-at, no-child, found-serial)
 
 -- stores in a frame
 same-room : (c a r b : ℕ) → a ≡ b → c ≤ r → c + a ≤ r + b
@@ -254,15 +247,9 @@ then-shaped functions t worker name path words (Spawn given size) g at is free g
     let fits = size-parts given size good in
     shaped-child name.serial worker given size t g at free (record { some = fits.0; few = fits.1; fewer = fits.2; node = node refl; segments = room }) s
 then-shaped functions t worker name path words Go g at is free good node room s = s
-then-shaped functions t worker name path words Wait g at is free good node room s = elim (cases_Bool (has_child t.frames name.serial)) [
-  | inl some ↦ rw some (shaped-in_state name.serial Waiting t (inl refl) s)
-  | inr none ↦ rw none s
-]
+then-shaped functions t worker name path words Wait g at is free good node room s = grind (arith, shaped-in_state)
 then-shaped functions t worker name path words Compute g at is free good node room s = shaped-in_state name.serial (Computing worker) t (inr good) s
-then-shaped functions t worker name path words Return g at is free good node room s = elim (cases_Bool (has_child t.frames name.serial)) [
-  | inl some ↦ rw some (shaped-in_state name.serial Waiting t (inl refl) s)
-  | inr none ↦ rw none (shaped-in_state name.serial Returned t (inr none) s)
-]
+then-shaped functions t worker name path words Return g at is free good node room s = grind (arith, shaped-in_state)
 
 -- Advance
 advance-shaped : {I A : Type 0} (functions : Functions I A) (tenant : Tenant) (worker : ℕ) (name : FrameId) (f : Frame (List ℕ)) (act : Act) → frame_at tenant.frames name.serial ≡ Some f →
@@ -318,9 +305,7 @@ staying-shaped tenant n parent f false at named leaf s = shaped-without n tenant
 pub staying-parent : (tenant : Tenant) (n parent : ℕ) (f g : Frame (List ℕ)) (abort : Bool) → frame_at tenant.frames n ≡ Some f → parent_of f.path ≡ Some parent → frame_at tenant.frames parent ≡ Some g → IsShaped tenant →
     frame_at (staying tenant.frames n parent abort) parent ≡ Some g
 staying-parent tenant n parent f g true at named at_g s = aborted-itself parent tenant.frames g s.tree at_g
-staying-parent tenant n parent f g false at named at_g s =
-    let below = under-below tenant.frames n parent f s.tree at named in
-    frame_at_other-without n tenant.frames parent (λ e. omega (arith, e, below)) ∙ at_g
+staying-parent tenant n parent f g false at named at_g s = grind (arith, under-below, frame_at_other-without)
 
 pub inlet-stored-shaped : (tenant : Tenant) (worker n : ℕ) (f : Frame (List ℕ)) (parent : ℕ) (act : InletAct) → frame_at tenant.frames n ≡ Some f → parent_of f.path ≡ Some parent →
     AllPass (inlet_tests tenant worker f parent act) → IsShaped tenant →
@@ -355,16 +340,7 @@ spend-shaped I tenant f s = shaped-ended (root_of f.path) SpentJob tenant (λ ro
 
 -- AdmitMore: what is used stays within the greater reservation
 raised-shaped : (I : Type 0) (tenant : Tenant) (quota : Quota) → is_lower tenant.reserve quota ≡ false → IsShaped tenant → LeftShaped (raised {I = I} tenant quota).0
-raised-shaped I tenant quota enough s =
-    let now = tenant.reserve in
-    let p = or_parts (ltb quota.segments now.segments || ltb quota.nodes now.nodes) (eqb quota.segments now.segments && eqb quota.nodes now.nodes) enough in
-    let q = or_parts (ltb quota.segments now.segments) (ltb quota.nodes now.nodes) p.0 in
-    let segments = ltb-false quota.segments now.segments q.0 in
-    let nodes = ltb-false quota.nodes now.nodes q.1 in
-    let c = s.charged in
-    let o = s.opened in
-    let t = s.ticks in
-    record { tree = s.tree; given = s.given; childless = s.childless; roots = s.roots; live = s.live; few_jobs = s.few_jobs; words = s.words; charged = omega (arith, c, segments); opened = omega (arith, o, nodes); ticks = omega (arith, t, nodes) }
+raised-shaped I tenant quota enough s = grind (arith, or_parts, ltb-false)
 
 -- every step of a tenant that has the core to itself
 pub step-shaped : {I A : Type 0} (functions : Functions I A) (tenant : Tenant) (step : StepOf A) (outcome : Outcome I) → lone_step functions tenant step ≡ Ok outcome → IsShaped tenant → LeftShaped outcome.0

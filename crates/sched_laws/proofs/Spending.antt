@@ -114,7 +114,7 @@ may-back functions tenant name frame at (inr (inl s)) =
 may-back {I} functions tenant name frame at (inr (inr b)) = by (parent_of frame.path) refl
   where
     refused : refusal_in (inlet_under functions tenant 1 name frame (parent_of frame.path)) ≡ Some BadAct
-    refused = sym (inlet-refusal functions tenant 1 name frame at) ∙ b 1
+    refused = grind (arith, inlet-refusal)
 
     by : (parent : Option ℕ) → parent_of frame.path ≡ parent → IsSpendable functions tenant frame
     by None named = (let e : Some NotReturned ≡ Some BadAct = sym (ap (λ o. refusal_in (inlet_under functions tenant 1 name frame o)) named) ∙ refused in absurd cc)

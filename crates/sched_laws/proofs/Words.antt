@@ -1,5 +1,5 @@
 -- A tree with other words in a frame: what is found, whose children, and what is charged.
-use Rattle.std.proofs.Common.{◌≡◌, ◌≢◌, ℕ, suc, ◌+◌, ◌≤◌, inl, inr, Bool, false, eqb, List, [], ◌∷◌, ◌++◌, Option, Some, length, refl, ap, sym, ◌∙◌, subst, arith}
+use Rattle.std.proofs.Common.{◌≡◌, ◌≢◌, ℕ, suc, ◌+◌, ◌≤◌, inl, inr, Bool, false, eqb, List, [], ◌∷◌, ◌++◌, Some, length, refl, ap, sym, ◌∙◌, arith}
 use Rattle.std.specs.List.{filter}
 use Rattle.std.proofs.lemmas.List.{length-set}
 use Rattle.std.proofs.lemmas.List.Sums.{sum_by-append, sum_by-cons}
@@ -66,10 +66,7 @@ pub charged-with_frame_words : (n : ℕ) (words : List ℕ) (xs : Tree) (f : Fra
     charged_for (with_frame_words n words xs) + charge (length f.value) ≡ charged_for xs + charge (length words)
 charged-with_frame_words n words [] f rising at = absurd cc
 charged-with_frame_words n words (x ∷ xs) f rising at = elim (cases_Bool (eqb x.serial n)) [
-  | inl same ↦ (let is : ◌≡◌ {A = Option (Frame (List ℕ))} (Some x) (Some f) = rw same at at in
-      let e : x ≡ f = cc in
-      let P : Frame (List ℕ) → Type 0 = λ y. charged_for (with_frame_words n words (x ∷ xs)) + charge (length y.value) ≡ charged_for (x ∷ xs) + charge (length words) in
-      subst P e (charged-here n words x xs (eqb-true x.serial n same) rising))
+  | inl same ↦ grind (arith, charged-here, eqb-true)
   | inr other ↦ (let rest = charged-with_frame_words n words xs f rising.1 (rw other at at) in
       let is : with_frame_words n words (x ∷ xs) ≡ x ∷ with_frame_words n words xs = rw other refl in
       ap (λ (ys : Tree). charged_for ys + charge (length f.value)) is ∙

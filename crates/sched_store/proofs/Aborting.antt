@@ -1,16 +1,16 @@
 -- An abort at a frame: the frames under it go, with their nodes and what they were charged.
-use Rattle.std.proofs.Common.{◌≡◌, ◌≢◌, ℕ, ◌+◌, ◌-◌, ◌≤◌, inl, inr, Bool, true, false, not, List, [], ◌∷◌, length, Option, Some, None, IsSome, All, AllPairs, refl, ap, sym, ◌∙◌, subst, arith, option_map}
+use Rattle.std.proofs.Common.{◌≡◌, ◌≢◌, ℕ, ◌+◌, ◌-◌, ◌≤◌, Bool, true, false, not, List, [], ◌∷◌, length, Option, Some, None, IsSome, All, AllPairs, refl, ap, sym, ◌∙◌, subst, arith, option_map}
 use Rattle.std.specs.List.{filter}
-use Rattle.std.proofs.lemmas.Bool.{cases_Bool, true≢false, false≢true, eq-eqb}
+use Rattle.std.proofs.lemmas.Bool.{true≢false, false≢true, eq-eqb}
 use Rattle.cactus_stack.specs.Nodes.{Nodes, IsOpen, node_words, without, total_charge, HasAllChildren}
 use Rattle.cactus_stack.proofs.LawFacts.{charge-without}
 use Rattle.tenant_quota.specs.Accounts.{account_of, credited_by, charged_segments}
 use Rattle.tenant_quota.specs.Reservations.{Reservations, IsSoundBook, ChangesOnly, KeepsOtherAccounts, HasChargedAtLeast}
 use Rattle.tenant_quota.specs.declared.account.Account.{Account}
 use Rattle.frame_tree.specs.declared.names.FrameId.{FrameId}
-use Rattle.frame_tree.specs.Frames.{Frame, frame_at, has_frame, goes_under, aborted, frames_under, values_of, IsTree, TenantTree}
+use Rattle.frame_tree.specs.Frames.{Frame, has_frame, goes_under, aborted, frames_under, values_of, IsTree, TenantTree}
 use Rattle.frame_table.specs.Tables.{frames_of, KeepsOtherFrames}
-use Rattle.frame_tree.specs.TreeLaws.{map_value, map_values, is_child_of}
+use Rattle.frame_tree.specs.TreeLaws.{map_value, map_values}
 use Rattle.frame_tree.proofs.TreeLaws.{found-there}
 use Rattle.frame_tree.proofs.TreeChanges.{tree-aborted, child-further-under}
 use Rattle.frame_tree.proofs.TreeValues.{aborted-map_values, frames_under-map_values}
@@ -38,17 +38,11 @@ mapped-some nodes None is = absurd (false≢true is)
 mapped-some nodes (Some f) is = (f, refl)
 
 has-account : (parts : Parts) → IsStored parts → (number serial : ℕ) (frame : Frame ℕ) → frame_in_trees parts.trees number serial ≡ Some frame → (o : Option Account) → account_of number parts.book.accounts ≡ o → (a : Account) × (account_of number parts.book.accounts ≡ Some a)
-has-account parts stored number serial frame at None none =
-    let empty : frames_of parts.trees number ≡ [] = stored.nothing number none in
-    let gone : frame_in_trees parts.trees number serial ≡ None = ap (λ (xs : List (Frame ℕ)). frame_at xs serial) empty in
-    absurd (cc)
+has-account parts stored number serial frame at None none = grind arith
 has-account parts stored number serial frame at (Some a) some = (a, some)
 
 pub is-there : (parts : Parts) → IsStored parts → (name : FrameId) → IsSome (named (shared_of parts) name) → IsThere parts name
-is-there parts stored name some =
-    let found = mapped-some parts.nodes (frame_in_trees parts.trees name.tenant name.serial) (subst IsSome (named-found parts stored name) some) in
-    let has = has-account parts stored name.tenant name.serial found.0 found.1 (account_of name.tenant parts.book.accounts) refl in
-    record { frame = found.0; at = found.1; account = has.0; there = has.1 }
+is-there parts stored name some = grind (arith, mapped-some, named-found, has-account)
 
 pub has-frame : (parts : Parts) → IsStored parts → (name : FrameId) → IsSome (named (shared_of parts) name) → has_frame (frames_of parts.trees name.tenant) name.serial ≡ true
 has-frame parts stored name some = (let is = is-there parts stored name some in found-there (frames_of parts.trees name.tenant) name.serial is.frame is.at)
@@ -56,9 +50,7 @@ has-frame parts stored name some = (let is = is-there parts stored name some in 
 -- what a list of nodes gives back, from what was free before and is free then
 pub freed-is : (nodes : Nodes) (numbers : List ℕ) (before later : ℕ) → AllPairs ◌≢◌ numbers → length (without nodes numbers) ≡ length nodes → before + total_charge nodes ≡ length nodes → later + total_charge (without nodes numbers) ≡ length (without nodes numbers) →
     (before ≤ later) × (total_charge (without nodes numbers) + (later - before) ≡ total_charge nodes)
-freed-is nodes numbers before later once long was is =
-    let closed_all = charge-without nodes numbers once in
-    (omega (arith, closed_all, long, was, is), omega (arith, closed_all, long, was, is))
+freed-is nodes numbers before later once long was is = grind (arith, charge-without)
 
 -- no less is free, it is what the nodes of the frames that don't stay gave back, and the tenant was charged as much
 pub record AreFreed (parts : Parts) (name : FrameId) (stay : Frame ℕ → Bool) (before later : ℕ) : Type 0 where
@@ -100,19 +92,7 @@ pub record AreGone (parts : Parts) (nodes : Nodes) (trees : List (TenantTree ℕ
 
 gone-removal : (parts : Parts) (nodes : Nodes) (trees : List (TenantTree ℕ)) (book : Reservations) (name : FrameId) (stay : Frame ℕ → Bool) (before later : ℕ) → IsStored parts →
     AreGone parts nodes trees book name stay before later → IsRemoval parts trees book name.tenant (later - before) stay
-gone-removal parts nodes trees book name stay before later stored is =
-    let there = is-there parts stored name is.some in
-    record {
-      account = there.account;
-      there = there.there;
-      cut = is.cut;
-      table = is.keeps;
-      frees = (nodes-free parts nodes name stay before later stored is.some is.gone is.was_free is.is_free).frees;
-      credited = is.credited;
-      sum = is.sum;
-      others = is.others;
-      sound = is.sound;
-    }
+gone-removal parts nodes trees book name stay before later stored is = grind (arith, is-there, nodes-free)
 
 -- the parts after it
 abbrev pub with_parts : Parts → Nodes → List (TenantTree ℕ) → Reservations → Parts
@@ -143,31 +123,19 @@ stays serial frame = not (goes_under serial frame.path)
 
 pub closing-under : (serial : ℕ) (frames : List (Frame ℕ)) → closed (stays serial) frames ≡ values_of (frames_under serial frames)
 closing-under serial [] = refl
-closing-under serial (x ∷ xs) =
-    elim (cases_Bool (goes_under serial x.path)) [
-      | inl under ↦ rw (under, closing-under serial xs) refl
-      | inr not_under ↦ rw (not_under, closing-under serial xs) refl
-    ]
+closing-under serial (x ∷ xs) = grind (arith, closing-under serial xs)
 
 not-stays : (b : Bool) → not b ≡ false → b ≡ true
 not-stays true is = refl
 not-stays false is = absurd (true≢false is)
 
 pub takes-under : (serial : ℕ) (frames : List (Frame ℕ)) → IsTree frames → TakesChildren frames (stays serial)
-takes-under p frames tree serial parent frame above at up at_above out =
-    let under : goes_under p above.path ≡ true = not-stays (goes_under p above.path) out in
-    let child : is_child_of parent frame.path ≡ true = rw up (eq-eqb parent parent refl) in
-    ap not (child-further-under frames p parent serial above frame tree at_above under at child)
+takes-under p frames tree serial parent frame above at up at_above out = grind (arith, not-stays, eq-eqb, child-further-under)
 
 -- the cut that an abort makes
 pub abort-cut : (parts : Parts) (trees : List (TenantTree ℕ)) (name : FrameId) → IsStored parts → frames_of trees name.tenant ≡ aborted name.serial (frames_of parts.trees name.tenant) → KeepsOtherFrames parts.trees trees name.tenant →
     IsCut parts.trees trees name.tenant (stays name.serial)
-abort-cut parts trees name stored frames keeps = record {
-  tree = stored.forest;
-  tree_after = subst (λ (xs : List (Frame ℕ)). IsTree xs) (sym frames) (tree-aborted name.serial (frames_of parts.trees name.tenant) (stored.forest name.tenant));
-  cut = frames;
-  others = keeps.frames;
-}
+abort-cut parts trees name stored frames keeps = grind (arith, tree-aborted)
 
 -- the nodes that an abort closes: open, once, with their children
 pub record AreClosable (nodes : Nodes) (numbers : List ℕ) : Type 0 where
@@ -188,8 +156,7 @@ abort-closes parts name numbers stored is =
 -- they are those of the frames that go
 pub abort-gone : (parts : Parts) (nodes : Nodes) (name : FrameId) (numbers : List ℕ) → numbers ≡ values_of (frames_under name.serial (frames_of parts.trees name.tenant)) → nodes ≡ without parts.nodes numbers →
     without parts.nodes (closing parts.trees name.tenant (stays name.serial)) ≡ nodes
-abort-gone parts nodes name numbers values closed_all =
-    ap (without parts.nodes) (closing-under name.serial (frames_of parts.trees name.tenant) ∙ sym values) ∙ sym closed_all
+abort-gone parts nodes name numbers values closed_all = grind (arith, closing-under)
 
 pub abort-words : (parts : Parts) (name : FrameId) → with_words_of_nodes parts.nodes (filter (stays name.serial) (frames_of parts.trees name.tenant)) ≡ aborted name.serial (with_words_of_nodes parts.nodes (frames_of parts.trees name.tenant))
 abort-words parts name = sym (aborted-map_values (node_words parts.nodes) name.serial (frames_of parts.trees name.tenant))

@@ -1,10 +1,10 @@
 -- A tenant is admitted: an account, places and a ledger of its own, after all others, and nothing else.
-use Rattle.std.proofs.Common.{◌≡◌, ◌≢◌, ℕ, ◌+◌, ◌^◌, ◌<◌, ◌≤◌, inl, inr, Bool, false, ◌||◌, List, [], ◌∷◌, ◌++◌, length, Some, None, refl, ap, sym, ◌∙◌, subst, arith}
+use Rattle.std.proofs.Common.{◌≡◌, ◌≢◌, ℕ, ◌+◌, ◌^◌, ◌<◌, ◌≤◌, inl, inr, false, List, [], ◌∷◌, ◌++◌, length, Some, None, refl, ap, sym, ◌∙◌, subst, arith}
 use Rattle.std.proofs.Math.Dec.{ltb, leb}
 use Rattle.std.proofs.lemmas.Bool.{cases_eq, ne_eqb, leb-false, ltb-false, or_parts, lt-ltb}
 use Rattle.cactus_stack.specs.Nodes.{Nodes}
 use Rattle.tenant_quota.specs.Quota.{Quota}
-use Rattle.tenant_quota.specs.Accounts.{owner_of_account, account_of, fresh, with_new, reserved_segments, reserved_nodes}
+use Rattle.tenant_quota.specs.Accounts.{owner_of_account, account_of, fresh, with_new}
 use Rattle.tenant_quota.specs.Reservations.{Reservations, IsSoundBook, HasRoom, Admits, KeepsOtherAccounts}
 use Rattle.tenant_quota.specs.declared.account.Account.{Account}
 use Rattle.frame_tree.specs.Frames.{Frame, frame_at, AllBelow, TenantTree}
@@ -26,28 +26,14 @@ Entries = List (ℕ × Account)
 -- a number above all is nobody's yet
 pub newer-missing : (newest number : ℕ) (entries : Entries) → AreAtMost newest entries → newest < number → account_of number entries ≡ None
 newer-missing newest number [] most newer = refl
-newer-missing newest number (entry ∷ entries) most newer =
-    let low : entry.0 ≤ newest = most.0 in
-    let differs : entry.0 ≢ number = λ e. omega (arith, e, low, newer) in
-    rw (ne_eqb entry.0 number differs) (newer-missing newest number entries most.1 newer)
+newer-missing newest number (entry ∷ entries) most newer = grind (arith, newer-missing newest number entries most.1 newer, ne_eqb)
 
 pub many-ledgers : (parts : Parts) → IsStored parts → length parts.ledgers ≡ length parts.book.accounts
 many-ledgers parts stored = sym (length-numbers owner_of_ledger parts.ledgers) ∙ ap length stored.ledgers ∙ length-numbers owner_of_account parts.book.accounts
 
 -- what a core that isn't full has room for
 pub room-found : (parts : Parts) → IsStored parts → (quota : Quota) → is_full (reservations_in (shared_of parts)) quota ≡ false → HasRoom parts.book quota
-room-found parts stored quota not_full =
-    let book = parts.book in
-    let open_book : is_full book quota ≡ false = subst (λ (b : Reservations). is_full b quota ≡ false) (reservations-found parts stored) not_full in
-    let few : Bool = leb 64 (length book.accounts) in
-    let wide : Bool = ltb book.segments (reserved_segments book.accounts + quota.segments) in
-    let first = or_parts (few || wide) (ltb book.nodes (reserved_nodes book.accounts + quota.nodes)) open_book in
-    let second = or_parts few wide first.0 in
-    record {
-      tenants = leb-false 64 (length book.accounts) second.0;
-      segments = ltb-false book.segments (reserved_segments book.accounts + quota.segments) second.1;
-      nodes = ltb-false book.nodes (reserved_nodes book.accounts + quota.nodes) first.1;
-    }
+room-found parts stored quota not_full = grind (arith, reservations-found, leb, ltb, or_parts, leb-false, ltb-false)
 
 -- what can be admitted
 pub record CanBeAdmitted (parts : Parts) (number : ℕ) (quota : Quota) : Type 0 where
@@ -60,22 +46,7 @@ pub record CanBeAdmitted (parts : Parts) (number : ℕ) (quota : Quota) : Type 0
   pub room : HasRoom parts.book quota
 
 pub can-be-admitted : (parts : Parts) (number : ℕ) (quota : Quota) {core : CoreState} → IsStored parts → shared_of parts ≡ core → core.newest < number → is_full (reservations_in core) quota ≡ false → CanBeAdmitted parts number quota
-can-be-admitted parts number quota stored is above not_full =
-    let newer = subst (λ (s : CoreState). s.newest < number) (sym is) above in
-    let room = room-found parts stored quota (subst (λ (s : CoreState). is_full (reservations_in s) quota ≡ false) (sym is) not_full) in
-    let none = newer-missing parts.newest number parts.book.accounts stored.taken newer in
-    let few = room.tenants in
-    let trees = stored.tenants in
-    let ledgers = many-ledgers parts stored in
-    record {
-      newer = newer;
-      nobody = none;
-      no_places = stored.nobody number none;
-      few_trees = omega (arith, few, trees);
-      few_ledgers = omega (arith, few, ledgers);
-      no_ledger = no-ledger number parts.ledgers parts.book.accounts stored.ledgers none;
-      room = room;
-    }
+can-be-admitted parts number quota stored is above not_full = grind (arith, room-found, newer-missing, many-ledgers, no-ledger)
 
 -- what an admission was told by the table and the book
 pub record IsAdmitted (parts : Parts) (trees : List (TenantTree ℕ)) (ledger : JobLedger) (book : Reservations) (number : ℕ) (quota : Quota) : Type 0 where
@@ -97,22 +68,14 @@ with_one_more parts trees ledger book number = record parts { trees = trees; led
 -- a new account that is above all stands last
 new-last : (newest number : ℕ) (account : Account) (entries : Entries) → AreAtMost newest entries → newest < number → with_new number account entries ≡ entries ++ (number, account) ∷ []
 new-last newest number account [] most newer = refl
-new-last newest number account (entry ∷ entries) most newer =
-    let low : entry.0 ≤ newest = most.0 in
-    let below : entry.0 < number = omega (arith, low, newer) in
-    rw (lt-ltb entry.0 number below) (ap (λ (rest : Entries). entry ∷ rest) (new-last newest number account entries most.1 newer))
+new-last newest number account (entry ∷ entries) most newer = grind (arith, new-last newest number account entries most.1 newer, lt-ltb)
 
 accounts-after : (parts : Parts) (trees : List (TenantTree ℕ)) (ledger : JobLedger) (book : Reservations) (number : ℕ) (quota : Quota) → IsStored parts → IsAdmitted parts trees ledger book number quota → book.accounts ≡ parts.book.accounts ++ (number, fresh quota) ∷ []
-accounts-after parts trees ledger book number quota stored is =
-    ap (λ (b : Reservations). b.accounts) is.admits.whole ∙ new-last parts.newest number (fresh quota) parts.book.accounts stored.taken is.newer
+accounts-after parts trees ledger book number quota stored is = grind (arith, new-last)
 
 -- no tenant's frames change
 same-frames : (parts : Parts) (trees : List (TenantTree ℕ)) (ledger : JobLedger) (book : Reservations) (number : ℕ) (quota : Quota) → IsStored parts → IsAdmitted parts trees ledger book number quota → (other : ℕ) → frames_of trees other ≡ frames_of parts.trees other
-same-frames parts trees ledger book number quota stored is other =
-    elim (cases_eq other number) [
-      | inl here ↦ rw here (is.frames ∙ sym (stored.nothing number (newer-missing parts.newest number parts.book.accounts stored.taken is.newer)))
-      | inr differs ↦ is.kept.frames other differs
-    ]
+same-frames parts trees ledger book number quota stored is other = grind (arith, newer-missing)
 
 pub same-belongs : (nodes : Nodes) (trees after : List (TenantTree ℕ)) → ((other : ℕ) → frames_of after other ≡ frames_of trees other) → AreFramesNodes nodes trees → AreFramesNodes nodes after
 same-belongs nodes trees after same belong = record {
@@ -145,14 +108,8 @@ admit-stored parts trees ledger book number quota stored is =
         | inl here ↦ (let mine : account_of number book.accounts ≡ Some a = rw (← here) found in let e : fresh quota ≡ a = cc (is.admits.account, mine) in rw (here, ← e) own)
         | inr differs ↦ others other a differs found
       ];
-      nobody = λ other none. elim (cases_eq other number) [
-        | inl here ↦ absurd (let mine : account_of number book.accounts ≡ None = rw (← here) none in cc (is.admits.account, mine))
-        | inr differs ↦ is.kept.places other differs ∙ stored.nobody other (sym (is.others.others other differs) ∙ none)
-      ];
-      nothing = λ other none. elim (cases_eq other number) [
-        | inl here ↦ rw here is.frames
-        | inr differs ↦ frames other ∙ stored.nothing other (sym (is.others.others other differs) ∙ none)
-      ];
+      nobody = λ other none. grind arith;
+      nothing = λ other none. grind arith;
       forest = λ other. rw (frames other) (stored.forest other);
       tenants = omega (arith, tenants, more, longer);
       charges = stored.charges ∙ sym is.admits.charged;
@@ -165,11 +122,7 @@ admit-stored parts trees ledger book number quota stored is =
     }
   where
     own : IsAccountFor parts.nodes trees number (fresh quota)
-    own = record {
-      charged = sym (ap (λ (xs : List (Frame ℕ)). charged_for (with_words_of_nodes parts.nodes xs)) is.frames);
-      places = is.places;
-      serials = subst (λ (xs : List (Frame ℕ)). AllBelow 1 xs) (sym is.frames) tt;
-    }
+    own = grind arith
 
     others : (other : ℕ) (a : Account) → other ≢ number → account_of other book.accounts ≡ Some a → IsAccountFor parts.nodes trees other a
     others other a differs found =

@@ -132,7 +132,4 @@ closing-children nodes trees number keep belong tree takes child parent up among
 pub cut-frees : (nodes : Nodes) (trees : List (TenantTree ℕ)) (number : ℕ) (keep : Frame ℕ → Bool) → AreFramesNodes nodes trees → IsTree (frames_of trees number) →
     total_charge (without nodes (closing trees number keep)) + charged_for (with_words_of_nodes nodes (frames_of trees number))
     ≡ total_charge nodes + charged_for (with_words_of_nodes nodes (filter keep (frames_of trees number)))
-cut-frees nodes trees number keep belong tree =
-    let split = charged-cut nodes keep (frames_of trees number) in
-    let freed = charge-without nodes (closing trees number keep) (closing-once nodes trees number keep belong tree) in
-    omega (arith, split, freed)
+cut-frees nodes trees number keep belong tree = grind (arith, charged-cut, charge-without, closing, closing-once)

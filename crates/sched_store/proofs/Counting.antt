@@ -1,6 +1,6 @@
 -- What is counted over a tenant's frames and over all tenants: words, and frames that are ready.
-use Rattle.std.proofs.Common.{◌≡◌, ℕ, suc, ◌*◌, ◌≤◌, true, eqb, List, [], ◌∷◌, length, sum_by, Option, Some, None, IfSome, is_some, refl, ap, sym, ◌∙◌, subst, arith, option_map, inl, inr}
-use Rattle.std.proofs.lemmas.Bool.{cases_Bool, false≢true, eqb-true}
+use Rattle.std.proofs.Common.{◌≡◌, ℕ, suc, ◌*◌, ◌≤◌, true, List, [], ◌∷◌, length, sum_by, Option, Some, None, IfSome, is_some, refl, ap, sym, ◌∙◌, arith, option_map}
+use Rattle.std.proofs.lemmas.Bool.{false≢true, eqb-true}
 use Rattle.std.proofs.lemmas.List.Sums.{sum_by-cons}
 use Rattle.cactus_stack.specs.Nodes.{Nodes, node_words, charge}
 use Rattle.tenant_quota.specs.Accounts.{account_of, IsWithinReserve}
@@ -8,7 +8,7 @@ use Rattle.tenant_quota.specs.Reservations.{IsSoundBook}
 use Rattle.tenant_quota.specs.declared.account.Account.{Account}
 use Rattle.tenant_quota.proofs.Edits.{AllEntries-of}
 use Rattle.frame_tree.specs.declared.names.FrameId.{FrameId}
-use Rattle.frame_tree.specs.Frames.{Frame, names_of, ready_frames, is_ready, IsReadyAt}
+use Rattle.frame_tree.specs.Frames.{Frame, names_of, ready_frames, IsReadyAt}
 use Rattle.frame_table.specs.Tables.{frames_of}
 use Rattle.frame_tree.specs.TreeLaws.{map_value, Each}
 use Rattle.frame_tree.proofs.Finds.{none_of_length}
@@ -28,16 +28,11 @@ ready-with_words_of_nodes nodes (Some frame) home is = is
 
 pub ready-found : (parts : Parts) → IsStored parts → (result : Option (FrameId × ℕ)) → IfSome result (λ ready. IsReadyAt (frame_in_trees parts.trees ready.0.tenant ready.0.serial) ready.1) → IfSome result (λ ready. IsReadyIn (shared_of parts) ready.0 ready.1)
 ready-found parts stored None is = tt
-ready-found parts stored (Some ready) is =
-    subst (λ (o : Option (Frame (List ℕ))). IsReadyAt o ready.1) (sym (named-found parts stored ready.0)) (ready-with_words_of_nodes parts.nodes (frame_in_trees parts.trees ready.0.tenant ready.0.serial) ready.1 is)
+ready-found parts stored (Some ready) is = grind (arith, named-found, ready-with_words_of_nodes)
 
 count-with_words_of_nodes : (nodes : Nodes) (frames : List (Frame ℕ)) → length (ready_frames (with_words_of_nodes nodes frames)) ≡ length (ready_frames frames)
 count-with_words_of_nodes nodes [] = refl
-count-with_words_of_nodes nodes (x ∷ xs) =
-    elim (cases_Bool (is_ready x.state)) [
-      | inl is ↦ rw is (ap suc (count-with_words_of_nodes nodes xs))
-      | inr not_so ↦ rw not_so (count-with_words_of_nodes nodes xs)
-    ]
+count-with_words_of_nodes nodes (x ∷ xs) = grind (arith, count-with_words_of_nodes nodes xs)
 
 -- where no tenant has a ready frame none is counted
 pub none-counted : (parts : Parts) (entries : List (ℕ × Account)) → ((tenant : ℕ) → ready_frames (frames_of parts.trees tenant) ≡ []) → ready_count (tenants_from parts entries) ≡ 0
@@ -50,12 +45,7 @@ none-counted parts (entry ∷ entries) none =
 
 counted-none : (parts : Parts) (entries : List (ℕ × Account)) → ready_count (tenants_from parts entries) ≡ 0 → (tenant : ℕ) (account : Account) → account_of tenant entries ≡ Some account → length (ready_frames (frames_of parts.trees tenant)) ≡ 0
 counted-none parts [] none tenant account there = absurd cc
-counted-none parts (entry ∷ entries) none tenant account there =
-    let first = count-with_words_of_nodes parts.nodes (frames_of parts.trees entry.0) in
-    elim (cases_Bool (eqb entry.0 tenant)) [
-      | inl same ↦ (let here : entry.0 ≡ tenant = eqb-true entry.0 tenant same in let mine = ap (λ (n : ℕ). length (ready_frames (frames_of parts.trees n))) here in omega (arith, first, none, mine))
-      | inr other ↦ counted-none parts entries (omega (arith, none)) tenant account (rw other at there)
-    ]
+counted-none parts (entry ∷ entries) none tenant account there = grind (arith, counted-none parts entries, count-with_words_of_nodes, eqb-true)
 
 -- where none is counted no tenant has one
 pub nobody-ready : (parts : Parts) → IsStored parts → ready_count (tenants_from parts parts.book.accounts) ≡ 0 → (tenant : ℕ) → ready_frames (frames_of parts.trees tenant) ≡ []
@@ -96,10 +86,7 @@ words-at parts stored tenant serial frame at =
     ap frame_words (named-found parts stored (record { tenant = tenant; serial = frame.serial }) ∙ ap (λ (o : Option (Frame ℕ)). option_map (map_value (node_words parts.nodes)) o) found)
 
 pub words-named : (parts : Parts) → IsStored parts → (tenant : ℕ) → sum_by (words_counted parts) (names_of tenant (frames_of parts.trees tenant)) ≡ sum_by (λ frame. length frame.value) (with_words_of_nodes parts.nodes (frames_of parts.trees tenant))
-words-named parts stored tenant =
-    named-words parts tenant (frames_of parts.trees tenant)
-    (found-each (λ f. words_under (shared_of parts) (record { tenant = tenant; serial = f.serial }) ≡ node_words parts.nodes f.value) (frames_of parts.trees tenant) (tree-rising (frames_of parts.trees tenant) (stored.forest tenant))
-    (λ serial frame at. words-at parts stored tenant serial frame at))
+words-named parts stored tenant = grind (arith, named-words, found-each, tree-rising, words-at)
 
 -- they are few
 pub words-few : (parts : Parts) → IsStored parts → (tenant : ℕ) → sum_by (words_counted parts) (names_of tenant (frames_of parts.trees tenant)) ≤ 65536

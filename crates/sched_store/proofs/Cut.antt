@@ -29,12 +29,7 @@ pub gone-listed : (keep : Frame ℕ → Bool) (frames : List (Frame ℕ)) (seria
 gone-listed keep [] serial frame at goes = absurd cc
 gone-listed keep (x ∷ xs) serial frame at goes =
     elim (cases_Bool (eqb x.serial serial)) [
-      | inl same ↦ (
-          let is : ◌≡◌ {A = Option (Frame ℕ)} (Some x) (Some frame) = rw same at at in
-          let e : x ≡ frame = cc in
-          let out : keep x ≡ false = ap keep e ∙ goes in
-          let v : x.value ≡ frame.value = ap (λ (f : Frame ℕ). f.value) e in
-          rw out (contains_first x.value frame.value (closed keep xs) v))
+      | inl same ↦ grind (arith, contains_first)
       | inr other ↦ (
           let later = gone-listed keep xs serial frame (rw other at at) goes in
           elim (cases_Bool (keep x)) [
@@ -139,27 +134,13 @@ open-kept : (nodes : Nodes) (numbers : List ℕ) (node : ℕ) → IsOpen (withou
 open-kept nodes numbers node is = kept nodes numbers node (λ among. false≢true (subst IsSome (gone nodes numbers node among) is))
 
 some-first : (xs : List (Frame ℕ)) (keep : Frame ℕ → Bool) (p : ℕ) → AreSerialsRising xs → has_frame (filter keep xs) p ≡ true → node_of (frame_at xs p) ≡ node_of (frame_at (filter keep xs) p)
-some-first xs keep p rising there =
-    let found = there-found (filter keep xs) p there in
-    let was = filter-found keep xs p found.0 rising found.1 in
-    ap node_of was.0 ∙ sym (ap node_of found.1)
+some-first xs keep p rising there = grind (arith, there-found, filter-found)
 
 -- the node of the parent is the same as before
 above-kept : (trees after : List (TenantTree ℕ)) (number : ℕ) (keep : Frame ℕ → Bool) → IsCut trees after number keep →
     (owner serial : ℕ) (frame : Frame ℕ) → frame_in_trees after owner serial ≡ Some frame → (parent : Option ℕ) → parent_of frame.path ≡ parent → node_above (frames_of trees owner) parent ≡ node_above (frames_of after owner) parent
 above-kept trees after number keep is owner serial frame at None top = refl
-above-kept trees after number keep is owner serial frame at (Some p) up =
-    elim (cases_Bool (eqb owner number)) [
-      | inl same ↦ (
-          let here : owner ≡ number = eqb-true owner number same in
-          let found : frame_at (frames_of after number) serial ≡ Some frame = ap (λ (n : ℕ). frame_in_trees after n serial) (sym here) ∙ at in
-          let there : has_frame (filter keep (frames_of trees number)) p ≡ true = sym (ap (λ (xs : List (Frame ℕ)). has_frame xs p) is.cut) ∙ under-there (frames_of after number) serial p frame is.tree_after found up in
-          let one = some-first (frames_of trees number) keep p (tree-rising (frames_of trees number) (is.tree number)) there in
-          ap (λ (n : ℕ). node_of (frame_in_trees trees n p)) here ∙ one ∙ sym (ap (λ (xs : List (Frame ℕ)). node_of (frame_at xs p)) is.cut) ∙ ap (λ (n : ℕ). node_of (frame_in_trees after n p)) (sym here))
-      | inr other ↦ (
-          let differs : owner ≢ number = λ e. true≢false (sym (eq-eqb owner number e) ∙ other) in
-          sym (ap (λ (xs : List (Frame ℕ)). node_of (frame_at xs p)) (is.others owner differs)))
-    ]
+above-kept trees after number keep is owner serial frame at (Some p) up = grind (arith, eqb-true, under-there, some-first, tree-rising, true≢false, eq-eqb)
 
 -- a frame that was there is there, or its node is closed
 stays-or-closed : (trees after : List (TenantTree ℕ)) (number : ℕ) (keep : Frame ℕ → Bool) → IsCut trees after number keep →
@@ -170,14 +151,10 @@ stays-or-closed trees after number keep is owner serial frame at =
           let here : owner ≡ number = eqb-true owner number same in
           let found : frame_at (frames_of trees number) serial ≡ Some frame = ap (λ (n : ℕ). frame_in_trees trees n serial) (sym here) ∙ at in
           elim (cases_Bool (keep frame)) [
-            | inl stays ↦ inl (
-                ap (λ (n : ℕ). frame_in_trees after n serial) here ∙ ap (λ (xs : List (Frame ℕ)). frame_at xs serial) is.cut
-                ∙ frame_at-stays keep (frames_of trees number) serial frame (tree-rising (frames_of trees number) (is.tree number)) found stays)
+            | inl stays ↦ grind (arith, frame_at-stays, tree-rising)
             | inr out ↦ inr (gone-listed keep (frames_of trees number) serial frame found out)
           ])
-      | inr other ↦ (
-          let differs : owner ≢ number = λ e. true≢false (sym (eq-eqb owner number e) ∙ other) in
-          inl (ap (λ (xs : List (Frame ℕ)). frame_at xs serial) (is.others owner differs) ∙ at))
+      | inr other ↦ grind (arith, true≢false, eq-eqb)
     ]
 
 still-open : (nodes : Nodes) (numbers : List ℕ) (node : ℕ) (entry : Option Node) → node_at nodes node ≡ entry → IsOpen (without nodes numbers) node → IsSome entry
@@ -244,8 +221,4 @@ cut-words nodes trees after number keep belong is owner tree =
 
 -- all frames of a tenant are a tree after a cut
 pub cut-trees : (trees after : List (TenantTree ℕ)) (number : ℕ) (keep : Frame ℕ → Bool) → IsCut trees after number keep → (owner : ℕ) → IsTree (frames_of after owner)
-cut-trees trees after number keep is owner =
-    elim (cases_Bool (eqb owner number)) [
-      | inl same ↦ subst (λ (n : ℕ). IsTree (frames_of after n)) (sym (eqb-true owner number same)) is.tree_after
-      | inr other ↦ (let differs : owner ≢ number = λ e. true≢false (sym (eq-eqb owner number e) ∙ other) in subst (λ (xs : List (Frame ℕ)). IsTree xs) (sym (is.others owner differs)) (is.tree owner))
-    ]
+cut-trees trees after number keep is owner = grind (arith, eqb-true, true≢false, eq-eqb)

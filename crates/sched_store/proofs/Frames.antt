@@ -1,5 +1,5 @@
 -- What is asked of frames with words is what is asked of the table's frames.
-use Rattle.std.proofs.Common.{◌≡◌, ℕ, true, List, [], ◌∷◌, Option, Some, None, IsSome, option_map, option_and_then, refl, ap, sym, ◌∙◌}
+use Rattle.std.proofs.Common.{◌≡◌, ℕ, true, List, [], ◌∷◌, Option, Some, None, IsSome, option_map, option_and_then, refl, ap, sym, ◌∙◌, arith}
 use Rattle.cactus_stack.specs.Nodes.{Nodes, node_words}
 use Rattle.frame_tree.specs.declared.names.FrameId.{FrameId}
 use Rattle.frame_tree.specs.declared.names.Entry.{Entry}
@@ -33,14 +33,7 @@ pub record HasFound (parts : Parts) (name : FrameId) (entry : Entry ℕ) : Type 
   pub is : entry ≡ record { parent = name_of name.tenant (parent_of frame.path); state = frame.state; value = frame.value }
 
 pub found : (parts : Parts) → IsStored parts → (name : FrameId) (entry : Entry ℕ) → Some entry ≡ entry_of_frame name.tenant (frame_in_trees parts.trees name.tenant name.serial) → HasFound parts name entry
-found parts stored name entry is =
-    let f = entry-is name.tenant (frame_in_trees parts.trees name.tenant name.serial) entry is in
-    record {
-      frame = f.0;
-      there = f.1;
-      named = named-found parts stored name ∙ ap (λ (o : Option (Frame ℕ)). option_map (map_value (node_words parts.nodes)) o) f.1;
-      is = f.2;
-    }
+found parts stored name entry is = grind (arith, entry-is, named-found)
 
 pub frame-found : (parts : Parts) → IsStored parts → (name : FrameId) (entry : Entry ℕ) → Some entry ≡ entry_of_frame name.tenant (frame_in_trees parts.trees name.tenant name.serial) → Some (entry.parent, entry.state) ≡ frame_in_core (shared_of parts) name
 frame-found parts stored name entry is =
@@ -49,9 +42,7 @@ frame-found parts stored name entry is =
     ∙ sym (ap (λ (o : Option (Frame (List ℕ))). option_map (λ (frame : Frame (List ℕ)). (name_of name.tenant (parent_of frame.path), frame.state)) o) f.named)
 
 pub nothing-found : (parts : Parts) → IsStored parts → (name : FrameId) → None ≡ entry_of_frame name.tenant (frame_in_trees parts.trees name.tenant name.serial) → named (shared_of parts) name ≡ None
-nothing-found parts stored name is =
-    let none = entry-none name.tenant (frame_in_trees parts.trees name.tenant name.serial) is in
-    named-found parts stored name ∙ ap (λ (o : Option (Frame ℕ)). option_map (map_value (node_words parts.nodes)) o) none
+nothing-found parts stored name is = grind (arith, entry-none, named-found)
 
 pub no-frame-found : (parts : Parts) → IsStored parts → (name : FrameId) → None ≡ entry_of_frame name.tenant (frame_in_trees parts.trees name.tenant name.serial) → None ≡ frame_in_core (shared_of parts) name
 no-frame-found parts stored name is = rw (nothing-found parts stored name is) refl
@@ -87,5 +78,4 @@ there-frame parts stored name is = by (frame_in_trees parts.trees name.tenant na
     by (Some frame) found = (frame, found)
 
 pub there-has : (parts : Parts) → IsStored parts → (name : FrameId) → IsSome (named (shared_of parts) name) → has_frame (frames_of parts.trees name.tenant) name.serial ≡ true
-there-has parts stored name is =
-    let f = there-frame parts stored name is in found-there (frames_of parts.trees name.tenant) name.serial f.0 f.1
+there-has parts stored name is = grind (arith, there-frame, found-there)

@@ -24,8 +24,7 @@ frames-busy : (nodes : Nodes) (frames : List (Frame ℕ)) (worker serial : ℕ) 
 frames-busy nodes [] worker serial frame there held = absurd (cc there)
 frames-busy nodes (first ∷ frames) worker serial frame there held =
     elim (cases_Bool (eqb first.serial serial)) [
-      | inl same ↦ (let is : first ≡ frame = (let found : Some first ≡ Some frame = rw same at there in cc found) in
-          or_left (is_held_by worker first.state) (is_busy_in worker (with_words_of_nodes nodes frames)) (rw is held))
+      | inl same ↦ grind (arith, or_left)
       | inr other ↦ or_right (is_held_by worker first.state) (is_busy_in worker (with_words_of_nodes nodes frames)) (frames-busy nodes frames worker serial frame (rw other at there) held)
     ]
 
@@ -33,8 +32,7 @@ entries-busy : (parts : Parts) (entries : List (ℕ × Account)) (worker number 
 entries-busy parts [] worker number account there busy = absurd (cc there)
 entries-busy parts (entry ∷ entries) worker number account there busy =
     elim (cases_Bool (eqb entry.0 number)) [
-      | inl same ↦ (let is = eqb-true entry.0 number same in
-          or_left (is_busy_in worker (with_words_of_nodes parts.nodes (frames_of parts.trees entry.0))) (is_busy_among worker (tenants_from parts entries)) (rw is busy))
+      | inl same ↦ grind (arith, eqb-true, or_left)
       | inr other ↦ or_right (is_busy_in worker (with_words_of_nodes parts.nodes (frames_of parts.trees entry.0))) (is_busy_among worker (tenants_from parts entries)) (entries-busy parts entries worker number account (rw other at there) busy)
     ]
 
@@ -47,9 +45,7 @@ frame-account parts stored number serial frame there = by (account_of number par
     by (Some a) is = (a, is)
 
 pub held-busy : (parts : Parts) → IsStored parts → (worker number serial : ℕ) (frame : Frame ℕ) → frame_in_trees parts.trees number serial ≡ Some frame → is_held_by worker frame.state ≡ true → is_busy_among worker (shared_of parts).tenants ≡ true
-held-busy parts stored worker number serial frame there held =
-    let own = frame-account parts stored number serial frame there in
-    entries-busy parts parts.book.accounts worker number own.0 own.1 (frames-busy parts.nodes (frames_of parts.trees number) worker serial frame there held)
+held-busy parts stored worker number serial frame there held = grind (arith, frame-account, entries-busy, frames-busy)
 
 -- a busy worker holds a frame
 
@@ -68,12 +64,7 @@ busy-frames nodes (first ∷ frames) worker rising busy =
           record {
             serial = found.serial;
             frame = found.frame;
-            there = elim (cases_Bool (eqb first.serial found.serial)) [
-              | inl same ↦ absurd (let is = eqb-true first.serial found.serial same in
-                  let gone = above-missing frames first.serial found.serial (omega arith) rising.0 in
-                  false≢true (sym gone ∙ found-there frames found.serial found.frame found.there))
-              | inr other ↦ rw other found.there
-            ];
+            there = grind (arith, eqb-true, above-missing, false≢true, found-there);
             held = found.held;
           })
     ]
@@ -89,8 +80,7 @@ busy-entries : (parts : Parts) → IsStored parts → (entries : List (ℕ × Ac
 busy-entries parts stored [] worker busy = absurd (false≢true busy)
 busy-entries parts stored (entry ∷ entries) worker busy =
     elim (or_cases (is_busy_in worker (with_words_of_nodes parts.nodes (frames_of parts.trees entry.0))) (is_busy_among worker (tenants_from parts entries)) busy) [
-      | inl own ↦ (let found = busy-frames parts.nodes (frames_of parts.trees entry.0) worker (tree-rising (frames_of parts.trees entry.0) (stored.forest entry.0)) own in
-          record { number = entry.0; serial = found.serial; frame = found.frame; there = found.there; held = found.held })
+      | inl own ↦ grind (arith, busy-frames, tree-rising)
       | inr rest ↦ busy-entries parts stored entries worker rest
     ]
 
@@ -99,8 +89,7 @@ busy-holds parts stored worker busy = busy-entries parts stored parts.book.accou
 
 -- a frame with words is held where the table's frame is
 holds-found : (parts : Parts) → IsStored parts → (worker : ℕ) (name : FrameId) (frame : Frame ℕ) → frame_in_trees parts.trees name.tenant name.serial ≡ Some frame → holds worker (named (shared_of parts) name) ≡ is_held_by worker frame.state
-holds-found parts stored worker name frame there =
-    ap (holds worker) (named-found parts stored name ∙ ap (λ (o : Option (Frame ℕ)). option_map (map_value (node_words parts.nodes)) o) there)
+holds-found parts stored worker name frame there = grind (arith, named-found)
 
 pub record HeldThere (parts : Parts) (worker : ℕ) (name : FrameId) : Type 0 where
   pub frame : Frame ℕ

@@ -1,5 +1,5 @@
 -- The jobs of one tenant: found by number, begun and ended.
-use Rattle.std.proofs.Common.{◌≡◌, ◌≢◌, ℕ, zero, suc, ◌<◌, ◌≤◌, ◌+◌, ◌-◌, true, false, List, [], ◌∷◌, ◌++◌, length, get_or, drop, Some, None, refl, ap, sym, subst, ◌∙◌, arith, inl, inr}
+use Rattle.std.proofs.Common.{◌≡◌, ◌≢◌, ℕ, zero, suc, ◌<◌, ◌≤◌, ◌+◌, ◌-◌, true, false, List, [], ◌∷◌, ◌++◌, length, get_or, drop, Some, None, refl, ap, sym, ◌∙◌, arith, inl, inr}
 use Rattle.std.proofs.Math.ListN.{set}
 use Rattle.std.proofs.Math.Bool.{or-true}
 use Rattle.std.proofs.lemmas.Bool.{cases_Bool, false≢true, true≢false, ne_eqb, or_parts, or_from}
@@ -46,11 +46,7 @@ none-number_from first root (job ∷ jobs) some is =
 
 pub number_from-range : (first root : ℕ) (jobs : Jobs) → number_from first root jobs ≤ first + length jobs
 number_from-range first root [] = omega arith
-number_from-range first root (job ∷ jobs) =
-    elim (cases_Bool (is_live_at root job)) [
-      | inl live ↦ rw live (omega arith)
-      | inr other ↦ rw other (omega (arith, number_from-range (first + 1) root jobs))
-    ]
+number_from-range first root (job ∷ jobs) = grind (arith, number_from-range (first + 1) root jobs)
 
 live-there : (root at : ℕ) (jobs : Jobs) (d : Job) → at < length jobs → is_live_at root (get_or jobs at d) ≡ true → is_live_in root jobs ≡ true
 live-there root at [] d within live = absurd (omega arith)
@@ -119,9 +115,7 @@ not-live Cancelled root ends = refl
 
 live-before : (jobs : Jobs) (at root : ℕ) (ended : Job) → is_live ended ≡ false → is_live_in root jobs ≡ false → is_live_in root (set jobs at ended) ≡ false
 live-before [] at root ended ends none = none
-live-before (job ∷ jobs) zero root ended ends none =
-    let parts = or_parts (is_live_at root job) (is_live_in root jobs) none in
-    or_from (is_live_at root ended) (is_live_in root jobs) (not-live ended root ends) parts.1
+live-before (job ∷ jobs) zero root ended ends none = grind (arith, or_parts, or_from, not-live)
 live-before (job ∷ jobs) (suc at) root ended ends none =
     let parts = or_parts (is_live_at root job) (is_live_in root jobs) none in
     or_from (is_live_at root job) (is_live_in root (set jobs at ended)) parts.0 (live-before jobs at root ended ends parts.1)
@@ -148,10 +142,7 @@ once-begun jobs root none once = once-push jobs root (none-number_from 1 root jo
 
 -- the job that was read under its number
 pub job-read : (jobs : Jobs) (number : ℕ) (job : Job) → number ≢ 0 → number - 1 < length jobs → job ≡ get_or jobs (number - 1) job → Some job ≡ job_at jobs number
-job-read jobs number job some within is =
-    let e : number ≡ suc (number - 1) = omega arith in
-    let P : ℕ → Type 0 = λ n. Some job ≡ job_at jobs n in
-    subst P (sym e) (ap (λ (j : Job). Some j) is ∙ sym (job_at-there jobs (number - 1) job within))
+job-read jobs number job some within is = grind (arith, job_at-there)
 
 pub job-past : (jobs : Jobs) (number : ℕ) → number ≢ 0 → length jobs ≤ number - 1 → None ≡ job_at jobs number
 job-past jobs number some past = sym (job_at-past jobs number (omega arith))

@@ -1,13 +1,13 @@
 -- A tenant leaves: its frames go with their nodes, its places, its jobs and its account, and nothing of any other tenant.
 use Rattle.std.proofs.Common.{◌≡◌, ◌≢◌, ℕ, ◌+◌, ◌<◌, ◌≤◌, inl, inr, Bool, false, eqb, List, [], ◌∷◌, length, Some, refl, ap, sym, ◌∙◌, subst, arith}
 use Rattle.std.specs.List.{filter}
-use Rattle.std.proofs.lemmas.Bool.{cases_Bool, cases_eq, ne_eqb, eqb-true, eqb-false}
+use Rattle.std.proofs.lemmas.Bool.{cases_Bool, ne_eqb, eqb-true, eqb-false}
 use Rattle.cactus_stack.specs.Nodes.{Nodes, without, total_charge}
 use Rattle.tenant_quota.specs.Accounts.{owner_of_account, account_of, without as without_account, AllEntries, IsRising, IsWithinReserve, charged_segments}
 use Rattle.tenant_quota.specs.Reservations.{Reservations, IsSoundBook, Releases, KeepsOtherAccounts}
 use Rattle.tenant_quota.specs.declared.account.Account.{Account}
 use Rattle.tenant_quota.proofs.Edits.{AllEntries-of}
-use Rattle.frame_tree.specs.Frames.{Frame, values_of, AllBelow, IsTree, TenantTree}
+use Rattle.frame_tree.specs.Frames.{Frame, values_of, AllBelow, TenantTree}
 use Rattle.frame_table.specs.Tables.{frames_of, places_of, tenant_count}
 use Rattle.sched_rules.specs.Trees.{Tenant, charged_for}
 use Rattle.sched_rules.specs.Cores.{CoreState, without_tenant}
@@ -83,12 +83,7 @@ jobs-without number other ledgers differs = said-without_other owner_of_ledger (
 -- the cut that takes all frames
 leave-cut : (parts : Parts) (nodes : Nodes) (trees : List (TenantTree ℕ)) (ledgers : List JobLedger) (book : Reservations) (number : ℕ) (numbers : List ℕ) (account : Account) → IsStored parts →
     IsDeparture parts nodes trees ledgers book number numbers account → IsCut parts.trees trees number none_stays
-leave-cut parts nodes trees ledgers book number numbers account stored is = record {
-  tree = stored.forest;
-  tree_after = subst (λ (xs : List (Frame ℕ)). IsTree xs) (sym is.frames) tt;
-  cut = is.frames ∙ sym (filter-none (frames_of parts.trees number));
-  others = is.other_frames;
-}
+leave-cut parts nodes trees ledgers book number numbers account stored is = grind (arith, filter-none)
 
 closed-same : (parts : Parts) (nodes : Nodes) (number : ℕ) (numbers : List ℕ) → numbers ≡ values_of (frames_of parts.trees number) → nodes ≡ without parts.nodes numbers → without parts.nodes (closing parts.trees number none_stays) ≡ nodes
 closed-same parts nodes number numbers values closed_all = ap (without parts.nodes) (closed-whole (frames_of parts.trees number) ∙ sym values) ∙ sym closed_all
@@ -128,14 +123,8 @@ leave-stored parts nodes trees ledgers book number numbers account stored is =
       frames_nodes = rw (← same) (cut-belongs parts.nodes parts.trees trees number none_stays stored.frames_nodes cut);
       sized = rw (← same) (cut-sized parts.nodes (closing parts.trees number none_stays) stored.sized);
       accounts = λ other a found. other-account other a (differs other a found) found;
-      nobody = λ other none. elim (cases_eq other number) [
-        | inl here ↦ rw here is.places
-        | inr not_it ↦ is.other_places other not_it ∙ stored.nobody other (sym (is.others.others other not_it) ∙ none)
-      ];
-      nothing = λ other none. elim (cases_eq other number) [
-        | inl here ↦ rw here is.frames
-        | inr not_it ↦ is.other_frames other not_it ∙ stored.nothing other (sym (is.others.others other not_it) ∙ none)
-      ];
+      nobody = λ other none. grind arith;
+      nothing = λ other none. grind arith;
       forest = cut-trees parts.trees trees number none_stays cut;
       tenants = omega (arith, tenants, fewer, left);
       charges = leave-charges parts nodes trees ledgers book number numbers account stored is;

@@ -1,6 +1,6 @@
 -- What is found in the core that a store stands for.
-use Rattle.std.proofs.Common.{◌≡◌, ℕ, ◌<◌, ◌≤◌, ◌+◌, eqb, List, [], ◌∷◌, length, Option, Some, None, IfSome, is_some, option_map, option_and_then, refl, ap, sym, ◌∙◌, arith, inl, inr}
-use Rattle.std.proofs.lemmas.Bool.{cases_Bool, eqb-true}
+use Rattle.std.proofs.Common.{◌≡◌, ℕ, ◌<◌, ◌≤◌, ◌+◌, List, [], ◌∷◌, length, Option, Some, None, IfSome, is_some, option_map, option_and_then, refl, ap, sym, ◌∙◌, arith}
+use Rattle.std.proofs.lemmas.Bool.{eqb-true}
 use Rattle.std.proofs.lemmas.List.Sums.{sum_by-cons}
 use Rattle.cactus_stack.specs.Nodes.{node_words, total_charge}
 use Rattle.tenant_quota.specs.Accounts.{account_of, AllEntries, IsRising, left_in, charged_segments}
@@ -13,7 +13,7 @@ use Rattle.frame_tree.specs.TreeLaws.{map_value}
 use Rattle.frame_table.specs.Tables.{frames_of}
 use Rattle.frame_tree.proofs.TreeValues.{frame_at-map_values}
 use Rattle.sched_rules.specs.declared.job.Job.{Job}
-use Rattle.sched_rules.specs.Trees.{Tenant, Tree, charged_for, account_in, job_at}
+use Rattle.sched_rules.specs.Trees.{Tenant, charged_for, account_in, job_at}
 use Rattle.sched_rules.specs.Cores.{tenant_in, accounts_in, charged_in, reservations_in}
 use Rattle.sched_rules.specs.Headline.{AreNumbersTaken, AreNumbersGiven}
 use Rattle.sched_rules.specs.Views.{left_in_core, job_of, named, free_in}
@@ -30,11 +30,7 @@ Entries = List (ℕ × Account)
 
 tenant_in-tenants_from : (parts : Parts) (entries : Entries) (number : ℕ) → tenant_in (tenants_from parts entries) number ≡ option_map (tenant_from parts number) (account_of number entries)
 tenant_in-tenants_from parts [] number = refl
-tenant_in-tenants_from parts (entry ∷ entries) number =
-    elim (cases_Bool (eqb entry.0 number)) [
-      | inl same ↦ rw same (ap (λ (n : ℕ). Some (tenant_from parts n entry.1)) (eqb-true entry.0 number same))
-      | inr other ↦ rw other (tenant_in-tenants_from parts entries number)
-    ]
+tenant_in-tenants_from parts (entry ∷ entries) number = grind (arith, tenant_in-tenants_from parts entries number, eqb-true)
 
 -- a tenant is what its account stands for
 pub tenant-found : (parts : Parts) (number : ℕ) → tenant_in (shared_of parts).tenants number ≡ option_map (tenant_from parts number) (account_of number parts.book.accounts)
@@ -64,10 +60,7 @@ named-frames parts name = by (tenant_in (shared_of parts).tenants name.tenant)
 
 -- a frame is that of the table, with the words of its node
 pub named-found : (parts : Parts) → IsStored parts → (name : FrameId) → named (shared_of parts) name ≡ option_map (map_value (node_words parts.nodes)) (frame_in_trees parts.trees name.tenant name.serial)
-named-found parts stored name =
-    named-frames parts name
-    ∙ ap (λ (frames : Tree). frame_at frames name.serial) (frames-found parts stored name.tenant)
-    ∙ frame_at-map_values (node_words parts.nodes) (frames_of parts.trees name.tenant) name.serial
+named-found parts stored name = grind (arith, named-frames, frames-found, frame_at-map_values)
 
 -- its jobs are those of its ledger
 
@@ -117,8 +110,7 @@ charged-found parts stored = charged_in-tenants_from parts parts.book.accounts (
 
 -- the free segments are those that no node takes
 pub free-found : (parts : Parts) → IsStored parts → (free taken : ℕ) → free + taken ≡ length parts.nodes → taken ≡ total_charge parts.nodes → free ≡ free_in (shared_of parts)
-free-found parts stored free taken counted is =
-    rw (charged-found parts stored) (omega (arith, stored.charges, stored.segments))
+free-found parts stored free taken counted is = grind (arith, charged-found)
 
 -- the tenants' numbers were taken, and rise
 

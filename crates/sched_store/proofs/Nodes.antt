@@ -1,10 +1,9 @@
 -- The stack's nodes as they come, change and go, and what they are charged.
-use Rattle.std.proofs.Common.{◌≡◌, ◌≢◌, ℕ, zero, suc, ◌<◌, ◌≤◌, ◌+◌, List, [], ◌∷◌, length, Option, Some, None, IsSome, refl, ap, ◌∙◌, arith, inl, inr, get_or-set_other, get_or-set_same}
+use Rattle.std.proofs.Common.{◌≡◌, ◌≢◌, ℕ, zero, suc, ◌<◌, ◌≤◌, ◌+◌, List, [], ◌∷◌, length, Option, Some, None, IsSome, refl, ap, arith, get_or-set_other, get_or-set_same}
 use Rattle.std.proofs.Math.ListN.{set}
 use Rattle.std.proofs.lemmas.List.{length-set}
 use Rattle.std.proofs.lemmas.List.Sums.{sum_by-cons}
-use Rattle.std.proofs.lemmas.Bool.{cases_eq}
-use Rattle.cactus_stack.specs.Nodes.{Nodes, Node, node_at, node_words, node_parent, words_of_node, parent_of_node, with_node_words, IsOpen, charge, charge_of, total_charge}
+use Rattle.cactus_stack.specs.Nodes.{Nodes, Node, node_at, node_words, node_parent, words_of_node, with_node_words, IsOpen, charge, charge_of, total_charge}
 use Rattle.sched_store.specs.Stored.{AreSized}
 
 pub charge-set : (nodes : Nodes) (n : ℕ) (entry : Option Node) → n < length nodes → total_charge (set nodes n entry) + charge_of (node_at nodes n) ≡ total_charge nodes + charge_of entry
@@ -33,25 +32,13 @@ pub words-same : (nodes : Nodes) (n : ℕ) (words : List ℕ) → IsOpen nodes n
 words-same nodes n words is = get_or-set_same nodes n (Some (record { parent = node_parent nodes n; words = words })) None (open-within nodes n is)
 
 pub words-open : (nodes : Nodes) (n m : ℕ) (words : List ℕ) → IsOpen nodes n → IsOpen nodes m → IsOpen (with_node_words nodes n words) m
-words-open nodes n m words here is =
-    elim (cases_eq m n) [
-      | inl same ↦ rw (same, words-same nodes n words here) refl
-      | inr differs ↦ rw (words-other nodes n m words differs) is
-    ]
+words-open nodes n m words here is = grind (arith, words-same, words-other)
 
 pub words-was-open : (nodes : Nodes) (n m : ℕ) (words : List ℕ) → IsOpen nodes n → IsOpen (with_node_words nodes n words) m → IsOpen nodes m
-words-was-open nodes n m words here is =
-    elim (cases_eq m n) [
-      | inl same ↦ rw same here
-      | inr differs ↦ rw (words-other nodes n m words differs) at is
-    ]
+words-was-open nodes n m words here is = grind (arith, words-other)
 
 pub words-parent : (nodes : Nodes) (n m : ℕ) (words : List ℕ) → IsOpen nodes n → node_parent (with_node_words nodes n words) m ≡ node_parent nodes m
-words-parent nodes n m words here =
-    elim (cases_eq m n) [
-      | inl same ↦ rw same (ap parent_of_node (words-same nodes n words here))
-      | inr differs ↦ ap parent_of_node (words-other nodes n m words differs)
-    ]
+words-parent nodes n m words here = grind (arith, words-same, words-other)
 
 pub words-here : (nodes : Nodes) (n : ℕ) (words : List ℕ) → IsOpen nodes n → node_words (with_node_words nodes n words) n ≡ words
 words-here nodes n words here = ap words_of_node (words-same nodes n words here)
@@ -60,17 +47,7 @@ pub words-there : (nodes : Nodes) (n m : ℕ) (words : List ℕ) → m ≢ n →
 words-there nodes n m words differs = ap words_of_node (words-other nodes n m words differs)
 
 pub words-sized : (nodes : Nodes) (n : ℕ) (words : List ℕ) → AreSized nodes → IsOpen nodes n → 1 ≤ length words → length words ≤ 128 → AreSized (with_node_words nodes n words)
-words-sized nodes n words sized here some most =
-    record {
-      some = λ m is. elim (cases_eq m n) [
-        | inl same ↦ rw (same, words-here nodes n words here) some
-        | inr differs ↦ rw (words-there nodes n m words differs) (sized.some m (words-was-open nodes n m words here is))
-      ];
-      most = λ m is. elim (cases_eq m n) [
-        | inl same ↦ rw (same, words-here nodes n words here) most
-        | inr differs ↦ rw (words-there nodes n m words differs) (sized.most m (words-was-open nodes n m words here is))
-      ];
-    }
+words-sized nodes n words sized here some most = grind (arith, words-here, words-there, words-was-open)
 
 pub words-charge : (nodes : Nodes) (n : ℕ) (words : List ℕ) → IsOpen nodes n → total_charge (with_node_words nodes n words) + charge (length (node_words nodes n)) ≡ total_charge nodes + charge (length words)
 words-charge nodes n words here = omega (arith, charge-of-open nodes n here, charge-set nodes n (Some (record { parent = node_parent nodes n; words = words })) (open-within nodes n here))
@@ -85,9 +62,7 @@ set-twice (e ∷ nodes) (suc n) first second = ap (λ (rest : Nodes). e ∷ rest
 
 -- words that are changed twice
 pub words-twice : (nodes : Nodes) (n : ℕ) (first second : List ℕ) → IsOpen nodes n → with_node_words (with_node_words nodes n first) n second ≡ with_node_words nodes n second
-words-twice nodes n first second here =
-    ap (λ (parent : Option ℕ). set (with_node_words nodes n first) n (Some (record { parent = parent; words = second }))) (words-parent nodes n n first here)
-    ∙ set-twice nodes n (Some (record { parent = node_parent nodes n; words = first })) (Some (record { parent = node_parent nodes n; words = second }))
+words-twice nodes n first second here = grind (arith, set, words-parent, set-twice)
 
 -- words that stay
 pub words-stay : (nodes : Nodes) (n : ℕ) → IsOpen nodes n → with_node_words nodes n (node_words nodes n) ≡ nodes

@@ -1,6 +1,5 @@
 -- The numbers of things in a list that changes, and lists whose things have the same numbers.
-use Rattle.std.proofs.Common.{◌≡◌, ℕ, suc, true, false, eqb, ltb, ◌||◌, Bool, List, [], ◌∷◌, length, Some, None, refl, ap, sym, ◌∙◌, inl, inr}
-use Rattle.std.proofs.lemmas.Bool.{cases_Bool}
+use Rattle.std.proofs.Common.{◌≡◌, ℕ, suc, true, false, eqb, ◌||◌, Bool, List, [], ◌∷◌, length, Some, None, refl, ap, sym, ◌∙◌, arith}
 use Rattle.number_index.specs.Places.{has_by_number, change_by_number, remove_by_number, inserted}
 use Rattle.number_index.proofs.Edits.{has-found, lacks-said}
 use Rattle.tenant_quota.specs.declared.account.Account.{Account}
@@ -15,22 +14,15 @@ length-numbers number_of (x ∷ xs) = ap suc (length-numbers number_of xs)
 
 pub numbers-with : {X : Type 0} (number_of : X → ℕ) (n : ℕ) (change : X → X) (xs : List X) → ((x : X) → number_of (change x) ≡ number_of x) → numbers_by number_of (change_by_number number_of n change xs) ≡ numbers_by number_of xs
 numbers-with number_of n change [] keeps = refl
-numbers-with number_of n change (x ∷ xs) keeps = elim (cases_Bool (eqb (number_of x) n)) [
-  | inl same ↦ rw same (ap (λ (k : ℕ). k ∷ numbers_by number_of xs) (keeps x))
-  | inr other ↦ rw other (ap (λ (rest : List ℕ). number_of x ∷ rest) (numbers-with number_of n change xs keeps))
-]
+numbers-with number_of n change (x ∷ xs) keeps = grind (arith, numbers-with number_of n change xs keeps)
 
 pub numbers-without : {X : Type 0} (number_of : X → ℕ) (n : ℕ) (xs : List X) → numbers_by number_of (remove_by_number number_of n xs) ≡ remove_by_number (λ k. k) n (numbers_by number_of xs)
 numbers-without number_of n [] = refl
-numbers-without number_of n (x ∷ xs) =
-    elim (cases_Bool (eqb (number_of x) n)) [ inl same ↦ rw same refl | inr other ↦ rw other (ap (λ (rest : List ℕ). number_of x ∷ rest) (numbers-without number_of n xs)) ]
+numbers-without number_of n (x ∷ xs) = grind (arith, numbers-without number_of n xs)
 
 pub numbers-inserted : {X : Type 0} (number_of : X → ℕ) (new : X) (xs : List X) → numbers_by number_of (inserted number_of new xs) ≡ inserted (λ k. k) (number_of new) (numbers_by number_of xs)
 numbers-inserted number_of new [] = refl
-numbers-inserted number_of new (x ∷ xs) = elim (cases_Bool (ltb (number_of x) (number_of new))) [
-  | inl less ↦ rw less (ap (λ (rest : List ℕ). number_of x ∷ rest) (numbers-inserted number_of new xs))
-  | inr from ↦ rw from refl
-]
+numbers-inserted number_of new (x ∷ xs) = grind (arith, numbers-inserted number_of new xs)
 
 has-numbers : {X : Type 0} (number_of : X → ℕ) (n : ℕ) (xs : List X) → has_by_number number_of n xs ≡ has_by_number (λ k. k) n (numbers_by number_of xs)
 has-numbers number_of n [] = refl

@@ -1,5 +1,5 @@
 -- A frame is opened.
-use Rattle.std.proofs.Common.{◌≡◌, ◌≢◌, ℕ, ◌<◌, ◌≤◌, ◌+◌, ◌-◌, true, false, List, [], ◌∷◌, ◌++◌, length, replicate, Option, Some, None, IsSome, refl, ap, sym, subst, ◌∙◌, arith, inl, inr, ◌⊎◌, get_or-set_other, get_or-set_same}
+use Rattle.std.proofs.Common.{◌≡◌, ◌≢◌, ℕ, ◌<◌, ◌≤◌, ◌+◌, ◌-◌, true, false, List, [], ◌∷◌, ◌++◌, length, replicate, Option, Some, None, refl, ap, sym, subst, ◌∙◌, arith, inl, inr, ◌⊎◌, get_or-set_other, get_or-set_same}
 use Rattle.std.proofs.lemmas.List.{length-set, length-append, length-replicate}
 use Rattle.std.proofs.lemmas.Bool.{cases_eq, false≢true}
 use Rattle.cactus_stack.specs.Nodes.{Nodes, Node, node_at, node_words, words_of_node, parent_of_node as node_parent_of, with_node, IsOpen, IsUnused, padded, charge, charge_of, total_charge}
@@ -16,7 +16,7 @@ use Rattle.sched_rules.specs.Trees.{Tree, charged_for, is_held_by}
 use Rattle.sched_rules.specs.Lone.{opened}
 use Rattle.sched_rules.specs.Changes.{on_tenant}
 use Rattle.sched_store.specs.Parts.{Parts, with_words_of_nodes, shared_of}
-use Rattle.sched_store.specs.Stored.{IsStored, IsFrameNode, AreFramesNodes, AreSized, frame_in_trees, node_of, node_above}
+use Rattle.sched_store.specs.Stored.{IsStored, AreFramesNodes, AreSized, frame_in_trees, node_of, node_above}
 use Rattle.sched_store.proofs.Nodes.{charge-set}
 use Rattle.sched_store.proofs.Words.{with_words_of_nodes-same}
 use Rattle.sched_store.proofs.States.{charged-cons}
@@ -58,45 +58,20 @@ still-open : (nodes : Nodes) (n m : ℕ) (entry : Node) → IsUnused nodes n →
 still-open nodes n m entry unused is = rw (opened-other nodes n m entry (open-not-unused nodes n m unused is)) is
 
 opened-sized : (nodes : Nodes) (n : ℕ) (entry : Node) → AreSized nodes → IsUnused nodes n → 1 ≤ length entry.words → length entry.words ≤ 128 → AreSized (with_node nodes n (Some entry))
-opened-sized nodes n entry sized unused some most =
-    record {
-      some = λ m is. elim (cases_eq m n) [
-        | inl same ↦ rw (same, opened-here nodes n entry unused.0) some
-        | inr differs ↦ (let P : Option Node → Type 0 = λ o. 1 ≤ length (words_of_node o) in let Q : Option Node → Type 0 = λ o. IsSome o in
-            subst P (sym (opened-other nodes n m entry differs)) (sized.some m (subst Q (opened-other nodes n m entry differs) is)))
-      ];
-      most = λ m is. elim (cases_eq m n) [
-        | inl same ↦ rw (same, opened-here nodes n entry unused.0) most
-        | inr differs ↦ (let P : Option Node → Type 0 = λ o. length (words_of_node o) ≤ 128 in let Q : Option Node → Type 0 = λ o. IsSome o in
-            subst P (sym (opened-other nodes n m entry differs)) (sized.most m (subst Q (opened-other nodes n m entry differs) is)))
-      ];
-    }
+opened-sized nodes n entry sized unused some most = grind (arith, opened-here, opened-other)
 
 -- the frames after one was added: either it is the new one, or it was there
 
 added-cases : (old new : List (TenantTree ℕ)) (added : Frame ℕ) (number : ℕ) → frames_of new number ≡ frames_of old number ++ added ∷ [] → KeepsOtherFrames old new number → AllBelow added.serial (frames_of old number) → (m s : ℕ) →
     ((m ≡ number) × (s ≡ added.serial)) ⊎ (frame_in_trees new m s ≡ frame_in_trees old m s)
-added-cases old new added number frames kept above m s =
-    elim (cases_eq m number) [
-      | inl same ↦ elim (cases_eq s added.serial) [
-        | inl here ↦ inl (same, here)
-        | inr there ↦ inr (rw (same, frames) (frame_at_other-push (frames_of old number) added s (λ e. there (sym e))))
-      ]
-      | inr other ↦ inr (ap (λ (fs : List (Frame ℕ)). frame_at fs s) (kept.frames m other))
-    ]
+added-cases old new added number frames kept above m s = grind (arith, frame_at_other-push)
 
 added-here : (old new : List (TenantTree ℕ)) (added : Frame ℕ) (number : ℕ) → frames_of new number ≡ frames_of old number ++ added ∷ [] → AllBelow added.serial (frames_of old number) → frame_in_trees new number added.serial ≡ Some added
 added-here old new added number frames above = rw frames (frame_at-push (frames_of old number) added above)
 
 -- a frame that was there is there
 added-keeps : (old new : List (TenantTree ℕ)) (added : Frame ℕ) (number : ℕ) → frames_of new number ≡ frames_of old number ++ added ∷ [] → KeepsOtherFrames old new number → AllBelow added.serial (frames_of old number) → (m s : ℕ) (frame : Frame ℕ) → frame_in_trees old m s ≡ Some frame → frame_in_trees new m s ≡ Some frame
-added-keeps old new added number frames kept above m s frame is =
-    elim (added-cases old new added number frames kept above m s) [
-      | inl (same, here) ↦ absurd (
-          let found : frame_at (frames_of old number) added.serial ≡ Some frame = rw (← same, ← here) is in
-          let low = below-found (frames_of old number) added.serial added.serial above (found-there (frames_of old number) added.serial frame found) in omega arith)
-      | inr was ↦ was ∙ is
-    ]
+added-keeps old new added number frames kept above m s frame is = grind (arith, added-cases, below-found, found-there)
 
 pub node-frame : (frame : Option (Frame ℕ)) (n : ℕ) → node_of frame ≡ Some n → (f : Frame ℕ) × ((frame ≡ Some f) × (f.value ≡ n))
 node-frame None n is = absurd (cc is)
@@ -124,20 +99,11 @@ charged-push (first ∷ frames) frame = omega (arith, charged-cons first (frames
 -- what stood above a frame stands there still
 tree-above : (old new : List (TenantTree ℕ)) (added : Frame ℕ) (number : ℕ) → frames_of new number ≡ frames_of old number ++ added ∷ [] → KeepsOtherFrames old new number → (m : ℕ) (parent : Option ℕ) → has_parent (frames_of old m) parent ≡ true →
     node_above (frames_of new m) parent ≡ node_above (frames_of old m) parent
-tree-above old new added number frames kept m parent there =
-    elim (cases_eq m number) [
-      | inl same ↦
-          (let P : ℕ → Type 0 = λ k. node_above (frames_of new k) parent ≡ node_above (frames_of old k) parent in
-          let Q : ℕ → Type 0 = λ k. has_parent (frames_of old k) parent ≡ true in
-          subst P (sym same) (ap (λ (fs : List (Frame ℕ)). node_above fs parent) frames ∙ above-kept (frames_of old number) (added ∷ []) parent (subst Q same there)))
-      | inr other ↦ ap (λ (fs : List (Frame ℕ)). node_above fs parent) (kept.frames m other)
-    ]
+tree-above old new added number frames kept m parent there = grind (arith, above-kept)
 
 -- the new node is no other frame's
 unused-apart : (old : Parts) (node number : ℕ) (added : Frame ℕ) (m s n : ℕ) (frame : Option (Frame ℕ)) (other : ℕ) → frame ≡ Some added → added.value ≡ node → node_of frame ≡ Some n → IsOpen old.nodes other → other ≡ n → IsUnused old.nodes node → ⊥
-unused-apart old node number added m s n frame other is value one is_open same unused =
-    let e : added.value ≡ n = (let found = sym (ap node_of is) ∙ one in cc found) in
-    open-not-unused old.nodes node other unused is_open (same ∙ sym e ∙ value)
+unused-apart old node number added m s n frame other is value one is_open same unused = grind arith
 
 path_under-with_words_of_nodes : (nodes : Nodes) (frames : List (Frame ℕ)) (parent : Option ℕ) (serial : ℕ) → path_under frames parent serial ≡ path_under (with_words_of_nodes nodes frames) parent serial
 path_under-with_words_of_nodes nodes frames None serial = refl
@@ -158,19 +124,7 @@ opened-nodes old nodes trees book number parent above words size home node accou
     let new_is = added-here old.trees trees added number opens.frames below in
     subst P (sym opens.nodes_is) (record {
       nodes_of_frames = λ m s frame is. elim (cases m s) [
-        | inl (same, at) ↦
-            (let now : frame_in_trees trees number added.serial ≡ Some frame = rw (← same, ← at) is in
-            let e : added ≡ frame = cc (new_is, now) in
-            let Q : Frame ℕ → Type 0 = λ f. IsFrameNode (with_node old.nodes node (Some entry)) (frames_of trees m) f in
-            subst Q e (record {
-              is_open = rw here refl;
-              parent =
-                  ap node_parent_of here
-                  ∙ opens.above_is
-                  ∙ sym (above-kept frames (added ∷ []) parent opens.parent_there)
-                  ∙ ap (λ (fs : List (Frame ℕ)). node_above fs parent) (sym (ap (frames_of trees) same ∙ opens.frames))
-                  ∙ ap (node_above (frames_of trees m)) (sym (parent_of-path_under frames parent (account.opened + 1) (stored.forest number) opens.parent_there));
-            }))
+        | inl (same, at) ↦ grind (arith, above-kept, parent_of-path_under)
         | inr was ↦
             (let at = sym was ∙ is in
             let own = stored.frames_nodes.nodes_of_frames m s frame at in
@@ -196,11 +150,7 @@ opened-nodes old nodes trees book number parent above words size home node accou
           ];
       no_other = λ n is. elim (cases_eq n node) [
         | inl same ↦ record { number = number; serial = added.serial; there = ap node_of new_is ∙ ap (λ (k : ℕ). Some k) (sym same) }
-        | inr differs ↦
-            (let Q : Option Node → Type 0 = λ o. IsSome o in
-            let has = stored.frames_nodes.no_other n (subst Q (opened-other old.nodes node n entry differs) is) in
-            let f = node-frame (frame_in_trees old.trees has.number has.serial) n has.there in
-            record { number = has.number; serial = has.serial; there = ap node_of (added-keeps old.trees trees added number opens.frames opens.kept below has.number has.serial f.0 f.1.0) ∙ ap (λ (k : ℕ). Some k) f.1.1 })
+        | inr differs ↦ grind (arith, opened-other, node-frame, added-keeps)
       ];
     })
 

@@ -1,5 +1,5 @@
 -- What an opening asks of the parts of a store.
-use Rattle.std.proofs.Common.{◌≡◌, ℕ, ◌<◌, ◌≤◌, ◌+◌, ◌-◌, true, ◌&&◌, leb, List, [], ◌∷◌, length, Option, Some, None, IfSome, refl, ap, sym, subst, ◌∙◌, arith}
+use Rattle.std.proofs.Common.{◌≡◌, ℕ, ◌<◌, ◌≤◌, ◌+◌, ◌-◌, true, List, [], ◌∷◌, length, Option, Some, None, IfSome, refl, ap, sym, subst, ◌∙◌, arith}
 use Rattle.std.proofs.lemmas.Bool.{and_parts, leb-true}
 use Rattle.cactus_stack.specs.Nodes.{Nodes, node_words, IsOpen, charge}
 use Rattle.tenant_quota.specs.Accounts.{account_of, left_in}
@@ -28,14 +28,12 @@ serials-found parts number account there = rw (tenant-found parts number, there)
 -- the account of a tenant that has left what an opening takes
 pub left-for : (parts : Parts) (number size : ℕ) {core : CoreState} → IsStored parts → shared_of parts ≡ core → TenantHasLeft core number (charge size) 1 →
     (a : Account) × ((account_of number parts.book.accounts ≡ Some a) × ((charge size ≤ (left_in a).segments) × (1 ≤ (left_in a).nodes)))
-left-for parts number size stored is left =
-    left-account parts stored number (λ l. (charge size ≤ l.segments) × (1 ≤ l.nodes)) (subst (λ (s : CoreState). TenantHasLeft s number (charge size) 1) (sym is) left)
+left-for parts number size stored is left = grind (arith, left-account)
 
 -- a parent among frames with words is one of the table's
 pub parent-found : (parts : Parts) → IsStored parts → (number : ℕ) (parent : Option ℕ) → has_parent (frames_in_core (shared_of parts) number) parent ≡ true → has_parent (frames_of parts.trees number) parent ≡ true
 parent-found parts stored number None there = refl
-parent-found parts stored number (Some p) there =
-    sym (has_frame-map_values (node_words parts.nodes) (frames_of parts.trees number) p) ∙ (let found = rw (frames-found parts stored number) at there in found)
+parent-found parts stored number (Some p) there = grind (arith, has_frame-map_values, frames-found)
 
 -- the same of a core that the parts show
 pub parent-for : (parts : Parts) (number : ℕ) (parent : Option ℕ) {core : CoreState} → IsStored parts → shared_of parts ≡ core → has_parent (frames_in_core core number) parent ≡ true → has_parent (frames_of parts.trees number) parent ≡ true
@@ -78,14 +76,8 @@ place-left parts stored number size account there some enough =
 -- a size that is a frame's
 
 pub size-some : (words : List ℕ) (size : ℕ) → is_frame_size words size ≡ true → (1 ≤ size) × ((size ≤ 128) × (length words ≤ size))
-size-some words size is =
-    let both = and_parts (leb 1 size && leb size 128) (leb (length words) size) is in
-    let first = and_parts (leb 1 size) (leb size 128) both.0 in
-    (leb-true 1 size first.0, (leb-true size 128 first.1, leb-true (length words) size both.1))
+size-some words size is = grind (arith, and_parts, leb-true)
 
 -- the next serial is one more than the nodes that were opened
 pub opened-next : (parts : Parts) (number before : ℕ) (account : Account) → account_of number parts.book.accounts ≡ Some account → opened_of number parts.book ≡ Some before → before + 1 ≡ account.opened + 1
-opened-next parts number before account there is =
-    let own : Some account.opened ≡ Some before = rw there at is in
-    let same : account.opened ≡ before = cc in
-    ap (λ n. n + 1) (sym same)
+opened-next parts number before account there is = grind arith

@@ -1,5 +1,5 @@
 -- A tenant's reservation is raised: its account and its places, and nothing else.
-use Rattle.std.proofs.Common.{◌≡◌, ℕ, ◌+◌, ◌<◌, ◌≤◌, ◌⊎◌, inl, inr, false, ◌||◌, ◌&&◌, ◌==◌, List, Option, Some, None, option_map, refl, ap, sym, ◌∙◌, subst, arith}
+use Rattle.std.proofs.Common.{◌≡◌, ℕ, ◌<◌, ◌≤◌, ◌⊎◌, inl, inr, false, ◌||◌, ◌&&◌, ◌==◌, List, Option, Some, None, option_map, refl, ap, sym, ◌∙◌, subst, arith}
 use Rattle.std.specs.Prelude.{nat_lt}
 use Rattle.std.proofs.lemmas.Bool.{cases_eq}
 use Rattle.std.proofs.lemmas.Bool.Decides.{nat_tests}
@@ -8,13 +8,12 @@ use Rattle.tenant_quota.specs.Accounts.{account_of, raised_to, IsWithinReserve}
 use Rattle.tenant_quota.specs.Reservations.{Reservations, IsSoundBook, HasRoomFor, CanRaise, Raises}
 use Rattle.tenant_quota.specs.declared.account.Account.{Account}
 use Rattle.tenant_quota.proofs.Edits.{AllEntries-of}
-use Rattle.frame_tree.specs.Frames.{Frame, frame_at, AllBelow, TenantTree}
+use Rattle.frame_tree.specs.Frames.{Frame, frame_at, TenantTree}
 use Rattle.frame_table.specs.Tables.{frames_of, places_of, tenant_count, KeepsOtherTenants}
-use Rattle.sched_rules.specs.Trees.{charged_for}
 use Rattle.sched_rules.specs.Lone.{is_lower}
 use Rattle.sched_rules.specs.Cores.{CoreState, tenant_in, reservations_in, reserved_by, is_beyond}
 use Rattle.sched_rules.specs.Changes.{on_tenant, with_reserve}
-use Rattle.sched_store.specs.Parts.{Parts, with_words_of_nodes, tenant_from, shared_of}
+use Rattle.sched_store.specs.Parts.{Parts, tenant_from, shared_of}
 use Rattle.sched_store.specs.Reads.{IsAboveOwn}
 use Rattle.sched_store.specs.Stored.{IsStored}
 use Rattle.sched_store.proofs.Lookups.{tenant-found, reservations-found}
@@ -27,18 +26,14 @@ above-own : (segments nodes own_segments own_nodes : ℕ) → ((nat_lt segments 
 above-own segments nodes own_segments own_nodes is = grind (arith, nat_tests)
 
 not-lower : (own quota : Quota) → is_lower own quota ≡ false → IsAbove own quota
-not-lower own quota is =
-    let above = above-own quota.segments quota.nodes own.segments own.nodes is in
-    record { segments = above.0; nodes = above.1; one = above.2 }
+not-lower own quota is = grind (arith, above-own)
 
 -- and one that isn't beyond has room
 room-for : (segments wanted nodes asked : ℕ) → (nat_lt segments wanted || nat_lt nodes asked) ≡ false → (wanted ≤ segments) × (asked ≤ nodes)
 room-for segments wanted nodes asked is = grind (arith, nat_tests)
 
 not-beyond : (book : Reservations) (own quota : Quota) → is_beyond book own quota ≡ false → HasRoomFor book own quota
-not-beyond book own quota is =
-    let room = room-for _ _ _ _ is in
-    record { segments = room.0; nodes = room.1 }
+not-beyond book own quota is = grind (arith, room-for)
 
 -- what can be raised
 pub record CanBeRaised (parts : Parts) (number : ℕ) (quota : Quota) : Type 0 where
@@ -54,10 +49,10 @@ pub can-be-raised : (parts : Parts) (number : ℕ) (quota : Quota) {core : CoreS
 can-be-raised parts number quota stored is own_above own_room = by (account_of number parts.book.accounts) refl
   where
     above : IsAboveOwn (tenant_in (shared_of parts).tenants number) quota
-    above = subst (λ (s : CoreState). IsAboveOwn (tenant_in s.tenants number) quota) (sym is) own_above
+    above = grind arith
 
     room : is_beyond (reservations_in (shared_of parts)) (reserved_by (tenant_in (shared_of parts).tenants number)) quota ≡ false
-    room = subst (λ (s : CoreState). is_beyond (reservations_in s) (reserved_by (tenant_in s.tenants number)) quota ≡ false) (sym is) own_room
+    room = grind arith
 
     by : (own : Option Account) → account_of number parts.book.accounts ≡ own → CanBeRaised parts number quota
     by None none = absurd (let nobody = tenant-found parts number ∙ ap (λ (o : Option Account). option_map (tenant_from parts number) o) none in rw nobody at above)
@@ -110,11 +105,7 @@ raise-step parts trees book number quota stored is =
       sized = stored.sized;
       segments = refl;
       charges = stored.charges ∙ sym is.raises.charged;
-      own = record {
-        charged = own.charged ∙ sym (ap (λ (xs : List (Frame ℕ)). charged_for (with_words_of_nodes parts.nodes xs)) is.frames);
-        places = is.places;
-        serials = subst (λ (xs : List (Frame ℕ)). AllBelow (account.opened + 1) xs) (sym is.frames) own.serials;
-      };
+      own = grind arith;
       words = λ other differs. refl;
       ledgers = refl;
       jobs = λ other differs. refl;

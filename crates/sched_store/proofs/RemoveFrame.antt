@@ -1,10 +1,10 @@
 -- A frame without a child is removed, with its node and what it was charged.
-use Rattle.std.proofs.Common.{◌≡◌, ◌≢◌, ℕ, ◌<◌, ◌≤◌, inl, inr, Bool, true, false, not, eqb, nat_lt, List, [], ◌∷◌, length, Option, Some, None, refl, ap, sym, ◌∙◌, subst, arith}
+use Rattle.std.proofs.Common.{◌≡◌, ℕ, ◌≤◌, inl, inr, Bool, true, false, not, eqb, nat_lt, List, [], ◌∷◌, length, Option, Some, None, refl, ap, sym, ◌∙◌, arith}
 use Rattle.std.specs.List.{filter}
 use Rattle.std.proofs.lemmas.Bool.{cases_Bool, eq-eqb, eqb-true, ne_eqb, ltb-false}
 use Rattle.cactus_stack.specs.Nodes.{Nodes, HasNoChild, node_at, node_words, node_parent, with_node, without}
 use Rattle.frame_tree.specs.declared.names.FrameId.{FrameId}
-use Rattle.frame_tree.specs.Frames.{Frame, frame_at, parent_of, children_of, frames_without, IsTree, HasValue, TenantTree}
+use Rattle.frame_tree.specs.Frames.{Frame, frame_at, parent_of, children_of, frames_without, HasValue, TenantTree}
 use Rattle.frame_table.specs.Tables.{frames_of, KeepsOtherFrames}
 use Rattle.frame_tree.specs.TreeLaws.{map_values, is_child_of, AllAboveSerial, AreSerialsRising}
 use Rattle.frame_tree.proofs.TreeLaws.{tree-rising, children-by-paths}
@@ -25,23 +25,14 @@ others_stay serial frame = not (eqb frame.serial serial)
 -- none of the frames above goes
 nothing-above : (serial : ℕ) (xs : List (Frame ℕ)) → AllAboveSerial serial xs → closed (others_stay serial) xs ≡ []
 nothing-above serial [] above = refl
-nothing-above serial (x ∷ xs) above =
-    let low : serial < x.serial = above.0 in
-    let differs : x.serial ≢ serial = λ e. omega (arith, e, low) in
-    rw (ne_eqb x.serial serial differs) (nothing-above serial xs above.1)
+nothing-above serial (x ∷ xs) above = grind (arith, nothing-above serial xs above.1, ne_eqb)
 
 -- one node is closed: the frame's
 pub closing-one : (serial : ℕ) (xs : List (Frame ℕ)) (frame : Frame ℕ) → AreSerialsRising xs → frame_at xs serial ≡ Some frame → closed (others_stay serial) xs ≡ frame.value ∷ []
 closing-one serial [] frame rising at = absurd cc
 closing-one serial (x ∷ xs) frame rising at =
     elim (cases_Bool (eqb x.serial serial)) [
-      | inl same ↦ (
-          let is : ◌≡◌ {A = Option (Frame ℕ)} (Some x) (Some frame) = rw same at at in
-          let e : x ≡ frame = cc in
-          let value : x.value ≡ frame.value = ap (λ (f : Frame ℕ). f.value) e in
-          let here : x.serial ≡ serial = eqb-true x.serial serial same in
-          let none = nothing-above serial xs (subst (λ (s : ℕ). AllAboveSerial s xs) here rising.0) in
-          rw (same, none, value) refl)
+      | inl same ↦ grind (arith, eqb-true, nothing-above)
       | inr other ↦ rw other (closing-one serial xs frame rising.1 (rw other at at))
     ]
 
@@ -83,10 +74,7 @@ has-value None node is = absurd is
 has-value (Some f) node is = (f, refl, is)
 
 closes-one : (parts : Parts) (name : FrameId) (node : ℕ) → IsStored parts → HasValue (frame_in_trees parts.trees name.tenant name.serial) node → closing parts.trees name.tenant (others_stay name.serial) ≡ node ∷ []
-closes-one parts name node stored value =
-    let f = has-value (frame_in_trees parts.trees name.tenant name.serial) node value in
-    let F = frames_of parts.trees name.tenant in
-    closing-one name.serial F f.0 (tree-rising F (stored.forest name.tenant)) f.1 ∙ ap (λ (n : ℕ). n ∷ []) f.2
+closes-one parts name node stored value = grind (arith, has-value, closing-one, tree-rising)
 
 -- the node that a removal closes is that of the frame that goes
 pub leaf-gone : (parts : Parts) (nodes : Nodes) (name : FrameId) (node : ℕ) → IsStored parts → HasValue (frame_in_trees parts.trees name.tenant name.serial) node → nodes ≡ with_node parts.nodes node None →
@@ -96,12 +84,7 @@ leaf-gone parts nodes name node stored value closed_one = ap (without parts.node
 -- the cut that it makes
 pub leaf-cut : (parts : Parts) (trees : List (TenantTree ℕ)) (name : FrameId) → IsStored parts → children_of (frames_of parts.trees name.tenant) name.serial ≡ [] →
     frames_of trees name.tenant ≡ frames_without name.serial (frames_of parts.trees name.tenant) → KeepsOtherFrames parts.trees trees name.tenant → IsCut parts.trees trees name.tenant (others_stay name.serial)
-leaf-cut parts trees name stored leaf frames keeps = record {
-  tree = stored.forest;
-  tree_after = subst (λ (xs : List (Frame ℕ)). IsTree xs) (sym frames) (tree-without name.serial (frames_of parts.trees name.tenant) (stored.forest name.tenant) leaf);
-  cut = frames;
-  others = keeps.frames;
-}
+leaf-cut parts trees name stored leaf frames keeps = grind (arith, tree-without)
 
 pub leaf-words : (parts : Parts) (name : FrameId) → with_words_of_nodes parts.nodes (filter (others_stay name.serial) (frames_of parts.trees name.tenant)) ≡ frames_without name.serial (with_words_of_nodes parts.nodes (frames_of parts.trees name.tenant))
 leaf-words parts name = sym (frames_without-map_values (node_words parts.nodes) name.serial (frames_of parts.trees name.tenant))

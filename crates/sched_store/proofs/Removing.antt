@@ -55,10 +55,7 @@ own-words parts trees book number freed keep stored is =
 pub charge-left : (parts : Parts) (number freed : ℕ) (keep : Frame ℕ → Bool) → IsStored parts → (account : Account) → account_of number parts.book.accounts ≡ Some account →
     total_charge (without parts.nodes (closing parts.trees number keep)) + freed ≡ total_charge parts.nodes →
     account.charged ≡ freed + charged_for (with_words_of_nodes parts.nodes (filter keep (frames_of parts.trees number)))
-charge-left parts number freed keep stored account there frees =
-    let charged = IsAccountFor.charged (stored.accounts number account there) in
-    let split = cut-frees parts.nodes parts.trees number keep stored.frames_nodes (stored.forest number) in
-    omega (arith, charged, split, frees)
+charge-left parts number freed keep stored account there frees = grind (arith, cut-frees)
 
 -- so the tenant is charged as much
 pub can-give-back : (parts : Parts) (number freed : ℕ) (keep : Frame ℕ → Bool) → IsStored parts → (account : Account) → account_of number parts.book.accounts ≡ Some account →

@@ -1,5 +1,5 @@
 -- What a frame sees: the stack's way from node to node is the frame's path.
-use Rattle.std.proofs.Common.{◌≡◌, ℕ, List, [], ◌∷◌, ◌++◌, map, reverse, Option, Some, None, IsSome, refl, ap, sym, ◌∙◌, subst, option_map}
+use Rattle.std.proofs.Common.{◌≡◌, ℕ, List, [], ◌∷◌, ◌++◌, map, reverse, Option, Some, None, IsSome, refl, ap, sym, ◌∙◌, subst, arith}
 use Rattle.std.proofs.lemmas.Bool.{false≢true}
 use Rattle.std.proofs.lemmas.List.{reverse-append, map-append}
 use Rattle.cactus_stack.specs.Nodes.{IsOpen, IsSight, node_words, node_parent}
@@ -8,10 +8,9 @@ use Rattle.frame_tree.specs.declared.names.FrameId.{FrameId}
 use Rattle.frame_tree.specs.declared.names.Entry.{Entry}
 use Rattle.frame_tree.specs.Frames.{Frame, frame_at, entry_of_frame}
 use Rattle.frame_table.specs.Tables.{frames_of}
-use Rattle.frame_tree.specs.TreeLaws.{map_value}
 use Rattle.frame_tree.proofs.TreeLaws.{IsTop, IsUnder, tree-induction, found-serial}
 use Rattle.frame_tree.proofs.TreeValues.{frame_at-map_values}
-use Rattle.sched_rules.specs.Trees.{sight, words_in, frame_words}
+use Rattle.sched_rules.specs.Trees.{sight, words_in}
 use Rattle.sched_rules.specs.Views.{named}
 use Rattle.sched_store.specs.Parts.{Parts, with_words_of_nodes, shared_of}
 use Rattle.sched_store.specs.Reads.{path_of, sight_of}
@@ -21,8 +20,7 @@ use Rattle.sched_store.proofs.Frames.{found, nothing-found}
 
 -- the words that a serial stands for are those of its frame's node
 words-at : (parts : Parts) (number serial : ℕ) (frame : Frame ℕ) → frame_in_trees parts.trees number serial ≡ Some frame → words_in (with_words_of_nodes parts.nodes (frames_of parts.trees number)) serial ≡ node_words parts.nodes frame.value
-words-at parts number serial frame at =
-    ap frame_words (frame_at-map_values (node_words parts.nodes) (frames_of parts.trees number) serial ∙ ap (λ (o : Option (Frame ℕ)). option_map (map_value (node_words parts.nodes)) o) at)
+words-at parts number serial frame at = grind (arith, frame_at-map_values)
 
 -- the stack's sight of a node is the sight along its frame's path
 abbrev Sees : Parts → ℕ → Frame ℕ → Type 0

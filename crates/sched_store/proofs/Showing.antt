@@ -9,7 +9,7 @@ use Rattle.frame_tree.specs.declared.names.FrameId.{FrameId}
 use Rattle.frame_tree.specs.declared.names.Entry.{Entry}
 use Rattle.frame_tree.specs.Frames.{Frame, entry_of_frame, parent_of, path_in, name_of, children_of, IsTree}
 use Rattle.frame_table.specs.Tables.{frames_of}
-use Rattle.frame_tree.specs.TreeLaws.{map_value, map_values}
+use Rattle.frame_tree.specs.TreeLaws.{map_values}
 use Rattle.frame_tree.proofs.TreeLaws.{found-path, placed, IsPlaced}
 use Rattle.frame_tree.proofs.TreeValues.{children_of-map_values}
 use Rattle.sched_rules.specs.Trees.{is_root, has_child, frame_words}
@@ -39,10 +39,7 @@ no-words-shown parts stored name is = sym (ap (λ (o : Option (Frame (List ℕ))
 
 -- the path of a frame that is there
 pub path-shown : (parts : Parts) → IsStored parts → (name : FrameId) → IsSome (named (shared_of parts) name) → path_of (named (shared_of parts) name) ≡ path_in (frames_of parts.trees name.tenant) name.serial
-path-shown parts stored name some =
-    let there = is-there parts stored name some in
-    ap path_of (named-found parts stored name ∙ ap (λ (o : Option (Frame ℕ)). option_map (map_value (node_words parts.nodes)) o) there.at)
-    ∙ sym (found-path (frames_of parts.trees name.tenant) name.serial there.frame there.at)
+path-shown parts stored name some = grind (arith, is-there, named-found, found-path)
 
 nobody-above : (tenant : ℕ) (parent : Option ℕ) → is_none (name_of tenant parent) ≡ is_none parent
 nobody-above tenant None = refl

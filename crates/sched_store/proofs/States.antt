@@ -4,14 +4,14 @@ use Rattle.std.proofs.Math.ListN.{set}
 use Rattle.std.proofs.lemmas.List.{length-set}
 use Rattle.std.proofs.lemmas.List.Sums.{sum_by-cons}
 use Rattle.std.proofs.lemmas.Bool.{cases_Bool, cases_eq, eqb-true, false≢true}
-use Rattle.cactus_stack.specs.Nodes.{Nodes, node_words, node_parent, charge}
+use Rattle.cactus_stack.specs.Nodes.{Nodes, node_words, charge}
 use Rattle.tenant_quota.specs.Accounts.{account_of}
 use Rattle.tenant_quota.specs.Reservations.{Reservations}
 use Rattle.tenant_quota.specs.declared.account.Account.{Account}
 use Rattle.frame_tree.specs.declared.names.FrameId.{FrameId}
 use Rattle.frame_tree.specs.declared.names.State.{State}
 use Rattle.frame_tree.specs.declared.names.State.TheVariants.{Ready, Running, Computing, Waiting, Returned}
-use Rattle.frame_tree.specs.Frames.{Frame, frame_at, parent_of, with_state, TenantTree}
+use Rattle.frame_tree.specs.Frames.{Frame, with_state, TenantTree}
 use Rattle.frame_tree.specs.TreeLaws.{map_value}
 use Rattle.frame_table.specs.Tables.{frames_of, KeepsOtherFrames}
 use Rattle.frame_tree.proofs.TreeValues.{tree-with_state, with_state-alike, AllBelow-alike, with_state-map_values, frame_at-with_state, frame_at_other-with_state}
@@ -51,17 +51,10 @@ like-nodes nodes old new is like =
           let own = is.nodes_of_frames number serial f.was f.there in
           record {
             is_open = rw f.value own.is_open;
-            parent =
-                ap (node_parent nodes) f.value
-                ∙ own.parent
-                ∙ sym (node_above-like old new number (parent_of f.was.path) like)
-                ∙ ap (λ (path : List ℕ). node_above (frames_of new number) (parent_of path)) (sym f.path);
+            parent = grind (arith, node_above-like);
           };
-      once = λ number serial other_number other_serial node one two.
-          is.once number serial other_number other_serial node (sym (like.nodes number serial) ∙ one) (sym (like.nodes other_number other_serial) ∙ two);
-      no_other = λ node is_open.
-          let f = is.no_other node is_open in
-          record { number = f.number; serial = f.serial; there = like.nodes f.number f.serial ∙ f.there };
+      once = λ number serial other_number other_serial node one two. grind arith;
+      no_other = λ node is_open. grind arith;
     }
 
 -- the frames after one has another state
@@ -72,41 +65,20 @@ pub record SetsState (old new : List (TenantTree ℕ)) (name : FrameId) (state :
 -- either it is this frame, or it is as it was
 pub state-cases : (old new : List (TenantTree ℕ)) (name : FrameId) (state : State) → SetsState old new name state → (number serial : ℕ) →
     ((number ≡ name.tenant) × (serial ≡ name.serial)) ⊎ (frame_in_trees new number serial ≡ frame_in_trees old number serial)
-state-cases old new name state sets number serial =
-    elim (cases_eq number name.tenant) [
-      | inl same ↦ elim (cases_eq serial name.serial) [
-        | inl here ↦ inl (same, here)
-        | inr there ↦ inr (rw (same, sets.frames) (frame_at_other-with_state name.serial state (frames_of old name.tenant) serial (λ e. there (sym e))))
-      ]
-      | inr other ↦ inr (ap (λ (frames : List (Frame ℕ)). frame_at frames serial) (sets.kept.frames number other))
-    ]
+state-cases old new name state sets number serial = grind (arith, frame_at_other-with_state)
 
 state-here : (old new : List (TenantTree ℕ)) (name : FrameId) (state : State) (frame : Frame ℕ) → SetsState old new name state → frame_in_trees old name.tenant name.serial ≡ Some frame → frame_in_trees new name.tenant name.serial ≡ Some (record frame { state = state })
 state-here old new name state frame sets there = rw sets.frames (frame_at-with_state name.serial state (frames_of old name.tenant) frame there)
 
 state-like : (old new : List (TenantTree ℕ)) (name : FrameId) (state : State) (frame : Frame ℕ) → SetsState old new name state → frame_in_trees old name.tenant name.serial ≡ Some frame → AreLike old new
-state-like old new name state frame sets there =
-    let here = state-here old new name state frame sets there in
-    record {
-      nodes = λ number serial. elim (state-cases old new name state sets number serial) [
-        | inl (m, s) ↦ rw (m, s) (ap node_of here ∙ sym (ap node_of there))
-        | inr same ↦ ap node_of same
-      ];
-      frames = λ number serial f is. elim (state-cases old new name state sets number serial) [
-        | inl (m, s) ↦ (let now : frame_in_trees new name.tenant name.serial ≡ Some f = rw (← m, ← s) is in
-            let e : record frame { state = state } ≡ f = cc (here, now) in
-            record { was = frame; there = rw (m, s) there; value = sym (ap (λ (x : Frame ℕ). x.value) e); path = sym (ap (λ (x : Frame ℕ). x.path) e) })
-        | inr same ↦ record { was = f; there = sym same ∙ is; value = refl; path = refl }
-      ];
-    }
+state-like old new name state frame sets there = grind (arith, state-here, state-cases)
 
 -- charges of frames, one by one
 pub charged-cons : (frame : Frame (List ℕ)) (frames : Tree) → charged_for (frame ∷ frames) ≡ charge (length frame.value) + charged_for frames
 charged-cons frame frames = sum_by-cons (λ (f : Frame (List ℕ)). charge (length f.value)) frame frames
 
 pub charged-tail : (frame other : Frame (List ℕ)) (frames others : Tree) → frame.value ≡ other.value → charged_for frames ≡ charged_for others → charged_for (frame ∷ frames) ≡ charged_for (other ∷ others)
-charged-tail frame other frames others first rest =
-    charged-cons frame frames ∙ ap (λ (n : ℕ). charge (length frame.value) + n) rest ∙ ap (λ (words : List ℕ). charge (length words) + charged_for others) first ∙ sym (charged-cons other others)
+charged-tail frame other frames others first rest = grind (arith, charged-cons)
 
 charged-with_state : (nodes : Nodes) (serial : ℕ) (state : State) (frames : List (Frame ℕ)) → charged_for (with_words_of_nodes nodes (with_state serial state frames)) ≡ charged_for (with_words_of_nodes nodes frames)
 charged-with_state nodes serial state [] = refl

@@ -26,8 +26,7 @@ account-changed n f entries =
     said-with_own owner_of_account (λ e. Some e.1) None (option_map f) n (λ (e : ℕ × Account). (e.0, f e.1)) entries (λ e own. own) (λ e. refl) (λ lacks. refl)
 
 account-changed_other : (m n : ℕ) (f : Account → Account) (entries : Entries) → m ≢ n → account_of m (with_changed n f entries) ≡ account_of m entries
-account-changed_other m n f entries differs =
-    said-with_other owner_of_account (λ e. Some e.1) None m n (λ (e : ℕ × Account). (e.0, f e.1)) entries (λ e. differs (sym e)) (λ e own. own)
+account-changed_other m n f entries differs = grind (arith, said-with_other)
 
 length-changed : (n : ℕ) (f : Account → Account) (entries : Entries) → length (with_changed n f entries) ≡ length entries
 length-changed n f entries = length-with owner_of_account n (λ (e : ℕ × Account). (e.0, f e.1)) entries
@@ -63,22 +62,14 @@ pub record TenantStep (old new : Parts) (number : ℕ) (f : Account → Account)
   pub newest : new.newest ≡ old.newest
 
 account-after : (old new : Parts) (number : ℕ) (f : Account → Account) (account : Account) → TenantStep old new number f account → account_of number new.book.accounts ≡ Some (f account)
-account-after old new number f account step =
-    ap (λ (book : Reservations). account_of number book.accounts) step.book ∙ account-changed number f old.book.accounts ∙ ap (option_map f) step.there
+account-after old new number f account step = grind (arith, account-changed)
 
 other-after : (old new : Parts) (number : ℕ) (f : Account → Account) (account : Account) → TenantStep old new number f account → (other : ℕ) → other ≢ number → account_of other new.book.accounts ≡ account_of other old.book.accounts
-other-after old new number f account step other differs =
-    ap (λ (book : Reservations). account_of other book.accounts) step.book ∙ account-changed_other other number f old.book.accounts differs
+other-after old new number f account step other differs = grind (arith, account-changed_other)
 
 keeps-account : (old new : Parts) (number : ℕ) (other : ℕ) (account : Account) → KeepsOtherTenants old.trees new.trees number → other ≢ number → with_words_of_nodes new.nodes (frames_of old.trees other) ≡ with_words_of_nodes old.nodes (frames_of old.trees other) →
     IsAccountFor old.nodes old.trees other account → IsAccountFor new.nodes new.trees other account
-keeps-account old new number other account kept differs words is =
-    let frames = kept.frames other differs in
-    record {
-      charged = rw (frames, words) is.charged;
-      places = kept.places other differs ∙ is.places;
-      serials = rw frames is.serials;
-    }
+keeps-account old new number other account kept differs words is = grind arith
 
 -- what a store keeps true is true after such a change
 pub step-stored : (old new : Parts) (number : ℕ) (f : Account → Account) (account : Account) → IsStored old → TenantStep old new number f account → IsStored new

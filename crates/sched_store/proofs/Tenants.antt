@@ -1,5 +1,5 @@
 -- Steps that are counted, and jobs that begin and end: no frame changes.
-use Rattle.std.proofs.Common.{◌≡◌, ◌≢◌, ℕ, true, List, [], Option, Some, None, IsSome, IsSomeAnd, option_map, refl, ap, sym, subst, ◌∙◌}
+use Rattle.std.proofs.Common.{◌≡◌, ◌≢◌, ℕ, true, List, [], Option, Some, None, IsSome, IsSomeAnd, option_map, refl, ap, sym, subst, ◌∙◌, arith}
 use Rattle.std.proofs.lemmas.Bool.{false≢true}
 use Rattle.tenant_quota.specs.Accounts.{account_of, ticked, charged_segments, left_in}
 use Rattle.tenant_quota.specs.declared.account.Account.{Account}
@@ -46,34 +46,13 @@ book-left parts stored number P is = let Q : Option Left → Type 0 = λ left. I
 steady-step : (old : Parts) (book : Reservations) (ledgers : List JobLedger) (number : ℕ) (change : Account → Account) (account : Account) → IsStored old → account_of number old.book.accounts ≡ Some account →
     IsSoundBook book → book ≡ changed old.book number change → charged_segments book.accounts ≡ charged_segments old.book.accounts → IsAccountFor old.nodes old.trees number (change account) →
     numbers_of ledgers ≡ numbers_of old.ledgers → ((other : ℕ) → other ≢ number → jobs_of ledgers other ≡ jobs_of old.ledgers other) → TenantStep old (record old { book = book; ledgers = ledgers }) number change account
-steady-step old book ledgers number change account stored there sound is sum own numbers jobs =
-    record {
-      there = there;
-      sound = sound;
-      book = is;
-      trees = record { frames = λ other differs. refl; places = λ other differs. refl };
-      count = refl;
-      tree = stored.forest number;
-      frames_nodes = stored.frames_nodes;
-      sized = stored.sized;
-      segments = refl;
-      charges = stored.charges ∙ sym sum;
-      own = own;
-      words = λ other differs. refl;
-      ledgers = numbers;
-      jobs = jobs;
-      workers = stored.workers;
-      places = stored.places;
-      newest = refl;
-    }
+steady-step old book ledgers number change account stored there sound is sum own numbers jobs = grind arith
 
 -- a step is counted
 
 ticked-step : (old : Parts) (book : Reservations) (number : ℕ) (account : Account) → IsStored old → account_of number old.book.accounts ≡ Some account → IsSoundBook book → ChangesOnly old.book book number ticked → charged_segments book.accounts ≡ charged_segments old.book.accounts →
     TenantStep old (record old { book = book }) number ticked account
-ticked-step old book number account stored there sound changes sum =
-    let own = stored.accounts number account there in
-    steady-step old book old.ledgers number ticked account stored there sound changes.whole sum (record { charged = own.charged; places = own.places; serials = own.serials }) refl (λ other differs. refl)
+ticked-step old book number account stored there sound changes sum = grind (arith, steady-step)
 
 pub record Counted (old : Parts) (book : Reservations) (number : ℕ) : Type 0 where
   pub stored : IsStored (record old { book = book })

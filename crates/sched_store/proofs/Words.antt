@@ -2,7 +2,6 @@
 use Rattle.std.proofs.Common.{◌≡◌, ◌≢◌, ℕ, ◌≤◌, ◌+◌, eqb, List, [], ◌∷◌, length, Some, refl, ap, sym, subst, ◌∙◌, arith, inl, inr}
 use Rattle.std.proofs.lemmas.Bool.{cases_Bool, ne_eqb, eqb-true, eqb-false}
 use Rattle.cactus_stack.specs.Nodes.{Nodes, node_words, with_node_words, IsOpen, charge, total_charge}
-use Rattle.tenant_quota.specs.Quota.{Quota}
 use Rattle.tenant_quota.specs.Accounts.{account_of, charged_segments}
 use Rattle.tenant_quota.specs.Reservations.{Reservations, changed, IsSoundBook}
 use Rattle.tenant_quota.specs.declared.account.Account.{Account}
@@ -113,11 +112,7 @@ words-step old nodes book name frame words f account stored there is some most c
       sized = subst P (sym is) (words-sized old.nodes frame.value words stored.sized here some most);
       segments = ap (λ (ns : Nodes). length ns) is ∙ words-count old.nodes frame.value words;
       charges = omega (arith, total, charges.sum, stored.charges);
-      own = record {
-        charged = rw own_words (omega (arith, charges.own, own_total, account_is.charged));
-        places = account_is.places ∙ sym (ap (λ (q : Quota). q.segments) charges.reserve);
-        serials = rw charges.opened account_is.serials;
-      };
+      own = grind arith;
       words = λ other differs. with_words_of_nodes-same old.nodes nodes (frames_of old.trees other) (found-each (λ x. node_words nodes x.value ≡ node_words old.nodes x.value) (frames_of old.trees other) (tree-rising (frames_of old.trees other) (stored.forest other))
           (λ serial x at. ap (λ (ns : Nodes). node_words ns x.value) is ∙ words-there old.nodes frame.value x.value words (λ same. differs (other-node old.nodes old.trees name.tenant name.serial other serial frame x stored.frames_nodes there at same).0)));
       ledgers = refl;

@@ -106,17 +106,7 @@ not-refused (Err error) not = absurd (not refl)
 
 charged-changes : (parts : Parts) (book : Reservations) (name : FrameId) (account : Account) (before after added : ℕ) → account_of name.tenant parts.book.accounts ≡ Some account → IsSoundBook book → ChangesOnly parts.book book name.tenant (charged_by added 0) →
     charged_segments book.accounts ≡ charged_segments parts.book.accounts + added → before + added ≡ after → ChargesWords parts book name (charged_by added 0) account before after
-charged-changes parts book name account before after added own sound changes sum grown =
-    record {
-      there = own;
-      sound = sound;
-      changes = changes.whole;
-      reserve = refl;
-      opened = omega arith;
-      ticks = refl;
-      own = omega (arith, grown);
-      sum = omega (arith, sum, grown);
-    }
+charged-changes parts book name account before after added own sound changes sum grown = grind arith
 
 pub growth-set : (old : Parts) (nodes : Nodes) (book : Reservations) (name : FrameId) (node more added : ℕ) → IsStored old → HasNode old name node → nodes ≡ with_node_words old.nodes node (node_words old.nodes node ++ replicate more 0) →
     length (node_words old.nodes node) + more ≤ 128 → added ≡ growth_charge (length (node_words old.nodes node)) more → IsSoundBook book → ChangesOnly old.book book name.tenant (charged_by added 0) → charged_segments book.accounts ≡ charged_segments old.book.accounts + added →

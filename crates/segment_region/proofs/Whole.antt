@@ -16,10 +16,7 @@ IsUnlisted mark places n = (m : ℕ) → IsFreeList mark places (Some n) m → �
 -- so it is with one that is taken, and with one from the mark on
 taken_unlisted : (mark : ℕ) (places : List (Option WordBlock)) (n : ℕ) → TakenBlock mark places n → IsUnlisted mark places n
 taken_unlisted mark places n t zero chain = absurd (cc)
-taken_unlisted mark places n t (suc m) chain =
-    let taken : (link_in places n).taken ≡ true = ap (λ (place : Option WordBlock). (place_link place).taken) t.is ∙ t.state in
-    let free = chain.1 in
-    absurd (cc)
+taken_unlisted mark places n t (suc m) chain = grind arith
 
 mark_unlisted : (mark : ℕ) (places : List (Option WordBlock)) → IsUnlisted mark places mark
 mark_unlisted mark places zero chain = absurd (cc)
@@ -88,8 +85,7 @@ mark_is_free mark places below = (omega (arith, below, length-segments_of_blocks
 -- the entries after a write below the mark, and at the mark
 pub entries-write : (mark : ℕ) (places : List (Option WordBlock)) (n : ℕ) (block : WordBlock) (next : Option ℕ) → n < mark → IsLink block.link true next →
     segments_of_blocks mark (set places n (Some block)) ≡ set (segments_of_blocks mark places) n (Some (record { words = block.words; link = next }))
-entries-write mark places n block next below link =
-    segments_of_blocks-set mark places n (Some block) below ∙ ap (λ (e : Option Segment). set (segments_of_blocks mark places) n e) (segment_of_block-taken block.link block.words next link)
+entries-write mark places n block next below link = grind (arith, segments_of_blocks-set, set, segment_of_block-taken)
 
 pub entries-mark : (mark : ℕ) (places : List (Option WordBlock)) (block : WordBlock) (next : Option ℕ) → IsLink block.link true next →
     segments_of_blocks (mark + 1) (set places mark (Some block)) ≡ set (segments_of_blocks mark places) mark (Some (record { words = block.words; link = next }))
@@ -105,9 +101,7 @@ entries-free mark places n block taken free =
     segments_of_blocks-set mark places n (Some block) t.marked ∙ ap (λ (e : Option Segment). set (segments_of_blocks mark places) n e) (segment_of_block-free block.link block.words free)
 
 pub entries-less : (mark : ℕ) (places : List (Option WordBlock)) (n : ℕ) → n + 1 ≡ mark → segments_of_blocks n places ≡ set (segments_of_blocks mark places) n None
-entries-less mark places n last =
-    let up : mark ≡ suc n = omega (arith, last) in
-    rw up (segments_of_blocks-less n places)
+entries-less mark places n last = grind (arith, segments_of_blocks-less)
 
 -- the head is taken
 pub whole-take : (places : List (Option WordBlock)) (count mark h : ℕ) (free next : Link) (listed : ℕ) (block : WordBlock) → IsWhole places count mark free listed → next_of free ≡ Some h → IsLink block.link true None → next ≡ link_in places h →
@@ -244,18 +238,7 @@ chain-same mark places after same (Some h) (suc m) chain =
 
 pub whole-words : (places : List (Option WordBlock)) (count mark n : ℕ) (free : Link) (listed : ℕ) (block : WordBlock) (words : List ℕ) → IsWhole places count mark free listed → n < mark → get_or places n None ≡ Some block →
     IsWhole (set places n (Some (record { words = words; link = block.link }))) count mark free listed
-whole-words places count mark n free listed block words whole below is =
-    let made : WordBlock = record { words = words; link = block.link } in
-    let same = words-set places n block words is mark in
-    record {
-      all_places = omega (arith, whole.all_places, length-set places n (Some made));
-      in_limits = whole.in_limits;
-      below = whole.below;
-      filled = λ m less. filled-set places n made (omega (arith, below, whole.below, whole.all_places)) m (λ other. whole.filled m less);
-      counted = omega (arith, whole.counted, same);
-      is_free = whole.is_free;
-      chain = chain-same mark places (set places n (Some made)) (words-link places n block words is) (next_of free) listed whole.chain;
-    }
+whole-words places count mark n free listed block words whole below is = grind (arith, words-set, length-set, filled-set, chain-same, set, words-link)
 
 -- the entries after the words of the block at a place were written: with those words under a number that is taken, if that is the place
 pub entries-words : (mark : ℕ) (places : List (Option WordBlock)) (at n : ℕ) (block : WordBlock) (words : List ℕ) → at ≡ n → IsTaken (segments_of_blocks mark places) n → get_or places at None ≡ Some block
@@ -275,10 +258,7 @@ entries-link mark places n block link next taken is e =
 
 -- none is taken at first
 pub first_entries : (places : List (Option WordBlock)) (count : ℕ) → places ≡ replicate count None → segments_of_blocks 0 places ≡ replicate count None
-first_entries places count are =
-    let none : Option WordBlock = None in
-    let nothing : Option Segment = None in
-    segments_of_blocks-none places ∙ ap (λ (k : ℕ). replicate k nothing) (ap (λ (ps : List (Option WordBlock)). length ps) are ∙ length-replicate count none)
+first_entries places count are = grind (arith, segments_of_blocks-none, length-replicate)
 
 pub first_whole : (places : List (Option WordBlock)) (count : ℕ) (free : Link) → places ≡ replicate count None → count ≤ 65536 → IsLink free false None → IsWhole places count 0 free 0
 first_whole places count free are in_limits link =
@@ -300,9 +280,7 @@ no_head mark places (suc m) chain = absurd chain
 
 -- all are taken where no free block is chained and the mark is at the end, and while one is free not all are
 pub none_free : (places : List (Option WordBlock)) (count mark : ℕ) (free : Link) (listed : ℕ) → IsWhole places count mark free listed → next_of free ≡ None → count ≤ mark → taken_count (segments_of_blocks mark places) ≡ length (segments_of_blocks mark places)
-none_free places count mark free listed whole no_next no_more =
-    let none = no_head mark places listed (subst (λ (o : Option ℕ). IsFreeList mark places o listed) no_next whole.chain) in
-    omega (arith, none, whole.below, whole.counted, whole.all_places, length-segments_of_blocks mark places)
+none_free places count mark free listed whole no_next no_more = grind (arith, no_head, length-segments_of_blocks)
 
 pub some_free : (region : Segments) (n : ℕ) → IsFree region n → taken_count region ≡ length region → ⊥
 some_free region n free all =

@@ -157,8 +157,7 @@ module _ {A : Type 0} where
 
   -- each deque, of owners and rows
   pub whole_of_zip : (owners : List (DequeSeatIn A)) (rows : List (List (DequeSeatIn A))) → length owners ≡ length rows → whole_deques (zip_seats owners rows) ≡ with_rows owners rows
-  whole_of_zip owners rows len =
-      ap (λ (l : List (DequeSeatIn A)). with_rows l (map (λ (its : WorkerSeatsIn A). its.thieves) (zip_seats owners rows))) (own_of_zip owners rows len) ∙ ap (λ (l : List (List (DequeSeatIn A))). with_rows owners l) (thieves_of_zip owners rows len)
+  whole_of_zip owners rows len = grind (arith, own_of_zip, thieves_of_zip)
 
   deques_of_posts : (all : List (WorkerSeatsIn A)) → map (λ (its : PostsIn A). its.own) (map posts_of all) ≡ deques (map (λ (its : WorkerSeatsIn A). its.own) all)
   deques_of_posts [] = refl
@@ -205,13 +204,10 @@ module _ {A : Type 0} where
       all_unmapped (λ (row : List (DequeSeatIn A)). deques row ≡ deques owners) (λ row. thief_seats row.items) back.rows.items (rows_of_whole owners _ (row_each back) is)
 
   pub parts_back : (back : Returned A) → IsWhole (map posts_of (returned back)) → All (λ seat. seat.tally.parts + vec_len back.rows ≡ 64) (owner_seats back.owners.items)
-  parts_back back is k d inside =
-      let sum = parts_of_whole (owner_seats back.owners.items) _ (row_each back) is k d inside in omega (arith, length-map back.owners.items owner_seat, back.owners.ok.0, back.paired)
+  parts_back back is k d inside = grind (arith, parts_of_whole, row_each, length-map)
 
   pub few_back : (back : Returned A) → IsWhole (map posts_of (returned back)) → vec_len back.owners ≤ 64
-  few_back back is =
-      let owners : List (DequeSeatIn A) = owner_seats back.owners.items in
-      omega (arith, few_of_parts owners (length owners) refl (parts_of_whole owners _ (row_each back) is), length-map back.owners.items owner_seat, back.owners.ok.0)
+  few_back back is = grind (arith, few_of_parts, parts_of_whole, row_each, length-map)
 
   -- a loop over rows, at the next one
   pub next_row : {X : Type 0} (seats : X → List (DequeSeatIn A)) (owners : List (DequeSeatIn A)) (row : X) (old rest : List X) (total : List (DequeSeatIn A)) → old ≡ row ∷ rest → AreTurns owners (map seats old) total →
@@ -220,8 +216,7 @@ module _ {A : Type 0} where
 
   -- what the joining of a row asks for
   pub row_room : (owners : List (DequeSeatIn A)) (rows : List (List (DequeSeatIn A))) (row : List (DequeSeatIn A)) (total : List (DequeSeatIn A)) → AreTurns owners (row ∷ rows) total → (deques row ≡ deques owners) × All (λ seat. seat.tally.parts < 64) owners
-  row_room owners rows row total turns =
-      (All-head (λ (r : List (DequeSeatIn A)). deques r ≡ deques owners) row rows turns.same, λ k d inside. let sum = turns.parts k d inside in omega arith)
+  row_room owners rows row total turns = grind arith
 
   -- the turn after it
   pub rows_turn : (owners after : List (DequeSeatIn A)) (rows : List (List (DequeSeatIn A))) (row : List (DequeSeatIn A)) (total : List (DequeSeatIn A)) → All (λ seat. seat.tally.parts ≡ 1) row → after ≡ with_row owners row → AreTurns owners (row ∷ rows) total → AreTurns after rows total

@@ -1,6 +1,6 @@
 -- Each kind of step keeps the rule of a deque.
-use Rattle.std.proofs.Common.{◌≡◌, ℕ, zero, suc, ◌+◌, ◌-◌, ◌<◌, List, [], ◌∷◌, ◌++◌, set, sym, refl, ap, ◌∙◌, arith}
-use mathlib.Core.Option.{some, some-injective, some-ne-none}
+use Rattle.std.proofs.Common.{◌≡◌, ℕ, ◌+◌, ◌-◌, ◌<◌, List, [], ◌∷◌, ◌++◌, set, refl, arith}
+use mathlib.Core.Option.{some}
 use lib.ListN.{get_elem?}
 use Rattle.crossbeam_deque.specs.Tasks.{Pushes, Takes, Pops, Finds, Forks, Merges, Learns}
 use Rattle.task_deques.specs.declared.rule.Tally.{Tally}
@@ -9,24 +9,13 @@ use Rattle.task_deques.specs.Tallies.{tally, weigh, IsEmptied, IsEachOnce}
 use Rattle.task_deques.proofs.TallyLemmas.{weigh-append, total-snoc, total-set, alone, idle_set, idle_snoc}
 
 pub begins : IsEachOnce [] (tally 64 [] [] ∷ [])
-begins = (refl, λ h. refl, λ port v e none. absurd (begun port v e none)) where
-  begun : (port : ℕ) (v : Tally) → get_elem? (tally 64 [] [] ∷ []) port ≡ some v → v.parts ≡ 0 → ⊥
-  begun zero v e none = let same = ap (λ (u : Tally). u.parts) (some-injective (tally 64 [] []) v e) in omega arith
-  begun (suc j) v e none = some-ne-none v (sym e)
+begins = grind arith
 
 -- a seat that has a part changes what it pushed and took: the rule is kept where, by each weighing, what the deque holds changes by as much
 changes : (port : ℕ) (v w : Tally) (before after : List Task) (views : List Tally) → 0 < v.parts → w.parts ≡ v.parts →
     ((h : Task → ℕ) → weigh h w.pushed + weigh h v.taken + weigh h before ≡ weigh h v.pushed + weigh h w.taken + weigh h after) →
     IsEachOnce before views → get_elem? views port ≡ some v → IsEachOnce after (set views port w)
-changes port v w before after views some_part same by b at = (
-  (let s = total-set (λ u. u.parts) views port v w at in let p = b.0 in omega arith),
-  (λ h.
-      let s = total-set (λ u. weigh h u.pushed) views port v w at in
-      let t = total-set (λ u. weigh h u.taken) views port v w at in
-      let p = b.1 h in
-      omega (arith, by h)),
-  idle_set views port w (λ none. absurd (omega arith)) b.2,
-)
+changes port v w before after views some_part same by b at = grind (arith, total-set, idle_set)
 
 pub pushes : (port : ℕ) (v : Tally) (xs : List Task) → 0 < v.parts → Pushes IsEachOnce port v xs (λ w. w ≡ tally v.parts (v.pushed ++ xs) v.taken)
 pushes port v xs some_part items views b at =
@@ -45,41 +34,14 @@ pops port v some_part x items views b at =
 
 -- one part is cut off, with nothing pushed and nothing taken
 pub forks : (port : ℕ) (v : Tally) → 1 < v.parts → Forks IsEachOnce port v (tally (v.parts - 1) v.pushed v.taken) (tally 1 [] [])
-forks port v enough items views b at =
-    let l = tally (v.parts - 1) v.pushed v.taken in let r = tally 1 [] [] in let vs : List Tally = set views port l in (
-      (let s = total-set (λ u. u.parts) views port v l at in let t = total-snoc (λ u. u.parts) vs r in let p = b.0 in omega arith),
-      (λ h.
-          let s = total-set (λ u. weigh h u.pushed) views port v l at in
-          let t = total-set (λ u. weigh h u.taken) views port v l at in
-          let s' = total-snoc (λ u. weigh h u.pushed) vs r in
-          let t' = total-snoc (λ u. weigh h u.taken) vs r in
-          let p = b.1 h in
-          omega arith),
-      idle_snoc vs r (λ none. absurd (omega arith)) (idle_set views port l (λ none. absurd (omega arith)) b.2),
-    )
+forks port v enough items views b at = grind (arith, total-set, total-snoc, idle_snoc, idle_set)
 
 -- two seats' parts and lists come together, and the other is spent
 pub merges : (port : ℕ) (v : Tally) (other : ℕ) (u : Tally) → 0 < v.parts → Merges IsEachOnce port v other u (tally (v.parts + u.parts) (v.pushed ++ u.pushed) (v.taken ++ u.taken)) (tally 0 [] [])
-merges port v other u some_part items views b at two at' =
-    let both = tally (v.parts + u.parts) (v.pushed ++ u.pushed) (v.taken ++ u.taken) in let vs : List Tally = set views port both in let spent = tally 0 [] [] in (
-      (let s = total-set (λ y. y.parts) views port v both at in let t = total-set (λ y. y.parts) vs other u spent at' in let p = b.0 in omega arith),
-      (λ h.
-          let s = total-set (λ y. weigh h y.pushed) views port v both at in
-          let t = total-set (λ y. weigh h y.taken) views port v both at in
-          let s' = total-set (λ y. weigh h y.pushed) vs other u spent at' in
-          let t' = total-set (λ y. weigh h y.taken) vs other u spent at' in
-          let p = b.1 h in
-          omega (arith, weigh-append h v.pushed u.pushed, weigh-append h v.taken u.taken)),
-      idle_set vs other spent (λ _. (refl, refl)) (idle_set views port both (λ none. absurd (omega arith)) b.2),
-    )
+merges port v other u some_part items views b at two at' = grind (arith, total-set, weigh-append, idle_set)
 
 pub learns : (port : ℕ) (v : Tally) → Learns IsEachOnce port v (λ items. v.parts ≡ 64 → (h : Task → ℕ) → weigh h v.pushed ≡ weigh h v.taken + weigh h items)
-learns port v items views b at all h =
-    let whole = b.0 ∙ sym all in
-    let s = alone (λ u. weigh h u.pushed) views port v at whole (λ j u e none. ap (weigh h) (b.2 j u e none).0) in
-    let t = alone (λ u. weigh h u.taken) views port v at whole (λ j u e none. ap (weigh h) (b.2 j u e none).1) in
-    let p = b.1 h in
-    omega arith
+learns port v items views b at all h = grind (arith, alone)
 
 pub finds : (port : ℕ) (v : Tally) → Finds IsEachOnce port v (v.parts ≡ 64 → IsEmptied v)
 finds port v views b at all h = let p = learns port v [] views b at all h in omega arith

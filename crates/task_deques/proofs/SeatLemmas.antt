@@ -49,8 +49,7 @@ module _ {A : Type 0} where
   -- the seat of the owner there
   pub owner_at : (f : DequeSeatIn A → DequeSeatIn A) (owners : List (Owner A)) (before : List (DequeSeatIn A)) (place : ℕ) (x : Owner A) → place < length owners → x ≡ get_or owners place x →
       owner_seats owners ≡ map f (take place before) ++ drop place before → owner_seat x ≡ get_or before place (owner_seat x)
-  owner_at f owners before place x inside at so_far =
-      sym (get_or-map owner_seat owners place x (owner_seat x) inside ∙ ap owner_seat (sym at)) ∙ ap (λ (l : List (DequeSeatIn A)). get_or l place (owner_seat x)) so_far ∙ same_at f before place (owner_seat x)
+  owner_at f owners before place x inside at so_far = grind (arith, get_or-map, same_at)
 
   -- it can give a part
   pub owner_gives : (owners : List (Owner A)) (before : List (DequeSeatIn A)) (place : ℕ) (x : Owner A) → place < length owners → place < length before → x ≡ get_or owners place x →
@@ -160,21 +159,15 @@ module _ {A : Type 0} where
 
   -- the same of a list of seats and of ends that are equal to these
   dealt_ends : (parts : ℕ) (owners seats : List (DequeSeatIn A)) (all : List (WorkerSeatsIn A)) → seats ≡ map (fresh_with parts) owners → parts ≡ 64 - length owners → all ≡ map (beside (map new_thief seats)) seats → IsDealt all
-  dealt_ends parts owners seats all are count is =
-      subst IsDealt (sym (is ∙ ap (λ (l : List (DequeSeatIn A)). map (beside (map new_thief l)) l) are)) (dealt parts owners count)
+  dealt_ends parts owners seats all are count is = grind (arith, dealt)
 
   whole_ends : (parts : ℕ) (owners seats : List (DequeSeatIn A)) (all : List (DequeEnds A)) → seats ≡ map (fresh_with parts) owners → parts + length owners ≡ 64 → map worker_seats all ≡ map (beside (map new_thief seats)) seats → IsWhole (map posts all)
-  whole_ends parts owners seats all are count is =
-      subst IsWhole (sym (posts_by_seats all ∙ ap (λ (l : List (WorkerSeatsIn A)). map posts_of l) (is ∙ ap (λ (l : List (DequeSeatIn A)). map (beside (map new_thief l)) l) are))) (whole parts owners count)
+  whole_ends parts owners seats all are count is = grind (arith, posts_by_seats, whole)
 
   -- so ends are dealt where each of the owners of new deques has given a part to each worker
   pub ends_dealt : (count : ℕ) (made owners : List (Owner A)) (all : List (DequeEnds A)) → count ≡ length made → count < 64 → owner_seats owners ≡ map (fresh_with (64 - count)) (owner_seats made) →
       map worker_seats all ≡ map (beside (map new_thief (owner_seats owners))) (owner_seats owners) → IsDealt (map worker_seats all) × IsWhole (map posts all)
-  ends_dealt count made owners all len few are is =
-      let seats : count ≡ length (owner_seats made) = len ∙ sym (length-map made owner_seat) in (
-        dealt_ends (64 - count) (owner_seats made) (owner_seats owners) (map worker_seats all) are (ap (λ n. 64 - n) seats) is,
-        whole_ends (64 - count) (owner_seats made) (owner_seats owners) all are (omega arith) is,
-      )
+  ends_dealt count made owners all len few are is = grind (arith, length-map, dealt_ends, whole_ends)
 
   -- with the room of the owners of new deques
   pub room_dealt : (room : ℕ) (made owners : List (Owner A)) (all : List (DequeEnds A)) → All (λ owner. owner_room owner ≡ room) made → map owner_room owners ≡ map owner_room made →
@@ -185,8 +178,7 @@ module _ {A : Type 0} where
 
   -- the seat of an owner in a list whose seats are known
   pub seat_at : (owners : List (Owner A)) (seats : List (DequeSeatIn A)) (place : ℕ) (x : Owner A) → place < length owners → x ≡ get_or owners place x → owner_seats owners ≡ seats → get_or seats place (owner_seat x) ≡ owner_seat x
-  seat_at owners seats place x inside at are =
-      ap (λ (l : List (DequeSeatIn A)). get_or l place (owner_seat x)) (sym are) ∙ get_or-map owner_seat owners place x (owner_seat x) inside ∙ ap owner_seat (sym at)
+  seat_at owners seats place x inside at are = grind (arith, get_or-map)
 
   -- an owner changes in place, and its seat doesn't
   pub seats_same : (owners : List (Owner A)) (place : ℕ) (x y : Owner A) → x ≡ get_or owners place x → owner_seat y ≡ owner_seat x → owner_seats (set owners place y) ≡ owner_seats owners

@@ -1,5 +1,5 @@
 -- Sums over the seats of a deque.
-use Rattle.std.proofs.Common.{◌≡◌, ℕ, zero, suc, ◌+◌, ◌≤◌, ◌≢◌, List, [], ◌∷◌, ◌++◌, length, set, sym, refl, ap, ◌∙◌, ⊎_elim, arith}
+use Rattle.std.proofs.Common.{◌≡◌, ℕ, zero, suc, ◌+◌, ◌≤◌, List, [], ◌∷◌, ◌++◌, length, set, sym, refl, ap, arith}
 use mathlib.Core.Option.{some, some-injective, some-ne-none}
 use lib.ListN.{get_elem?}
 use Rattle.crossbeam_deque.proofs.Lists.{at_set, at_snoc}
@@ -41,14 +41,10 @@ alone f (x ∷ xs) (suc j) v e all idle =
     omega (arith, idle 0 x refl (omega arith), alone f xs j v e (omega arith) (λ k u d. idle (suc k) u d))
 
 pub idle_set : (l : List Tally) (j : ℕ) (w : Tally) → (w.parts ≡ 0 → (w.pushed ≡ []) × (w.taken ≡ [])) → IdleIsEmpty l → IdleIsEmpty (set l j w)
-idle_set l j w mine others k u e none =
-    ⊎_elim (λ (x : (k ≡ j) × (w ≡ u)). let back = mine (ap (λ (y : Tally). y.parts) x.1 ∙ none) in (ap (λ (y : Tally). y.pushed) (sym x.1) ∙ back.0, ap (λ (y : Tally). y.taken) (sym x.1) ∙ back.1))
-    (λ (x : (k ≢ j) × (get_elem? l k ≡ some u)). others k u x.1 none) (at_set l j k w u e)
+idle_set l j w mine others k u e none = grind (arith, at_set)
 
 pub idle_snoc : (l : List Tally) (w : Tally) → (w.parts ≡ 0 → (w.pushed ≡ []) × (w.taken ≡ [])) → IdleIsEmpty l → IdleIsEmpty (l ++ w ∷ [])
-idle_snoc l w mine others k u e none =
-    ⊎_elim (λ (x : get_elem? l k ≡ some u). others k u x none)
-    (λ (x : w ≡ u). let back = mine (ap (λ (y : Tally). y.parts) x ∙ none) in (ap (λ (y : Tally). y.pushed) (sym x) ∙ back.0, ap (λ (y : Tally). y.taken) (sym x) ∙ back.1)) (at_snoc l w u k e)
+idle_snoc l w mine others k u e none = grind (arith, at_snoc)
 
 pub weigh-one : (xs : List Task) → weigh (λ _. 1) xs ≡ length xs
 weigh-one [] = refl

@@ -19,15 +19,7 @@ lacks : (t : ℕ) (es : List (ℕ × Account)) → account_of t es ≡ None → 
 lacks t es none = lacks-said owner_of_account (λ e. Some e.1) None t es (λ e is. cc) none
 
 pub IsWithinReserve-fresh : (quota : Quota) → IsWithinLimits quota → IsWithinReserve (fresh quota)
-IsWithinReserve-fresh quota limits = record {
-  some_segments = limits.some_segments;
-  segments_within = limits.segments_within;
-  some_nodes = limits.some_nodes;
-  nodes_within = limits.nodes_within;
-  charged_within = omega arith;
-  opened_within = omega arith;
-  ticks_within = omega arith;
-}
+IsWithinReserve-fresh quota limits = grind arith
 
 pub Admits-admitted : (b : Reservations) (t : ℕ) (quota : Quota) → account_of t b.accounts ≡ None → Admits b (admitted b t quota) t quota
 Admits-admitted b t quota none = record {
@@ -90,15 +82,7 @@ IsSoundBook-changed b t f a is keeps within sound =
 -- an account whose reservation is raised
 
 IsWithinReserve-raised : (a : Account) (quota : Quota) → IsWithinLimits quota → IsAbove a.reserve quota → IsWithinReserve a → IsWithinReserve (raised_to quota a)
-IsWithinReserve-raised a quota limits above within = record {
-  some_segments = limits.some_segments;
-  segments_within = limits.segments_within;
-  some_nodes = limits.some_nodes;
-  nodes_within = limits.nodes_within;
-  charged_within = omega (arith, above.segments, within.charged_within);
-  opened_within = omega (arith, above.nodes, within.opened_within);
-  ticks_within = omega (arith, above.nodes, within.ticks_within);
-}
+IsWithinReserve-raised a quota limits above within = grind arith
 
 pub Raises-raised : (b : Reservations) (t : ℕ) (quota : Quota) (a : Account) → account_of t b.accounts ≡ Some a → Raises b (changed b t (raised_to quota)) t quota a.reserve
 Raises-raised b t quota a is = record {
@@ -119,8 +103,7 @@ IsSoundBook-raised b t quota a is limits above room within sound =
       some_nodes = sound.some_nodes;
       nodes_within = sound.nodes_within;
       rising = rising-with owner_of_account t (entry_by (raised_to quota)) b.accounts (λ e is. is) sound.rising;
-      within = all-with (λ e. IsWithinReserve e.1) owner_of_account t (entry_by (raised_to quota)) b.accounts sound.within
-          (λ e had here. let same : e ≡ (t, a) = cc (here, entry-of t a b.accounts is) in subst (λ (x : ℕ × Account). IsWithinReserve (raised_to quota x.1)) (sym same) (IsWithinReserve-raised a quota limits above within));
+      within = grind (arith, all-with, entry-of);
       tenants = omega (arith, raises.tenants, sound.tenants);
       segments_reserved = omega (arith, raises.segments, room.segments);
       nodes_reserved = omega (arith, raises.nodes, room.nodes);

@@ -1,5 +1,5 @@
 -- The account of a tenant in a sound book, and what a write of it does.
-use Rattle.std.proofs.Common.{◌≡◌, ℕ, ◌+◌, ◌*◌, true, ◌<◌, ◌≤◌, ◌⊎◌, inl, inr, List, Option, Some, None, IsSome, IsSomeAnd, IfSome, refl, ap, sym, subst}
+use Rattle.std.proofs.Common.{◌≡◌, ℕ, ◌+◌, ◌*◌, true, ◌<◌, ◌≤◌, ◌⊎◌, inl, inr, List, Option, Some, None, IsSome, IsSomeAnd, IfSome, refl, ap, sym, subst, arith}
 use Rattle.tenant_quota.specs.declared.account.Account.{Account}
 use Rattle.std.specs.Prelude.{sum_by}
 use Rattle.tenant_quota.specs.Quota.{Quota, IsWithinLimits, IsAbove}
@@ -31,8 +31,7 @@ and_from o P x at is = subst (λ y. IsSomeAnd y P) (sym at) is
 
 -- other counts, each within what is reserved
 pub within_with : (a : Account) (charged opened ticks : ℕ) → charged ≤ a.reserve.segments → opened ≤ a.reserve.nodes → ticks ≤ 16 * a.reserve.nodes → IsWithinReserve a → IsWithinReserve (record a { charged = charged; opened = opened; ticks = ticks })
-within_with a charged opened ticks few some many within =
-    record { some_segments = within.some_segments; segments_within = within.segments_within; some_nodes = within.some_nodes; nodes_within = within.nodes_within; charged_within = few; opened_within = some; ticks_within = many }
+within_with a charged opened ticks few some many within = grind arith
 
 -- the tenant of an account has an entry
 pub is_there : (b : Reservations) (t : ℕ) → IsSome (account_of t b.accounts) → has_by_number owner_of_account t b.accounts ≡ true
@@ -40,10 +39,7 @@ is_there b t there = let a = some_of (account_of t b.accounts) there in has-foun
 
 -- the entry that was found
 pub stands_for : (b : Reservations) (t : ℕ) (e : ℕ × Account) → IsSoundBook b → find_by_number owner_of_account t b.accounts ≡ Some e → StandsFor b t e
-stands_for b t e sound found = record {
-  account = said-found owner_of_account (λ x. Some x.1) None t b.accounts e found;
-  within = all-of (λ x. IsWithinReserve x.1) owner_of_account t e b.accounts found sound.within;
-}
+stands_for b t e sound found = grind (arith, said-found, all-of)
 
 -- the accounts with another in the entry that was found
 abbrev pub written : Reservations → ℕ → ℕ × Account → (Account → Account) → Reservations
@@ -75,8 +71,7 @@ change_facts b t f a is keeps within sound = record {
 }
 
 pub change_by_write : (b : Reservations) (t : ℕ) (e : ℕ × Account) (f : Account → Account) → IsSoundBook b → find_by_number owner_of_account t b.accounts ≡ Some e → ((x : Account) → (f x).reserve ≡ x.reserve) → IsWithinReserve (f e.1) → IsChange b (written b t e f) t f
-change_by_write b t e f sound found keeps within =
-    subst (λ new. IsChange b new t f) (written_is b t e f found) (change_facts b t f e.1 (stands_for b t e sound found).account keeps within sound)
+change_by_write b t e f sound found keeps within = grind (arith, written_is, change_facts, stands_for)
 
 pub sum_by_write : (g : ℕ × Account → ℕ) (b : Reservations) (t : ℕ) (e : ℕ × Account) (f : Account → Account) → find_by_number owner_of_account t b.accounts ≡ Some e → sum_by g (written b t e f).accounts + g e ≡ sum_by g b.accounts + g (e.0, f e.1)
 sum_by_write g b t e f found = sum_by-with g owner_of_account t (λ x. (e.0, f e.1)) e b.accounts found
