@@ -1,5 +1,5 @@
 -- What some customers' events leave of what others see.
-use Rattle.std.proofs.Common.{◌≡◌, ℕ, Bool, true, false, eqb, List, [], ◌∷◌, ◌++◌, refl, arith}
+use Rattle.std.proofs.Common.{◌≡◌, ℕ, Bool, true, false, eqb, List, [], ◌∷◌, ◌++◌, refl, subst, arith}
 use Rattle.std.specs.Prelude.{option_map}
 use Rattle.std.proofs.lemmas.Bool.{and_parts}
 use Rattle.customer_book.specs.declared.amount.Ask.{Ask}
@@ -7,7 +7,7 @@ use Rattle.customer_book.specs.declared.held.Held.{Held}
 use Rattle.customer_book.specs.declared.held.Part.{Part}
 use Rattle.customer_book.specs.declared.held.Part.TheVariants.{Own, Guests}
 use Rattle.customer_book.specs.declared.who.Who.{Who}
-use Rattle.customer_book.specs.Names.{is_guest}
+use Rattle.customer_book.specs.Names.{is_guest, same_who}
 use Rattle.customer_book.specs.Grants.{is_in, used, is_held_as, grant_of, has_grant, without, with_ask}
 use Rattle.customer_book.specs.Runs.{at_any, grants_of}
 use Rattle.customer_book.proofs.NameLemmas.{same-is}
@@ -18,7 +18,7 @@ used-theirs is_one part theirs any [] = refl
 used-theirs is_one part theirs any (g ∷ gs) = grind (arith, used-theirs is_one part theirs any gs)
 
 pub used-own : (is_one : Who → Bool) (who : Who) (class : ℕ) (gs : List Held) → is_one who ≡ true → used (Own who class) gs ≡ used (Own who class) (grants_of is_one gs)
-used-own is_one who class gs own = grind (arith, used-theirs, same-is)
+used-own is_one who class gs own = used-theirs is_one (Own who class) (λ g aye. subst (λ (w : Who). is_one w ≡ true) (same-is who g.who (and_parts (same_who who g.who) (eqb g.class class) aye).0) own) (λ g. refl) gs
 
 pub used-guests : (is_one : Who → Bool) (class : ℕ) (gs : List Held) → ((w : Who) → is_guest w ≡ true → is_one w ≡ true) → used (Guests class) gs ≡ used (Guests class) (grants_of is_one gs)
 used-guests is_one class gs all = used-theirs is_one (Guests class) (λ g aye. all g.who (and_parts (is_guest g.who) (eqb g.class class) aye).0) (λ g. refl) gs

@@ -83,33 +83,31 @@ fn leave_by_bye<K: Sink, S: Source, T: Sink, B: Books, V: Servers<S, T>>(
     }
 }
 
-/// Serves a session that has its seat, to its end.
+/// Tells the client the text, and serves its session until that is to end. None where the client says so, by BYE.
 fn serve_seated<C: Source, K: Sink, S: Source, T: Sink, B: Books, V: Servers<S, T>, R: Wait>(
     rt: &R,
     client: &mut Peer<C, K>,
-    entered: Seated<B>,
-    greeted: Peer<S, T>,
+    seated: &mut Seated<B>,
+    server: &mut Peer<S, T>,
     servers: &mut V,
     line: &mut LineCutter,
     text: &mut RelayText,
-) -> (B, SessionEnd)
-    ensures { Dealt B.deals entered.books (names_at entered.seat) result.0 [] }
+) -> Option<SessionEnd>
+    ensures { Dealt B.deals seated.old.books (names_at seated.old.seat) seated.new.books (names_at seated.new.seat) }
 {
-    let mut seated = entered;
-    let mut server = greeted;
     for _ in rt.forever() {
-        let end = relay_lines(rt, client, &mut server, &mut seated, line);
-        if end != Ok(RelayEnd::Line) {
-            return (leave(seated, server, servers), end_of(end));
-        }
-        let Means::Raises(reserve) = read_seated(line.line()) else {
-            return leave_by_bye(&mut client.sink, seated, server, servers, text);
-        };
-        move_seat(&mut seated, &mut server, servers, ask_of(reserve), text);
         note_text(&seated.books, text);
         if write_text(&mut client.sink, text.as_slice()).is_err() {
-            return (leave(seated, server, servers), SessionEnd::Unwritten);
+            return Some(SessionEnd::Unwritten);
         }
+        let end = relay_lines(rt, client, server, seated, line);
+        if end != Ok(RelayEnd::Line) {
+            return Some(end_of(end));
+        }
+        let Means::Raises(reserve) = read_seated(line.line()) else {
+            return None;
+        };
+        move_seat(seated, server, servers, ask_of(reserve), text);
     }
     unreachable!()
 }
@@ -126,11 +124,12 @@ fn serve_entered<C: Source, K: Sink, S: Source, T: Sink, B: Books, V: Servers<S,
 ) -> (B, SessionEnd)
     ensures { Dealt B.deals seated.books (names_at seated.seat) result.0 [] }
 {
-    note_text(&seated.books, text);
-    if write_text(&mut client.sink, text.as_slice()).is_err() {
-        return (leave(seated, server, servers), SessionEnd::Unwritten);
+    let mut seated = seated;
+    let mut server = server;
+    match serve_seated(rt, client, &mut seated, &mut server, servers, line, text) {
+        Some(end) => (leave(seated, server, servers), end),
+        None => leave_by_bye(&mut client.sink, seated, server, servers, text),
     }
-    serve_seated(rt, client, seated, server, servers, line, text)
 }
 
 /// Serves one session of a client, from its first line to its last. `session` is the number of its grant; the number beside

@@ -10,12 +10,28 @@ pub(crate) struct Label<'a>(pub(crate) &'a str);
 impl fmt::Display for Label<'_> {
     fn fmt<W: fmt::Write>(&self, f: &mut fmt::Formatter<W>) -> fmt::Result {
         for sign in self.0.chars() {
-            if sign == '\\' || sign == '"' || sign == '\n' {
-                f.write_char('\\')?;
-            }
-            f.write_char(if sign == '\n' { 'n' } else { sign })?;
+            match sign {
+                '\\' => f.write_str("\\\\"),
+                '"' => f.write_str("\\\""),
+                '\n' => f.write_str("\\n"),
+                _ => f.write_char(sign),
+            }?;
         }
         Ok(())
+    }
+}
+
+/// The labels of a customer in a class, behind which more may stand.
+#[derive(Clone, Copy)]
+pub(crate) struct Labels<'a> {
+    pub(crate) customer: &'a str,
+    pub(crate) class: &'a str,
+}
+
+impl fmt::Display for Labels<'_> {
+    fn fmt<W: fmt::Write>(&self, f: &mut fmt::Formatter<W>) -> fmt::Result {
+        let (customer, class) = (Label(self.customer), Label(self.class));
+        write!(f, "{{customer=\"{customer}\",class=\"{class}\"")
     }
 }
 
@@ -40,6 +56,19 @@ impl fmt::Display for Seconds {
     fn fmt<W: fmt::Write>(&self, f: &mut fmt::Formatter<W>) -> fmt::Result {
         let (seconds, rest) = (self.0 / 1_000_000, self.0 % 1_000_000);
         write!(f, "{seconds}.{rest:06}")
+    }
+}
+
+/// The bound of a bucket, if it has one.
+#[derive(Clone, Copy)]
+pub(crate) struct Bound(pub(crate) Option<u64>);
+
+impl fmt::Display for Bound {
+    fn fmt<W: fmt::Write>(&self, f: &mut fmt::Formatter<W>) -> fmt::Result {
+        match self.0 {
+            Some(micros) => fmt::Display::fmt(&Seconds(micros), f),
+            None => f.write_str("+Inf"),
+        }
     }
 }
 

@@ -1,7 +1,7 @@
 //! The metrics, in the text format of Prometheus (version 0.0.4).
 use crate::buckets::{BOUNDS, Buckets};
 use crate::counts::{AccountRow, REASONS, Row, ServerRow};
-use crate::labels::{Label, Seconds, push_head};
+use crate::labels::{Bound, Label, Labels, Seconds, push_head};
 use customer_book::Amount;
 use std::alloc::AllocError;
 use std::fmt::Write;
@@ -55,6 +55,14 @@ const NUMBERS: [(Number, &str, &str, &str); 8] = [
         "counter",
     ),
 ];
+
+/// The labels of a row.
+fn labels_of<'a>(row: &Row<'a>) -> Labels<'a> {
+    Labels {
+        customer: row.customer,
+        class: row.class,
+    }
+}
 
 impl Number {
     fn of(self, row: &Row<'_>) -> u64 {
@@ -112,38 +120,28 @@ fn push_numbers(
     rows: &[Row<'_>],
 ) -> Result<(), AllocError> {
     for row in rows {
-        push_row(out, name, "", row)?;
-        end_line(out, number.of(row))?;
+        let (labels, count) = (labels_of(row), number.of(row));
+        writeln!(out, "othello_gate_{name}{labels}}} {count}")?;
     }
     Ok(())
-}
-
-/// Appends a line's name, and the labels of a row, behind which more may stand.
-fn push_row(out: &mut String, name: &str, more: &str, row: &Row<'_>) -> Result<(), AllocError> {
-    let (customer, class) = (Label(row.customer), Label(row.class));
-    write!(
-        out,
-        "othello_gate_{name}{more}{{customer=\"{customer}\",class=\"{class}\""
-    )
-}
-
-/// Ends a line: the labels, and a number.
-fn end_line(out: &mut String, number: u64) -> Result<(), AllocError> {
-    writeln!(out, "}} {number}")
 }
 
 fn push_refusals(out: &mut String, rows: &[Row<'_>]) -> Result<(), AllocError> {
     push_head(out, "refused_total", "Refusals by their reason.", "counter")?;
     for row in rows {
-        push_refused(out, row)?;
+        push_refused(out, &REASONS, row)?;
     }
     Ok(())
 }
 
-fn push_refused(out: &mut String, row: &Row<'_>) -> Result<(), AllocError> {
-    for (reason, count) in REASONS.iter().zip(row.counts.refused.iter()) {
-        push_row(out, "refused_total", "", row)?;
-        writeln!(out, ",reason=\"{reason}\"}} {count}")?;
+/// Appends the refusals of a row for each of these reasons.
+fn push_refused(out: &mut String, reasons: &[&str], row: &Row<'_>) -> Result<(), AllocError> {
+    for (reason, count) in reasons.iter().zip(row.counts.refused.iter()) {
+        let labels = labels_of(row);
+        writeln!(
+            out,
+            "othello_gate_refused_total{labels},reason=\"{reason}\"}} {count}"
+        )?;
     }
     Ok(())
 }
@@ -175,12 +173,12 @@ fn push_histogram(
     row: &Row<'_>,
     buckets: &Buckets,
 ) -> Result<(), AllocError> {
-    let sum = push_buckets(out, name, row, buckets)?;
-    let seconds = Seconds(buckets.sum);
-    push_row(out, name, "_sum", row)?;
-    writeln!(out, "}} {seconds}")?;
-    push_row(out, name, "_count", row)?;
-    end_line(out, sum)
+    let count = push_buckets(out, name, row, buckets)?;
+    let (labels, seconds) = (labels_of(row), Seconds(buckets.sum));
+    writeln!(
+        out,
+        "othello_gate_{name}_sum{labels}}} {seconds}\nothello_gate_{name}_count{labels}}} {count}"
+    )
 }
 
 /// Appends the buckets of a histogram, and returns the sum of their counts. Each bucket also has those of the buckets before.
@@ -193,22 +191,13 @@ fn push_buckets(
     let mut sum: u64 = 0;
     for (place, count) in buckets.counts.iter().enumerate() {
         sum = sum.saturating_add(*count);
-        push_row(out, name, "_bucket", row)?;
-        push_bound(out, BOUNDS.get(place).copied())?;
-        end_line(out, sum)?;
+        let (labels, bound) = (labels_of(row), Bound(BOUNDS.get(place).copied()));
+        writeln!(
+            out,
+            "othello_gate_{name}_bucket{labels},le=\"{bound}\"}} {sum}"
+        )?;
     }
     Ok(sum)
-}
-
-/// Appends the label of a bucket's bound.
-fn push_bound(out: &mut String, bound: Option<u64>) -> Result<(), AllocError> {
-    match bound {
-        Some(micros) => {
-            let seconds = Seconds(micros);
-            write!(out, ",le=\"{seconds}\"")
-        }
-        None => out.push_str(",le=\"+Inf\""),
-    }
 }
 
 fn push_connections(out: &mut String, accounts: &[AccountRow<'_>]) -> Result<(), AllocError> {

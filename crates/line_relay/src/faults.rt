@@ -5,22 +5,17 @@ ghost use Rattle.line_relay.specs.declared.faults.ServerFault.TheVariants.{Read 
 ghost use Rattle.line_relay.specs.declared.faults.RelayFault.TheVariants.{Read, Write, Server};
 
 use line_io::{ReadFailed, WriteFailed};
-use thiserror::Error;
 
 /// Why a server gave no answer to a line.
-#[derive(Clone, Copy, Debug, PartialEq, Eq, Error)]
+#[derive(Clone, Copy, Debug, PartialEq, Eq)]
 pub enum ServerFault {
     /// Number 3: a read from the server failed.
-    #[error("the server's answer could not be read")]
     Read,
     /// Number 4: a write to the server failed.
-    #[error("the line could not be sent to the server")]
     Write,
     /// Number 5: the server's bytes ended before the LF of its answer.
-    #[error("the server ended before its answer")]
     Ended,
     /// Number 6: the server's answer has more than 2,047 bytes.
-    #[error("the server's answer is too long")]
     LongAnswer,
 }
 
@@ -39,16 +34,13 @@ impl ServerFault {
 }
 
 /// Why a relay ended before its lines did. Each fault has a number.
-#[derive(Clone, Copy, Debug, PartialEq, Eq, Error)]
+#[derive(Clone, Copy, Debug, PartialEq, Eq)]
 pub enum RelayFault {
     /// Number 1: a read from the client failed.
-    #[error("the client's line could not be read")]
     Read,
     /// Number 2: a write to the client failed.
-    #[error("the answer could not be written to the client")]
     Write,
     /// Numbers 3 to 6: the server gave no answer.
-    #[error("no answer of the server")]
     Server(ServerFault),
 }
 

@@ -3,7 +3,6 @@ ghost use Rattle.std.specs.Prelude.{IfSome};
 ghost use Rattle.gate_session.specs.Deals.{IsGrantFor};
 
 use crate::counts::Tally;
-use crate::register::Register;
 use crate::shared::{Shared, micros};
 use customer_book::{Ask, Cause, Grant, Refusal, Who};
 use gate_rules::{Said, read_answer};
@@ -52,14 +51,20 @@ fn line_of(
     whole: &Tally,
     end: &str,
 ) -> Option<String> {
-    let server = directory.servers.get(session.server).copied()?;
-    let class = directory.classes.get(session.class as usize)?;
-    let customer = directory.name_of(alloc, session.who).ok()?;
+    let Some(server) = directory.servers.get(session.server) else {
+        return None;
+    };
+    let Some(class) = directory.classes.get(session.class as usize) else {
+        return None;
+    };
+    let Ok(customer) = directory.name_of(alloc, session.who) else {
+        return None;
+    };
     let row = SessionRow {
         number: session.number,
         customer: customer.as_str(),
         class: class.as_str(),
-        server,
+        server: *server,
         segments: session.ask.segments,
         nodes: session.ask.nodes,
         micros: session.micros,
@@ -70,8 +75,10 @@ fn line_of(
         end,
     };
     let mut out = String::new(alloc);
-    push_session(&mut out, &row).ok()?;
-    Some(out)
+    match push_session(&mut out, &row) {
+        Ok(()) => Some(out),
+        Err(_) => None,
+    }
 }
 
 /// A session's way to the book.
@@ -119,18 +126,32 @@ impl<'a, R: Clock + Wait> Clerk<'a, R> {
         }
     }
 
-    /// As whose the connection counts.
-    pub(crate) fn account(&self) -> Who {
-        self.account.get()
+    /// Ends: tells what was counted, has the customer have one connection less, and says the session's line of the log.
+    pub(crate) fn leave(&self, alloc: Global, number: u64, end: &str) {
+        self.tell();
+        let row = match self.server.get() {
+            Some(server) => self.log_of(alloc, number, server, end),
+            None => None,
+        };
+        self.depart();
+        if let Some(row) = row {
+            self.shared.log.say(self.rt, row.as_str());
+        }
     }
 
-    /// The session's line of the log; None where it never had a grant.
-    pub(crate) fn log_of(&self, alloc: Global, number: u64, end: &str) -> Option<String> {
+    /// The customer has one connection less.
+    fn depart(&self) {
+        let mut register = self.shared.lock.lock(self.rt);
+        register.tallies.depart(self.account.get());
+    }
+
+    /// The line of the log of a session that had a grant for this server.
+    fn log_of(&self, alloc: Global, number: u64, server: usize, end: &str) -> Option<String> {
         let session = Session {
             number,
             who: self.account.get(),
             class: self.class.get(),
-            server: self.server.get()?,
+            server,
             ask: self.ask.get(),
             micros: self.shared.moment(self.rt).saturating_sub(self.start),
         };
@@ -147,20 +168,6 @@ impl<'a, R: Clock + Wait> Clerk<'a, R> {
                 Duration::from_micros(refusal.wait).min(Duration::from_secs(MOST_WAIT)),
             );
         }
-    }
-
-    /// Makes the connection one of this customer's, if that may have one more.
-    fn belong(&self, register: &mut Register, who: Who) -> bool {
-        let now = self.account.get();
-        if now == who {
-            return true;
-        }
-        if !register.arrive(who) {
-            return false;
-        }
-        register.tallies.depart(now);
-        self.account.set(who);
-        true
     }
 
     /// Tells what was counted.
@@ -214,15 +221,48 @@ impl<'a, R: Clock + Wait> Clerk<'a, R> {
         ensures { IsGrantFor who session class result }
     {
         let moment = self.shared.moment(self.rt);
-        let mut register = self.shared.lock.lock(self.rt);
-        let answer = register.book_at(moment).open(who, session, class, ask);
+        let answer = self.ask_book(moment, who, session, class, ask);
         if let Ok(grant) = &answer {
-            register.counts.grant(who, class);
             self.class.set(class);
             self.server.set(Some(grant.server()));
             self.ask.set(ask);
         }
         answer
+    }
+
+    /// Asks the book for a session at this moment.
+    fn ask_book(
+        &self,
+        moment: u64,
+        who: Who,
+        session: u64,
+        class: u8,
+        ask: Ask,
+    ) -> Result<Grant, Refusal>
+        ensures { IsGrantFor who session class result }
+    {
+        let mut register = self.shared.lock.lock(self.rt);
+        register.open(moment, who, session, class, ask)
+    }
+
+    /// Whose the connection is from now on, by a token or else its own; Err with whom it counts as refused to.
+    fn welcomed(&self, token: Option<&[u8]>) -> Result<Who, Who> {
+        let mut register = self.shared.lock.lock(self.rt);
+        register.welcome(self.own, self.account.get(), token)
+    }
+
+    /// Asks the book to raise what a session reserves.
+    fn raised(&self, grant: &Grant, ask: Ask) -> Result<(), Refusal> {
+        let moment = self.shared.moment(self.rt);
+        let mut register = self.shared.lock.lock(self.rt);
+        register.raise(moment, grant, ask)
+    }
+
+    /// Asks the book for a line.
+    fn said(&self, who: Who) -> Result<(), Refusal> {
+        let moment = self.shared.moment(self.rt);
+        let mut register = self.shared.lock.lock(self.rt);
+        register.book_at(moment).line(who)
     }
 
     /// Counts a refusal.
@@ -275,10 +315,13 @@ impl<'a, R: Clock + Wait> Clerk<'a, R> {
             Some((word, _)) => word,
             None => line,
         };
-        if word == b"HELLO".as_slice() {
-            self.timed.set(Instant::now(self.rt).ok().map(Timed::Hello));
-        } else if word == b"WAIT".as_slice() {
-            self.timed.set(Instant::now(self.rt).ok().map(Timed::Wait));
+        let is_hello = word == b"HELLO".as_slice();
+        if is_hello || word == b"WAIT".as_slice() {
+            self.timed.set(match Instant::now(self.rt) {
+                Ok(now) if is_hello => Some(Timed::Hello(now)),
+                Ok(now) => Some(Timed::Wait(now)),
+                Err(_) => None,
+            });
         }
     }
 }
@@ -292,20 +335,16 @@ impl<R: Clock + Wait> Books for Clerk<'_, R> {
     ghost deals = { λ _ _ _. Unit {0} };
 
     fn who(&mut self, token: Option<&[u8]>) -> Option<Who> {
-        let mut register = self.shared.lock.lock(self.rt);
-        let who = match token {
-            None => Some(self.own),
-            Some(token) => register.directory.keys.by_token(token),
-        };
-        let found = match who {
-            Some(who) if self.belong(&mut *register, who) => return Some(who),
-            Some(who) => who,
-            None => self.own,
-        };
-        register.counts.refuse(found, 0, 0);
-        drop(register);
-        let _ = self.say(found);
-        None
+        match self.welcomed(token) {
+            Ok(who) => {
+                self.account.set(who);
+                Some(who)
+            }
+            Err(who) => {
+                let _ = self.say(who);
+                None
+            }
+        }
     }
 
     fn class_for(&mut self, who: Who, ask: Ask) -> Option<u8> {
@@ -322,15 +361,7 @@ impl<R: Clock + Wait> Books for Clerk<'_, R> {
     }
 
     fn raise(&mut self, grant: &Grant, ask: Ask) -> Result<(), Refusal> {
-        let moment = self.shared.moment(self.rt);
-        let mut register = self.shared.lock.lock(self.rt);
-        let answer = register.book_at(moment).raise(grant, ask);
-        if let Err(refusal) = &answer {
-            register
-                .counts
-                .refuse(grant.who(), grant.class(), refusal.cause.number());
-        }
-        drop(register);
+        let answer = self.raised(grant, ask);
         match &answer {
             Ok(()) => self.ask.set(ask),
             Err(refusal) => self.pause(*refusal),
@@ -339,10 +370,7 @@ impl<R: Clock + Wait> Books for Clerk<'_, R> {
     }
 
     fn say(&mut self, who: Who) -> Result<(), Refusal> {
-        let moment = self.shared.moment(self.rt);
-        let mut register = self.shared.lock.lock(self.rt);
-        let answer = register.book_at(moment).line(who);
-        drop(register);
+        let answer = self.said(who);
         if let Err(refusal) = &answer {
             self.pause(*refusal);
         }

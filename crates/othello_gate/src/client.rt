@@ -139,7 +139,9 @@ pub(crate) fn serve_client<'a, R: Net<Listener = TcpListener, Stream = TcpStream
     stream: TcpStream,
     number: u64,
 ) -> Option<()> {
-    let mut greeted = take_in(rt, alloc, shared, stream)?;
+    let Some(mut greeted) = take_in(rt, alloc, shared, stream) else {
+        return None;
+    };
     let clerk = Clerk::new(rt, shared, greeted.who);
     converse(rt, alloc, shared, &mut greeted.client, clerk, number);
     Some(())
@@ -165,14 +167,7 @@ fn converse<'a, R: Net<Listener = TcpListener, Stream = TcpStream> + Clock + Wai
 ) {
     let mut servers = Dialer::new(rt, alloc, shared);
     let (clerk, end) = serve_session(rt, client, clerk, &mut servers, number);
-    clerk.tell();
-    let row = clerk.log_of(alloc, number / 2, words_of(end));
-    let mut register = shared.lock.lock(rt);
-    register.tallies.depart(clerk.account());
-    drop(register);
-    if let Some(row) = row {
-        shared.log.say(rt, row.as_str());
-    }
+    clerk.leave(alloc, number / 2, words_of(end));
 }
 
 /// What ended a session, in words.

@@ -1,5 +1,6 @@
 //! The control socket: RELOAD, STATS, and metrics by HTTP.
 use crate::links::{MOST_BYTES, Received};
+use crate::register::ReloadFault;
 use crate::shared::Shared;
 use crate::telling::{metrics_of, stats_of};
 use crate::texts::Texts;
@@ -26,15 +27,24 @@ fn reload<R: Texts + AllocGlobal + Wait>(
     shared: &Shared,
     path: &str,
 ) -> Result<String, AllocError> {
-    let alloc = rt.alloc();
-    let text = match rt.text_of(path) {
-        Ok(text) => text,
-        Err(error) => return format!(in alloc; "ERR {path}: {error}\n"),
-    };
-    let mut register = shared.lock.lock(rt);
-    match register.replan(alloc, text.as_str()) {
-        Ok(()) => format!(in alloc; "OK\n"),
-        Err(why) => format!(in alloc; "ERR {path}: {why}\n"),
+    match replan(rt, shared, path) {
+        Ok(()) => String::from_str(rt.alloc(), "OK\n"),
+        Err(why) => format!(in rt.alloc(); "ERR {path}: {why}\n"),
+    }
+}
+
+/// Goes on by the file, as it is now.
+fn replan<R: Texts + AllocGlobal + Wait>(
+    rt: &R,
+    shared: &Shared,
+    path: &str,
+) -> Result<(), ReloadFault> {
+    match rt.text_of(path) {
+        Ok(text) => {
+            let mut register = shared.lock.lock(rt);
+            register.replan(rt.alloc(), text.as_str())
+        }
+        Err(error) => Err(ReloadFault::Unread(error)),
     }
 }
 
@@ -93,23 +103,33 @@ fn converse<R: Texts + AllocGlobal + Wait>(
     path: &str,
     stream: &TcpStream,
 ) -> Option<()> {
-    stream
-        .set_read_timeout(Some(Duration::from_secs(A_COMMAND)))
-        .ok()?;
-    stream
-        .set_write_timeout(Some(Duration::from_secs(A_COMMAND)))
-        .ok()?;
+    match asked_of(stream) {
+        Some(asked) => match answer(rt, shared, path, asked) {
+            Ok(text) => (&*stream).write_all(text.as_bytes()).ok(),
+            Err(_) => None,
+        },
+        None => None,
+    }
+}
+
+/// What a connection asks for, in time.
+fn asked_of(stream: &TcpStream) -> Option<Asked> {
+    let limit = Some(Duration::from_secs(A_COMMAND));
+    if stream.set_read_timeout(limit).is_err() || stream.set_write_timeout(limit).is_err() {
+        return None;
+    }
     let mut stream = stream;
     let mut received = Received::new();
     for _ in 0..MOST_BYTES {
-        let count = stream.read(received.room()).ok()?;
+        let Ok(count) = stream.read(received.room()) else {
+            return None;
+        };
         if count == 0 {
             return None;
         }
         received.grow(count);
         if let Some(asked) = asked_by(received.bytes()) {
-            let text = answer(rt, shared, path, asked).ok()?;
-            return stream.write_all(text.as_bytes()).ok();
+            return Some(asked);
         }
     }
     None

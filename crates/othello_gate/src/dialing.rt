@@ -1,10 +1,11 @@
 //! Connections to servers.
 use crate::links::{Incoming, Outgoing, ends_of};
+use crate::register::Place;
 use crate::shared::Shared;
 use gate_session::Servers;
 use line_relay::Peer;
 use std::alloc::Global;
-use std::net::{Net, SocketAddr, TcpListener, TcpStream};
+use std::net::{Net, TcpListener, TcpStream};
 use std::sync::Wait;
 use std::thread;
 use std::time::{Clock, Duration, Instant};
@@ -47,15 +48,6 @@ pub(crate) struct Dialer<'a, R> {
     pause: u64,
 }
 
-/// Where a connection is to be made.
-#[derive(Clone, Copy)]
-struct Place {
-    server: usize,
-    address: SocketAddr,
-    /// How many servers the class has.
-    servers: u32,
-}
-
 impl<'a, R: Net<Listener = TcpListener, Stream = TcpStream> + Clock + Wait> Dialer<'a, R> {
     /// That of a session which has no server yet.
     pub(crate) fn new(rt: &'a R, alloc: Global, shared: &'a Shared) -> Dialer<'a, R> {
@@ -90,17 +82,7 @@ impl<'a, R: Net<Listener = TcpListener, Stream = TcpStream> + Clock + Wait> Dial
     fn next_place(&mut self, server: usize) -> Option<Place> {
         let moment = self.shared.moment(self.rt);
         let mut register = self.shared.lock.lock(self.rt);
-        if let Some(last) = self.last {
-            register.servers.fail(last, moment);
-        }
-        let place = register.servers.choose(server, self.asked, moment)?;
-        let address = register.directory.servers.get(place).copied()?;
-        let servers = register.servers.in_class_of(server);
-        Some(Place {
-            server: place,
-            address,
-            servers,
-        })
+        register.next_place(moment, server, self.asked, self.last)
     }
 
     /// Waits before all servers are asked once more.

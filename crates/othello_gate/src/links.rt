@@ -90,23 +90,32 @@ impl<R: Clock> Incoming<'_, R> {
     pub(crate) fn read_early(&mut self, block: &mut [u8]) -> Option<usize>
         ensures { IfSome result (λ n. n ≤ length block.new) }
     {
-        if let Some(until) = self.until {
-            let Ok(now) = Instant::now(self.rt) else {
-                return None;
-            };
-            let left = until.duration_since(now);
-            if left == Duration::from_secs(0) || self.stream.set_read_timeout(Some(left)).is_err() {
-                return None;
-            }
+        if !self.is_in_time() {
+            return None;
         }
         for _ in 0..READ_TRIES {
             match (&*self.stream).read(block) {
                 Ok(count) => return Some(count),
-                Err(error) if error.kind() == ErrorKind::Interrupted => {}
-                Err(_) => return None,
+                Err(error) => {
+                    if error.kind() != ErrorKind::Interrupted {
+                        return None;
+                    }
+                }
             }
         }
         None
+    }
+
+    /// Whether the limit is still to come, if there is one, and the stream goes by it.
+    fn is_in_time(&self) -> bool {
+        let Some(until) = self.until else {
+            return true;
+        };
+        let Ok(now) = Instant::now(self.rt) else {
+            return false;
+        };
+        let left = until.duration_since(now);
+        left != Duration::from_secs(0) && self.stream.set_read_timeout(Some(left)).is_ok()
     }
 
     /// Reads a block, if there is one before the limit. None at a failure.

@@ -1,15 +1,20 @@
 //! What all sessions share, under one lock: the book, the file's directory, the connections and the counts.
 ghost use Rattle.std.specs.Prelude.{IsTrue};
 ghost use Rattle.customer_book.specs.Plans.{plan_of, sums_fit};
+ghost use Rattle.gate_session.specs.Deals.{IsGrantFor};
 
 use crate::counts::Table;
 use crate::tallies::Tallies;
-use customer_book::{Amount, Book, CLASSES, Customer, LAST_MOMENT, ReplanFault, Server, Site, Who};
+use customer_book::{
+    Amount, Ask, Book, CLASSES, Customer, Grant, LAST_MOMENT, Refusal, ReplanFault, Server, Site,
+    Who,
+};
 use gate_session::KnownServers;
 use site_file::{FileFault, read_site_again};
 use site_plan::{Directory, SitePlan};
 use std::alloc::{AllocError, Global};
-use std::fmt;
+use std::net::SocketAddr;
+use std::{fmt, io};
 
 /// What a file says of amounts, beside the book, which keeps its own.
 #[derive(Drop)]
@@ -20,6 +25,8 @@ pub(crate) struct Amounts {
     pub(crate) pool: [Amount; CLASSES],
     /// The servers.
     pub(crate) servers: Vec<Server>,
+    /// Which of them have failed of late.
+    known: KnownServers,
 }
 
 impl Amounts {
@@ -27,10 +34,12 @@ impl Amounts {
     fn of(alloc: Global, site: &Site) -> Result<Amounts, AllocError> {
         let named = budgets_in(alloc, site.customers.as_slice())?;
         let servers = site.servers.clone()?;
+        let known = KnownServers::new(alloc, servers.as_slice())?;
         Ok(Amounts {
             named,
             pool: site.pool,
             servers,
+            known,
         })
     }
 }
@@ -50,7 +59,6 @@ pub(crate) struct Register {
     pub(crate) book: Book,
     pub(crate) directory: Directory,
     pub(crate) amounts: Amounts,
-    pub(crate) servers: KnownServers,
     pub(crate) counts: Table,
     /// What each customer has now.
     pub(crate) tallies: Tallies,
@@ -58,9 +66,20 @@ pub(crate) struct Register {
     pub(crate) connections: u32,
 }
 
+/// Where a connection to a server is to be made.
+#[derive(Clone, Copy)]
+pub(crate) struct Place {
+    pub(crate) server: usize,
+    pub(crate) address: SocketAddr,
+    /// How many servers the class has.
+    pub(crate) servers: u32,
+}
+
 /// Why a file isn't gone by.
 #[derive(Drop)]
 pub(crate) enum ReloadFault {
+    /// It can't be read.
+    Unread(io::Error),
     /// It is wrong, or there was no memory to read it.
     File(FileFault),
     /// There was no memory.
@@ -74,6 +93,7 @@ pub(crate) enum ReloadFault {
 impl fmt::Display for ReloadFault {
     fn fmt<W: fmt::Write>(&self, f: &mut fmt::Formatter<W>) -> fmt::Result {
         match self {
+            ReloadFault::Unread(error) => fmt::Display::fmt(error, f),
             ReloadFault::File(fault) => fmt::Display::fmt(fault, f),
             ReloadFault::Memory => f.write_str("no memory for what the file says"),
             ReloadFault::Book(fault) => fmt::Display::fmt(fault, f),
@@ -89,19 +109,20 @@ impl Register {
     pub(crate) fn new(alloc: Global, plan: SitePlan) -> Result<Register, AllocError>
         requires { IsTrue (sums_fit (plan_of plan.site)) }
     {
+        let counts = Table::new(alloc, plan.directory.customers.len())?;
+        let amounts = Amounts::of(alloc, &plan.site)?;
         let SitePlan { site, directory } = plan;
-        let amounts = Amounts::of(alloc, &site)?;
-        let servers = KnownServers::new(alloc, site.servers.as_slice())?;
-        let counts = Table::new(alloc, directory.customers.len())?;
-        Ok(Register {
-            book: Book::new(alloc, site)?,
-            directory,
-            amounts,
-            servers,
-            counts,
-            tallies: Tallies::new(alloc),
-            connections: 0,
-        })
+        match Book::new(alloc, site) {
+            Ok(book) => Ok(Register {
+                book,
+                directory,
+                amounts,
+                counts,
+                tallies: Tallies::new(alloc),
+                connections: 0,
+            }),
+            Err(fault) => Err(fault),
+        }
     }
 
     /// Goes on by another file's text. At Err nothing is changed.
@@ -129,8 +150,8 @@ impl Register {
     {
         let SitePlan { site, directory } = plan;
         let customers = directory.customers.len();
-        let (amounts, servers) = match self.prepare(alloc, &site, customers) {
-            Ok(both) => both,
+        let amounts = match self.prepare(alloc, &site, customers) {
+            Ok(amounts) => amounts,
             Err(_) => return Err(ReloadFault::Memory),
         };
         if let Err(fault) = self.book.replan(site) {
@@ -138,7 +159,6 @@ impl Register {
         }
         self.directory = directory;
         self.amounts = amounts;
-        self.servers = servers;
         Ok(())
     }
 
@@ -148,17 +168,96 @@ impl Register {
         alloc: Global,
         site: &Site,
         customers: usize,
-    ) -> Result<(Amounts, KnownServers), AllocError> {
+    ) -> Result<Amounts, AllocError> {
         self.counts.widen(customers)?;
-        let amounts = Amounts::of(alloc, site)?;
-        let servers = KnownServers::new(alloc, site.servers.as_slice())?;
-        Ok((amounts, servers))
+        Amounts::of(alloc, site)
     }
 
     /// A customer has one connection more, if it may.
     pub(crate) fn arrive(&mut self, who: Who) -> bool {
         let most = self.directory.terms(who).connections;
         self.tallies.arrive(who, most)
+    }
+
+    /// Makes a connection of this customer one of another's, if that may have one more.
+    fn belong(&mut self, now: Who, who: Who) -> bool {
+        if now == who {
+            return true;
+        }
+        if !self.arrive(who) {
+            return false;
+        }
+        self.tallies.depart(now);
+        true
+    }
+
+    /// Whose a connection is that counts as this customer's (`now`), by a token, or else its own. Err with whom it counts as
+    /// refused to: its token isn't known, or its customer has too many connections.
+    pub(crate) fn welcome(&mut self, own: Who, now: Who, token: Option<&[u8]>) -> Result<Who, Who> {
+        let who = match token {
+            None => Some(own),
+            Some(token) => self.directory.keys.by_token(token),
+        };
+        let found = match who {
+            Some(who) if self.belong(now, who) => return Ok(who),
+            Some(who) => who,
+            None => own,
+        };
+        self.counts.refuse(found, 0, 0);
+        Err(found)
+    }
+
+    /// Opens a session at this moment, and counts it.
+    pub(crate) fn open(
+        &mut self,
+        moment: u64,
+        who: Who,
+        session: u64,
+        class: u8,
+        ask: Ask,
+    ) -> Result<Grant, Refusal>
+        ensures { IsGrantFor who session class result }
+    {
+        let answer = self.book_at(moment).open(who, session, class, ask);
+        if answer.is_ok() {
+            self.counts.grant(who, class);
+        }
+        answer
+    }
+
+    /// Raises what a session reserves at this moment, and counts a refusal.
+    pub(crate) fn raise(&mut self, moment: u64, grant: &Grant, ask: Ask) -> Result<(), Refusal> {
+        let answer = self.book_at(moment).raise(grant, ask);
+        if let Err(refusal) = &answer {
+            self.counts
+                .refuse(grant.who(), grant.class(), refusal.cause.number());
+        }
+        answer
+    }
+
+    /// The next server to be asked at this moment, for the `asked`th time from 0, where the book chose this one. The last one
+    /// has failed.
+    pub(crate) fn next_place(
+        &mut self,
+        moment: u64,
+        server: usize,
+        asked: u32,
+        last: Option<usize>,
+    ) -> Option<Place> {
+        if let Some(last) = last {
+            self.amounts.known.fail(last, moment);
+        }
+        let Some(place) = self.amounts.known.choose(server, asked, moment) else {
+            return None;
+        };
+        match self.directory.servers.get(place) {
+            Some(address) => Some(Place {
+                server: place,
+                address: *address,
+                servers: self.amounts.known.in_class_of(server),
+            }),
+            None => None,
+        }
     }
 
     /// The book at this moment.

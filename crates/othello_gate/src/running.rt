@@ -7,6 +7,7 @@ use crate::texts::Texts;
 use site_file::read_site;
 use site_plan::SitePlan;
 use std::alloc::Global;
+use std::fmt::Display;
 use std::io;
 use std::net::{Net, TcpListener, TcpStream};
 use std::sync::Wait;
@@ -31,11 +32,16 @@ Usage: othello_gate FILE            serves, by a file as deploy/gate.toml
 Status: 1 where it can't listen, or no more connections can be taken; 2 where the words, the file or its sums are wrong.
 ";
 
-/// The words after the program's name.
+/// The words of the command line, the program's name first.
 pub(crate) fn words_of(alloc: Global, words: io::Result<std::env::Args>) -> Option<Vec<String>> {
+    let Ok(words) = words else {
+        return None;
+    };
     let mut all = Vec::new(alloc);
-    for word in words.ok()?.skip(1) {
-        all.push(word).ok()?;
+    for word in words {
+        if all.push(word).is_err() {
+            return None;
+        }
     }
     Some(all)
 }
@@ -62,8 +68,8 @@ enum Asked<'w> {
 /// What these words ask for.
 fn asked_by(words: &[String]) -> Asked<'_> {
     match words {
-        [word] => asked_by_one(word.as_str()),
-        [word, path] if word.as_str() == "--check" => Asked::Check(path.as_str()),
+        [_, word] => asked_by_one(word.as_str()),
+        [_, word, path] if word.as_str() == "--check" => Asked::Check(path.as_str()),
         _ => Asked::Nothing,
     }
 }
@@ -117,18 +123,18 @@ fn read_plan<R: Texts + Eprint + AllocGlobal>(rt: &R, path: &str) -> Result<Site
 {
     let text = match rt.text_of(path) {
         Ok(text) => text,
-        Err(error) => {
-            let _ = eprintln!(rt; "othello_gate: {path}: {error}");
-            return Err(EXIT_REFUSED);
-        }
+        Err(error) => return Err(refuse_file(rt, path, &error)),
     };
     match read_site(rt.alloc(), text.as_str()) {
         Ok(plan) => Ok(plan),
-        Err(fault) => {
-            let _ = eprintln!(rt; "othello_gate: {path}: {fault}");
-            Err(EXIT_REFUSED)
-        }
+        Err(fault) => Err(refuse_file(rt, path, &fault)),
     }
+}
+
+/// Says why a file is refused.
+fn refuse_file<R: Eprint, D: Display>(rt: &R, path: &str, why: &D) -> u8 {
+    let _ = eprintln!(rt; "othello_gate: {path}: {why}");
+    EXIT_REFUSED
 }
 
 /// Says what a file gives away.

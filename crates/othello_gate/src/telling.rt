@@ -2,7 +2,7 @@
 use crate::register::Register;
 use crate::shared::Shared;
 use customer_book::{Amount, CLASSES, Part, Who};
-use gate_texts::{AccountRow, Row, ServerRow, push_metrics, push_stats};
+use gate_texts::{AccountRow, Counts, Row, ServerRow, push_metrics, push_stats};
 use std::alloc::{AllocError, Global};
 use std::sync::Wait;
 
@@ -20,9 +20,7 @@ pub(crate) fn stats_of<R: Wait>(
     alloc: Global,
     shared: &Shared,
 ) -> Result<String, AllocError> {
-    let mut text = text_of(alloc, &*shared.lock.lock(rt), false)?;
-    text.push_str("\n")?;
-    Ok(text)
+    text_of(alloc, &*shared.lock.lock(rt), false)
 }
 
 /// The answer to GET /metrics.
@@ -40,33 +38,40 @@ pub(crate) fn metrics_of<R: Wait>(
 
 /// All that the register knows: as metrics, or else as STATS.
 fn text_of(alloc: Global, register: &Register, is_metrics: bool) -> Result<String, AllocError> {
-    let all = rows_of(alloc, register)?;
-    let mut out = String::new(alloc);
-    match all.push(&mut out, is_metrics) {
-        Ok(()) => Ok(out),
-        Err(fault) => Err(fault),
-    }
-}
-
-impl Rows<'_> {
-    /// Appends them: as metrics, or else as STATS.
-    fn push(&self, out: &mut String, is_metrics: bool) -> Result<(), AllocError> {
-        if is_metrics {
-            push_metrics(out, &self.rows, &self.accounts, &self.servers)
-        } else {
-            push_stats(out, &self.rows, &self.accounts, &self.servers)
-        }
-    }
-}
-
-fn rows_of<'a>(alloc: Global, register: &'a Register) -> Result<Rows<'a>, AllocError> {
     let mut all = Rows {
         rows: Vec::new(alloc),
         accounts: Vec::new(alloc),
         servers: Vec::new(alloc),
     };
-    push_all(&mut all, register)?;
-    Ok(all)
+    let mut out = String::new(alloc);
+    match push_text(&mut all, register, &mut out, is_metrics) {
+        Ok(()) => Ok(out),
+        Err(fault) => Err(fault),
+    }
+}
+
+/// Puts the register's rows into these, and appends them.
+fn push_text<'a>(
+    all: &mut Rows<'a>,
+    register: &'a Register,
+    out: &mut String,
+    is_metrics: bool,
+) -> Result<(), AllocError> {
+    push_all(all, register)?;
+    all.push(out, is_metrics)
+}
+
+impl Rows<'_> {
+    /// Appends them: as metrics, or else as STATS.
+    fn push(&self, out: &mut String, is_metrics: bool) -> Result<(), AllocError> {
+        let rows = self.rows.as_slice();
+        let (accounts, servers) = (self.accounts.as_slice(), self.servers.as_slice());
+        if is_metrics {
+            return push_metrics(out, rows, accounts, servers);
+        }
+        push_stats(out, rows, accounts, servers)?;
+        out.push_str("\n")
+    }
 }
 
 fn push_all<'a>(all: &mut Rows<'a>, register: &'a Register) -> Result<(), AllocError> {
@@ -121,9 +126,20 @@ fn push_customer<'a>(
         customer,
         connections,
     })?;
-    let Some(counts) = register.counts.row(row) else {
-        return Ok(());
-    };
+    match register.counts.row(row) {
+        Some(counts) => push_counts(all, register, row, customer, counts),
+        None => Ok(()),
+    }
+}
+
+/// The numbers of one customer, or of all guests together, in each class.
+fn push_counts<'a>(
+    all: &mut Rows<'a>,
+    register: &'a Register,
+    row: usize,
+    customer: &'a str,
+    counts: &'a [Counts],
+) -> Result<(), AllocError> {
     let budgets = budgets_of(register, row);
     for (place, counts) in counts.iter().enumerate() {
         if place < register.directory.classes.len() {

@@ -2,31 +2,22 @@
 ghost use Rattle.std.specs.Prelude.{◌≡◌};
 ghost use Rattle.proxy_header.specs.Views.{header_fault_number};
 
-use thiserror::Error;
-
 /// Why bytes are no header that is understood: the first fault, in this order. Each has a number.
-#[derive(Clone, Copy, Debug, PartialEq, Eq, Error)]
+#[derive(Clone, Copy, PartialEq, Eq)]
 pub enum HeaderFault {
     /// Number 1: they begin neither with the signature nor with PROXY and a space.
-    #[error("no header of the PROXY protocol")]
     NoHeader,
     /// Number 2: another version than 2.
-    #[error("another version of the PROXY protocol")]
     Version,
     /// Number 3: another command than LOCAL and PROXY.
-    #[error("an unknown command of the PROXY protocol")]
     Command,
     /// Number 4: the header has more than 4,096 bytes.
-    #[error("a header of more than 4,096 bytes")]
     LongHeader,
     /// Number 5: the family isn't TCP over IPv4 or IPv6, nor unspecified.
-    #[error("a family that isn't TCP over IPv4 or IPv6")]
     Family,
     /// Number 6: the header is too short for the addresses of its family.
-    #[error("a header too short for its addresses")]
     ShortAddress,
     /// Number 7: a line that begins as a header of version 1 and is none.
-    #[error("no header of the PROXY protocol, version 1")]
     WrongText,
 }
 

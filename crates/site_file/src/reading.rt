@@ -2,11 +2,12 @@
 use crate::again::{customer_of_name, place_of};
 use crate::faults::FileFault;
 use crate::parsing::{digest_of, network_of};
-use crate::section::{Section, is_among};
+use crate::section::{Section, TABLES, is_among, text_of};
 use customer_book::{Amount, CLASSES, Class, Customer, Rate, Server, Site};
 use site_plan::{CertificateKey, Directory, Keys, NetworkKey, SitePlan, Terms, TokenKey};
 use std::alloc::{AllocError, Global};
 use std::net::SocketAddr;
+use toml::Value;
 
 /// Moments of a [`customer_book::Book`] in a second: a moment is a microsecond.
 pub const MOMENTS: u32 = 1_000_000;
@@ -248,8 +249,8 @@ impl Lists {
     }
 
     fn read_classes(&mut self, file: &Section<'_>) -> Result<(), FileFault> {
-        for section in &file.tables("class")? {
-            self.read_class(section)?;
+        for (number, value) in file.list("class", TABLES)?.iter().enumerate() {
+            self.read_class(&file.entry("class", number, value)?)?;
         }
         if self.names.is_empty() {
             return Err(file.fault("class", "there is no class of servers"));
@@ -295,8 +296,8 @@ impl Lists {
     }
 
     fn read_customers(&mut self, file: &Section<'_>) -> Result<(), FileFault> {
-        for section in &file.tables("customer")? {
-            self.read_customer(section)?;
+        for (number, value) in file.list("customer", TABLES)?.iter().enumerate() {
+            self.read_customer(&file.entry("customer", number, value)?)?;
         }
         Ok(())
     }
@@ -397,18 +398,32 @@ fn has_twice(hosts: &[SocketAddr]) -> bool {
 
 /// Which classes a customer may use: all that are there, where it names none.
 fn allowed_in(section: &Section<'_>, names: &[String]) -> Result<[bool; CLASSES], FileFault> {
-    let texts = section.texts("classes", "is to be a list of classes")?;
-    if are_names(&texts, names) {
-        Ok(allowed_of(&texts, names))
+    let what = "is to be a list of classes";
+    let list = section.list("classes", what)?;
+    if !are_texts(list) {
+        return Err(section.told("classes", what));
+    }
+    if are_names(list, names) {
+        Ok(allowed_of(list, names))
     } else {
         Err(section.fault("classes", "`classes` names a class that isn't there"))
     }
 }
 
+/// Whether each value is a text.
+fn are_texts(list: &[Value]) -> bool {
+    for value in list {
+        if !value.is_str() {
+            return false;
+        }
+    }
+    true
+}
+
 /// Whether each text is one of the names.
-fn are_names(texts: &[&str], names: &[String]) -> bool {
-    for text in texts {
-        if place_of(names, *text).is_none() {
+fn are_names(list: &[Value], names: &[String]) -> bool {
+    for value in list {
+        if place_of(names, text_of(value)).is_none() {
             return false;
         }
     }
@@ -416,14 +431,24 @@ fn are_names(texts: &[&str], names: &[String]) -> bool {
 }
 
 /// The classes of these names that the texts name; all, where there is no text.
-fn allowed_of(texts: &[&str], names: &[String]) -> [bool; CLASSES] {
+fn allowed_of(list: &[Value], names: &[String]) -> [bool; CLASSES] {
     let mut allowed = [false; CLASSES];
     for (place, name) in names.iter().enumerate() {
         if place < CLASSES {
-            allowed[place] = texts.is_empty() || is_among(texts, name.as_str());
+            allowed[place] = list.is_empty() || has_text(list, name.as_str());
         }
     }
     allowed
+}
+
+/// Whether a value of a list is this text.
+fn has_text(list: &[Value], word: &str) -> bool {
+    for value in list {
+        if text_of(value) == word {
+            return true;
+        }
+    }
+    false
 }
 
 /// The amount that stands at a class's name.
@@ -519,8 +544,8 @@ fn read_tokens(
     customer: u32,
 ) -> Result<(), FileFault> {
     let what = "is to be a list of digests of 64 hexadecimal digits";
-    for text in &section.texts("token_sha256", what)? {
-        match digest_of(text.as_bytes()) {
+    for value in section.list("token_sha256", what)? {
+        match digest_of(text_of(value).as_bytes()) {
             Some(digest) => keys.push(TokenKey { digest, customer })?,
             None => return Err(section.told("token_sha256", what)),
         }
@@ -534,9 +559,11 @@ fn read_certificates(
     section: &Section<'_>,
     customer: u32,
 ) -> Result<(), FileFault> {
-    for name in &section.texts("certificate", "is to be a list of names")? {
+    let what = "is to be a list of names";
+    for value in section.list("certificate", what)? {
+        let name = text_of(value);
         if name.trim().is_empty() {
-            return Err(section.fault("certificate", "`certificate` is to be a list of names"));
+            return Err(section.told("certificate", what));
         }
         let name = String::from_str(section.alloc, name)?;
         keys.push(CertificateKey { name, customer })?;
@@ -551,8 +578,8 @@ fn read_networks(
     customer: u32,
 ) -> Result<(), FileFault> {
     let what = "is to be a list of addresses or networks, as \"203.0.113.0/24\"";
-    for text in &section.texts("address", what)? {
-        match network_of(text) {
+    for value in section.list("address", what)? {
+        match network_of(text_of(value)) {
             Some(network) => keys.push(NetworkKey { network, customer })?,
             None => return Err(section.told("address", what)),
         }

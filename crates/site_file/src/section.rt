@@ -19,6 +19,9 @@ pub(crate) struct Section<'t> {
     inside: &'t str,
 }
 
+/// What a list of tables is to be.
+pub(crate) const TABLES: &str = "is to be tables, each with a head of two brackets";
+
 /// The number, where it is from `least` to `most`.
 pub(crate) fn count_of(number: i64, least: u32, most: u32) -> Option<u32>
     ensures value { result ≡ count_of number least most }
@@ -141,29 +144,21 @@ impl<'t> Section<'t> {
         }
     }
 
-    /// The texts of a list; none where the word isn't there.
-    pub(crate) fn texts(&self, key: &str, what: &str) -> Result<Vec<&'t str>, FileFault> {
-        let mut texts = Vec::new(self.alloc);
-        let list = match self.table.get(key) {
-            None => return Ok(texts),
-            Some(Value::Array(list)) => list,
-            Some(_) => return Err(self.told(key, what)),
-        };
-        for value in list {
-            match value {
-                Value::String(text) => texts.push(text.as_str())?,
-                _ => return Err(self.told(key, what)),
-            }
+    /// The values of a list; none where the word isn't there.
+    pub(crate) fn list(&self, key: &str, what: &str) -> Result<&'t [Value], FileFault> {
+        match self.table.get(key) {
+            None => Ok(&[]),
+            Some(Value::Array(list)) => Ok(list.as_slice()),
+            Some(_) => Err(self.told(key, what)),
         }
-        Ok(texts)
     }
 
     /// The addresses and ports of a list.
     pub(crate) fn places(&self, key: &str) -> Result<Vec<SocketAddr>, FileFault> {
         let what = "is to be a list of addresses and ports";
         let mut places = Vec::new(self.alloc);
-        for text in &self.texts(key, what)? {
-            match SocketAddr::parse_ascii(text.as_bytes()) {
+        for value in self.list(key, what)? {
+            match SocketAddr::parse_ascii(text_of(value).as_bytes()) {
                 Ok(place) if place.port() > 0 => places.push(place)?,
                 _ => return Err(self.told(key, what)),
             }
@@ -197,27 +192,22 @@ impl<'t> Section<'t> {
         }
     }
 
-    /// The tables of this name, each with a head of two brackets.
-    pub(crate) fn tables(&self, key: &'t str) -> Result<Vec<Section<'t>>, FileFault> {
-        let what = "is to be tables, each with a head of two brackets";
-        let mut tables = Vec::new(self.alloc);
-        let list = match self.table.get(key) {
-            None => return Ok(tables),
-            Some(Value::Array(list)) => list,
-            Some(_) => return Err(self.told(key, what)),
-        };
-        for (number, value) in list.iter().enumerate() {
-            match value {
-                Value::Table(table) => tables.push(Section {
-                    table,
-                    head: key,
-                    number,
-                    ..*self
-                })?,
-                _ => return Err(self.told(key, what)),
-            }
+    /// The table of this number among those of this name, each of which has a head of two brackets.
+    pub(crate) fn entry(
+        &self,
+        key: &'t str,
+        number: usize,
+        value: &'t Value,
+    ) -> Result<Section<'t>, FileFault> {
+        match value {
+            Value::Table(table) => Ok(Section {
+                table,
+                head: key,
+                number,
+                ..*self
+            }),
+            _ => Err(self.told(key, TABLES)),
         }
-        Ok(tables)
     }
 
     /// Refuses a word that is none of these.
@@ -229,6 +219,14 @@ impl<'t> Section<'t> {
             }
         }
         Ok(())
+    }
+}
+
+/// The text of a value; an empty one, which is no name, digest or address, where it is none.
+pub(crate) fn text_of(value: &Value) -> &str {
+    match value {
+        Value::String(text) => text.as_str(),
+        _ => "",
     }
 }
 

@@ -1,4 +1,4 @@
-//! What each part of the definitions of a site's gate gives, for all values.
+//! What each part of the definitions of a site's gate gives, for all values; and texts of rows about it.
 //!
 //! The same as `definition_laws`, for the crates that a gate stands on: `customer_book`, `line_relay`, `gate_session`
 //! and `proxy_header`. A function without arguments is about one file of `specs/` of such a crate, and has a clause for each field of
@@ -9,6 +9,9 @@
 //! alone, so a clause that is weakened there, or taken away, is refused here whatever body it has: [`rules`], [`headers`],
 //! [`passing`], [`grants`], [`sessions`], [`plans`], [`files`] and [`texts`]. These stand in the place of mutants, each of which shows one wrong
 //! body.
+//!
+//! What no clause says, as a refusal's words, is a row of a text, which [`play_site`] plays (`scenes`). It stands here since it calls
+//! the same crates: to read them costs a check as much as the laws.
 //!
 //! A clause is named for its definition, and behind that for the field or the case. A definition over streams, a judge or
 //! a book is asked for any source, sink, judge or book.
@@ -28,5 +31,8 @@ pub mod passing;
 pub mod plans;
 pub mod relays;
 pub mod rules;
+mod scenes;
 pub mod sessions;
 pub mod texts;
+
+pub use scenes::play_site;

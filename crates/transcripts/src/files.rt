@@ -1,7 +1,7 @@
 //! The files of the folder that the program runs in.
 use crate::desks::play_sessions;
 use crate::solving::play_solve;
-use site_texts::play_site;
+use site_laws::play_site;
 use std::alloc::{AllocError, Global};
 use std::process::ExitCode;
 use std::rt::Files;

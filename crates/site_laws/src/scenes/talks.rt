@@ -10,8 +10,8 @@
 //! The head `session` plays a whole session at a book of the site that the head's options say (`books`): who gives no token is a
 //! guest, and who gives `school` the customer. The head `relay` plays a relay to one server, whose judge refuses RESERVE, ends at
 //! STOP, and cuts tokens.
-use crate::books::book_of;
-use crate::turns::Player;
+use crate::scenes::books::book_of;
+use crate::scenes::turns::Player;
 use customer_book::{Ask, Book, Grant, Refusal, Who};
 use gate_rules::{Said, read_answer};
 use gate_session::{Books, Note, Servers, serve_session};
@@ -19,7 +19,7 @@ use line_io::{Line, LineCutter, ReadFailed, Sink, Source, WriteFailed};
 use line_relay::{Judge, Peer, Verdict, relay_lines};
 use std::alloc::{AllocError, Global};
 use std::cell::RefCell;
-use std::fmt::Write;
+use std::fmt::{Debug, Write};
 use std::str::from_utf8;
 use std::sync::Wait;
 use text_rows::{Row, TalkLine, Words, options, push_line, read_talk_line};
@@ -225,21 +225,39 @@ impl Judge for Strict {
 
 /// The sides of a talk, the client first, and what they send.
 fn sides_of<'t>(alloc: Global, rows: &[Row<'t>]) -> Result<Vec<Side<'t>>, AllocError> {
-    let mut sides = vec![in alloc;
-        Side {
-            name: "",
-            sent: Vec::new(alloc)
-        },
-    ]?;
+    let mut sides = Vec::new(alloc);
+    match take_sides(alloc, &mut sides, rows) {
+        Ok(()) => Ok(sides),
+        Err(fault) => Err(fault),
+    }
+}
+
+fn take_sides<'t>(
+    alloc: Global,
+    sides: &mut Vec<Side<'t>>,
+    rows: &[Row<'t>],
+) -> Result<(), AllocError> {
+    let _client = place_of(alloc, sides, "")?;
     for row in rows {
         if let TalkLine::Sent(name, text) = read_talk_line(row.text) {
-            let place = place_of(alloc, &mut sides, name)?;
-            if let Some(side) = sides.get_mut(place) {
-                let _ending = push_line(text, &mut side.sent)?;
-            }
+            take_line(alloc, sides, name, text)?;
         }
     }
-    Ok(sides)
+    Ok(())
+}
+
+/// Takes a line that the side of this name sends.
+fn take_line<'t>(
+    alloc: Global,
+    sides: &mut Vec<Side<'t>>,
+    name: &'t str,
+    text: &str,
+) -> Result<(), AllocError> {
+    let place = place_of(alloc, sides, name)?;
+    if let Some(side) = sides.get_mut(place) {
+        let _ending = push_line(text, &mut side.sent)?;
+    }
+    Ok(())
 }
 
 /// The place of the side of this name, which is a new one where none had it.
@@ -269,6 +287,33 @@ pub struct Talks<'r, R> {
 }
 
 impl<R: Wait> Talks<'_, R> {
+    /// Plays a talk of these sides, the client first: appends what both are told, and how it ended.
+    fn talk<'b>(&'b self, sides: &'b [Side<'b>], came: &mut String) -> Result<(), AllocError> {
+        let log = RefCell::new(Vec::new(self.alloc));
+        let mut end = String::new(self.alloc);
+        self.answer(sides, &log, &mut end)?;
+        push_log(came, log)?;
+        came.push_str(end.as_str())
+    }
+
+    /// Plays it, and says how it ended.
+    fn answer<'b>(
+        &'b self,
+        sides: &'b [Side<'b>],
+        log: &'b Log,
+        came: &mut String,
+    ) -> Result<(), AllocError> {
+        let Some((client, servers)) = sides.split_first() else {
+            return Ok(());
+        };
+        match servers.first() {
+            Some(server) if self.head.starts_with("relay") => {
+                self.relay(client, server, log, came)
+            }
+            _ => self.serve(client, servers, log, came),
+        }
+    }
+
     /// Plays a session, and says how it ended.
     fn serve<'b>(
         &'b self,
@@ -288,8 +333,7 @@ impl<R: Wait> Talks<'_, R> {
         };
         let mut client = peer(self.head, client, log);
         let (lone, end) = serve_session(self.rt, &mut client, Lone { book, log }, &mut hosts, 0);
-        let left = lone.book.sessions();
-        writeln!(came, "! {end:?}, {left} left")
+        push_end(came, &end, lone.book.sessions() as u64, "left")
     }
 
     /// Plays a relay, and says how it ended.
@@ -305,9 +349,18 @@ impl<R: Wait> Talks<'_, R> {
         let mut judge = Strict { heard: 0 };
         let mut line = LineCutter::new();
         let end = relay_lines(self.rt, &mut client, &mut server, &mut judge, &mut line);
-        let heard = judge.heard;
-        writeln!(came, "! {end:?}, {heard} heard")
+        push_end(came, &end, judge.heard, "heard")
     }
+}
+
+/// Appends how a talk ended, and a number with its word.
+fn push_end<E: Debug>(
+    came: &mut String,
+    end: &E,
+    number: u64,
+    word: &str,
+) -> Result<(), AllocError> {
+    writeln!(came, "! {end:?}, {number} {word}")
 }
 
 /// Appends what was noted.
@@ -318,18 +371,9 @@ fn push_log(came: &mut String, log: Log) -> Result<(), AllocError> {
 
 impl<R: Wait> Player for Talks<'_, R> {
     fn play(&mut self, rows: &[Row<'_>], came: &mut String) -> Result<(), AllocError> {
-        let sides = sides_of(self.alloc, rows)?;
-        let log = RefCell::new(Vec::new(self.alloc));
-        let mut end = String::new(self.alloc);
-        if let Some((client, servers)) = sides.split_first() {
-            match servers.first() {
-                Some(server) if self.head.starts_with("relay") => {
-                    self.relay(client, server, &log, &mut end)?
-                }
-                _ => self.serve(client, servers, &log, &mut end)?,
-            }
+        match sides_of(self.alloc, rows) {
+            Ok(sides) => self.talk(sides.as_slice(), came),
+            Err(fault) => Err(fault),
         }
-        push_log(came, log)?;
-        came.push_str(end.as_str())
     }
 }

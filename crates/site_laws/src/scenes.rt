@@ -17,7 +17,6 @@
 //! open 4 7 2 0 10 100
 //! < budget 0
 //! ```
-#![tactic(auto)]
 
 mod books;
 mod figures;

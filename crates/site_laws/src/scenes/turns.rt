@@ -48,14 +48,16 @@ impl<'t> Turn<'t> {
     /// Takes a row. A line that is due is without its sign, where that names nobody.
     fn take(&mut self, row: Row<'t>) -> Result<(), AllocError> {
         match read_talk_line(row.text) {
-            TalkLine::Due("", text) => self.dues.push(Row {
-                line: row.line,
-                text,
-            })?,
-            TalkLine::Due(_, _) | TalkLine::Between(_, _) => self.dues.push(row)?,
-            TalkLine::Sent(_, _) | TalkLine::Nothing => self.given.push(row)?,
+            TalkLine::Due("", text) => push_row(
+                &mut self.dues,
+                Row {
+                    line: row.line,
+                    text,
+                },
+            ),
+            TalkLine::Due(_, _) | TalkLine::Between(_, _) => push_row(&mut self.dues, row),
+            TalkLine::Sent(_, _) | TalkLine::Nothing => push_row(&mut self.given, row),
         }
-        Ok(())
     }
 
     /// Plays the turn, and compares what comes; then the turn has no rows.
@@ -73,6 +75,11 @@ impl<'t> Turn<'t> {
         self.dues.clear();
         Ok(())
     }
+}
+
+fn push_row<'t>(rows: &mut Vec<Row<'t>>, row: Row<'t>) -> Result<(), AllocError> {
+    rows.push(row)?;
+    Ok(())
 }
 
 /// Compares the lines that came with those that are due. Lines beyond those disagree too.

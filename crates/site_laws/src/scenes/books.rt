@@ -5,8 +5,8 @@
 //! numbers, as `4 7` (`who_of`); GRANT is the place among the grants that are out, from 0, in the order in which they were opened.
 //! Answered is the server that is granted, `done`, or the reason of a refusal and the moments that it waits; `close` with the number
 //! of sessions that are left; `moment` with nothing.
-use crate::turns::Player;
-use crate::words::{amount_of, ask_of, first_word, numbers, tell, who_of};
+use crate::scenes::turns::Player;
+use crate::scenes::words::{amount_of, ask_of, first_word, numbers, tell, who_of};
 use customer_book::{
     Amount, Ask, Book, CLASSES, Class, Customer, Grant, LAST_MOMENT, Rate, Refusal, ReplanFault,
     Server, Site, Who,

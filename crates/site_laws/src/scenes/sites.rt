@@ -7,13 +7,13 @@
 //! Rows that begin with `?` ask for the plan that was read last: `? plan` for its numbers, `? sums` for the classes' sums, `? who TOKEN
 //! CERTIFICATE ADDRESS` (`-` where there is none) for whose a connection is, and `? class WHO SEGMENTS NODES` for a session's class.
 //! WHO are two numbers (`who_of`).
-use crate::turns::Player;
-use crate::words::{ask_of, first_word, numbers, rest_of, tell, who_of};
-use customer_book::{Amount, CLASSES, Customer, Who};
-use site_file::{Address, SitePlan, read_site, read_site_again};
+use crate::scenes::turns::Player;
+use crate::scenes::words::{ask_of, first_word, numbers, rest_of, tell, who_of};
+use customer_book::{Amount, CLASSES, Customer, Server, Who};
+use site_file::{Address, FileFault, SitePlan, Terms, read_site, read_site_again};
 use std::alloc::{AllocError, Global};
 use std::fmt::Write;
-use std::net::IpAddr;
+use std::net::{IpAddr, SocketAddr};
 use text_rows::{Row, Words, number};
 
 /// A file, and the plan that was read last.
@@ -97,19 +97,22 @@ impl SiteFile {
     /// Reads the file with what rows change in it, and says what comes of it.
     fn read(&mut self, rows: &[Row<'_>], came: &mut String) -> Result<(), AllocError> {
         let text = self.text(rows)?;
-        let text = text.as_str();
-        let answer = match &self.plan {
-            Some(now) if has_row(rows, "again") => {
-                read_site_again(self.alloc, text, &now.directory, &now.site.servers)
-            }
-            _ => read_site(self.alloc, text),
-        };
-        match answer {
+        match self.read_text(text.as_str(), has_row(rows, "again")) {
             Ok(plan) => {
                 self.plan = Some(plan);
                 came.push_str("read\n")
             }
             Err(fault) => writeln!(came, "{fault}"),
+        }
+    }
+
+    /// Reads a file's text: as one that is read again, or else anew.
+    fn read_text(&self, text: &str, is_again: bool) -> Result<SitePlan, FileFault> {
+        match &self.plan {
+            Some(now) if is_again => {
+                read_site_again(self.alloc, text, &now.directory, &now.site.servers)
+            }
+            _ => read_site(self.alloc, text),
         }
     }
 
@@ -122,15 +125,13 @@ impl SiteFile {
         let n = numbers(asked);
         match first_word(asked) {
             "plan" => push_plan(plan, came),
-            "sums" => came.push_str(plan.check_text(self.alloc)?.as_str()),
+            "sums" => push_sums(self.alloc, plan, came),
             "who" => push_who(self.alloc, plan, who_in(plan, asked), came),
-            _ => match plan
-                .directory
-                .class_for(who_of(n[1], n[2]), ask_of(n[3], n[4]))
-            {
-                Some(class) => tell(came, "class", &[u64::from(class)]),
-                None => came.push_str("no class\n"),
-            },
+            _ => push_class(
+                plan.directory
+                    .class_for(who_of(n[1], n[2]), ask_of(n[3], n[4])),
+                came,
+            ),
         }
     }
 }
@@ -151,18 +152,36 @@ impl Player for SiteFile {
 /// Whose a connection is with this token, certificate and address.
 fn who_in(plan: &SitePlan, asked: &str) -> Option<Who> {
     let mut words = Words::of(rest_of(asked));
-    let token = bytes_of(words.word()?);
-    let certificate = bytes_of(words.word()?);
-    let ip = IpAddr::parse_ascii(words.word()?.as_bytes()).ok()?;
-    plan.directory.who(token, certificate, Address::of_ip(ip))
+    let token = bytes_of(words.word());
+    let certificate = bytes_of(words.word());
+    match IpAddr::parse_ascii(words.word().unwrap_or("").as_bytes()) {
+        Ok(ip) => plan.directory.who(token, certificate, Address::of_ip(ip)),
+        Err(_) => None,
+    }
 }
 
 /// The bytes of a word, but for `-`.
-fn bytes_of(word: &str) -> Option<&[u8]> {
-    if word == "-" {
-        return None;
+fn bytes_of(word: Option<&str>) -> Option<&[u8]> {
+    match word {
+        Some(word) if word != "-" => Some(word.as_bytes()),
+        _ => None,
     }
-    Some(word.as_bytes())
+}
+
+/// Appends the classes' sums.
+fn push_sums(alloc: Global, plan: &SitePlan, came: &mut String) -> Result<(), AllocError> {
+    match plan.check_text(alloc) {
+        Ok(text) => came.push_str(text.as_str()),
+        Err(fault) => Err(fault),
+    }
+}
+
+/// Appends a session's class.
+fn push_class(class: Option<u8>, came: &mut String) -> Result<(), AllocError> {
+    match class {
+        Some(class) => tell(came, "class", &[u64::from(class)]),
+        None => came.push_str("no class\n"),
+    }
 }
 
 /// Appends a customer's name, behind its number where it is named.
@@ -183,11 +202,23 @@ fn push_who(
 
 /// Appends all numbers of a plan.
 fn push_plan(plan: &SitePlan, came: &mut String) -> Result<(), AllocError> {
-    let directory = &plan.directory;
-    for class in &directory.order {
+    for class in &plan.directory.order {
         tell(came, "class", &[u64::from(*class)])?;
     }
-    for (server, address) in plan.site.servers.iter().zip(directory.servers.iter()) {
+    push_servers(&plan.site.servers, &plan.directory.servers, came)?;
+    push_customers(&plan.site.customers, &plan.directory.customers, came)?;
+    let guest = &plan.directory.guest;
+    push_customer(&plan.site.share, "each guest", guest.connections, came)?;
+    came.push_str("all guests\n")?;
+    push_budgets(&plan.site.pool, came)
+}
+
+fn push_servers(
+    servers: &[Server],
+    addresses: &[SocketAddr],
+    came: &mut String,
+) -> Result<(), AllocError> {
+    for (server, address) in servers.iter().zip(addresses.iter()) {
         tell(
             came,
             "server",
@@ -200,17 +231,18 @@ fn push_plan(plan: &SitePlan, came: &mut String) -> Result<(), AllocError> {
             ],
         )?;
     }
-    for (customer, terms) in plan.site.customers.iter().zip(directory.customers.iter()) {
+    Ok(())
+}
+
+fn push_customers(
+    customers: &[Customer],
+    terms: &[Terms],
+    came: &mut String,
+) -> Result<(), AllocError> {
+    for (customer, terms) in customers.iter().zip(terms.iter()) {
         push_customer(customer, terms.name.as_str(), terms.connections, came)?;
     }
-    push_customer(
-        &plan.site.share,
-        "each guest",
-        directory.guest.connections,
-        came,
-    )?;
-    came.push_str("all guests\n")?;
-    push_budgets(&plan.site.pool, came)
+    Ok(())
 }
 
 /// Appends what a customer may have: connections, the period and the burst of its lines and of its refusals, and its budgets.

@@ -1,5 +1,5 @@
 use Rattle.std.proofs.Common.{◌≤◌, length}
-use Rattle.site_texts.proofs.books.give_back.Given as goal
+use Rattle.site_laws.proofs.scenes.books.give_back.Given as goal
 
 -- any grants may be left
 abbrev pub invariant-loop-grant : goal.invariant-loop-grant

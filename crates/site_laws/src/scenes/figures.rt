@@ -5,8 +5,8 @@
 //! reason, and `hello` and `wait` with microseconds; and `server ADDRESS CLASS` with what is used and what there is. They are told
 //! by `stats` and by `metrics`. `log NAME CLASS ADDRESS END` with the numbers of the session, of its segments and nodes, microseconds,
 //! lines, bytes, and jobs done and spent is a line of the log. Words have the escapes of a talk's lines.
-use crate::turns::Player;
-use crate::words::{amount_of, first_word, numbers, rest_of, small};
+use crate::scenes::turns::Player;
+use crate::scenes::words::{amount_of, first_word, numbers, rest_of, small};
 use customer_book::Amount;
 use gate_texts::{
     AccountRow, Counts, Row as TextRow, ServerRow, SessionRow, push_metrics, push_session,
@@ -45,6 +45,27 @@ pub struct Figures {
     hosts: Vec<Host>,
 }
 
+/// The rows that are told.
+#[derive(Drop)]
+struct Told<'f> {
+    rows: Vec<TextRow<'f>>,
+    accounts: Vec<AccountRow<'f>>,
+    servers: Vec<ServerRow<'f>>,
+}
+
+impl Told<'_> {
+    /// Appends them: as metrics, or else as STATS.
+    fn push(&self, is_metrics: bool, came: &mut String) -> Result<(), AllocError> {
+        let rows = self.rows.as_slice();
+        let (accounts, servers) = (self.accounts.as_slice(), self.servers.as_slice());
+        if is_metrics {
+            push_metrics(came, rows, accounts, servers)
+        } else {
+            push_stats(came, rows, accounts, servers)
+        }
+    }
+}
+
 /// The text that the next word stands for.
 fn next_text(alloc: Global, words: &mut Words<'_>) -> Result<String, AllocError> {
     let mut bytes = Vec::new(alloc);
@@ -58,14 +79,22 @@ fn next_address(words: &mut Words<'_>) -> Option<SocketAddr> {
     SocketAddr::parse_ascii(words.word()?.as_bytes()).ok()
 }
 
+/// The amount of the three numbers from this place on.
+fn amount_at(n: &[u64], place: usize) -> Amount {
+    match n.get(place..) {
+        Some([sessions, segments, nodes, ..]) => amount_of(*sessions, *segments, *nodes),
+        _ => Amount::NOTHING,
+    }
+}
+
 fn account_of(alloc: Global, row: &str) -> Result<Account, AllocError> {
     let mut words = Words::of(rest_of(row));
     let n = numbers(row);
     Ok(Account {
         name: next_text(alloc, &mut words)?,
         class: next_text(alloc, &mut words)?,
-        used: amount_of(n[3], n[4], n[5]),
-        budget: amount_of(n[6], n[7], n[8]),
+        used: amount_at(&n, 3),
+        budget: amount_at(&n, 6),
         counts: Counts {
             granted: n[9],
             lines: n[10],
@@ -97,8 +126,8 @@ impl Figures {
         self.hosts.push(Host {
             address,
             class: next_text(self.alloc, &mut words)?,
-            used: amount_of(n[3], n[4], n[5]),
-            whole: amount_of(n[6], n[7], n[8]),
+            used: amount_at(&n, 3),
+            whole: amount_at(&n, 6),
         })?;
         Ok(())
     }
@@ -110,56 +139,47 @@ impl Figures {
             match first_word(row) {
                 "hello" => account.counts.hello.note(n[1]),
                 "wait" => account.counts.wait.note(n[1]),
-                _ => account.counts.refused = [n[1], n[2], n[3], n[4], n[5], n[6], n[7], n[8]],
+                _ => account.counts.refused.copy_from_slice(&n[1..9]),
             }
         }
     }
 
-    fn rows(&self) -> Result<Vec<TextRow<'_>>, AllocError> {
-        let mut rows = Vec::new(self.alloc);
+    fn put<'f>(&'f self, told: &mut Told<'f>) -> Result<(), AllocError> {
         for account in &self.accounts {
-            rows.push(TextRow {
+            told.rows.push(TextRow {
                 customer: account.name.as_str(),
                 class: account.class.as_str(),
                 used: account.used,
                 budget: account.budget,
                 counts: &account.counts,
             })?;
-        }
-        Ok(rows)
-    }
-
-    fn connections(&self) -> Result<Vec<AccountRow<'_>>, AllocError> {
-        let mut rows = Vec::new(self.alloc);
-        for account in &self.accounts {
-            rows.push(AccountRow {
+            told.accounts.push(AccountRow {
                 customer: account.name.as_str(),
                 connections: account.connections,
             })?;
         }
-        Ok(rows)
-    }
-
-    fn servers(&self) -> Result<Vec<ServerRow<'_>>, AllocError> {
-        let mut rows = Vec::new(self.alloc);
         for host in &self.hosts {
-            rows.push(ServerRow {
+            told.servers.push(ServerRow {
                 address: host.address,
                 class: host.class.as_str(),
                 used: host.used,
                 whole: host.whole,
             })?;
         }
-        Ok(rows)
+        Ok(())
     }
 
     /// Tells what was put in: as metrics, or else as STATS.
     fn tell(&self, is_metrics: bool, came: &mut String) -> Result<(), AllocError> {
-        let (rows, accounts, servers) = (self.rows()?, self.connections()?, self.servers()?);
-        if is_metrics {
-            return push_metrics(came, &rows, &accounts, &servers);
+        let mut told = Told {
+            rows: Vec::new(self.alloc),
+            accounts: Vec::new(self.alloc),
+            servers: Vec::new(self.alloc),
+        };
+        match self.put(&mut told) {
+            Ok(()) => told.push(is_metrics, came),
+            Err(fault) => Err(fault),
         }
-        push_stats(came, &rows, &accounts, &servers)
     }
 
     /// Takes a row.
