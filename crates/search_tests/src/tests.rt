@@ -2,14 +2,25 @@ mod alone;
 mod cores;
 mod leaves;
 mod lines;
+mod offices;
+mod sessions;
 mod solving;
 mod texts;
 mod words;
 
-use std::fmt::Debug;
-use std::process::Abort;
+use othello_board::Board;
+use position_text::{Position, Side};
 
-/// Fails where a call answers something else than it should.
-fn same<T: PartialEq + Debug>(rt: &impl Abort, row: &str, answer: &T, due: &T) {
-    assert_eq!(rt; answer, due, "{row}");
+/// The opening, seen by the player to move.
+const OPENING: Board = Board {
+    own: 1 << 28 | 1 << 35,
+    opp: 1 << 27 | 1 << 36,
+};
+
+/// The opening, Black to move.
+fn opening() -> Position {
+    Position {
+        board: OPENING,
+        side: Side::Black,
+    }
 }

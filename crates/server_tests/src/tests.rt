@@ -3,29 +3,34 @@
 ghost use Rattle.std.specs.Prelude.{◌≡◌};
 
 mod all_jobs;
+mod commands;
 mod doors;
 mod failing;
 mod reserving;
 mod tables;
 
 use all_jobs::are_all_told;
-use reserving::MORE;
+use doors::Attended;
+use reserving::{Held, MORE};
 use sched_rules::{Config, Worker};
 use std::alloc::Global;
-use std::io::{self, Read, Write};
+use std::io::{Read, Write};
 use std::marker::Brand;
 use std::net::{Net, TcpListener, TcpStream};
 use std::sync::Wait;
 use std::sync::atomic::{AtomicU32, Ordering};
 use std::sync::ledger::Blank;
-use std::test::Fail;
 use std::thread::{self, Threads};
+use std::time::{Clock, CpuClock};
 use tcp_server::desk::{Desk, DeskLedger, Hall, PARTS};
 use tcp_server::steal_pool::{Announce, Gate, OpenGate, PoolEnd};
 use tcp_server::{ServeFault, ServerConfig, serve, serve_announced};
 
 /// A line, and its answer.
 type Row = (&'static str, &'static str);
+
+/// The last line of a session.
+const LAST: Row = ("BYE\n", "BYE\n");
 
 /// A job that is answered.
 const ANSWERED: [Row; 5] = [
@@ -151,128 +156,160 @@ enum Visit {
     All,
 }
 
-/// Sends a line, and tells whether this is its answer.
-fn is_answered(mut stream: &TcpStream, row: Row) -> io::Result<bool> {
-    stream.write_all(row.0.as_bytes())?;
-    is_told(stream, row.1)
+/// Sends bytes, and tells whether they were sent.
+fn is_sent(mut stream: &TcpStream, bytes: &[u8]) -> bool {
+    stream.write_all(bytes).is_ok()
 }
 
 /// Whether this is what the server says next.
-fn is_told(mut stream: &TcpStream, text: &str) -> io::Result<bool> {
+fn is_told(mut stream: &TcpStream, text: &str) -> bool {
     let mut held = [0; 64];
-    let Some(told) = held.get_mut(..text.len()) else {
-        return Ok(false);
-    };
-    stream.read_exact(told)?;
-    Ok(&*told == text.as_bytes())
+    match held.get_mut(..text.len()) {
+        Some(told) => stream.read_exact(told).is_ok() && &*told == text.as_bytes(),
+        None => false,
+    }
+}
+
+/// Sends a line, and tells whether this is its answer.
+fn is_answered(stream: &TcpStream, row: Row) -> bool {
+    is_sent(stream, row.0.as_bytes()) && is_told(stream, row.1)
 }
 
 /// Whether each line is answered as it should be.
-fn are_told(stream: &TcpStream, rows: &[Row]) -> io::Result<bool> {
+fn are_told(stream: &TcpStream, rows: &[Row]) -> bool {
     for row in rows {
-        if !is_answered(stream, *row)? {
-            return Ok(false);
+        if !is_answered(stream, *row) {
+            return false;
         }
     }
-    Ok(true)
+    true
 }
 
 /// Whether the server has closed this connection without a word.
-fn is_closed(mut stream: &TcpStream) -> io::Result<bool> {
-    Ok(stream.read(&mut [0; 1])? == 0)
+fn is_closed(mut stream: &TcpStream) -> bool {
+    matches!(stream.read(&mut [0; 1]), Ok(0))
 }
 
 /// Whether each line is answered as it should be, and the connection is closed then.
-fn are_answered(stream: &TcpStream, rows: &[Row]) -> io::Result<bool> {
-    Ok(are_told(stream, rows)? && is_closed(stream)?)
+fn are_answered(stream: &TcpStream, rows: &[Row]) -> bool {
+    are_told(stream, rows) && is_closed(stream)
 }
 
 /// Whether two sessions at once are answered as each is alone.
-fn are_both_answered(one: &TcpStream, two: &TcpStream) -> io::Result<bool> {
+fn are_both_answered(one: &TcpStream, two: &TcpStream) -> bool {
     for (first, second) in ANSWERED.iter().zip(SPENT.iter()) {
-        if !is_answered(two, *second)? || !is_answered(one, *first)? {
-            return Ok(false);
+        if !is_answered(two, *second) || !is_answered(one, *first) {
+            return false;
         }
     }
-    is_answered(two, ("BYE\n", "BYE\n"))
+    is_answered(two, LAST)
+}
+
+/// Sends a line a byte at a time, and tells whether this is its answer.
+fn is_answered_by_bytes(stream: &TcpStream, row: Row) -> bool {
+    for byte in row.0.as_bytes() {
+        if !is_sent(stream, &[*byte]) {
+            return false;
+        }
+    }
+    is_told(stream, row.1)
 }
 
 /// Whether lines that come a byte at a time are answered as whole ones.
-fn are_bytes_answered(mut stream: &TcpStream) -> io::Result<bool> {
-    for (line, answer) in &ANSWERED {
-        for byte in line.as_bytes() {
-            stream.write_all(&[*byte])?;
-        }
-        if !is_told(stream, answer)? {
-            return Ok(false);
+fn are_bytes_answered(stream: &TcpStream) -> bool {
+    for row in &ANSWERED {
+        if !is_answered_by_bytes(stream, *row) {
+            return false;
         }
     }
-    Ok(true)
+    true
 }
 
 /// Whether each foreign line gets its fault, and the session goes on.
-fn are_faults_told(mut stream: &TcpStream) -> io::Result<bool> {
+fn are_faults_told(stream: &TcpStream) -> bool {
     for (line, answer) in &FOREIGN {
-        stream.write_all(line)?;
-        if !is_told(stream, answer)? {
-            return Ok(false);
+        if !is_sent(stream, line) || !is_told(stream, answer) {
+            return false;
         }
     }
     is_closed(stream)
 }
 
+/// The next byte that the server says.
+fn next_byte(mut stream: &TcpStream) -> Option<u8> {
+    let mut told = [0; 1];
+    match stream.read_exact(&mut told) {
+        Ok(()) => Some(told[0]),
+        Err(_) => None,
+    }
+}
+
 /// Whether all that there is can be reserved, within so many turns.
-fn is_welcome(stream: &TcpStream) -> io::Result<bool> {
+fn is_welcome(stream: &TcpStream) -> bool {
     for _ in 0..TURNS {
-        let mut told = [0; 1];
-        let mut reader = stream;
-        (&*stream).write_all(b"HELLO 4096 65536\n")?;
-        reader.read_exact(&mut told)?;
-        if told == *b"W" {
+        if !is_sent(stream, b"HELLO 4096 65536\n") {
+            return false;
+        }
+        if next_byte(stream) == Some(b'W') {
             return is_told(stream, "ELCOME 4096 65536\n");
         }
-        if !is_told(stream, "RR 14\n")? {
-            return Ok(false);
+        if !is_told(stream, "RR 14\n") {
+            return false;
         }
     }
-    Ok(false)
+    false
+}
+
+/// Whether the connection of this number asks its own two jobs.
+fn has_asked(stream: &TcpStream, number: usize) -> bool {
+    let (first, second) = (&JOBS[number % 4], &JOBS[number / 4 % 4]);
+    are_told(
+        stream,
+        &[
+            ("HELLO 16 64\n", "WELCOME 16 64\n"),
+            (first.0, "JOB 1\n"),
+            (second.0, "JOB 2\n"),
+        ],
+    )
+}
+
+/// Whether it is told of its second job and its first.
+fn is_told_of_its_own(stream: &TcpStream, number: usize) -> bool {
+    let (first, second) = (&JOBS[number % 4], &JOBS[number / 4 % 4]);
+    are_told(
+        stream,
+        &[
+            ("WAIT 2\n", second.2),
+            ("WAIT 1\n", first.1),
+            ("WAIT 3\n", "ERR 17\n"),
+        ],
+    )
 }
 
 /// Whether each connection is told of its own jobs: all ask, and then each waits for its second job and its first.
-fn are_told_of_their_own(streams: &[TcpStream]) -> io::Result<bool> {
-    for (i, stream) in streams.iter().enumerate() {
-        let (first, second) = (&JOBS[i % 4], &JOBS[i / 4 % 4]);
-        let told = is_answered(stream, ("HELLO 16 64\n", "WELCOME 16 64\n"))?
-            && is_answered(stream, (first.0, "JOB 1\n"))?
-            && is_answered(stream, (second.0, "JOB 2\n"))?;
-        if !told {
-            return Ok(false);
+fn are_told_of_their_own(streams: &[TcpStream]) -> bool {
+    for (number, stream) in streams.iter().enumerate() {
+        if !has_asked(stream, number) {
+            return false;
         }
     }
-    for (i, stream) in streams.iter().enumerate() {
-        let (first, second) = (&JOBS[i % 4], &JOBS[i / 4 % 4]);
-        let told = is_answered(stream, ("WAIT 2\n", second.2))?
-            && is_answered(stream, ("WAIT 1\n", first.1))?
-            && is_answered(stream, ("WAIT 3\n", "ERR 17\n"))?;
-        if !told {
-            return Ok(false);
+    for (number, stream) in streams.iter().enumerate() {
+        if !is_told_of_its_own(stream, number) {
+            return false;
         }
     }
-    Ok(true)
+    true
 }
 
 /// Whether a session whose connection is lost gives back what it had reserved.
-fn is_given_back(lost: TcpStream, kept: &TcpStream) -> io::Result<bool> {
-    (&lost).write_all(LONG_WAIT.as_bytes())?;
-    if !is_told(&lost, "WELCOME 4096 65536\n")? {
-        return Ok(false);
-    }
+fn is_given_back(lost: TcpStream, kept: &TcpStream) -> bool {
+    let told = is_answered(&lost, (LONG_WAIT, "WELCOME 4096 65536\n"));
     drop(lost);
-    is_welcome(kept)
+    told && is_welcome(kept)
 }
 
-/// Whether clients at these connections are told what they should be told.
-fn are_served(alloc: Global, visit: Visit, mut streams: Vec<TcpStream>) -> io::Result<bool> {
+/// Whether the clients at these connections are told what they should be told.
+fn are_served(alloc: Global, visit: Visit, mut streams: Vec<TcpStream>) -> bool {
     match (visit, streams.as_slice()) {
         (Visit::Answered, [stream]) => are_answered(stream, &ANSWERED),
         (Visit::Spent, [stream]) => are_answered(stream, &SPENT),
@@ -284,44 +321,130 @@ fn are_served(alloc: Global, visit: Visit, mut streams: Vec<TcpStream>) -> io::R
         (Visit::Many, many) => are_told_of_their_own(many),
         _ => match (streams.pop(), streams.pop()) {
             (Some(lost), Some(kept)) => is_given_back(lost, &kept),
-            _ => Ok(false),
+            _ => false,
         },
     }
 }
 
-/// Fails where a client was told something else, or not all steps are accounted for at the end.
-fn agreed(told: bool, is_whole: bool) -> Result<(), Fail> {
-    match (told, is_whole) {
-        (true, true) => Ok(()),
-        (false, _) => Err(Fail::from("a client was told something else")),
-        (true, false) => Err(Fail::from("steps are missing")),
+/// What is tried at a server.
+#[derive(Drop)]
+enum Trial {
+    /// Clients come, and are told what they should be told.
+    Visited(Visited),
+    /// The server doesn't begin.
+    Unserved(Unserved),
+    /// Its sessions can't have threads.
+    Threadless,
+    /// A guest comes.
+    Attended(Attended),
+    /// Its workers can't have threads: who takes its own connection knows that it has stopped.
+    Stopped,
+    /// Its listener fails.
+    Hasty,
+    /// A tenant's job is held.
+    Held(Held),
+}
+
+/// Whether all is as it should be where this is tried at this desk and this listener.
+fn is_tried<L, R>(
+    rt: &R,
+    alloc: Global,
+    desk: Desk<L>,
+    listener: TcpListener,
+    trial: &Trial,
+) -> bool
+where
+    L: DeskLedger + Send + Sync,
+    R: Net<Listener = TcpListener, Stream = TcpStream> + Threads + Wait + Clock + CpuClock + Sync,
+    requires { L.all ≡ L.parts }
+{
+    match trial {
+        Trial::Visited(visited) => are_visited(rt, alloc, desk, listener, visited),
+        Trial::Unserved(unserved) => is_unserved(rt, alloc, desk, listener, unserved),
+        Trial::Threadless => is_threadless(rt, alloc, desk, listener),
+        Trial::Attended(attended) => doors::is_attended(rt, alloc, desk, listener, attended),
+        Trial::Stopped => doors::is_stopped(rt, alloc, desk, listener),
+        Trial::Hasty => failing::is_hasty(rt, alloc, desk, listener),
+        Trial::Held(held) => reserving::is_held(rt, alloc, desk, listener, held),
     }
 }
 
-/// A server for so many sessions with two workers, and clients beside it: they are told what they should be told, and
-/// all steps are accounted for at the end.
-fn visited<L, R>(
-    rt: &R,
-    alloc: Global,
-    blank: Blank,
-    sessions: u16,
-    visit: Visit,
-) -> Result<(), Fail>
+/// The same at a new desk over this ledger, and a listener of its own.
+fn is_well_at<L, R>(rt: &R, alloc: Global, hall: Hall, blank: Blank, trial: &Trial) -> bool
 where
     L: DeskLedger + Send + Sync,
-    R: Net<Listener = TcpListener, Stream = TcpStream> + Threads + Wait + Sync,
+    R: Net<Listener = TcpListener, Stream = TcpStream> + Threads + Wait + Clock + CpuClock + Sync,
     requires name { blank.name ≡ L.name }
     requires parts { (blank.parts ≡ L.parts) × (L.all ≡ L.parts) × (L.all ≡ PARTS) }
 {
-    let config = Config::new(4096, 65536).ok_or("the limits")?;
-    let server = ServerConfig::new(sessions, Worker::new(2).ok_or("two workers")?);
-    let desk: Desk<L> = Desk::new(Hall::new(alloc, config, 0)?, blank);
-    let listener = TcpListener::bind(rt, "127.0.0.1:0")?;
-    let address = listener.local_addr()?;
-    let mut streams = Vec::new(alloc);
-    for _ in 0..sessions {
-        streams.push(TcpStream::connect(rt, address)?)?;
+    let desk: Desk<L> = Desk::new(hall, blank);
+    match TcpListener::bind(rt, "127.0.0.1:0") {
+        Ok(listener) => is_tried(rt, alloc, desk, listener, trial),
+        Err(_) => false,
     }
+}
+
+/// A hall of so many segments and nodes.
+fn hall_of(alloc: Global, segments: u32, nodes: u32, grain: u8) -> Option<Hall> {
+    let config = Config::new(segments, nodes)?;
+    Hall::new(alloc, config, grain.min(6)).ok()
+}
+
+/// Whether all is as it should be where this is tried at a hall of so many segments and nodes.
+fn is_well<R>(rt: &R, alloc: Global, totals: (u32, u32), grain: u8, trial: &Trial) -> bool
+where
+    R: Net<Listener = TcpListener, Stream = TcpStream> + Threads + Wait + Clock + CpuClock + Sync,
+{
+    match hall_of(alloc, totals.0, totals.1, grain) {
+        Some(hall) => is_well_at::<Brand, R>(rt, alloc, hall, Blank::new(PARTS), trial),
+        None => false,
+    }
+}
+
+/// A server for so many sessions with so many workers, of which there is one at least and 32 at most.
+fn server_of(sessions: u16, workers: u8) -> ServerConfig {
+    ServerConfig::new(sessions, Worker::new(workers.clamp(1, 32)).unwrap())
+}
+
+/// So many connections to a listener.
+fn connected<R: Net<Stream = TcpStream>>(
+    rt: &R,
+    alloc: Global,
+    listener: &TcpListener,
+    many: u16,
+) -> Option<Vec<TcpStream>> {
+    let address = listener.local_addr().ok()?;
+    let mut streams = Vec::with_capacity(alloc, usize::from(many)).ok()?;
+    for _ in 0..many {
+        streams.push(TcpStream::connect(rt, address).ok()?).ok()?;
+    }
+    Some(streams)
+}
+
+/// Clients beside a server of two workers, with a session for each.
+#[derive(Drop)]
+struct Visited {
+    sessions: u16,
+    visit: Visit,
+}
+
+/// Whether they are, and all steps are accounted for at the end.
+fn are_visited<L: DeskLedger + Send + Sync, R>(
+    rt: &R,
+    alloc: Global,
+    desk: Desk<L>,
+    listener: TcpListener,
+    trial: &Visited,
+) -> bool
+where
+    R: Net<Listener = TcpListener, Stream = TcpStream> + Threads + Wait + Clock + CpuClock + Sync,
+    requires { L.all ≡ L.parts }
+{
+    let Visited { sessions, visit } = *trial;
+    let Some(streams) = connected(rt, alloc, &listener, sessions) else {
+        return false;
+    };
+    let server = server_of(sessions, 2);
     let (told, served) = thread::join(
         rt,
         move || are_served(alloc, visit, streams),
@@ -329,71 +452,85 @@ where
             requires { L.all ≡ L.parts }
         { serve(rt, alloc, &desk, listener, server, &OpenGate) },
     );
-    let PoolEnd { badge, .. } = served?;
-    let (_, whole) = desk.into_hall(badge);
-    agreed(told?, whole.is_some())
+    told && is_whole(desk, served)
 }
 
-/// The same with a blank of its own.
-fn try_visit<R>(rt: &R, alloc: Global, sessions: u16, visit: Visit) -> Result<(), Fail>
-where
-    R: Net<Listener = TcpListener, Stream = TcpStream> + Threads + Wait + Sync,
+/// Whether a server has ended well, and all steps are accounted for.
+fn is_whole<L: DeskLedger>(desk: Desk<L>, served: Result<PoolEnd<L>, ServeFault>) -> bool
+    requires { L.all ≡ L.parts }
 {
-    visited::<Brand, R>(rt, alloc, Blank::new(PARTS), sessions, visit)
+    match served {
+        Ok(end) => desk.into_hall(end.badge).1.is_some(),
+        Err(_) => false,
+    }
 }
 
-/// A server whose workers go through a gate, which drops what it has at the end.
-fn serve_through<L, R, G>(
+/// Clients at a server for so many sessions: they are told what they should be told, and all steps are accounted for at
+/// the end.
+fn is_visited<R>(rt: &R, alloc: Global, sessions: u16, visit: Visit) -> bool
+where
+    R: Net<Listener = TcpListener, Stream = TcpStream> + Threads + Wait + Clock + CpuClock + Sync,
+{
+    is_well(
+        rt,
+        alloc,
+        (4096, 65536),
+        0,
+        &Trial::Visited(Visited { sessions, visit }),
+    )
+}
+
+/// A server whose workers go through a gate: why it failed.
+fn fault_of<L, R, G>(
     rt: &R,
     alloc: Global,
     desk: &Desk<L>,
     listener: TcpListener,
     server: ServerConfig,
     gate: &G,
-) -> Result<(), ServeFault>
+) -> Option<ServeFault>
 where
     L: DeskLedger + Send + Sync,
     R: Net<Listener = TcpListener, Stream = TcpStream> + Threads + Wait + Sync,
     G: Gate + Sync,
     requires { L.all ≡ L.parts }
 {
-    serve(rt, alloc, desk, listener, server, gate)?;
-    Ok(())
+    serve(rt, alloc, desk, listener, server, gate).err()
 }
 
 #[test]
-fn a_job_is_answered(rt: HostRuntime) -> Result<(), Fail> {
-    try_visit(&rt, rt.alloc(), 1, Visit::Answered)
+fn a_job_is_answered(rt: HostRuntime) {
+    assert!(rt; is_visited(&rt, rt.alloc(), 1, Visit::Answered));
 }
 
 #[test]
-fn a_job_is_spent(rt: HostRuntime) -> Result<(), Fail> {
-    try_visit(&rt, rt.alloc(), 1, Visit::Spent)
+fn a_job_is_spent(rt: HostRuntime) {
+    assert!(rt; is_visited(&rt, rt.alloc(), 1, Visit::Spent));
 }
 
 #[test]
-fn two_at_once_are_served_as_each_alone(rt: HostRuntime) -> Result<(), Fail> {
-    try_visit(&rt, rt.alloc(), 2, Visit::Both)
+fn two_at_once_are_served_as_each_alone(rt: HostRuntime) {
+    assert!(rt; is_visited(&rt, rt.alloc(), 2, Visit::Both));
 }
 
 #[test]
-fn a_byte_at_a_time_is_enough(rt: HostRuntime) -> Result<(), Fail> {
-    try_visit(&rt, rt.alloc(), 1, Visit::Bytes)
+fn a_byte_at_a_time_is_enough(rt: HostRuntime) {
+    assert!(rt; is_visited(&rt, rt.alloc(), 1, Visit::Bytes));
 }
 
 #[test]
-fn foreign_lines_get_their_faults(rt: HostRuntime) -> Result<(), Fail> {
-    try_visit(&rt, rt.alloc(), 1, Visit::Foreign)
+fn foreign_lines_get_their_faults(rt: HostRuntime) {
+    assert!(rt; is_visited(&rt, rt.alloc(), 1, Visit::Foreign));
 }
 
 #[test]
-fn a_lost_connection_gives_all_back(rt: HostRuntime) -> Result<(), Fail> {
-    try_visit(&rt, rt.alloc(), 2, Visit::Lost)
+fn a_lost_connection_gives_all_back(rt: HostRuntime) {
+    assert!(rt; is_visited(&rt, rt.alloc(), 2, Visit::Lost));
 }
 
 #[test]
-fn sixty_four_are_told_of_their_own(rt: HostRuntime) -> Result<(), Fail> {
-    try_visit(&rt, rt.alloc(), 64, Visit::Many)
+fn sixty_four_are_told_of_their_own(rt: HostRuntime) {
+    assert!(rt; is_visited(&rt, rt.alloc(), 64, Visit::Many));
 }
 
 /// Counts how often it is said that a server has begun.
@@ -414,93 +551,103 @@ impl Announce for Counted<'_> {
     }
 }
 
-/// Why a server of two sessions, at whose desk nobody sits, doesn't serve with workers of these stacks, how often it
-/// was said that it has begun, and whether its listener is closed then.
-fn unserved<L, R>(
-    rt: &R,
-    alloc: Global,
-    blank: Blank,
+/// A server of two sessions, at whose desk nobody sits, with workers of these stacks, and whose beginning can be said or
+/// can't.
+#[derive(Drop)]
+struct Unserved {
     stack: Option<usize>,
     works: bool,
-) -> Result<(Option<ServeFault>, u32, bool), Fail>
+}
+
+/// Whether it is so, and its listener is closed.
+fn is_unserved<L: DeskLedger + Send + Sync, R>(
+    rt: &R,
+    alloc: Global,
+    desk: Desk<L>,
+    listener: TcpListener,
+    trial: &Unserved,
+) -> bool
 where
-    L: DeskLedger + Send + Sync,
-    R: Net<Listener = TcpListener, Stream = TcpStream> + Threads + Wait + Sync,
-    requires name { blank.name ≡ L.name }
-    requires parts { (blank.parts ≡ L.parts) × (L.all ≡ L.parts) × (L.all ≡ PARTS) }
+    R: Net<Listener = TcpListener, Stream = TcpStream> + Threads + Wait + Clock + CpuClock + Sync,
+    requires { L.all ≡ L.parts }
 {
-    let config = Config::new(8, 8).ok_or("the limits")?;
-    let desk: Desk<L> = Desk::new(Hall::new(alloc, config, 0)?, blank);
-    let listener = TcpListener::bind(rt, "127.0.0.1:0")?;
-    let address = listener.local_addr()?;
-    let mut server = ServerConfig::new(2, Worker::new(2).ok_or("two workers")?);
-    server.pool.stack = stack;
+    let Ok(address) = listener.local_addr() else {
+        return false;
+    };
+    let mut server = server_of(2, 2);
+    server.pool.stack = trial.stack;
     let count = AtomicU32::new(0);
     let call = Counted {
         count: &count,
-        works,
+        works: trial.works,
     };
     let served = serve_announced(rt, alloc, &desk, listener, server, &OpenGate, call);
-    let is_closed = TcpStream::connect(rt, address).is_err();
-    Ok((served.err(), count.load(Ordering::SeqCst), is_closed))
+    let said = count.load(Ordering::SeqCst);
+    let is_so = is_said_so(trial.works, served.err(), said);
+    is_so && TcpStream::connect(rt, address).is_err()
 }
 
+/// Whether a server whose beginning can be said had no thread for its workers, and said nothing; and one whose beginning
+/// can't be said tried it once.
+fn is_said_so(works: bool, fault: Option<ServeFault>, said: u32) -> bool {
+    match fault {
+        Some(ServeFault::NoThread) => works && said == 0,
+        Some(ServeFault::Unsaid) => !works && said == 1,
+        _ => false,
+    }
+}
+
+/// Nothing is said, and the listener is closed.
 #[test]
-fn nothing_is_said_where_the_pool_cannot_begin(rt: HostRuntime) -> Result<(), Fail> {
-    let too_large = Some(usize::MAX);
-    let (fault, said, is_closed) = unserved::<Brand, HostRuntime>(
-        &rt,
-        rt.alloc(),
-        Blank::new(PARTS),
-        too_large,
-        true,
-    )?;
-    assert!(rt; matches!(fault, Some(ServeFault::NoThread)));
-    assert_eq!(rt; (said, is_closed), (0, true));
-    Ok(())
+fn nothing_is_said_where_the_pool_cannot_begin(rt: HostRuntime) {
+    let unserved = Unserved {
+        stack: Some(usize::MAX),
+        works: true,
+    };
+    assert!(rt; is_well(&rt, rt.alloc(), (8, 8), 0, &Trial::Unserved(unserved)));
 }
 
+/// It was tried once, and the listener is closed.
 #[test]
-fn a_beginning_that_cannot_be_said_ends_the_server(rt: HostRuntime) -> Result<(), Fail> {
-    let (fault, said, is_closed) = unserved::<Brand, HostRuntime>(
-        &rt,
-        rt.alloc(),
-        Blank::new(PARTS),
-        None,
-        false,
-    )?;
-    assert!(rt; matches!(fault, Some(ServeFault::Unsaid)));
-    assert_eq!(rt; (said, is_closed), (1, true));
-    Ok(())
+fn a_beginning_that_cannot_be_said_ends_the_server(rt: HostRuntime) {
+    let unserved = Unserved {
+        stack: None,
+        works: false,
+    };
+    assert!(rt; is_well(&rt, rt.alloc(), (8, 8), 0, &Trial::Unserved(unserved)));
 }
 
-/// Whether two clients read nothing at a server of two sessions that can't have a thread for either.
-fn are_refused_threads<L, R>(rt: &R, alloc: Global, blank: Blank) -> Result<bool, Fail>
+/// Whether both clients of a server of two sessions that can't have a thread for either are let go.
+fn is_threadless<L: DeskLedger + Send + Sync, R>(
+    rt: &R,
+    alloc: Global,
+    desk: Desk<L>,
+    listener: TcpListener,
+) -> bool
 where
-    L: DeskLedger + Send + Sync,
-    R: Net<Listener = TcpListener, Stream = TcpStream> + Threads + Wait + Sync,
-    requires name { blank.name ≡ L.name }
-    requires parts { (blank.parts ≡ L.parts) × (L.all ≡ L.parts) × (L.all ≡ PARTS) }
+    R: Net<Listener = TcpListener, Stream = TcpStream> + Threads + Wait + Clock + CpuClock + Sync,
+    requires { L.all ≡ L.parts }
 {
-    let config = Config::new(8, 8).ok_or("the limits")?;
-    let desk: Desk<L> = Desk::new(Hall::new(alloc, config, 0)?, blank);
-    let listener = TcpListener::bind(rt, "127.0.0.1:0")?;
-    let address = listener.local_addr()?;
-    let one = TcpStream::connect(rt, address)?;
-    let two = TcpStream::connect(rt, address)?;
-    let mut server = ServerConfig::new(2, Worker::new(2).ok_or("two workers")?);
+    let Some(streams) = connected(rt, alloc, &listener, 2) else {
+        return false;
+    };
+    let mut server = server_of(2, 2);
     server.sessions.stack = Some(usize::MAX);
-    serve_through(rt, alloc, &desk, listener, server, &OpenGate)?;
-    Ok(is_closed(&one)? && is_closed(&two)?)
+    let fault = fault_of(rt, alloc, &desk, listener, server, &OpenGate);
+    fault.is_none() && are_closed(&streams)
+}
+
+/// Whether the server has closed each of these connections without a word.
+fn are_closed(streams: &[TcpStream]) -> bool {
+    for stream in streams {
+        if !is_closed(stream) {
+            return false;
+        }
+    }
+    true
 }
 
 #[test]
-fn a_connection_without_a_thread_is_closed_and_counts(rt: HostRuntime) -> Result<(), Fail> {
-    let are_refused = are_refused_threads::<Brand, HostRuntime>(
-        &rt,
-        rt.alloc(),
-        Blank::new(PARTS),
-    )?;
-    assert!(rt; are_refused);
-    Ok(())
+fn a_connection_without_a_thread_is_closed_and_counts(rt: HostRuntime) {
+    assert!(rt; is_well(&rt, rt.alloc(), (8, 8), 0, &Trial::Threadless));
 }

@@ -15,7 +15,7 @@ fn is_made_in(rt: &impl Abort, alloc: Global, units: usize, config: Config) -> b
 {
     let heap = LocalHeap::new(alloc, units * 16).expect(rt, "room for a heap");
     let is_made = made(&heap, config, Fan::new()).is_ok();
-    assert_eq!(rt; heap.used(), 0);
+    assert!(rt; heap.used() == 0);
     is_made
 }
 
@@ -55,16 +55,13 @@ fn a_run_without_memory_for_its_answers(rt: HostRuntime) {
     let counted = Counted::new(rt.alloc());
     let mut core = made(&counted, config, Fan::new()).expect(&rt, "there is room");
     counted.refuse(1);
-    assert_eq!(rt; run_once(&counted, &mut core, reserve), (false, 0, None));
+    assert!(rt; run_once(&counted, &mut core, reserve) == (false, 0, None));
     let left = Left {
         segments: 4,
         nodes: 16,
         steps: 256,
     };
-    assert_eq!(rt;
-        run_once(&counted, &mut core, reserve),
-        (true, 1, Some(left))
-    );
+    assert!(rt; run_once(&counted, &mut core, reserve) == (true, 1, Some(left)));
 }
 
 /// Segments of a core, from the least to the most.
@@ -87,7 +84,7 @@ fn does(
     step: &Step<Fan>,
     answer: Result<DidOf<u64>, Refusal>,
 ) {
-    assert_eq!(rt; do_step(core, step), answer);
+    assert!(rt; do_step(core, step) == answer);
 }
 
 /// The most that a tenant may reserve of a core of so many segments and nodes.
@@ -102,7 +99,7 @@ fn most_of(segments: u32, nodes: u32) -> Option<Reserve> {
 /// much.
 fn is_used(rt: &impl Abort, core: &mut Core<Fan>, least: Reserve, reserve: Reserve, segments: u32) {
     does(rt, core, &StepOf::Admit(1, reserve), Ok(DidOf::Admitted));
-    assert_eq!(rt; core.free_segments(), segments as usize);
+    assert!(rt; core.free_segments() == segments as usize);
     does(rt, core, &StepOf::Leave(1), Ok(DidOf::Left));
     does(rt, core, &StepOf::Admit(2, least), Ok(DidOf::Admitted));
     if reserve != least {

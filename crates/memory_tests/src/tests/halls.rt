@@ -74,7 +74,7 @@ fn does<A: Allocator + Clone>(
 )
     requires { IsSearch step.now }
 {
-    assert_eq!(rt; hall.offer(step), Ok(did));
+    assert!(rt; hall.offer(step) == Ok(did));
 }
 
 /// The five steps of a worker that compute and finish the job under this root.
@@ -107,7 +107,7 @@ fn admit_and_ask(
     does(rt, hall, &StepOf::Admit(tenant, reserve), DidOf::Admitted);
     let search = submit(tenant, opening, 0);
     does(rt, hall, &search, DidOf::Submitted(1, root));
-    assert_eq!(rt; hall.outcome(tenant, 1), Some(Outcome::Pending));
+    assert!(rt; hall.outcome(tenant, 1) == Some(Outcome::Pending));
 }
 
 /// A tenant's first job is done, and its value is that of the opening at depth 0.
@@ -115,13 +115,13 @@ fn is_done(rt: &impl Abort, hall: &Hall, tenant: u64) {
     let Some(Outcome::Done(reply)) = hall.outcome(tenant, 1) else {
         panic!(rt; "not done")
     };
-    assert_eq!(rt; (reply.value(), reply.choice()), (0, None));
+    assert!(rt; (reply.value(), reply.choice()) == (0, None));
 }
 
 /// A tenant leaves, and then no journal is kept.
 fn leave<A: Allocator + Clone>(rt: &impl Abort, hall: &mut Hall<A>, tenant: u64, count: u128) {
     does(rt, hall, &StepOf::Leave(tenant), DidOf::Left);
-    assert_eq!(rt; (hall.count(), hall.gone()), (count, count));
+    assert!(rt; (hall.count(), hall.gone()) == (count, count));
 }
 
 /// A hall's first tenant asks, and a worker computes what it asked.
@@ -130,14 +130,14 @@ fn has_a_job_done(rt: &impl Abort, hall: &mut Hall, tenant: u64) {
     admit_and_ask(rt, hall, reserve_of(rt, 4, 8), &opening(rt), root);
     compute(rt, hall, worker_of(rt, 1), root);
     is_done(rt, hall, tenant);
-    assert_eq!(rt; (hall.count(), hall.gone(), hall.kept()), (7, 0, 0));
+    assert!(rt; (hall.count(), hall.gone(), hall.kept()) == (7, 0, 0));
 }
 
 /// It leaves, and nothing is left of it but its number.
 fn is_gone(rt: &impl Abort, hall: &mut Hall, tenant: u64) {
     leave(rt, hall, tenant, 8);
-    assert_eq!(rt; hall.next_tenant(), 2);
-    assert_eq!(rt; hall.outcome(tenant, 1), None);
+    assert!(rt; hall.next_tenant() == 2);
+    assert!(rt; hall.outcome(tenant, 1) == None);
 }
 
 /// The opening at depth 0, from the admission to the Leave.
@@ -183,10 +183,10 @@ fn is_taken<A: Allocator + Clone>(
     let before = look_at(hall);
     let answer = hall.offer(step);
     if answer == Err(Refusal::OutOfMemory) {
-        assert_eq!(rt; look_at(hall), before);
+        assert!(rt; look_at(hall) == before);
         return false;
     }
-    assert_eq!(rt; answer, Ok(did));
+    assert!(rt; answer == Ok(did));
     true
 }
 
@@ -273,7 +273,7 @@ fn each_growth_of_an_admission_is_refused(rt: HostRuntime) -> Result<(), Fail> {
 
 /// The job of tenant 1 is pending.
 fn is_pending<A: Allocator>(rt: &impl Abort, hall: &Hall<A>) {
-    assert_eq!(rt; hall.outcome(1, 1), Some(Outcome::Pending));
+    assert!(rt; hall.outcome(1, 1) == Some(Outcome::Pending));
 }
 
 /// Raises what tenant 1 reserves, or answers that memory is wanting; its job is pending either way.
@@ -300,9 +300,9 @@ fn has_a_job<A: Allocator + Copy>(
 /// Tenant 1 has this left of what was raised once, which isn't raised to the same again; and it leaves.
 fn is_left<A: Allocator + Clone>(rt: &impl Abort, hall: &mut Hall<A>, reserve: Reserve) {
     let left = hall.core().left(1).expect(rt, "the tenant is there");
-    assert_eq!(rt; (left.segments, left.nodes, left.steps), (1, 2, 48));
+    assert!(rt; (left.segments, left.nodes, left.steps) == (1, 2, 48));
     let again = hall.offer(&StepOf::AdmitMore(1, reserve));
-    assert_eq!(rt; again, Err(Refusal::Lower));
+    assert!(rt; again == Err(Refusal::Lower));
     leave(rt, hall, 1, 4);
 }
 

@@ -1,10 +1,11 @@
 //! Deques in one thread: what is taken, in which order, and the sums.
-ghost use Rattle.std.specs.Prelude.{◌≡◌, ◌<◌, ◌+◌, map, vec_len};
+ghost use Rattle.std.specs.Prelude.{◌≡◌, ◌≤◌, ◌<◌, ◌+◌, map, vec_len};
 ghost use Rattle.task_deques.specs.Deals.{posts, IsWhole};
 
 use frame_tree::FrameId;
 use sched_rules::Worker;
 use std::alloc::{AllocError, Allocator, Global};
+use std::process::Abort;
 use std::test::Fail;
 use task_deques::{DequeEnds, Returned, Sums, Task, deal};
 
@@ -74,70 +75,30 @@ fn sums<A: Allocator + Clone>(
     Ok(back.sums())
 }
 
-/// What worker 3 takes where worker 1 pushed a task.
-fn stolen(alloc: Global) -> Result<Option<u64>, AllocError> {
-    let (Some(one), Some(three)) = (Worker::new(1), Worker::new(3)) else {
-        return Ok(None);
-    };
-    let mut all = deal(alloc, three, 8)?;
-    if !pushes(&mut all, one, 1) {
-        return Ok(None);
-    }
-    Ok(Some(takes(&mut all, three)))
+/// The worker of this number.
+fn worker(number: u8) -> Worker
+    requires { (1 ≤ number) × (number ≤ 32) }
+{
+    Worker::new(number).unwrap()
 }
 
 /// Worker 3 has no task of its own, and steals worker 1's.
 #[test]
-fn a_task_is_stolen(rt: HostRuntime) -> Result<(), Fail> {
-    assert_eq!(rt; stolen(rt.alloc())?, Some(1));
-    Ok(())
-}
-
-/// What worker 2 takes where worker 1 pushed the task 1 and worker 3 the task 3.
-fn between_two(alloc: Global) -> Result<Option<[u64; 3]>, AllocError> {
-    let (Some(one), Some(two), Some(three)) = (Worker::new(1), Worker::new(2), Worker::new(3))
-    else {
-        return Ok(None);
-    };
-    let mut all = deal(alloc, three, 8)?;
-    if !pushes(&mut all, one, 1) || !pushes(&mut all, three, 3) {
-        return Ok(None);
-    }
-    let taken = [
-        takes(&mut all, two),
-        takes(&mut all, two),
-        takes(&mut all, two),
-    ];
-    Ok(Some(taken))
+fn a_task_is_stolen(rt: HostRuntime) {
+    let mut all = deal(rt.alloc(), worker(3), 8).expect(&rt, "there is memory");
+    assert!(rt; pushes(&mut all, worker(1), 1));
+    assert!(rt; takes(&mut all, worker(3)) == 1);
 }
 
 /// A worker tries the deques in the order of their numbers after its own, and then from the first on:
 /// worker 2 steals worker 3's task before worker 1's.
 #[test]
-fn the_next_worker_is_tried_first(rt: HostRuntime) -> Result<(), Fail> {
-    assert_eq!(rt; between_two(rt.alloc())?, Some([3, 1, 0]));
-    Ok(())
-}
-
-/// What three workers take in turn, whether a fourth push into room for three is handed back, and the
-/// sums.
-fn in_turn(alloc: Global) -> Result<Option<([u64; 6], bool, Sums)>, AllocError> {
-    let (Some(one), Some(two), Some(three)) = (Worker::new(1), Worker::new(2), Worker::new(3))
-    else {
-        return Ok(None);
-    };
-    let mut all = deal(alloc, three, 3)?;
-    let kept = pushes_three(&mut all, one) && pushes(&mut all, two, 4) && pushes(&mut all, two, 5);
-    let refused = kept && !pushes(&mut all, one, 6);
-    let taken = [
-        takes(&mut all, one),
-        takes(&mut all, three),
-        takes(&mut all, two),
-        takes(&mut all, three),
-        takes(&mut all, three),
-        takes(&mut all, three),
-    ];
-    Ok(Some((taken, refused, sums(alloc, three, all)?)))
+fn the_next_worker_is_tried_first(rt: HostRuntime) {
+    let mut all = deal(rt.alloc(), worker(3), 8).expect(&rt, "there is memory");
+    assert!(rt; pushes(&mut all, worker(1), 1) && pushes(&mut all, worker(3), 3));
+    for serial in [3, 1, 0] {
+        assert!(rt; takes(&mut all, worker(2)) == serial);
+    }
 }
 
 /// So many tasks pushed, taken and left.
@@ -151,34 +112,49 @@ fn sums_of(pushed: u128, taken: u128, left: u128) -> Sums
     }
 }
 
+/// Whether three tasks of worker 1 and two of worker 2 find room, and a fourth of worker 1 doesn't.
+fn are_kept(all: &mut Vec<DequeEnds<Global>>) -> bool
+    ensures posts { map posts all.new.items ≡ map posts all.old.items }
+    ensures len { vec_len all.new ≡ vec_len all.old }
+{
+    pushes_three(all, worker(1))
+        && pushes(all, worker(2), 4)
+        && pushes(all, worker(2), 5)
+        && !pushes(all, worker(1), 6)
+}
+
+/// Whether the workers take these in turn.
+fn are_taken(all: &mut Vec<DequeEnds<Global>>) -> bool
+    ensures posts { map posts all.new.items ≡ map posts all.old.items }
+    ensures len { vec_len all.new ≡ vec_len all.old }
+{
+    takes(all, worker(1)) == 3
+        && takes(all, worker(3)) == 1
+        && takes(all, worker(2)) == 5
+        && takes(all, worker(3)) == 2
+        && takes(all, worker(3)) == 4
+        && takes(all, worker(3)) == 0
+}
+
 /// A worker takes its own newest task, else the oldest of the next worker's that has one; where there
 /// is no room a task is handed back.
 #[test]
-fn own_newest_else_the_next_workers_oldest(rt: HostRuntime) -> Result<(), Fail> {
-    let wanted = ([3, 1, 5, 2, 4, 0], true, sums_of(5, 5, 0));
-    assert_eq!(rt; in_turn(rt.alloc())?, Some(wanted));
-    Ok(())
-}
-
-/// What is left is counted.
-fn left_over(alloc: Global) -> Result<Option<Sums>, AllocError> {
-    let (Some(one), Some(two)) = (Worker::new(1), Worker::new(2)) else {
-        return Ok(None);
-    };
-    let mut all = deal(alloc, two, 8)?;
-    let kept = pushes_three(&mut all, one) && pushes(&mut all, one, 4) && pushes(&mut all, one, 5);
-    let taken = [takes(&mut all, two), takes(&mut all, one)];
-    if !kept || taken != [1, 5] {
-        return Ok(None);
-    }
-    Ok(Some(sums(alloc, two, all)?))
+fn own_newest_else_the_next_workers_oldest(rt: HostRuntime) {
+    let three = worker(3);
+    let mut all = deal(rt.alloc(), three, 3).expect(&rt, "there is memory");
+    assert!(rt; are_kept(&mut all) && are_taken(&mut all));
+    assert!(rt; sums(rt.alloc(), three, all) == Ok(sums_of(5, 5, 0)));
 }
 
 /// Of five tasks one is stolen and one popped: three are left.
 #[test]
-fn what_is_left_is_counted(rt: HostRuntime) -> Result<(), Fail> {
-    assert_eq!(rt; left_over(rt.alloc())?, Some(sums_of(5, 2, 3)));
-    Ok(())
+fn what_is_left_is_counted(rt: HostRuntime) {
+    let (one, two) = (worker(1), worker(2));
+    let mut all = deal(rt.alloc(), two, 8).expect(&rt, "there is memory");
+    assert!(rt; pushes_three(&mut all, one) && pushes(&mut all, one, 4));
+    assert!(rt; pushes(&mut all, one, 5));
+    assert!(rt; takes(&mut all, two) == 1 && takes(&mut all, one) == 5);
+    assert!(rt; sums(rt.alloc(), two, all) == Ok(sums_of(5, 2, 3)));
 }
 
 /// A worker takes its own newest task of a list, else the oldest.
@@ -193,37 +169,43 @@ fn takes_of(list: &mut Vec<Task>, worker: Worker) -> u64 {
     list.remove(own).frame.serial
 }
 
+/// Whether a worker pushes a task with this number, or takes one, as from one list.
+fn is_as_a_list(
+    list: &mut Vec<Task>,
+    all: &mut Vec<DequeEnds<Global>>,
+    worker: Worker,
+    serial: u64,
+    is_push: bool,
+) -> bool {
+    if is_push && list.len() < 16 {
+        list.push(task(serial, worker.number())).is_ok() && pushes(all, worker, serial)
+    } else {
+        takes_of(list, worker) == takes(all, worker)
+    }
+}
+
 /// Whether up to two workers take from their deques what they take from one list of tasks, as long as
 /// one thread plays for both: each turn pushes a task or takes one, by turns that repeat after long.
-fn are_as_a_list(alloc: Global, last: Worker) -> Result<bool, AllocError> {
+fn are_as_a_list(rt: &impl Abort, alloc: Global, last: Worker) -> bool {
     let mut list = Vec::new(alloc);
-    let mut all = deal(alloc, last, 16)?;
+    let mut all = deal(alloc, last, 16).expect(rt, "there is memory");
     let mut draw = 1u64;
-    let mut same = true;
     for turn in 1..2_000u64 {
         draw = draw.wrapping_mul(75) % 65_537;
-        let Some(worker) = Worker::new(((draw / 2) % u64::from(last.number())) as u8 + 1) else {
-            return Ok(false);
-        };
-        if draw % 5 < 2 && list.len() < 16 {
-            list.push(task(turn, worker.number()))?;
-            same = same && pushes(&mut all, worker, turn);
-        } else {
-            let taken = takes_of(&mut list, worker);
-            same = same && taken == takes(&mut all, worker);
+        let number = (draw / 2) % u64::from(last.number());
+        let worker = Worker::new(number as u8 + 1).expect(rt, "a worker");
+        if !is_as_a_list(&mut list, &mut all, worker, turn, draw % 5 < 2) {
+            return false;
         }
     }
-    Ok(same)
+    true
 }
 
 /// With one or two workers in one thread the deques answer as one list of tasks does.
 #[test]
-fn as_one_list(rt: HostRuntime) -> Result<(), Fail> {
-    for workers in [1, 2] {
-        let last = Worker::new(workers).ok_or("a worker")?;
-        assert!(rt; are_as_a_list(rt.alloc(), last)?, "{workers} workers");
-    }
-    Ok(())
+fn as_one_list(rt: HostRuntime) {
+    assert!(rt; are_as_a_list(&rt, rt.alloc(), worker(1)), "one worker");
+    assert!(rt; are_as_a_list(&rt, rt.alloc(), worker(2)), "two workers");
 }
 
 /// How many of so many pushes by a worker are kept.
@@ -251,14 +233,10 @@ fn found<A: Allocator>(all: &mut Vec<DequeEnds<A>, A>, worker: Worker, many: u64
 /// Of as many workers as can be, each has room for as many tasks as were asked for, and the third takes all of the second's,
 /// whose deque it tries last.
 #[test]
-fn a_deque_holds_as_many_as_it_has_room_for(rt: HostRuntime) -> Result<(), Fail> {
-    let second = Worker::new(2).ok_or("a worker")?;
-    let third = Worker::new(3).ok_or("a worker")?;
-    let last = Worker::new(32).ok_or("a worker")?;
-    let mut all = deal(rt.alloc(), last, 1024)?;
-    assert_eq!(rt; kept(&mut all, second, 1100), 1024);
-    assert_eq!(rt; found(&mut all, third, 1100), 1024);
-    Ok(())
+fn a_deque_holds_as_many_as_it_has_room_for(rt: HostRuntime) {
+    let mut all = deal(rt.alloc(), worker(32), 1024).expect(&rt, "there is memory");
+    assert!(rt; kept(&mut all, worker(2), 1100) == 1024);
+    assert!(rt; found(&mut all, worker(3), 1100) == 1024);
 }
 
 /// How many of 32 workers take a task that this one has pushed for each of them.
@@ -277,21 +255,16 @@ fn takers<A: Allocator>(all: &mut Vec<DequeEnds<A>, A>, owner: Worker) -> u64 {
 
 /// Each of as many workers as can be steals, of the first, of the middle and of the last.
 #[test]
-fn each_of_32_workers_steals(rt: HostRuntime) -> Result<(), Fail> {
-    let last = Worker::new(32).ok_or("a worker")?;
-    let mut all = deal(rt.alloc(), last, 32)?;
-    for number in [1, 16, 32] {
-        let owner = Worker::new(number).ok_or("a worker")?;
-        assert_eq!(rt; takers(&mut all, owner), 32, "of worker {number}");
-    }
-    Ok(())
+fn each_of_32_workers_steals(rt: HostRuntime) {
+    let mut all = deal(rt.alloc(), worker(32), 32).expect(&rt, "there is memory");
+    assert!(rt; takers(&mut all, worker(1)) == 32, "of the first");
+    assert!(rt; takers(&mut all, worker(16)) == 32, "of the middle");
+    assert!(rt; takers(&mut all, worker(32)) == 32, "of the last");
 }
 
 /// Room that can't be had is refused, for tasks and for ends that come back.
 #[test]
-fn no_room(rt: HostRuntime) -> Result<(), Fail> {
-    let last = Worker::new(2).ok_or("a worker")?;
-    assert!(rt; deal(rt.alloc(), last, usize::MAX).is_err());
+fn no_room(rt: HostRuntime) {
+    assert!(rt; deal(rt.alloc(), worker(2), usize::MAX).is_err());
     assert!(rt; Returned::with_room(rt.alloc(), usize::MAX).is_err());
-    Ok(())
 }

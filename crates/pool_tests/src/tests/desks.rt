@@ -1,4 +1,4 @@
-//! A desk in one thread and in four. Each test tries something at a desk of its own.
+//! A desk in one thread and in several. Each test tries something at a desk of its own.
 ghost use Rattle.std.specs.Prelude.{◌≡◌, ◌≤◌};
 
 mod endings;
@@ -23,8 +23,7 @@ use std::process::Abort;
 use std::sync::Wait;
 use std::sync::ledger::Blank;
 use std::test::Fail;
-use std::thread;
-use std::thread::{JoinHandle, Scope, Threads};
+use std::thread::Threads;
 use std::time::{Clock, CpuClock};
 use tenant_quota::{Left, Reserve};
 use waiting::Waker;
@@ -35,8 +34,6 @@ use wakes::{What, Who};
 enum Trial {
     /// One seat, and one badge for its worker.
     One,
-    /// Four threads, each with a seat and a badge of its own.
-    Four,
     /// Two seats ask in turn.
     InTurn,
     /// As many asks as there are jobs, a desk without room, and its closing.
@@ -117,7 +114,6 @@ where
 {
     match trial {
         Trial::One => one_stays(rt, desk),
-        Trial::Four => four_stay(rt, alloc, desk),
         Trial::Closed => endings::go_on(rt, desk),
         Trial::SeatStays => endings::seat_stays(rt, desk),
         Trial::BadgeDropped => endings::badge_is_dropped(rt, desk),
@@ -239,7 +235,7 @@ fn asks<L: DeskLedger, R: Wait + Abort>(
 )
     requires { depth ≤ 12 }
 {
-    assert_eq!(rt; desk.ask(rt, seat, &opening(rt), depth), answer);
+    assert!(rt; desk.ask(rt, seat, &opening(rt), depth) == answer);
 }
 
 /// A seat cancels a job, and is answered so.
@@ -250,7 +246,7 @@ fn cancels<L: DeskLedger, R: Wait + Abort>(
     job: u64,
     answer: Result<(), Refusal>,
 ) {
-    assert_eq!(rt; desk.cancel(rt, seat, job), answer);
+    assert!(rt; desk.cancel(rt, seat, job) == answer);
 }
 
 /// A seat gets this of a job.
@@ -261,7 +257,7 @@ fn gets<L: DeskLedger, R: Wait + Abort>(
     job: u64,
     answer: Result<Outcome, Refusal>,
 ) {
-    assert_eq!(rt; desk.get(rt, seat, job), answer);
+    assert!(rt; desk.get(rt, seat, job) == answer);
 }
 
 /// A seat's tenant has this left.
@@ -273,7 +269,7 @@ fn has_left<L: DeskLedger, R: Wait + Abort>(
     nodes: u32,
     steps: u32,
 ) {
-    assert_eq!(rt; desk.quota(rt, seat), left(segments, nodes, steps));
+    assert!(rt; desk.quota(rt, seat) == left(segments, nodes, steps));
 }
 
 /// A seat's tenant has one frame of 12 words.
@@ -284,7 +280,7 @@ fn has_one_frame<L: DeskLedger, R: Wait + Abort>(rt: &R, desk: &Desk<L>, seat: &
 /// A seat's tenant has so many frames of 12 words.
 fn has_frames<L: DeskLedger, R: Wait + Abort>(rt: &R, desk: &Desk<L>, seat: &Seat<L>, many: u32) {
     let frames = many as usize;
-    assert_eq!(rt; desk.live(rt, seat), Ok((frames, 12 * frames)));
+    assert!(rt; desk.live(rt, seat) == Ok((frames, 12 * frames)));
 }
 
 /// A worker does the first job, the opening at depth 0, and the seat that waited for it has its reply.
@@ -296,8 +292,8 @@ fn do_first<L: DeskLedger, R: Wait + Abort>(
     worker: Worker,
 ) {
     let root = root_of(seat);
-    assert_eq!(rt; compute(rt, desk, badge, worker, root), Some(1));
-    assert_eq!(rt; reply_of(desk.wait(rt, seat, 1)), Some((0, None)));
+    assert!(rt; compute(rt, desk, badge, worker, root) == Some(1));
+    assert!(rt; reply_of(desk.wait(rt, seat, 1)) == Some((0, None)));
 }
 
 /// The end of a desk: so many steps its hall has taken, keeps, and let go with journals; and whether all
@@ -311,10 +307,7 @@ fn has_ended<L: DeskLedger, R: Wait + Abort>(
     requires { L.all ≡ L.parts }
 {
     let (hall, whole) = desk.into_hall(badge);
-    assert_eq!(rt;
-        (hall.count(), hall.kept(), hall.gone(), whole.is_some()),
-        end
-    );
+    assert!(rt; (hall.count(), hall.kept(), hall.gone(), whole.is_some()) == end);
 }
 
 /// A tenant's first job, which is done: its seat, and the badge of the worker of this number.
@@ -325,7 +318,7 @@ fn work<L: DeskLedger, R: Wait + Abort>(rt: &R, desk: &Desk<L>, number: u8) -> (
     asks(rt, desk, &mut seat, 0, Ok(1));
     do_first(rt, desk, &seat, &mut badge, worker);
     has_left(rt, desk, &seat, 4, 7, 123);
-    assert_eq!(rt; (seat.share(), badge.share()), (2, 5));
+    assert!(rt; (seat.share(), badge.share()) == (2, 5));
     cancels(rt, desk, &mut seat, 1, Err(Refusal::NoJob));
     (seat, badge)
 }
@@ -337,18 +330,7 @@ fn cancel_second<L: DeskLedger, R: Wait + Abort>(rt: &R, desk: &Desk<L>, seat: &
     cancels(rt, desk, seat, 2, Ok(()));
     gets(rt, desk, seat, 2, Ok(Outcome::Cancelled));
     has_left(rt, desk, seat, 4, 6, 123);
-    assert_eq!(rt; seat.share(), 4);
-}
-
-/// Both jobs.
-fn work_twice<L: DeskLedger, R: Wait + Abort>(
-    rt: &R,
-    desk: &Desk<L>,
-    number: u8,
-) -> (Seat<L>, Badge<L>) {
-    let (mut seat, badge) = work(rt, desk, number);
-    cancel_second(rt, desk, &mut seat);
-    (seat, badge)
+    assert!(rt; seat.share() == 4);
 }
 
 /// One seat, and one badge for its worker.
@@ -364,11 +346,11 @@ fn stay<L: DeskLedger, R: Wait + Abort>(rt: &R, desk: &Desk<L>) -> Badge<L>
     requires { L.all ≡ L.parts }
 {
     let (mut seat, badge) = work(rt, desk, 1);
-    assert_eq!(rt; desk.count(rt), 7);
+    assert!(rt; desk.count(rt) == 7);
     cancel_second(rt, desk, &mut seat);
-    assert_eq!(rt; desk.count(rt), 9);
+    assert!(rt; desk.count(rt) == 9);
     desk.leave(rt, seat);
-    assert_eq!(rt; desk.count(rt), 10);
+    assert!(rt; desk.count(rt) == 10);
     badge
 }
 
@@ -377,92 +359,10 @@ fn a_seat_and_a_badge(rt: HostRuntime) -> Result<(), Fail> {
     try_out(&rt, rt.alloc(), Trial::One)
 }
 
-/// Starts a stay for each worker of 1 to 4.
-fn start_four<'s, E, L: DeskLedger + Send + Sync, R: Wait + Abort + Sync>(
-    scope: &'s Scope<'s, E>,
-    rt: &'s R,
-    desk: &'s Desk<L>,
-    handles: &mut Vec<JoinHandle<(Seat<L>, Badge<L>)>>,
-) -> Option<()> {
-    for number in 1..5u8 {
-        if handles.reserve(1).is_err() {
-            return None;
-        }
-        match scope.spawn(move || work_twice(rt, desk, number)) {
-            Ok(handle) => handles.push_reserved(handle),
-            Err(_) => return None,
-        }
-    }
-    Some(())
-}
-
-/// Joins all: their seats leave, and their badges are joined to this one.
-fn join_all<L: DeskLedger, R: Wait + Threads>(
-    rt: &R,
-    desk: &Desk<L>,
-    first: Badge<L>,
-    handles: Vec<JoinHandle<(Seat<L>, Badge<L>)>>,
-) -> Badge<L>
-    requires { L.all ≡ L.parts }
-{
-    let mut all = first;
-    for handle in handles {
-        let (seat, badge) = handle.join(rt);
-        desk.leave(rt, seat);
-        all = all.join(badge);
-    }
-    all
-}
-
-/// Four threads, each with a seat and a badge of its own.
-fn four_work<L: DeskLedger + Send + Sync, R: Wait + Abort + Threads + Sync>(
-    rt: &R,
-    alloc: Global,
-    desk: &Desk<L>,
-    first: Badge<L>,
-) -> Option<Badge<L>>
-    requires { L.all ≡ L.parts }
-{
-    thread::scope(
-        thread::scope_env(),
-        rt,
-        |scope|
-            requires { L.all ≡ L.parts }
-        {
-            let mut handles = Vec::new(alloc);
-            let started = start_four(scope, rt, desk, &mut handles);
-            let badge = join_all(rt, desk, first, handles);
-            match started {
-                Some(()) => Some(badge),
-                None => None,
-            }
-        },
-    )
-}
-
-/// The four up to the desk's end.
-fn four_stay<L: DeskLedger + Send + Sync, R: Wait + Abort + Threads + Sync>(
-    rt: &R,
-    alloc: Global,
-    desk: Desk<L>,
-)
-    requires { L.all ≡ L.parts }
-{
-    let first = badge_of(rt, &desk);
-    let badge = four_work(rt, alloc, &desk, first).expect(rt, "there are threads");
-    assert_eq!(rt; badge.share(), 20);
-    has_ended(rt, desk, badge, (40, 20, 40, true));
-}
-
-#[test]
-fn four_seats_in_four_threads(rt: HostRuntime) -> Result<(), Fail> {
-    try_out(&rt, rt.alloc(), Trial::Four)
-}
-
 /// A frame is ready, the root of this seat's job.
 fn next_root<L: DeskLedger, R: Wait + Abort>(rt: &R, desk: &Desk<L>, seat: &Seat<L>) -> FrameId {
     let (root, home) = desk.next_ready(rt).expect(rt, "the root is ready");
-    assert_eq!(rt; (root.tenant, home), (seat.tenant(), 0));
+    assert!(rt; (root.tenant, home) == (seat.tenant(), 0));
     root
 }
 
@@ -485,9 +385,9 @@ fn ask_and_read<L: DeskLedger, R: Wait + Abort>(
         .expect(rt, "there is room");
     has_one_frame(rt, desk, seat);
     let root = next_root(rt, desk, seat);
-    assert_eq!(rt; compute(rt, desk, badge, worker, root), Some(job));
-    assert_eq!(rt; reply_of(desk.get(rt, seat, job)), Some(reply));
-    assert_eq!(rt; reply_of(desk.wait(rt, seat, job)), Some(reply));
+    assert!(rt; compute(rt, desk, badge, worker, root) == Some(job));
+    assert!(rt; reply_of(desk.get(rt, seat, job)) == Some(reply));
+    assert!(rt; reply_of(desk.wait(rt, seat, job)) == Some(reply));
 }
 
 /// Two seats ask for three positions in turn, which this worker computes.
@@ -511,10 +411,7 @@ fn ask_in_turn<L: DeskLedger, R: Wait + Abort>(
     }
     has_left(rt, desk, &one, 4, 5, 113);
     has_left(rt, desk, &other, 3, 6, 129);
-    assert_eq!(rt;
-        (one.asked().len(), other.share(), badge.share()),
-        (3, 4, 30)
-    );
+    assert!(rt; (one.asked().len(), other.share(), badge.share()) == (3, 4, 30));
 }
 
 /// What they ask, and the replies.
@@ -540,19 +437,19 @@ fn ask_all<L: DeskLedger, R: Wait + Abort>(rt: &R, desk: &Desk<L>, seat: &mut Se
     }
     asks(rt, desk, seat, 3, Err(Refusal::NoJobsLeft));
     gets(rt, desk, seat, 257, Err(Refusal::NoJob));
-    assert_eq!(rt; (seat.share(), seat.asked().len()), (513, 256));
+    assert!(rt; (seat.share(), seat.asked().len()) == (513, 256));
 }
 
 /// A tenant that finds no room.
 fn is_refused<L: DeskLedger, R: Wait + Abort>(rt: &R, desk: &Desk<L>) {
     let reserve = Reserve::new(1, 1).expect(rt, "within the limits");
-    assert_eq!(rt; desk.admit(rt, reserve).err(), Some(Refusal::Full));
+    assert!(rt; desk.admit(rt, reserve).err() == Some(Refusal::Full));
 }
 
 /// At a closed desk no frame is ready, and who waits finds the job pending.
 fn wait_closed<L: DeskLedger, R: Wait + Abort>(rt: &R, desk: &Desk<L>, seat: &Seat<L>) {
-    assert_eq!(rt; desk.next_ready(rt), None);
-    assert_eq!(rt; desk.wait(rt, seat, 1), Ok(Outcome::Pending));
+    assert!(rt; desk.next_ready(rt) == None);
+    assert!(rt; desk.wait(rt, seat, 1) == Ok(Outcome::Pending));
 }
 
 /// A tenant of all segments asks as often as it may, and leaves.
@@ -571,7 +468,7 @@ fn limits<L: DeskLedger, R: Wait + Abort>(rt: &R, desk: &Desk<L>)
 {
     fill(rt, desk);
     let mut seat = seat_of(rt, desk, 1, 1);
-    assert_eq!(rt; seat.tenant(), 2);
+    assert!(rt; seat.tenant() == 2);
     asks(rt, desk, &mut seat, 3, Ok(1));
     desk.close(rt);
     wait_closed(rt, desk, &seat);

@@ -34,7 +34,7 @@ pub(crate) trait Scenario {
 
 /// What a pool came to: whether the scenario was content, the joined badge's share, how many tasks were pushed, taken
 /// and left, whether all that was out came back, and the segments that are free.
-#[derive(Clone, Copy, Debug, PartialEq, Eq)]
+#[derive(Clone, Copy)]
 pub(crate) struct Played {
     pub(crate) content: bool,
     pub(crate) share: u128,

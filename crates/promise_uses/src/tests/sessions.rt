@@ -11,9 +11,9 @@ use line_io::{FromWriter, ReadFailed, Source};
 use session::{End, SessionFault};
 use std::alloc::Global;
 use std::marker::Brand;
+use std::process::Abort;
 use std::sync::Wait;
 use std::sync::ledger::Blank;
-use std::test::Fail;
 
 /// Gives one line a call. Before a line WAIT a worker runs the job that is asked for.
 struct Working<'a, L: DeskLedger, R: Wait> {
@@ -91,43 +91,37 @@ const ANSWERS: &[u8] =
     b"WELCOME 32 32\nJOB 1\nDONE 1 -3 d3\nTABLE 1 d3=-3 c4<-3 f5<-3 e6<-3\nERR 17\n";
 
 /// How such a session ends at a new desk of grain 1, and what it writes.
-fn served<L: DeskLedger, R: Wait>(
+fn served<L: DeskLedger, R: Wait + Abort>(
     rt: &R,
     alloc: Global,
     blank: Blank,
-) -> Result<(Result<End, SessionFault>, Vec<u8>), Fail>
+) -> (Result<End, SessionFault>, Vec<u8>)
     requires name { blank.name ≡ L.name }
     requires parts { (blank.parts ≡ L.parts) × (L.all ≡ L.parts) × (L.all ≡ 13835058055282163712) }
 {
-    let config = Config::new(64, 64).ok_or("the totals")?;
-    let worker = Worker::new(5).ok_or("a worker")?;
-    let desk: Desk<L> = Desk::new(Hall::new(alloc, config, 1)?, blank);
-    let badge = desk.badge(rt).ok_or("a badge")?;
+    let hall = Hall::new(alloc, Config::new(64, 64).unwrap(), 1);
+    let desk: Desk<L> = Desk::new(hall.expect(rt, "there is memory"), blank);
     let mut source = Working {
         rt,
         desk: &desk,
-        badge,
-        worker,
+        badge: desk.badge(rt).expect(rt, "there are badges"),
+        worker: Worker::new(5).unwrap(),
         lines: LINES.as_slice(),
         given: 0,
     };
     let mut sink = FromWriter::new(Vec::new(alloc));
     let end = third_answer(rt, &mut source, &mut sink, &desk);
     source.close();
-    Ok((end, sink.writer))
+    (end, sink.writer)
 }
 
 /// The same with a blank of its own.
-fn served_here<R: Wait>(
-    rt: &R,
-    alloc: Global,
-) -> Result<(Result<End, SessionFault>, Vec<u8>), Fail> {
+fn served_here<R: Wait + Abort>(rt: &R, alloc: Global) -> (Result<End, SessionFault>, Vec<u8>) {
     served::<Brand, R>(rt, alloc, Blank::new(PARTS))
 }
 
 #[test]
-fn a_session_of_bytes(rt: HostRuntime) -> Result<(), Fail> {
-    let (end, written) = served_here(&rt, rt.alloc())?;
+fn a_session_of_bytes(rt: HostRuntime) {
+    let (end, written) = served_here(&rt, rt.alloc());
     assert!(rt; matches!(end, Ok(End::EndOfInput)) && written.as_slice() == ANSWERS);
-    Ok(())
 }

@@ -2,8 +2,6 @@
 use crate::three_lines;
 use line_io::{FromReader, FromWriter, LineFault, Sink, WriteFailed};
 use std::alloc::Global;
-use std::process::Abort;
-use std::test::Fail;
 
 /// The opening to depth 2, a line that asks for nothing, and a position where X ends the game.
 const LINES: &[u8] = b"2 ---------------------------OX------XO--------------------------- X
@@ -32,32 +30,31 @@ impl Sink for Full {
     }
 }
 
-/// What is written for the lines at this grain, 0 to 6.
-fn solved(alloc: Global, grain: u8) -> (Result<(), LineFault>, Vec<u8>) {
+/// How the lines are solved at this grain, 0 to 6, into this output.
+fn solved<K: Sink>(alloc: Global, sink: &mut K, grain: u8) -> Result<(), LineFault> {
     let mut source = FromReader { reader: LINES };
+    three_lines(alloc, &mut source, sink, grain.min(6))
+}
+
+/// Whether the answers are written at this grain.
+fn are_written(alloc: Global, grain: u8) -> bool {
     let mut sink = FromWriter::new(Vec::new(alloc));
-    let end = three_lines(alloc, &mut source, &mut sink, grain.min(6));
-    (end, sink.writer)
+    solved(alloc, &mut sink, grain).is_ok() && sink.writer.as_slice() == ANSWERS
 }
 
 /// Three lines are answered, the same at each grain.
 #[test]
-fn three_lines_are_solved(rt: HostRuntime) -> Result<(), Fail> {
+fn three_lines_are_solved(rt: HostRuntime) {
     for grain in 0..7 {
-        let (end, written) = solved(rt.alloc(), grain);
-        assert!(rt; end.is_ok() && written.as_slice() == ANSWERS);
+        assert!(rt; are_written(rt.alloc(), grain));
     }
-    Ok(())
 }
 
 /// A writer that is full at some byte of the answers ends the run by a fault.
 #[test]
-fn a_write_fails(rt: HostRuntime) -> Result<(), Fail> {
+fn a_write_fails(rt: HostRuntime) {
     for room in 0..20 {
-        let mut source = FromReader { reader: LINES };
-        let mut sink = Full { room };
-        let end = three_lines(rt.alloc(), &mut source, &mut sink, 4);
+        let end = solved(rt.alloc(), &mut Full { room }, 4);
         assert!(rt; matches!(end, Err(LineFault::Write)));
     }
-    Ok(())
 }

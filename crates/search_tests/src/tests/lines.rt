@@ -4,16 +4,15 @@ ghost use Rattle.std.specs.Prelude.{◌≡◌, ℕ, List, codes, false};
 ghost use Rattle.std.specs.Str.{bytes_eq};
 ghost use Rattle.line_io.specs.Lines.{Whole, TooLong};
 
-use super::same;
 use arrayvec::ArrayVec;
 use line_io::{
     Answer, Ends, FromReader, FromWriter, Line, ReadFailed, Sink, Source, TalkEnd, WriteFailed,
     answer_lines, talk_lines,
 };
+use std::alloc::Global;
 use std::cell::Cell;
 use std::io::{self, ErrorKind, Read, Write};
 use std::sync::Wait;
-use std::test::Fail;
 
 /// Answers a line by itself, where it has fewer than 16 bytes, and else by nothing. `bye` is the last line.
 #[derive(Drop)]
@@ -49,15 +48,17 @@ impl Answer for Echo {
     }
 }
 
+/// Whether these bytes are answered by those.
+fn are_echoed(alloc: Global, bytes: &[u8], answers: &[u8]) -> bool {
+    let mut source = FromReader { reader: bytes };
+    let mut sink = FromWriter::new(Vec::new(alloc));
+    let end = answer_lines(&mut source, &mut sink, &mut Echo::new());
+    end.is_ok() && sink.writer.as_slice() == answers
+}
+
 #[test]
-fn lines_are_echoed(rt: HostRuntime) -> Result<(), Fail> {
-    let mut source = FromReader {
-        reader: b"one\r\ntwo".as_slice(),
-    };
-    let mut sink = FromWriter::new(Vec::new(rt.alloc()));
-    answer_lines(&mut source, &mut sink, &mut Echo::new())?;
-    assert_eq!(rt; sink.writer.as_slice(), b"one\ntwo\n".as_slice());
-    Ok(())
+fn lines_are_echoed(rt: HostRuntime) {
+    assert!(rt; are_echoed(rt.alloc(), b"one\r\ntwo", b"one\ntwo\n"));
 }
 
 /// A reader and writer that fails a few times by an error, and then gives and takes all. It counts its calls, and
@@ -109,39 +110,46 @@ impl Write for Failing {
     }
 }
 
-/// Whether a read fails, after how many calls, and how many bytes the last one had room for.
-fn read_of(error: ErrorKind, failures: u32) -> (bool, u32, usize) {
+/// An error, how often it comes, after how many calls a read or a write is over, and whether it fails.
+type Failure = (ErrorKind, u32, u32, bool);
+
+const FAILURES: [Failure; 5] = [
+    (ErrorKind::ConnectionReset, 0, 1, false),
+    (ErrorKind::Interrupted, 2, 3, false),
+    (ErrorKind::ConnectionReset, 1, 1, true),
+    (ErrorKind::Interrupted, 65_535, 65_536, false),
+    (ErrorKind::Interrupted, 65_536, 65_536, true),
+];
+
+/// Whether a reader or writer was called so often, the last time with so many bytes.
+fn is_called(failing: &Failing, calls: u32, bytes: usize) -> bool {
+    failing.calls == calls && failing.bytes == bytes
+}
+
+/// Whether a read of a whole block fails so.
+fn is_read(failure: &Failure) -> bool {
+    let (error, failures, calls, fails) = *failure;
     let mut block = [0u8; 4096];
     let mut source = FromReader {
         reader: Failing::new(error, failures),
     };
-    let fails = source.fill(&mut block).is_err();
-    (fails, source.reader.calls, source.reader.bytes)
+    source.fill(&mut block).is_err() == fails && is_called(&source.reader, calls, 4096)
 }
 
-/// How a write fails, after how many calls, and how many bytes the last one offered.
-fn write_of(error: ErrorKind, failures: u32) -> (bool, Option<ErrorKind>, u32, usize) {
+/// Whether a write of a hundred bytes fails so, and the error is kept.
+fn is_written(failure: &Failure) -> bool {
+    let (error, failures, calls, fails) = *failure;
     let mut sink = FromWriter::new(Failing::new(error, failures));
-    let fails = sink.put([b'a'; 100].as_slice()).is_err();
-    (fails, sink.failure, sink.writer.calls, sink.writer.bytes)
+    let kept = if fails { Some(error) } else { None };
+    sink.put([b'a'; 100].as_slice()).is_err() == fails
+        && sink.failure == kept
+        && is_called(&sink.writer, calls, 100)
 }
 
 #[test]
 fn whole_blocks_are_read_and_written_and_errors_answered_at_once(rt: HostRuntime) {
-    for (error, failures, calls, fails) in [
-        (ErrorKind::ConnectionReset, 0, 1, false),
-        (ErrorKind::Interrupted, 2, 3, false),
-        (ErrorKind::ConnectionReset, 1, 1, true),
-        (ErrorKind::Interrupted, 65_535, 65_536, false),
-        (ErrorKind::Interrupted, 65_536, 65_536, true),
-    ] {
-        let failure = if fails { Some(error) } else { None };
-        assert_eq!(rt; read_of(error, failures), (fails, calls, 4096), "{error:?}");
-        assert_eq!(rt;
-            write_of(error, failures),
-            (fails, failure, calls, 100),
-            "{error:?}"
-        );
+    for failure in &FAILURES {
+        assert!(rt; is_read(failure) && is_written(failure), "{failure:?}");
     }
 }
 
@@ -162,9 +170,9 @@ impl Ear {
         }
     }
 
-    /// How many lines were asked for and answered, and whether one was asked for too early.
-    fn heard(&self) -> (usize, usize, bool) {
-        (self.asked.get(), self.answered.get(), self.too_early.get())
+    /// Whether so many lines were asked for and answered, none of them too early.
+    fn has_heard(&self, lines: usize) -> bool {
+        self.asked.get() == lines && self.answered.get() == lines && !self.too_early.get()
     }
 }
 
@@ -224,34 +232,33 @@ impl Ends for Echo {
     }
 }
 
-/// How a talk of these lines ends.
-fn talked<R: Wait>(rt: &R, ear: &Ear, lines: &[[u8; 4]]) -> Option<TalkEnd> {
-    let mut source = Asking { ear, lines };
-    talk_lines(rt, &mut source, &mut Hearing(ear), &mut Echo::new()).ok()
+/// Whether a talk of three lines, of which this is the second, ends so after so many.
+fn is_talked<R: Wait>(rt: &R, second: [u8; 4], end: TalkEnd, lines: usize) -> bool {
+    let ear = Ear::new();
+    let all = [*b"one\n", second, *b"six\n"];
+    let mut source = Asking {
+        ear: &ear,
+        lines: all.as_slice(),
+    };
+    let ended = talk_lines(rt, &mut source, &mut Hearing(&ear), &mut Echo::new());
+    ended == Ok(end) && ear.has_heard(lines)
 }
 
-/// Whether these lines are answered to the end.
-fn answered(ear: &Ear, lines: &[[u8; 4]]) -> bool {
-    let mut source = Asking { ear, lines };
-    answer_lines(&mut source, &mut Hearing(ear), &mut Echo::new()).is_ok()
+/// Whether all of three lines are answered, though the second would end a talk.
+fn are_answered() -> bool {
+    let ear = Ear::new();
+    let all = [*b"one\n", *b"bye\n", *b"six\n"];
+    let mut source = Asking {
+        ear: &ear,
+        lines: all.as_slice(),
+    };
+    let ended = answer_lines(&mut source, &mut Hearing(&ear), &mut Echo::new());
+    ended.is_ok() && ear.has_heard(3)
 }
 
 #[test]
 fn each_answer_is_written_before_more_is_read(rt: HostRuntime) {
-    for (last, end, count) in [
-        (*b"two\n", Some(TalkEnd::Input), 3),
-        (*b"bye\n", Some(TalkEnd::Line), 2),
-    ] {
-        let ear = Ear::new();
-        same(
-            &rt,
-            "an end",
-            &talked(&rt, &ear, &[*b"one\n", last, *b"six\n"]),
-            &end,
-        );
-        same(&rt, "a talk", &ear.heard(), &(count, count, false));
-    }
-    let ear = Ear::new();
-    assert!(rt; answered(&ear, &[*b"one\n", *b"bye\n", *b"six\n"]));
-    same(&rt, "all lines", &ear.heard(), &(3, 3, false));
+    assert!(rt; is_talked(&rt, *b"two\n", TalkEnd::Input, 3));
+    assert!(rt; is_talked(&rt, *b"bye\n", TalkEnd::Line, 2));
+    assert!(rt; are_answered());
 }

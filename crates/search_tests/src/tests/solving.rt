@@ -3,6 +3,7 @@ use arrayvec::ArrayVec;
 use line_io::{FromReader, FromWriter, LineFault, ReadFailed, Sink, Source, WriteFailed};
 use linked_list_allocator::LocalHeap;
 use solve_engine::{solve, solve_bytes};
+use std::alloc::Global;
 use std::test::Fail;
 
 /// The opening at depth 0 and 1.
@@ -52,29 +53,40 @@ impl Sink for Kept {
     }
 }
 
+/// How many reads and writes don't fail, the answers that are written, and how the run ends.
+type Run = (usize, usize, &'static [u8], Result<(), LineFault>);
+
+const RUNS: [Run; 6] = [
+    (0, 9, b"", Err(LineFault::Read)),
+    (1, 9, b"0 -\n", Err(LineFault::Read)),
+    (2, 9, b"0 -\n-3 d3\n", Err(LineFault::Read)),
+    (9, 0, b"", Err(LineFault::Write)),
+    (9, 1, b"0 -\n", Err(LineFault::Write)),
+    (3, 2, b"0 -\n-3 d3\n", Ok(())),
+];
+
+/// Whether a run of two lines is so.
+fn is_run(alloc: Global, run: &Run) -> bool {
+    let (reads, writes, answers, end) = *run;
+    let mut source = Given {
+        bytes: TWO_LINES,
+        calls: reads,
+    };
+    let mut sink = Kept {
+        bytes: ArrayVec::new(),
+        calls: writes,
+    };
+    solve(alloc, &mut source, &mut sink, 0) == end && sink.bytes.as_slice() == answers
+}
+
 #[test]
 fn readers_and_writers_fail_at_each_call(rt: HostRuntime) {
-    for (reads, writes, answers, result) in [
-        (0, 9, b"".as_slice(), Err(LineFault::Read)),
-        (1, 9, b"0 -\n", Err(LineFault::Read)),
-        (2, 9, b"0 -\n-3 d3\n", Err(LineFault::Read)),
-        (9, 0, b"", Err(LineFault::Write)),
-        (9, 1, b"0 -\n", Err(LineFault::Write)),
-        (3, 2, b"0 -\n-3 d3\n", Ok(())),
-    ] {
-        let mut source = Given {
-            bytes: TWO_LINES,
-            calls: reads,
-        };
-        let mut sink = Kept {
-            bytes: ArrayVec::new(),
-            calls: writes,
-        };
-        assert_eq!(rt; solve(rt.alloc(), &mut source, &mut sink, 0), result);
-        assert_eq!(rt;
-            sink.bytes.as_slice(),
-            answers,
-            "{reads} reads and {writes} writes"
+    for run in &RUNS {
+        assert!(rt;
+            is_run(rt.alloc(), run),
+            "{} reads and {} writes",
+            run.0,
+            run.1
         );
     }
 }
@@ -113,40 +125,41 @@ impl Source for Crowded<'_> {
     }
 }
 
+/// Whether the three lines are answered so in this heap.
+fn are_answered(alloc: Global, heap: &LocalHeap, answers: &[u8]) -> bool {
+    let mut source = Crowded {
+        heap,
+        crowd: None,
+        calls: 0,
+    };
+    let mut sink = FromWriter::new(Vec::new(alloc));
+    solve(heap, &mut source, &mut sink, 2).is_ok() && sink.writer.as_slice() == answers
+}
+
 /// A line whose growth is refused is answered by ERR 19, and the lines after it are answered.
 #[test]
 fn refused_growths_are_told(rt: HostRuntime) -> Result<(), Fail> {
     let heap = LocalHeap::new(rt.alloc(), ROOM)?;
-    let mut source = Crowded {
-        heap: &heap,
-        crowd: None,
-        calls: 0,
-    };
-    let mut sink = FromWriter::new(Vec::new(rt.alloc()));
-    assert_eq!(rt; solve(&heap, &mut source, &mut sink, 2), Ok(()));
-    assert_eq!(rt;
-        sink.writer.as_slice(),
-        b"ERR 19\n-3 d3\nERR 19\n".as_slice()
-    );
-    drop(source);
-    assert_eq!(rt; heap.used(), 0);
+    assert!(rt; are_answered(rt.alloc(), &heap, b"ERR 19\n-3 d3\nERR 19\n"));
+    assert!(rt; heap.used() == 0);
     Ok(())
+}
+
+/// Lines with a fault, and one that has none.
+const FAULTY: &[u8] =
+    b"x Z\n13 Z\n1 Z\n5 ---------------------------------------------------------------- X\n";
+
+/// Whether they are answered so in this heap.
+fn are_faults_told(alloc: Global, heap: &LocalHeap, answers: &[u8]) -> bool {
+    let mut source = FromReader { reader: FAULTY };
+    let mut sink = FromWriter::new(Vec::new(alloc));
+    solve_bytes(heap, &mut source, &mut sink, 2).is_ok() && sink.writer.as_slice() == answers
 }
 
 /// Faults come before the memory of a search is asked for.
 #[test]
 fn faults_ask_for_no_memory(rt: HostRuntime) -> Result<(), Fail> {
     let heap = LocalHeap::new(rt.alloc(), 0)?;
-    let lines =
-        b"x Z\n13 Z\n1 Z\n5 ---------------------------------------------------------------- X\n";
-    let mut source = FromReader {
-        reader: lines.as_slice(),
-    };
-    let mut sink = FromWriter::new(Vec::new(rt.alloc()));
-    solve_bytes(&heap, &mut source, &mut sink, 2)?;
-    assert_eq!(rt;
-        sink.writer.as_slice(),
-        b"ERR 23\nERR 27\nERR 24\nERR 19\n".as_slice()
-    );
+    assert!(rt; are_faults_told(rt.alloc(), &heap, b"ERR 23\nERR 27\nERR 24\nERR 19\n"));
     Ok(())
 }

@@ -1,5 +1,4 @@
 //! The example of `protocol`.
-use super::same;
 use arrayvec::ArrayVec;
 use othello_moves::Choice;
 use protocol::{push_move, push_value, split_at_space, word_number};
@@ -20,8 +19,8 @@ fn goes_on(line: &[u8], rest: &[u8]) -> bool {
 
 #[test]
 fn words_are_read(rt: HostRuntime) {
-    same(&rt, "the first", &number_of(b"12 X-O"), &Some(12));
-    same(&rt, "the rest", &goes_on(b"12 X-O", b"X-O"), &true);
+    assert!(rt; number_of(b"12 X-O") == Some(12));
+    assert!(rt; goes_on(b"12 X-O", b"X-O"));
 }
 
 #[test]
@@ -30,5 +29,5 @@ fn an_answer_is_written(rt: HostRuntime) {
     push_value(&mut text, -3);
     text.push(b' ');
     push_move(&mut text, Some(Choice::Square(19)));
-    assert_eq!(rt; text.as_slice(), b"-3 d3".as_slice());
+    assert!(rt; text.as_slice() == b"-3 d3".as_slice());
 }

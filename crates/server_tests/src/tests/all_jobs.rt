@@ -2,11 +2,10 @@
 
 ghost use Rattle.std.specs.Prelude.{◌<◌};
 
-use super::{Row, Visit, is_answered, is_told, try_visit};
+use super::{Row, Visit, is_answered, is_sent, is_told, is_visited};
 use std::alloc::Global;
-use std::io::{self, Write};
 use std::net::TcpStream;
-use std::test::Fail;
+use std::string::String;
 
 /// Asks, each with what WAIT, GET and TABLE say of its job behind the job's number. The tables don't depend on who
 /// searched them.
@@ -36,53 +35,80 @@ const KINDS: [[&str; 3]; 4] = [
 /// Room for the frames of 256 jobs at once.
 const ROOM: Row = ("HELLO 1024 4096\n", "WELCOME 1024 4096\n");
 
-/// Asks 256 jobs, and tells whether each gets its number.
-fn are_asked(alloc: Global, mut stream: &TcpStream) -> io::Result<bool> {
+/// Whether a text that there was memory for is what the server says next.
+fn is_next(stream: &TcpStream, text: Option<String>) -> bool {
+    match text {
+        Some(text) => is_told(stream, text.as_str()),
+        None => false,
+    }
+}
+
+/// Asks a job, and tells whether it gets its number.
+fn is_asked(alloc: Global, stream: &TcpStream, job: usize) -> bool {
+    let answer = format!(in alloc; "JOB {job}\n").ok();
+    is_sent(stream, KINDS[job % 4][0].as_bytes()) && is_next(stream, answer)
+}
+
+/// Whether 256 jobs get their numbers.
+fn are_asked(alloc: Global, stream: &TcpStream) -> bool {
     for job in 1..257usize {
-        stream.write_all(KINDS[job % 4][0].as_bytes())?;
-        let answer = format!(in alloc; "JOB {job}\n")?;
-        if !is_told(stream, answer.as_str())? {
-            return Ok(false);
+        if !is_asked(alloc, stream, job) {
+            return false;
         }
     }
-    Ok(true)
+    true
+}
+
+/// A word and a job's number.
+fn word_of(alloc: Global, word: &str, job: usize) -> Option<String> {
+    format!(in alloc; "{word} {job}").ok()
+}
+
+/// Sends a word with a job's number, and tells whether it is answered by the other word with that number, and this.
+fn is_told_by(
+    alloc: Global,
+    stream: &TcpStream,
+    words: (&str, &str),
+    job: usize,
+    text: &str,
+) -> bool {
+    match word_of(alloc, words.0, job) {
+        Some(line) => {
+            is_sent(stream, line.as_bytes())
+                && is_sent(stream, b"\n")
+                && is_next(stream, word_of(alloc, words.1, job))
+                && is_told(stream, " ")
+                && is_told(stream, text)
+        }
+        None => false,
+    }
 }
 
 /// Whether this word of each of 256 jobs, the last job first, is answered by the other word and what stands at this
 /// place of the job's kind.
-fn are_told_by(
-    alloc: Global,
-    mut stream: &TcpStream,
-    words: (&str, &str),
-    place: usize,
-) -> io::Result<bool>
+fn are_told_by(alloc: Global, stream: &TcpStream, words: (&str, &str), place: usize) -> bool
     requires { place < 3 }
 {
     for less in 0..256usize {
         let job = 256 - less;
-        let line = format!(in alloc; "{} {job}\n", words.0)?;
-        stream.write_all(line.as_bytes())?;
-        let answer = format!(in alloc; "{} {job} {}", words.1, KINDS[job % 4][place])?;
-        if !is_told(stream, answer.as_str())? {
-            return Ok(false);
+        if !is_told_by(alloc, stream, words, job, KINDS[job % 4][place]) {
+            return false;
         }
     }
-    Ok(true)
+    true
 }
 
 /// Whether each of 256 jobs is told by WAIT, GET and TABLE, and there is no 257th.
-pub(super) fn are_all_told(alloc: Global, stream: &TcpStream) -> io::Result<bool> {
-    Ok(
-        is_answered(stream, ROOM)?
-            && are_asked(alloc, stream)?
-            && is_answered(stream, (KINDS[0][0], "ERR 13\n"))?
-            && are_told_by(alloc, stream, ("WAIT", "DONE"), 1)?
-            && are_told_by(alloc, stream, ("GET", "DONE"), 1)?
-            && are_told_by(alloc, stream, ("TABLE", "TABLE"), 2)?,
-    )
+pub(super) fn are_all_told(alloc: Global, stream: &TcpStream) -> bool {
+    is_answered(stream, ROOM)
+        && are_asked(alloc, stream)
+        && is_answered(stream, (KINDS[0][0], "ERR 13\n"))
+        && are_told_by(alloc, stream, ("WAIT", "DONE"), 1)
+        && are_told_by(alloc, stream, ("GET", "DONE"), 1)
+        && are_told_by(alloc, stream, ("TABLE", "TABLE"), 2)
 }
 
 #[test]
-fn each_of_256_jobs_is_told_over_tcp(rt: HostRuntime) -> Result<(), Fail> {
-    try_visit(&rt, rt.alloc(), 1, Visit::All)
+fn each_of_256_jobs_is_told_over_tcp(rt: HostRuntime) {
+    assert!(rt; is_visited(&rt, rt.alloc(), 1, Visit::All));
 }

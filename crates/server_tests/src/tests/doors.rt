@@ -1,21 +1,21 @@
 //! What lies between a server and those who come: its listener, its descriptors, its threads.
 ghost use Rattle.std.specs.Prelude.{◌≡◌};
 
-use super::{ANSWERED, Row, are_answered, are_told, is_answered, is_closed, serve_through};
-use sched_rules::{Config, Worker};
+use super::{
+    ANSWERED, LAST, Row, Trial, are_answered, are_told, fault_of, is_answered, is_closed, is_sent,
+    is_well, server_of,
+};
+use sched_rules::Worker;
 use std::alloc::Global;
 use std::io::{self, Error, ErrorKind, Read, Write};
-use std::marker::Brand;
 use std::net::{Net, OpenListener, SocketAddr, TcpListener, TcpStream};
 use std::sync::Wait;
 use std::sync::atomic::{AtomicBool, AtomicU32, Ordering};
-use std::sync::ledger::Blank;
 use std::test::Fail;
 use std::thread::{self, Threads};
 use std::time::{Clock, CpuClock, Duration};
 use tcp_door::Door;
-use tcp_server::ServerConfig;
-use tcp_server::desk::{Desk, DeskLedger, Hall, PARTS};
+use tcp_server::desk::{Desk, DeskLedger};
 use tcp_server::steal_pool::{Gate, OpenGate, Task};
 
 /// A job with a long table: one of Black's fourteen moves takes all of White's discs.
@@ -31,9 +31,6 @@ const TABLED: [Row; 3] = [
 /// Sixteen lines that ask for the table.
 const TABLES: &str =
     "TABLE 1\nTABLE 1\nTABLE 1\nTABLE 1\nTABLE 1\nTABLE 1\nTABLE 1\nTABLE 1\nTABLE 1\nTABLE 1\nTABLE 1\nTABLE 1\nTABLE 1\nTABLE 1\nTABLE 1\nTABLE 1\n";
-
-/// The last line of a session.
-const LAST: Row = ("BYE\n", "BYE\n");
 
 /// Four jobs that are asked at once, and then awaited.
 const FOUR: [Row; 10] = [
@@ -112,17 +109,18 @@ struct Before {
     taken: Vec<TcpListener>,
 }
 
-/// Takes up all descriptors but two, by more names of the listener.
-fn taken_up(alloc: Global, listener: &TcpListener) -> Result<Vec<TcpListener>, Fail> {
+/// Takes up all descriptors but two, by more names of the listener. None where there are too many: set a limit then, as by
+/// `ulimit -n`.
+fn taken_up(alloc: Global, listener: &TcpListener) -> Option<Vec<TcpListener>> {
     let mut taken = Vec::new(alloc);
     for _ in 0..MOST_DESCRIPTORS {
         let Ok(one) = listener.try_clone() else {
             let _two = (taken.pop(), taken.pop());
-            return Ok(taken);
+            return Some(taken);
         };
-        taken.push(one)?;
+        taken.push(one).ok()?;
     }
-    Err(Fail::from("too many descriptors: set a limit, as by ulimit -n"))
+    None
 }
 
 /// A connection that answers within ten seconds or fails.
@@ -132,15 +130,33 @@ fn visitor<R: Net<Stream = TcpStream>>(rt: &R, address: SocketAddr) -> io::Resul
     Ok(stream)
 }
 
+/// Whether somebody comes, and is answered so to the end of the session.
+fn is_visited<R: Net<Stream = TcpStream>>(rt: &R, address: SocketAddr, rows: &[Row]) -> bool {
+    match visitor(rt, address) {
+        Ok(stream) => are_answered(&stream, rows),
+        Err(_) => false,
+    }
+}
+
+/// Whether a connection is answered, or its session is still there.
+fn is_alive(mut stream: &TcpStream) -> bool {
+    match stream.write_all(b"BYE\n") {
+        Ok(()) => match stream.read(&mut [0; 1]) {
+            Ok(count) => count > 0,
+            Err(error) => error.kind() == ErrorKind::WouldBlock,
+        },
+        Err(error) => error.kind() == ErrorKind::WouldBlock,
+    }
+}
+
 /// Whether nobody who comes is let in: each is refused, or closed without a word where the listener is just being closed.
 fn is_refused<R: Net<Stream = TcpStream> + Clock>(rt: &R, address: SocketAddr) -> bool {
     for _ in 0..TRIES {
         let Ok(stream) = visitor(rt, address) else {
             return true;
         };
-        match is_answered(&stream, LAST) {
-            Err(error) if error.kind() != ErrorKind::WouldBlock => {}
-            _ => return false,
+        if is_alive(&stream) {
+            return false;
         }
         thread::sleep(rt, Duration::from_millis(50));
     }
@@ -148,95 +164,129 @@ fn is_refused<R: Net<Stream = TcpStream> + Clock>(rt: &R, address: SocketAddr) -
 }
 
 /// Whether the listener is closed while its only session goes on.
-fn is_followed<R: Net<Stream = TcpStream> + Clock>(
-    rt: &R,
-    address: SocketAddr,
-) -> io::Result<bool> {
-    let one = visitor(rt, address)?;
-    let told = is_answered(&one, ANSWERED[0])?;
-    let is_refused = is_refused(rt, address);
-    Ok(told && is_refused && are_answered(&one, &ANSWERED[1..])?)
+fn is_followed<R: Net<Stream = TcpStream> + Clock>(rt: &R, address: SocketAddr) -> bool {
+    match visitor(rt, address) {
+        Ok(one) => {
+            is_answered(&one, ANSWERED[0])
+                && is_refused(rt, address)
+                && are_answered(&one, &ANSWERED[1..])
+        }
+        Err(_) => false,
+    }
 }
 
 /// Whether somebody is answered while another's answers find no room any more.
 fn is_answered_beside<R: Net<Stream = TcpStream> + Clock + CpuClock>(
     rt: &R,
     address: SocketAddr,
-) -> io::Result<bool> {
-    let silent = visitor(rt, address)?;
-    let told = are_told(&silent, &TABLED)?;
-    stuff(rt, &silent)?;
-    let other = visitor(rt, address)?;
-    let is_answered = are_answered(&other, &ANSWERED)?;
-    drop(silent);
-    Ok(told && is_answered)
+) -> bool {
+    match visitor(rt, address) {
+        Ok(silent) => {
+            are_told(&silent, &TABLED)
+                && is_stuffed(rt, &silent)
+                && is_visited(rt, address, &ANSWERED)
+        }
+        Err(_) => false,
+    }
 }
 
 /// Sends lines until their answers, which nobody reads, have filled what there is between the server and its peer: nobody
-/// works any more, and no line can be sent.
-fn stuff<R: Clock + CpuClock>(rt: &R, mut stream: &TcpStream) -> io::Result<()> {
-    stream.set_write_timeout(Some(Duration::from_millis(500)))?;
+/// works any more, and no line can be sent. Whether it comes to that.
+fn is_stuffed<R: Clock + CpuClock>(rt: &R, stream: &TcpStream) -> bool {
+    let half = Duration::from_millis(500);
+    if stream.set_write_timeout(Some(half)).is_err() {
+        return false;
+    }
     for _ in 0..TRIES {
         fill(stream);
-        if is_idle(rt)? && stream.write(TABLES.as_bytes()).is_err() {
-            return Ok(());
+        if is_idle(rt) && !is_any_sent(stream) {
+            return true;
         }
     }
-    Err(Error::from(ErrorKind::TimedOut))
+    false
+}
+
+/// Whether any of these lines can be sent.
+fn is_any_sent(mut stream: &TcpStream) -> bool {
+    stream.write(TABLES.as_bytes()).is_ok()
 }
 
 /// Sends lines for as long as they are taken.
-fn fill(mut stream: &TcpStream) {
+fn fill(stream: &TcpStream) {
     for _ in 0..super::TURNS {
-        if stream.write(TABLES.as_bytes()).is_err() {
+        if !is_any_sent(stream) {
             return;
         }
     }
 }
 
 /// Whether the process uses less than a twentieth of a second's processor time in a second.
-fn is_idle<R: Clock + CpuClock>(rt: &R) -> io::Result<bool> {
+fn is_idle<R: Clock + CpuClock>(rt: &R) -> bool {
     thread::sleep(rt, Duration::from_millis(50));
-    let before = rt.process_cpu_time()?;
+    let before = rt.process_cpu_time();
     thread::sleep(rt, Duration::from_secs(1));
-    let after = rt.process_cpu_time()?;
-    Ok(after.saturating_sub(before) < Duration::from_millis(50))
+    match (before, rt.process_cpu_time()) {
+        (Ok(before), Ok(after)) => after.saturating_sub(before) < Duration::from_millis(50),
+        _ => false,
+    }
 }
 
-/// Whether of three who came at once one is served and two are turned away, while no processor is used, and a fourth is
-/// served once the first has ended.
+/// Whether of three who came at once, the last first, one is served and two are turned away, while no processor is used.
+fn is_one_served<R: Clock + CpuClock>(rt: &R, streams: &[TcpStream]) -> bool {
+    match streams {
+        [three, two, one] => {
+            are_told(one, &ANSWERED[..4])
+                && is_closed(two)
+                && is_closed(three)
+                && is_idle(rt)
+                && are_answered(one, &[LAST])
+        }
+        _ => false,
+    }
+}
+
+/// Whether it is so, and a fourth is served once the first has ended.
 fn are_turned_away<R: Net<Stream = TcpStream> + Clock + CpuClock>(
     rt: &R,
     address: SocketAddr,
     before: Before,
-) -> io::Result<bool> {
+) -> bool {
     let Before { mut streams, taken } = before;
-    let (Some(three), Some(two), Some(one)) = (streams.pop(), streams.pop(), streams.pop()) else {
-        return Ok(false);
-    };
-    let told = are_told(&one, &ANSWERED[..4])? && is_closed(&two)? && is_closed(&three)?;
-    let told = told && is_idle(rt)? && are_answered(&one, &[LAST])?;
-    drop(one);
-    let four = visitor(rt, address)?;
-    let told = told && are_answered(&four, &ANSWERED)?;
+    let is_one_served = is_one_served(rt, &streams);
+    streams.truncate(2);
+    let is_fourth_served = is_visited(rt, address, &ANSWERED);
     drop(taken);
-    Ok(told && is_refused(rt, address))
+    is_one_served && is_fourth_served && is_refused(rt, address)
 }
 
 /// Whether a guest is content.
-fn is_content<R: Net<Stream = TcpStream> + Clock + CpuClock>(
+fn is_guest_content<R: Net<Stream = TcpStream> + Clock + CpuClock>(
     rt: &R,
     address: SocketAddr,
     guest: Guest,
     before: Before,
-) -> io::Result<bool> {
+) -> bool {
     match guest {
         Guest::Followed => is_followed(rt, address),
         Guest::Silent => is_answered_beside(rt, address),
-        Guest::Four => are_answered(&visitor(rt, address)?, &FOUR),
-        Guest::Told(rows) => are_answered(&visitor(rt, address)?, rows),
+        Guest::Four => is_visited(rt, address, &FOUR),
+        Guest::Told(rows) => is_visited(rt, address, rows),
         Guest::Crowd => are_turned_away(rt, address, before),
     }
+}
+
+/// Three who have come before the server begins, the last first.
+fn three<R: Net<Stream = TcpStream>>(
+    rt: &R,
+    alloc: Global,
+    address: SocketAddr,
+) -> Option<Vec<TcpStream>> {
+    let mut streams = Vec::with_capacity(alloc, 3).ok()?;
+    for _ in 0..3 {
+        streams.push(visitor(rt, address).ok()?).ok()?;
+    }
+    streams.reverse();
+    Some(streams)
 }
 
 /// Who has come to a listener before its server begins.
@@ -245,24 +295,16 @@ fn come_before<R: Net<Stream = TcpStream>>(
     alloc: Global,
     listener: &TcpListener,
     guest: Guest,
-) -> Result<Before, Fail> {
-    let mut streams = Vec::new(alloc);
-    let mut taken = Vec::new(alloc);
-    if matches!(guest, Guest::Crowd) {
-        for _ in 0..3 {
-            streams.push(visitor(rt, listener.local_addr()?)?)?;
-        }
-        taken = taken_up(alloc, listener)?;
-    }
-    Ok(Before { streams, taken })
-}
-
-/// Fails where a guest isn't content, or workers waited for each other until the limit.
-fn met(content: bool, is_late: bool) -> Result<(), Fail> {
-    match (content, is_late) {
-        (true, false) => Ok(()),
-        (false, _) => Err(Fail::from("the guest isn't content")),
-        (true, true) => Err(Fail::from("so many workers were never at work at once")),
+) -> Option<Before> {
+    match guest {
+        Guest::Crowd => Some(Before {
+            streams: three(rt, alloc, listener.local_addr().ok()?)?,
+            taken: taken_up(alloc, listener)?,
+        }),
+        _ => Some(Before {
+            streams: Vec::new(alloc),
+            taken: Vec::new(alloc),
+        }),
     }
 }
 
@@ -274,90 +316,104 @@ fn at_once(guest: Guest) -> u32 {
     }
 }
 
-/// A server of this grain with so many sessions and workers, and its guest: the guest is content, and so many workers as
-/// it asks for were in the midst of a computation at once.
-fn attended<L, R>(
-    rt: &R,
-    alloc: Global,
-    blank: Blank,
-    grain: u8,
+/// A guest at a server of so many sessions and workers.
+#[derive(Drop)]
+pub(super) struct Attended {
     guest: Guest,
     sessions: u16,
     workers: u8,
-) -> Result<(), Fail>
+}
+
+/// Whether the guest is content, and so many workers as it asks for were in the midst of a computation at once.
+pub(super) fn is_attended<L: DeskLedger + Send + Sync, R>(
+    rt: &R,
+    alloc: Global,
+    desk: Desk<L>,
+    listener: TcpListener,
+    trial: &Attended,
+) -> bool
 where
-    L: DeskLedger + Send + Sync,
     R: Net<Listener = TcpListener, Stream = TcpStream> + Threads + Wait + Clock + CpuClock + Sync,
-    requires name { blank.name ≡ L.name }
-    requires parts { (blank.parts ≡ L.parts) × (L.all ≡ L.parts) × (L.all ≡ PARTS) }
+    requires { L.all ≡ L.parts }
 {
-    let config = Config::new(256, 64).ok_or("the limits")?;
-    let server = ServerConfig::new(sessions, Worker::new(workers).ok_or("the limits")?);
-    let desk: Desk<L> = Desk::new(Hall::new(alloc, config, grain.min(6))?, blank);
-    let listener = TcpListener::bind(rt, "127.0.0.1:0")?;
-    let address = listener.local_addr()?;
-    let before = come_before(rt, alloc, &listener, guest)?;
+    let Attended {
+        guest,
+        sessions,
+        workers,
+    } = *trial;
+    let Some((address, before)) = met(rt, alloc, &listener, guest) else {
+        return false;
+    };
     let gate = Together {
         many: at_once(guest),
         there: AtomicU32::new(0),
         late: AtomicBool::new(false),
     };
-    let (content, served) = thread::join(
+    let server = server_of(sessions, workers);
+    let (content, fault) = thread::join(
         rt,
-        move || is_content(rt, address, guest, before),
+        move || is_guest_content(rt, address, guest, before),
         ||
             requires { L.all ≡ L.parts }
-        { serve_through(rt, alloc, &desk, listener, server, &gate) },
+        { fault_of(rt, alloc, &desk, listener, server, &gate) },
     );
-    served?;
-    met(content?, gate.late.load(Ordering::SeqCst))
+    content && fault.is_none() && !gate.late.load(Ordering::SeqCst)
 }
 
-/// The same with a blank of its own.
-pub(super) fn attend<R>(
+/// Where a server listens, and who has come there before it begins.
+fn met<R: Net<Stream = TcpStream>>(
+    rt: &R,
+    alloc: Global,
+    listener: &TcpListener,
+    guest: Guest,
+) -> Option<(SocketAddr, Before)> {
+    let address = listener.local_addr().ok()?;
+    Some((address, come_before(rt, alloc, listener, guest)?))
+}
+
+/// Whether a guest at a server of this grain is content, and so many workers as it asks for were in the midst of a
+/// computation at once.
+pub(super) fn is_content<R>(
     rt: &R,
     alloc: Global,
     grain: u8,
     guest: Guest,
     sessions: u16,
     workers: u8,
-) -> Result<(), Fail>
+) -> bool
 where
     R: Net<Listener = TcpListener, Stream = TcpStream> + Threads + Wait + Clock + CpuClock + Sync,
 {
-    attended::<Brand, R>(
-        rt,
-        alloc,
-        Blank::new(PARTS),
-        grain,
+    let attended = Attended {
         guest,
         sessions,
         workers,
-    )
+    };
+    is_well(rt, alloc, (256, 64), grain, &Trial::Attended(attended))
 }
 
 /// The listener is closed with the last connection, while its session lives.
 #[test]
-fn who_comes_too_late_is_refused(rt: HostRuntime) -> Result<(), Fail> {
-    attend(&rt, rt.alloc(), 0, Guest::Followed, 1, 1)
+fn who_comes_too_late_is_refused(rt: HostRuntime) {
+    assert!(rt; is_content(&rt, rt.alloc(), 0, Guest::Followed, 1, 1));
 }
 
 /// Who never reads its answers holds up nobody.
 #[test]
-fn a_silent_peer_holds_up_nobody(rt: HostRuntime) -> Result<(), Fail> {
-    attend(&rt, rt.alloc(), 0, Guest::Silent, 2, 1)
+fn a_silent_peer_holds_up_nobody(rt: HostRuntime) {
+    assert!(rt; is_content(&rt, rt.alloc(), 0, Guest::Silent, 2, 1));
 }
 
 /// Four workers that were asked for run at once.
 #[test]
-fn as_many_workers_run_as_were_asked(rt: HostRuntime) -> Result<(), Fail> {
-    attend(&rt, rt.alloc(), 0, Guest::Four, 1, 4)
+fn as_many_workers_run_as_were_asked(rt: HostRuntime) {
+    assert!(rt; is_content(&rt, rt.alloc(), 0, Guest::Four, 1, 4));
 }
 
 /// Where all descriptors are used up, who comes is turned away and counts, and the sessions go on.
 #[test]
-fn descriptors_are_used_up(rt: HostRuntime) -> Result<(), Fail> {
-    attend(&rt, rt.alloc(), 0, Guest::Crowd, 4, 1)
+fn descriptors_are_used_up(rt: HostRuntime) {
+    assert!(rt; is_content(&rt, rt.alloc(), 0, Guest::Crowd, 4, 1));
 }
 
 /// A listener whose first connections are lost before they can be taken.
@@ -379,21 +435,27 @@ impl OpenListener for Flaky {
     }
 }
 
-/// A connection that was lost before it could be taken is passed over.
-#[test]
-fn lost_connections_are_passed_over(rt: HostRuntime) -> Result<(), Fail> {
-    let listener = TcpListener::bind(&rt, "127.0.0.1:0")?;
-    let stream = visitor(&rt, listener.local_addr()?)?;
+/// Whether a door passes over the connections that were lost, and takes the next one.
+fn passes_over<R: Net<Stream = TcpStream> + Wait>(rt: &R, listener: TcpListener) -> bool {
+    let Ok(address) = listener.local_addr() else {
+        return false;
+    };
+    let stream = TcpStream::connect(rt, address);
     let mut door = Door::new(Flaky {
         listener,
         lost: AtomicU32::new(0),
     });
-    let taken = door.next(&rt)?;
-    let Some(mut taken) = taken else {
-        panic!(rt; "turned away");
-    };
-    taken.write_all(b"?")?;
-    assert!(rt; !is_closed(&stream)?);
+    match (stream, door.next(rt)) {
+        (Ok(stream), Ok(Some(taken))) => is_sent(&taken, b"?") && !is_closed(&stream),
+        _ => false,
+    }
+}
+
+/// A connection that was lost before it could be taken is passed over.
+#[test]
+fn lost_connections_are_passed_over(rt: HostRuntime) -> Result<(), Fail> {
+    let listener = TcpListener::bind(&rt, "127.0.0.1:0")?;
+    assert!(rt; passes_over(&rt, listener));
     Ok(())
 }
 
@@ -427,32 +489,30 @@ impl<R: Net<Listener = TcpListener, Stream = TcpStream>> Net for Waiting<'_, R> 
     }
 }
 
-/// Whether the connection that wakes the listener of a server whose pool can't begin is closed at once: who takes it
-/// knows already that nobody is served any more.
-fn closes_its_own<L, R>(rt: &R, alloc: Global, blank: Blank) -> Result<bool, Fail>
+/// Whether a server whose pool can't begin closes the connection that wakes its listener at once.
+pub(super) fn is_stopped<L: DeskLedger + Send + Sync, R>(
+    rt: &R,
+    alloc: Global,
+    desk: Desk<L>,
+    listener: TcpListener,
+) -> bool
 where
-    L: DeskLedger + Send + Sync,
-    R: Net<Listener = TcpListener, Stream = TcpStream> + Threads + Wait + Sync,
-    requires name { blank.name ≡ L.name }
-    requires parts { (blank.parts ≡ L.parts) × (L.all ≡ L.parts) × (L.all ≡ PARTS) }
+    R: Net<Listener = TcpListener, Stream = TcpStream> + Threads + Wait + Clock + CpuClock + Sync,
+    requires { L.all ≡ L.parts }
 {
-    let config = Config::new(8, 8).ok_or("the limits")?;
-    let desk: Desk<L> = Desk::new(Hall::new(alloc, config, 0)?, blank);
     let waiting = Waiting {
         rt,
         is_closed: AtomicBool::new(false),
     };
-    let listener = TcpListener::bind(&waiting, "127.0.0.1:0")?;
-    let mut server = ServerConfig::new(1, Worker::new(1).ok_or("one worker")?);
+    let mut server = server_of(1, 1);
     server.pool.stack = Some(usize::MAX);
-    let served = serve_through(&waiting, alloc, &desk, listener, server, &OpenGate);
-    Ok(served.is_err() && waiting.is_closed.load(Ordering::SeqCst))
+    let fault = fault_of(&waiting, alloc, &desk, listener, server, &OpenGate);
+    fault.is_some() && waiting.is_closed.load(Ordering::SeqCst)
 }
 
-/// A server is stopped before its listener is woken.
+/// A server is stopped before its listener is woken: the connection that wakes it is closed at once, since who takes it knows
+/// already that nobody is served any more.
 #[test]
-fn a_stop_comes_before_its_connection(rt: HostRuntime) -> Result<(), Fail> {
-    let closes = closes_its_own::<Brand, HostRuntime>(&rt, rt.alloc(), Blank::new(PARTS))?;
-    assert!(rt; closes);
-    Ok(())
+fn a_stop_comes_before_its_connection(rt: HostRuntime) {
+    assert!(rt; is_well(&rt, rt.alloc(), (8, 8), 0, &Trial::Stopped));
 }

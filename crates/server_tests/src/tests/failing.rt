@@ -1,21 +1,19 @@
 //! Listeners that fail: by want of descriptors, for which there is a spare one, or otherwise, which ends the server.
 ghost use Rattle.std.specs.Prelude.{◌≡◌};
 
-use super::serve_through;
-use sched_rules::{Config, Worker};
+use super::{Trial, fault_of, is_well, server_of};
 use std::alloc::Global;
 use std::io::{self, Error, ErrorKind};
-use std::marker::Brand;
 use std::net::{Net, OpenListener, SocketAddr, TcpListener, TcpStream};
 use std::sync::Wait;
 use std::sync::atomic::{AtomicU32, Ordering};
-use std::sync::ledger::Blank;
 use std::test::Fail;
 use std::thread::Threads;
+use std::time::{Clock, CpuClock};
 use tcp_door::Door;
-use tcp_server::desk::{Desk, DeskLedger, Hall, PARTS};
+use tcp_server::ServeFault;
+use tcp_server::desk::{Desk, DeskLedger};
 use tcp_server::steal_pool::{BeginFault, OpenGate, PoolFault};
-use tcp_server::{ServeFault, ServerConfig};
 
 /// A listener whose first tries to take a connection fail so.
 #[derive(Drop)]
@@ -53,100 +51,108 @@ impl OpenListener for Failing {
     }
 }
 
-/// What a door does with somebody who comes while so many tries fail by this error: true where a connection is taken, and
-/// else the error's number.
-fn taken<R: Net<Listener = TcpListener, Stream = TcpStream> + Wait>(
-    rt: &R,
-    code: i32,
-    fails: u32,
-    has_spare: bool,
-) -> io::Result<Result<bool, Option<i32>>> {
-    let listener = TcpListener::bind(rt, "127.0.0.1:0")?;
-    let _visitor = TcpStream::connect(rt, listener.local_addr()?)?;
-    let mut door = Door::new(Failing {
-        listener,
-        code,
-        left: AtomicU32::new(fails),
-        has_spare,
-    });
-    match door.next(rt) {
-        Ok(taken) => Ok(Ok(taken.is_some())),
-        Err(error) => Ok(Err(error.raw_os_error())),
-    }
-}
+/// The system's number of an error, how many tries fail by it, whether there is a spare descriptor, and how the door fails, or
+/// doesn't.
+type Try = (i32, u32, bool, Option<i32>);
 
 /// Where the process (24) or the system (23) has no descriptor left, the spare one is used; without a spare, and by any other
 /// error, the listener has failed.
+const TRIES: [Try; 11] = [
+    (24, 1, true, None),
+    (23, 1, true, None),
+    (24, 3, true, None),
+    (23, 3, true, None),
+    (24, 1, false, Some(24)),
+    (23, 1, false, Some(23)),
+    (22, 1, true, Some(22)),
+    (9, 1, true, Some(9)),
+    (12, 1, true, Some(12)),
+    (103, 2, false, None),
+    (4, 2, false, None),
+];
+
+/// A door whose first tries fail so.
+fn door_of(listener: TcpListener, tried: &Try) -> Door<Failing> {
+    Door::new(Failing {
+        listener,
+        code: tried.0,
+        left: AtomicU32::new(tried.1),
+        has_spare: tried.2,
+    })
+}
+
+/// Whether a door takes the connection of somebody who came, or fails by this error.
+fn takes<R: Wait>(rt: &R, mut door: Door<Failing>, error: Option<i32>) -> bool {
+    match door.next(rt) {
+        Ok(taken) => taken.is_some() && error.is_none(),
+        Err(failed) => error.is_some() && failed.raw_os_error() == error,
+    }
+}
+
 #[test]
 fn each_error_of_a_listener(rt: HostRuntime) -> Result<(), Fail> {
-    for (code, fails, has_spare, wanted) in [
-        (24, 1, true, Ok(true)),
-        (23, 1, true, Ok(true)),
-        (24, 3, true, Ok(true)),
-        (23, 3, true, Ok(true)),
-        (24, 1, false, Err(Some(24))),
-        (23, 1, false, Err(Some(23))),
-        (22, 1, true, Err(Some(22))),
-        (9, 1, true, Err(Some(9))),
-        (12, 1, true, Err(Some(12))),
-        (103, 2, false, Ok(true)),
-        (4, 2, false, Ok(true)),
-    ] {
-        assert_eq!(rt; taken(&rt, code, fails, has_spare)?, wanted, "error {code}");
+    for tried in &TRIES {
+        let listener = TcpListener::bind(&rt, "127.0.0.1:0")?;
+        let _visitor = TcpStream::connect(&rt, listener.local_addr()?)?;
+        assert!(rt;
+            takes(&rt, door_of(listener, tried), tried.3),
+            "error {}",
+            tried.0
+        );
     }
     Ok(())
 }
 
-/// Why a server whose listener doesn't wait for connections ends, and whether its desk is closed then.
-fn ended<L, R>(rt: &R, alloc: Global, blank: Blank) -> Result<(Option<ServeFault>, bool), Fail>
+/// Whether a server whose listener doesn't wait for connections fails, and its desk is closed then.
+pub(super) fn is_hasty<L: DeskLedger + Send + Sync, R>(
+    rt: &R,
+    alloc: Global,
+    desk: Desk<L>,
+    listener: TcpListener,
+) -> bool
 where
-    L: DeskLedger + Send + Sync,
-    R: Net<Listener = TcpListener, Stream = TcpStream> + Threads + Wait + Sync,
-    requires name { blank.name ≡ L.name }
-    requires parts { (blank.parts ≡ L.parts) × (L.all ≡ L.parts) × (L.all ≡ PARTS) }
+    R: Net<Listener = TcpListener, Stream = TcpStream> + Threads + Wait + Clock + CpuClock + Sync,
+    requires { L.all ≡ L.parts }
 {
-    let config = Config::new(8, 8).ok_or("the limits")?;
-    let desk: Desk<L> = Desk::new(Hall::new(alloc, config, 0)?, blank);
-    let listener = TcpListener::bind(rt, "127.0.0.1:0")?;
-    listener.set_nonblocking(true)?;
-    let two = ServerConfig::new(2, Worker::new(2).ok_or("two workers")?);
-    let served = serve_through(rt, alloc, &desk, listener, two, &OpenGate);
-    Ok((served.err(), desk.next_ready(rt).is_none()))
+    let is_set = listener.set_nonblocking(true).is_ok();
+    let fault = fault_of(rt, alloc, &desk, listener, server_of(2, 2), &OpenGate);
+    let is_failed = would_block(fault);
+    let is_closed = desk.next_ready(rt).is_none();
+    is_set && is_failed && is_closed
+}
+
+/// Whether a server has failed since no connection was there yet.
+fn would_block(fault: Option<ServeFault>) -> bool {
+    matches!(fault, Some(ServeFault::Listener(error)) if error.kind() == ErrorKind::WouldBlock)
 }
 
 /// A server whose listener fails ends: its desk is closed, so that its workers end too.
 #[test]
-fn a_listener_that_fails_ends_the_server(rt: HostRuntime) -> Result<(), Fail> {
-    let (fault, is_closed) = ended::<Brand, HostRuntime>(&rt, rt.alloc(), Blank::new(PARTS))?;
-    let Some(ServeFault::Listener(error)) = fault else {
-        panic!(rt; "it served");
-    };
-    assert_eq!(rt; (error.kind(), is_closed), (ErrorKind::WouldBlock, true));
-    Ok(())
+fn a_listener_that_fails_ends_the_server(rt: HostRuntime) {
+    assert!(rt; is_well(&rt, rt.alloc(), (8, 8), 0, &Trial::Hasty));
+}
+
+/// Whether what a fault says begins so.
+fn says(alloc: Global, fault: ServeFault, text: &str) -> bool {
+    matches!(format!(in alloc; "{fault}"), Ok(told) if told.as_str().starts_with(text))
 }
 
 /// What each fault says, and which fault of a pool is which of a server.
 #[test]
-fn faults_are_told(rt: HostRuntime) -> Result<(), Fail> {
-    let alloc: Global = rt.alloc();
+fn faults_are_told(rt: HostRuntime) {
+    let alloc = rt.alloc();
     let failed = ServeFault::Listener(Error::from(ErrorKind::Interrupted));
-    for (fault, text) in [
-        (failed, "no connection could be taken: "),
-        (
-            ServeFault::from(PoolFault::OutOfMemory),
-            "no memory for the workers",
-        ),
-        (
-            ServeFault::from(BeginFault::Pool(PoolFault::NoThread)),
-            "no thread for a worker",
-        ),
-        (
-            ServeFault::from(BeginFault::Unsaid),
-            "what is said at the beginning could not be said",
-        ),
-    ] {
-        let told = format!(in alloc; "{fault}")?;
-        assert!(rt; told.as_str().starts_with(text), "{told}");
-    }
-    Ok(())
+    let no_memory = ServeFault::from(PoolFault::OutOfMemory);
+    let no_thread = ServeFault::from(BeginFault::Pool(PoolFault::NoThread));
+    let unsaid = ServeFault::from(BeginFault::Unsaid);
+    assert!(rt; says(alloc, failed, "no connection could be taken: "));
+    assert!(rt; says(alloc, no_memory, "no memory for the workers"));
+    assert!(rt; says(alloc, no_thread, "no thread for a worker"));
+    assert!(rt;
+        says(
+            alloc,
+            unsaid,
+            "what is said at the beginning could not be said"
+        )
+    );
 }

@@ -1,19 +1,18 @@
 //! A tenant reserves more while its jobs run.
 ghost use Rattle.std.specs.Prelude.{◌≡◌};
 
-use super::{Row, TURNS, Visit, is_answered, serve_through, try_visit};
-use sched_rules::{Config, Worker};
+use super::{
+    LAST, Row, TURNS, Trial, Visit, are_told, connected, fault_of, is_answered, is_visited,
+    is_well, server_of,
+};
+use sched_rules::Worker;
 use std::alloc::Global;
-use std::io;
-use std::marker::Brand;
 use std::net::{Net, TcpListener, TcpStream};
 use std::sync::Wait;
 use std::sync::atomic::{AtomicBool, Ordering};
-use std::sync::ledger::Blank;
-use std::test::Fail;
 use std::thread::{self, Threads};
-use tcp_server::ServerConfig;
-use tcp_server::desk::{Desk, DeskLedger, Hall, PARTS};
+use std::time::{Clock, CpuClock};
+use tcp_server::desk::{Desk, DeskLedger};
 use tcp_server::steal_pool::{Gate, Task};
 
 /// A tenant of one node has eight, and a job that takes five.
@@ -30,8 +29,8 @@ pub(super) const MORE: [Row; 6] = [
 ];
 
 #[test]
-fn more_is_reserved_over_tcp(rt: HostRuntime) -> Result<(), Fail> {
-    try_visit(&rt, rt.alloc(), 1, Visit::More)
+fn more_is_reserved_over_tcp(rt: HostRuntime) {
+    assert!(rt; is_visited(&rt, rt.alloc(), 1, Visit::More));
 }
 
 /// Holds the first computation of a pool.
@@ -61,69 +60,68 @@ fn is_set(flag: &AtomicBool) -> bool {
     false
 }
 
-/// Whether a job of a tenant of two nodes ends so where more is asked for, or not, while its first computation is held.
-fn is_ended(
-    stream: &TcpStream,
-    gate: &HoldingGate,
-    more: Option<Row>,
-    end: Row,
-) -> io::Result<bool> {
-    let told = is_answered(stream, ("HELLO 8 2\n", "WELCOME 8 2\n"))?
-        && is_answered(stream, (MORE[2].0, "JOB 1\n"))?
-        && is_set(&gate.is_there);
-    let told = match more {
-        Some(row) => told && is_answered(stream, row)?,
-        None => told,
-    };
-    gate.is_open.store(true, Ordering::SeqCst);
-    Ok(told && is_answered(stream, end)? && is_answered(stream, ("BYE\n", "BYE\n"))?)
+/// A tenant of two nodes, at a server of one worker, which asks for more while its job's first computation is held, or
+/// doesn't; and how the job ends.
+#[derive(Drop)]
+pub(super) struct Held {
+    more: &'static [Row],
+    end: &'static str,
 }
 
-/// The same at a server of one worker.
-fn ends<L, R>(
+impl Held {
+    /// Whether it is so on this connection.
+    fn is_ended(&self, stream: &TcpStream, gate: &HoldingGate) -> bool {
+        let is_held = is_answered(stream, ("HELLO 8 2\n", "WELCOME 8 2\n"))
+            && is_answered(stream, (MORE[2].0, "JOB 1\n"))
+            && is_set(&gate.is_there)
+            && are_told(stream, self.more);
+        gate.is_open.store(true, Ordering::SeqCst);
+        is_held && are_told(stream, &[("WAIT 1\n", self.end), LAST])
+    }
+}
+
+/// Whether it is so.
+pub(super) fn is_held<L: DeskLedger + Send + Sync, R>(
     rt: &R,
     alloc: Global,
-    blank: Blank,
-    more: Option<Row>,
-    end: Row,
-) -> Result<bool, Fail>
+    desk: Desk<L>,
+    listener: TcpListener,
+    trial: &Held,
+) -> bool
 where
-    L: DeskLedger + Send + Sync,
-    R: Net<Listener = TcpListener, Stream = TcpStream> + Threads + Wait + Sync,
-    requires name { blank.name ≡ L.name }
-    requires parts { (blank.parts ≡ L.parts) × (L.all ≡ L.parts) × (L.all ≡ PARTS) }
+    R: Net<Listener = TcpListener, Stream = TcpStream> + Threads + Wait + Clock + CpuClock + Sync,
+    requires { L.all ≡ L.parts }
 {
-    let config = Config::new(16, 16).ok_or("the limits")?;
-    let desk: Desk<L> = Desk::new(Hall::new(alloc, config, 0)?, blank);
-    let listener = TcpListener::bind(rt, "127.0.0.1:0")?;
-    let stream = TcpStream::connect(rt, listener.local_addr()?)?;
-    let one = ServerConfig::new(1, Worker::new(1).ok_or("one worker")?);
+    let Some(streams) = connected(rt, alloc, &listener, 1) else {
+        return false;
+    };
     let gate = HoldingGate {
         is_there: AtomicBool::new(false),
         is_open: AtomicBool::new(false),
     };
-    let (told, served) = thread::join(
+    let (told, fault) = thread::join(
         rt,
-        || is_ended(&stream, &gate, more, end),
+        || match streams.as_slice() {
+            [stream] => trial.is_ended(stream, &gate),
+            _ => false,
+        },
         ||
             requires { L.all ≡ L.parts }
-        { serve_through(rt, alloc, &desk, listener, one, &gate) },
+        { fault_of(rt, alloc, &desk, listener, server_of(1, 1), &gate) },
     );
-    served?;
-    Ok(told?)
+    told && fault.is_none()
 }
 
 #[test]
-fn more_in_time_saves_a_job(rt: HostRuntime) -> Result<(), Fail> {
-    for (more, end) in [
-        (None, ("WAIT 1\n", "SPENT 1\n")),
-        (
-            Some(("RESERVE 8 8\n", "RESERVED 8 8\n")),
-            ("WAIT 1\n", "DONE 1 -3 d3\n"),
-        ),
-    ] {
-        let told = ends::<Brand, HostRuntime>(&rt, rt.alloc(), Blank::new(PARTS), more, end)?;
-        assert!(rt; told, "{end:?}");
-    }
-    Ok(())
+fn more_in_time_saves_a_job(rt: HostRuntime) {
+    let spent = Held {
+        more: &[],
+        end: "SPENT 1\n",
+    };
+    assert!(rt; is_well(&rt, rt.alloc(), (16, 16), 0, &Trial::Held(spent)));
+    let saved = Held {
+        more: &[("RESERVE 8 8\n", "RESERVED 8 8\n")],
+        end: "DONE 1 -3 d3\n",
+    };
+    assert!(rt; is_well(&rt, rt.alloc(), (16, 16), 0, &Trial::Held(saved)));
 }

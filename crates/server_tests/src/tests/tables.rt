@@ -1,8 +1,7 @@
 //! Tables of jobs, over TCP, and what jobs leave, at each grain and by one worker and by eight.
 
-use super::doors::{Guest, attend};
+use super::doors::{Guest, is_content};
 use super::{ANSWERED, Row, SPENT};
-use std::test::Fail;
 
 /// Jobs of depth 0 and 1 with their tables, which don't depend on who searched them: the first move is searched in full,
 /// and each of the others is found to be no better.
@@ -36,20 +35,28 @@ const TABLES: [Row; 15] = [
     ("BYE\n", "BYE\n"),
 ];
 
+/// A grain, how many workers, and what is told.
+const GRAINS: [(u8, u8, &[Row]); 14] = [
+    (0, 1, &TABLES),
+    (2, 1, &TABLES),
+    (6, 1, &TABLES),
+    (0, 8, &TABLES),
+    (2, 8, &TABLES),
+    (6, 8, &TABLES),
+    (0, 1, &ANSWERED),
+    (2, 1, &ANSWERED),
+    (6, 1, &ANSWERED),
+    (0, 8, &ANSWERED),
+    (2, 8, &ANSWERED),
+    (6, 8, &ANSWERED),
+    (0, 1, &SPENT),
+    (0, 8, &SPENT),
+];
+
 #[test]
-fn jobs_are_told_at_each_grain(rt: HostRuntime) -> Result<(), Fail> {
-    for (grain, rows) in [
-        (0, TABLES.as_slice()),
-        (2, TABLES.as_slice()),
-        (6, TABLES.as_slice()),
-        (0, ANSWERED.as_slice()),
-        (2, ANSWERED.as_slice()),
-        (6, ANSWERED.as_slice()),
-        (0, SPENT.as_slice()),
-    ] {
-        for workers in [1, 8] {
-            attend(&rt, rt.alloc(), grain, Guest::Told(rows), 1, workers)?;
-        }
+fn jobs_are_told_at_each_grain(rt: HostRuntime) {
+    for (grain, workers, rows) in &GRAINS {
+        let told = is_content(&rt, rt.alloc(), *grain, Guest::Told(rows), 1, *workers);
+        assert!(rt; told, "grain {grain}, {workers} workers");
     }
-    Ok(())
 }

@@ -77,17 +77,14 @@ pub fn play<A: Allocator + Clone>(hall: &mut Hall<A>, workers: (Worker, Worker))
 /// and not spent; and all segments of the tenant are back.
 pub fn is_done<A: Allocator>(rt: &impl Abort, hall: &Hall<A>, tenant: u64, segments: u32) -> bool {
     let left = hall.core().left(tenant).expect(rt, "the tenant is there");
-    assert_eq!(rt; left.segments, segments);
+    assert!(rt; left.segments == segments);
     match hall.outcome(tenant, 1) {
         Some(Outcome::Done(reply)) => {
-            assert_eq!(rt;
-                (reply.value(), reply.choice()),
-                (-4, Some(Choice::Square(19)))
-            );
+            assert!(rt; (reply.value(), reply.choice()) == (-4, Some(Choice::Square(19))));
             true
         }
         told => {
-            assert_eq!(rt; told, Some(Outcome::Spent));
+            assert!(rt; told == Some(Outcome::Spent));
             false
         }
     }

@@ -23,16 +23,9 @@ fn ends_work<A: Allocator>(rt: &impl Abort, all: Vec<DequeEnds<A>, A>, one: Work
     let mut all = all;
     assert!(rt; pushes(&mut all, one, 1));
     assert!(rt; pushes(&mut all, one, 2));
-    assert_eq!(rt; takes(&mut all, one), 2);
-    assert_eq!(rt; takes(&mut all, three), 1);
-    assert_eq!(rt; takes(&mut all, three), 0);
-}
-
-/// The first and the last of three workers.
-fn first_and_last() -> Result<(Worker, Worker), Fail> {
-    let one = Worker::new(1).ok_or("a worker")?;
-    let three = Worker::new(3).ok_or("a worker")?;
-    Ok((one, three))
+    assert!(rt; takes(&mut all, one) == 2);
+    assert!(rt; takes(&mut all, three) == 1);
+    assert!(rt; takes(&mut all, three) == 0);
 }
 
 /// Which growth of a deal to three workers is refused in a heap with room for so many units, the first of
@@ -41,7 +34,7 @@ fn first_and_last() -> Result<(Worker, Worker), Fail> {
 fn refused_in_deal(rt: &impl Abort, alloc: Global, units: usize) -> Result<u64, Fail>
     requires { units < 4096 }
 {
-    let (one, three) = first_and_last()?;
+    let (one, three) = (worker(1), worker(3));
     let heap = LocalHeap::new(alloc, units * 16)?;
     let counted = Counted::new(&heap);
     let number = match deal(&counted, three, 8) {
@@ -51,7 +44,7 @@ fn refused_in_deal(rt: &impl Abort, alloc: Global, units: usize) -> Result<u64, 
             0
         }
     };
-    assert_eq!(rt; heap.used(), 0);
+    assert!(rt; heap.used() == 0);
     Ok(number)
 }
 
@@ -60,7 +53,7 @@ fn refused_in_deal(rt: &impl Abort, alloc: Global, units: usize) -> Result<u64, 
 fn refused_in_return(rt: &impl Abort, alloc: Global, units: usize) -> Result<u64, Fail>
     requires { units < 4096 }
 {
-    let (one, three) = first_and_last()?;
+    let (one, three) = (worker(1), worker(3));
     let ample = LocalHeap::new(alloc, AMPLE)?;
     let heap = LocalHeap::new(alloc, units * 16)?;
     let others = Counted::new(&ample);
@@ -70,11 +63,11 @@ fn refused_in_return(rt: &impl Abort, alloc: Global, units: usize) -> Result<u64
     let number = match sums(&counted, three, all) {
         Err(AllocError) => counted.calls() / 2 + 1,
         Ok(sums) => {
-            assert_eq!(rt; (sums.pushed, sums.taken, sums.left), (1, 0, 1));
+            assert!(rt; (sums.pushed, sums.taken, sums.left) == (1, 0, 1));
             0
         }
     };
-    assert_eq!(rt; (heap.used(), ample.used()), (0, 0));
+    assert!(rt; (heap.used(), ample.used()) == (0, 0));
     Ok(number)
 }
 
@@ -87,7 +80,7 @@ fn are_refused(rt: &impl Abort, alloc: Global, growing: Growing, many: u64) -> R
             Growing::Return => refused_in_return(rt, alloc, units)?,
         };
         if number == 0 {
-            assert_eq!(rt; last, many);
+            assert!(rt; last == many);
             return Ok(());
         }
         assert!(rt; number == last || number == last.saturating_add(1));

@@ -35,7 +35,7 @@ pub(super) fn go_on<L: DeskLedger, R: Wait + Abort>(rt: &R, desk: Desk<L>)
     let mut badge = badge_of(rt, &desk);
     first_goes_on(rt, &desk, &mut seat, &mut badge, worker_of(rt, 1));
     cancel_second(rt, &desk, &mut seat);
-    assert_eq!(rt; (badge.share(), desk.count(rt)), (5, 9));
+    assert!(rt; (badge.share(), desk.count(rt)) == (5, 9));
     desk.leave(rt, seat);
     has_ended(rt, desk, badge, (10, 5, 10, true));
 }
@@ -114,8 +114,8 @@ fn is_late<L: DeskLedger, R: Wait + Abort>(
 )
     requires { is_worker_step answer.now ≡ true }
 {
-    assert_eq!(rt; desk.offer(rt, badge, answer).err(), Some(refusal));
-    assert_eq!(rt; (badge.share(), desk.count(rt)), (share, count));
+    assert!(rt; desk.offer(rt, badge, answer).err() == Some(refusal));
+    assert!(rt; (badge.share(), desk.count(rt)) == (share, count));
 }
 
 /// An answer after its tenant has left.

@@ -23,7 +23,7 @@ pub(super) enum Call {
 }
 
 /// What a call tells.
-#[derive(Debug, Drop, PartialEq, Eq)]
+#[derive(Drop, PartialEq, Eq)]
 enum Told {
     Done(bool),
     Steps(u128),
@@ -119,7 +119,7 @@ where
     let Some((seat, beside)) = told_beside(rt, desk, &mut badge, seat, call) else {
         panic!(rt; "no thread");
     };
-    assert_eq!(rt; beside, answered(rt, desk, &seat, call), "{call:?}");
+    assert!(rt; beside == answered(rt, desk, &seat, call), "{call:?}");
 }
 
 /// Who comes while a worker holds the desk waits until it is let go.

@@ -21,7 +21,7 @@ fn reserves<L: DeskLedger, R: Wait + Abort>(
     answer: Result<(), Refusal>,
 ) {
     let reserve = Reserve::new(segments, nodes).expect(rt, "within the limits");
-    assert_eq!(rt; desk.reserve(rt, seat, reserve), answer);
+    assert!(rt; desk.reserve(rt, seat, reserve) == answer);
 }
 
 /// Raises that are no raise or beyond the totals.
@@ -43,7 +43,7 @@ fn first_raise<L: DeskLedger, R: Wait + Abort>(rt: &R, desk: &Desk<L>, seat: &mu
     reserves(rt, desk, seat, 4, 8, Ok(()));
     has_left(rt, desk, seat, 3, 7, 128);
     refused(rt, desk, seat);
-    assert_eq!(rt; (seat.share(), desk.count(rt)), (3, 3));
+    assert!(rt; (seat.share(), desk.count(rt)) == (3, 3));
     asks(rt, desk, seat, 0, Ok(2));
 }
 
@@ -58,7 +58,7 @@ fn second_raise<L: DeskLedger, R: Wait + Abort>(
     do_first(rt, desk, seat, badge, worker);
     reserves(rt, desk, seat, SEGMENTS, NODES, Ok(()));
     has_left(rt, desk, seat, 31, 510, 8187);
-    assert_eq!(rt; (seat.share(), badge.share(), desk.count(rt)), (5, 5, 10));
+    assert!(rt; (seat.share(), badge.share(), desk.count(rt)) == (5, 5, 10));
 }
 
 /// A job that has no node left is done with more of them; the raises that were taken are the seat's own

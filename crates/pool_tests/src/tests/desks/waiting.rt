@@ -92,7 +92,7 @@ fn wake<L: DeskLedger, R: Wait + Abort>(
     match waker {
         Waker::Close => desk.close(rt),
         Waker::Finish => {
-            assert_eq!(rt; compute(rt, desk, badge, worker, root), Some(1));
+            assert!(rt; compute(rt, desk, badge, worker, root) == Some(1));
         }
         Waker::Spend => spend(rt, desk, badge, worker, root),
         Waker::Ask => {}
@@ -205,7 +205,7 @@ fn woken_worker<L: DeskLedger + Send + Sync, R: Wait + Abort + Threads + Clock +
         idle(rt);
         assert!(rt; !flag.load(Ordering::SeqCst), "{waker:?} hasn't come");
         match waker {
-            Waker::Ask => assert_eq!(rt; desk.ask(rt, seat, &opening(rt), 0), Ok(1)),
+            Waker::Ask => assert!(rt; desk.ask(rt, seat, &opening(rt), 0) == Ok(1)),
             _ => desk.close(rt),
         }
         assert!(rt; is_set(flag), "{waker:?} wakes the worker");

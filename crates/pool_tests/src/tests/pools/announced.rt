@@ -92,7 +92,7 @@ fn each_task_is_announced(rt: HostRuntime) -> Result<(), Fail> {
         let told = told_and_taken(&rt, rt.alloc(), is_brief).ok_or(
             "no pool, or not as it should be",
         )?;
-        assert_eq!(rt; told, (8, 9));
+        assert!(rt; told == (8, 9));
     }
     Ok(())
 }

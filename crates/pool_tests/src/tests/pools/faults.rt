@@ -30,7 +30,7 @@ impl Announce for Counted {
 }
 
 /// What is found of a pool that doesn't run.
-#[derive(Clone, Copy, Debug, PartialEq, Eq)]
+#[derive(Clone, Copy)]
 struct Found {
     not_run: NotRun,
     /// Whether the desk is closed then.
@@ -116,15 +116,31 @@ fn tried<R: Threads + Wait + Sync>(
     found_at::<Brand, R>(rt, alloc, Blank::new(PARTS), sizes, works)
 }
 
-/// That it was for this, after so many threads had ended, and was tried to be said so often: the desk is closed, and all
-/// is back.
-fn because(fault: BeginFault, ended: usize, said: u32) -> Option<Found> {
-    Some(Found {
-        not_run: NotRun { fault, ended },
-        is_closed: true,
-        free: 64,
-        said,
-    })
+/// Whether a pool of these sizes doesn't run for this, after so many threads had ended, and it was tried to be said so
+/// often: the desk is closed, and all is back.
+fn is_because<R: Threads + Wait + Sync>(
+    rt: &R,
+    alloc: Global,
+    sizes: PoolSizes,
+    fault: BeginFault,
+    ended: usize,
+    said: u32,
+) -> bool {
+    match tried(rt, alloc, sizes, said == 0) {
+        Some(found) => {
+            found.not_run == NotRun { fault, ended }
+                && found.is_closed
+                && found.free == 64
+                && found.said == said
+        }
+        None => false,
+    }
+}
+
+/// Whether it is for want of memory: no thread was started, and nothing is said.
+fn lacks_memory<R: Threads + Wait + Sync>(rt: &R, alloc: Global, sizes: PoolSizes) -> bool {
+    let fault = BeginFault::Pool(PoolFault::OutOfMemory);
+    is_because(rt, alloc, sizes, fault, 0, 0)
 }
 
 /// Each growth of a pool's start that can't be had: that of the deques, of the room for ends that come
@@ -133,39 +149,36 @@ fn because(fault: BeginFault, ended: usize, said: u32) -> Option<Found> {
 fn no_memory(rt: HostRuntime) {
     let mut deques = four();
     deques.room = usize::MAX;
+    assert!(rt; lacks_memory(&rt, rt.alloc(), deques), "deques");
     let mut ends = four();
     ends.more_ends = usize::MAX;
+    assert!(rt; lacks_memory(&rt, rt.alloc(), ends), "ends");
     let mut threads = four();
     threads.more_threads = usize::MAX;
-    let wanted = because(BeginFault::Pool(PoolFault::OutOfMemory), 0, 0);
-    for (sizes, growth) in [(deques, "deques"), (ends, "ends"), (threads, "threads")] {
-        assert_eq!(rt; tried(&rt, rt.alloc(), sizes, true), wanted, "{growth}");
-    }
-    assert_eq!(rt; PoolFault::OutOfMemory.number(), 1);
+    assert!(rt; lacks_memory(&rt, rt.alloc(), threads), "threads");
+    assert!(rt; PoolFault::OutOfMemory.number() == 1);
 }
 
 /// The first, the second or the last of four threads has the greatest stack, which can't be had: the
 /// desk is closed, the fault is 2, those that were started have ended, nothing is left, and nothing is said.
 #[test]
 fn no_thread(rt: HostRuntime) {
+    let fault = BeginFault::Pool(PoolFault::NoThread);
     for (from, ended) in [(1u8, 0usize), (2, 1), (4, 3)] {
         let sizes = PoolSizes {
             stack: Some((from, usize::MAX)),
             ..four()
         };
-        let wanted = because(BeginFault::Pool(PoolFault::NoThread), ended, 0);
-        assert_eq!(rt;
-            tried(&rt, rt.alloc(), sizes, true),
-            wanted,
+        assert!(rt;
+            is_because(&rt, rt.alloc(), sizes, fault, ended, 0),
             "worker {from}"
         );
     }
-    assert_eq!(rt; PoolFault::NoThread.number(), 2);
+    assert!(rt; PoolFault::NoThread.number() == 2);
 }
 
 /// All four were started and it can't be said that they were: it was tried once, the desk is closed, and the four end.
 #[test]
 fn a_beginning_that_cannot_be_said(rt: HostRuntime) {
-    let wanted = because(BeginFault::Unsaid, 4, 1);
-    assert_eq!(rt; tried(&rt, rt.alloc(), four(), false), wanted);
+    assert!(rt; is_because(&rt, rt.alloc(), four(), BeginFault::Unsaid, 4, 1));
 }

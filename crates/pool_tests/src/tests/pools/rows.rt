@@ -30,16 +30,19 @@ impl Scenario for OneJob {
     }
 }
 
+/// Whether 36 steps were taken, 8 tasks pushed and taken, and all is back.
+fn is_counted(played: &Played) -> bool {
+    played.content
+        && played.share == 36
+        && played.tasks == [8, 8, 0]
+        && played.whole
+        && played.free == 8
+}
+
 /// One worker, the opening to depth 1 at grain 0: 36 steps, 8 tasks pushed and taken.
 #[test]
 fn one_worker_counted(rt: HostRuntime) {
     let table = Table::of(&OneJob, &OpenGate, 1, 0, 8);
-    let wanted = Played {
-        content: true,
-        share: 36,
-        tasks: [8, 8, 0],
-        whole: true,
-        free: 8,
-    };
-    assert_eq!(rt; play(&rt, rt.alloc(), &table), Some(wanted));
+    let played = play(&rt, rt.alloc(), &table);
+    assert!(rt; matches!(played, Some(played) if is_counted(&played)));
 }

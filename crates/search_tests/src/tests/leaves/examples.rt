@@ -1,66 +1,66 @@
 //! The examples of the root files of the crates below this one, which have no tests of their own, each public
 //! call of theirs once on an ordinary board, and the known numbers of positions after so many choices.
-use super::{BLACK, WHITE};
-use crate::tests::same;
+use super::OPENING;
 use othello_board::{Board, Cell, Direction};
 use othello_eval::{Valued, eval, final_value, plain};
 use othello_moves::{Choice, after, choice, choice_count, move_count, moves, over};
-use std::test::Fail;
 
-/// The opening, Black to move.
-fn opening() -> Result<Board, Fail> {
-    Ok(Board::new(BLACK, WHITE).ok_or("no board")?)
+/// Whether the opening has these discs.
+fn has_discs() -> bool {
+    OPENING.count() == (2, 2)
+        && matches!(OPENING.cell(28), Cell::Own)
+        && matches!(OPENING.cell(27), Cell::Opp)
+        && matches!(OPENING.cell(19), Cell::Empty)
 }
 
 #[test]
-fn board_example(rt: HostRuntime) -> Result<(), Fail> {
-    let opening = opening()?;
-    same(&rt, "a move", &opening.flips(19), &(1 << 27));
-    same(&rt, "no move", &opening.flips(20), &0);
-    same(&rt, "discs", &opening.count(), &(2, 2));
-    same(&rt, "own", &opening.cell(28), &Cell::Own);
-    same(&rt, "opposing", &opening.cell(27), &Cell::Opp);
-    same(&rt, "empty", &opening.cell(19), &Cell::Empty);
-    same(
-        &rt,
-        "the other side",
-        &Some(opening.swap()),
-        &Board::new(WHITE, BLACK),
+fn board_example(rt: HostRuntime) {
+    assert!(rt; OPENING.flips(19) == 1 << 27, "a move");
+    assert!(rt; OPENING.flips(20) == 0, "no move");
+    assert!(rt; has_discs(), "discs");
+    assert!(rt;
+        Board::new(OPENING.opp, OPENING.own) == Some(OPENING.swap()),
+        "the other side"
     );
-    same(&rt, "two discs on a square", &Board::new(3, 2), &None);
-    same(&rt, "a step", &Direction::SouthEast.step(0), &Some(9));
-    same(&rt, "the edge", &Direction::NorthEast.step(7), &None);
-    Ok(())
+    assert!(rt; Board::new(3, 2).is_none(), "two discs on a square");
+    assert!(rt; Direction::SouthEast.step(0) == Some(9), "a step");
+    assert!(rt; Direction::NorthEast.step(7).is_none(), "the edge");
 }
 
 #[test]
-fn moves_example(rt: HostRuntime) -> Result<(), Fail> {
-    let opening = opening()?;
-    assert_eq!(rt; choice_count(opening), 4);
-    same(
-        &rt,
-        "squares",
-        &moves(opening),
-        &(1 << 19 | 1 << 26 | 1 << 37 | 1 << 44),
+fn moves_example(rt: HostRuntime) {
+    assert!(rt;
+        moves(OPENING) == 1 << 19 | 1 << 26 | 1 << 37 | 1 << 44,
+        "squares"
     );
-    same(&rt, "moves", &move_count(opening), &4);
-    same(&rt, "an end", &over(opening), &false);
-    same(&rt, "the first", &choice(opening, 0), &Choice::Square(19));
-    Ok(())
+    assert!(rt;
+        choice_count(OPENING) == 4 && move_count(OPENING) == 4,
+        "moves"
+    );
+    assert!(rt; !over(OPENING), "an end");
+    assert!(rt;
+        choice_count(OPENING) > 0 && choice(OPENING, 0) == Choice::Square(19),
+        "the first"
+    );
 }
 
+/// The value and the choice at depth 1.
+const VALUED: Valued = Valued {
+    value: -3,
+    choice: Some(Choice::Square(19)),
+};
+
+/// A board where all discs are the other player's.
+const LOST: Board = Board {
+    own: 0,
+    opp: u64::MAX,
+};
+
 #[test]
-fn eval_example(rt: HostRuntime) -> Result<(), Fail> {
-    let opening = opening()?;
-    same(&rt, "depth 0", &eval(opening), &0);
-    let valued = Valued {
-        value: -3,
-        choice: Some(Choice::Square(19)),
-    };
-    same(&rt, "depth 1", &plain(opening, 1), &valued);
-    let lost = Board::new(0, u64::MAX).ok_or("no board")?;
-    same(&rt, "an end", &final_value(lost), &-128_000);
-    Ok(())
+fn eval_example(rt: HostRuntime) {
+    assert!(rt; eval(OPENING) == 0, "depth 0");
+    assert!(rt; plain(OPENING, 1) == VALUED, "depth 1");
+    assert!(rt; final_value(LOST) == -128_000, "an end");
 }
 
 /// How many positions there are after exactly so many choices, a pass being one.
@@ -76,10 +76,8 @@ fn leaves(board: Board, depth: u8) -> u32 {
 }
 
 #[test]
-fn leaves_from_the_opening(rt: HostRuntime) -> Result<(), Fail> {
-    let opening = opening()?;
+fn leaves_from_the_opening(rt: HostRuntime) {
     for (depth, found) in [(1, 4), (2, 12), (3, 56), (4, 244), (5, 1396), (6, 8200)] {
-        assert_eq!(rt; leaves(opening, depth), found, "{depth} choices");
+        assert!(rt; leaves(OPENING, depth) == found, "{depth} choices");
     }
-    Ok(())
 }

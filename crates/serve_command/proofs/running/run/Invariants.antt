@@ -1,0 +1,7 @@
+use Rattle.serve_command.proofs.running.run.Given as goal
+
+abbrev pub ghosts-serve_as_asked-L-Ledger : goal.ghosts-serve_as_asked-L-Ledger
+ghosts-serve_as_asked-L-Ledger g a = record { name = a.blank.name; parts = a.blank.parts }
+
+abbrev pub ghosts-serve_as_asked-L-DeskLedger : goal.ghosts-serve_as_asked-L-DeskLedger
+ghosts-serve_as_asked-L-DeskLedger g a = record { all = a.blank.parts }

@@ -1,2 +1,0 @@
-mod offices;
-mod sessions;
