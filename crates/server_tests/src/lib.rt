@@ -1,4 +1,4 @@
-//! Tests of `tcp_server` and `tcp_door`.
+//! Tests of `tcp_server`, `tcp_door` and `serve_command`.
 //!
 //! What a session answers is proved in `desk_office`, and which errors of a listener pass in `tcp_door`. No contract can say
 //! that a connection is taken, that its session has a thread, or that a server ends. Here servers run, each with its clients
@@ -8,7 +8,7 @@
 //!
 //! ```text
 //! // a server of one session and two workers, and a client that is told what it should be told
-//! try_visit(rt, alloc, 1, Visit::Answered)
+//! is_visited(rt, alloc, 1, Visit::Answered)
 //! ```
 #![tactic(auto)]
 
