@@ -35,7 +35,7 @@ pub mod rows;
 mod stage;
 mod values;
 
-pub use playing::play_steps;
+pub use playing::{play_steps, read_totals};
 pub use procedures::Made;
 pub use reader::{Reader, ReaderAnswer, ReaderPlay};
 pub use values::{FromWords, Input};

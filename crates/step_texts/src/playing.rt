@@ -9,10 +9,10 @@ use crate::stage::{Played, play_row, tell};
 use crate::values::{FromWords, Input};
 use counted_alloc::Counted;
 use jamboree::Jamboree;
-use sched_core::{Config, Core, Procedure};
+use sched_core::{Config, Core, DidOf, Procedure, Refusal, Step};
 use sched_toys::{Chain, Fan, Spin};
 use std::alloc::{AllocError, Allocator, Global};
-use text_rows::{Place, Row, Scene, Tally, option};
+use text_rows::{Place, Row, Scene, Tally, option, small_option};
 
 /// A core, by its totals and its procedure's grain, and which of its growths is refused (0: none).
 #[derive(Clone, Copy)]
@@ -22,12 +22,17 @@ struct Setting {
     refuses: u64,
 }
 
-/// What a head asks for; None where a number is missing or not within its limits.
+/// The totals that a head asks for; None where a number is missing or not within its limits.
+pub fn read_totals(head: &str) -> Option<Config> {
+    let segments = small_option(head, "segments")?;
+    let nodes = small_option(head, "nodes")?;
+    Config::new(segments, nodes)
+}
+
+/// What a head asks for; None where it asks for no totals.
 fn read_setting(head: &str) -> Option<Setting> {
-    let segments = u32::try_from(option(head, "segments")?).ok()?;
-    let nodes = u32::try_from(option(head, "nodes")?).ok()?;
     Some(Setting {
-        config: Config::new(segments, nodes)?,
+        config: read_totals(head)?,
         grain: option(head, "grain").unwrap_or(0),
         refuses: option(head, "refuses").unwrap_or(0),
     })
@@ -166,15 +171,26 @@ where
         .zip(played.told.iter())
         .zip(played.lines.iter())
     {
-        let mut text = String::new(alloc);
-        draw_answer(&mut text, answer)?;
         let at = Place {
             file: place.file,
             line: *line,
         };
-        agree(at, "by run", told.as_str(), text.as_str(), tally)?;
+        compare_answer(alloc, answer, told.as_str(), at, tally)?;
     }
     Ok(())
+}
+
+/// Compares an answer by `run` with the one that was given.
+fn compare_answer<I: Input>(
+    alloc: Global,
+    answer: &Result<DidOf<I>, Refusal>,
+    told: &str,
+    place: Place<'_>,
+    tally: &mut Tally,
+) -> Result<(), AllocError> {
+    let mut text = String::new(alloc);
+    draw_answer(&mut text, answer)?;
+    agree(place, "by run", told, text.as_str(), tally)
 }
 
 /// A row that is counted only where it disagrees.
@@ -296,15 +312,29 @@ where
         .zip(played.told.iter())
         .zip(played.lines.iter())
     {
-        if tenant_of(step) != tenant || told.as_str().starts_with("Err ") {
-            continue;
+        if tenant_of(step) == tenant && !told.as_str().starts_with("Err ") {
+            let at = Place {
+                file: place.file,
+                line: *line,
+            };
+            take_alone(alloc, core, step, told.as_str(), at, tally)?;
         }
-        let answer = tell(alloc, core, step)?;
-        let at = Place {
-            file: place.file,
-            line: *line,
-        };
-        agree(at, "alone", told.as_str(), answer.as_str(), tally)?;
     }
     Ok(())
+}
+
+/// Takes a step that was answered so.
+fn take_alone<P: Procedure>(
+    alloc: Global,
+    core: &mut Core<P>,
+    step: &Step<P>,
+    told: &str,
+    place: Place<'_>,
+    tally: &mut Tally,
+) -> Result<(), AllocError>
+where
+    P::Input: Input,
+{
+    let answer = tell(alloc, core, step)?;
+    agree(place, "alone", told, answer.as_str(), tally)
 }

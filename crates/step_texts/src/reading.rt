@@ -67,13 +67,13 @@ fn read_submit<A>(words: &mut Words<'_>) -> Option<StepOf<A>> {
 }
 
 fn read_reserve(words: &mut Words<'_>) -> Option<Reserve> {
-    let segments = u32::try_from(words.number()?).ok()?;
-    let nodes = u32::try_from(words.number()?).ok()?;
+    let segments = words.small()?;
+    let nodes = words.small()?;
     Reserve::new(segments, nodes)
 }
 
 fn read_worker(words: &mut Words<'_>) -> Option<Worker> {
-    Worker::new(u8::try_from(words.number()?).ok()?)
+    Worker::new(words.byte()?)
 }
 
 /// A step by this worker.
@@ -90,7 +90,7 @@ fn read_work<A: FromWords>(kind: &str, worker: Worker, words: &mut Words<'_>) ->
 }
 
 fn read_steal<A>(worker: Worker, words: &mut Words<'_>) -> Option<StepOf<A>> {
-    let home = u8::try_from(words.number()?).ok()?;
+    let home = words.byte()?;
     Some(StepOf::Steal(worker, home, read_frame(words)?))
 }
 

@@ -25,4 +25,4 @@ pub use escapes::{Ending, push_line};
 pub use scenes::{Row, Scene, read_scenes};
 pub use talk_line::{TalkLine, read_talk_line};
 pub use tally::{Place, Tally};
-pub use words::{Words, has_word, next_number, number, option, options};
+pub use words::{Words, has_word, next_number, number, option, options, small_option};

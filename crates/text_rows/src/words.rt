@@ -37,6 +37,11 @@ pub fn option(line: &str, word: &str) -> Option<u64> {
     Some(first)
 }
 
+/// The same of a number of 32 bits.
+pub fn small_option(line: &str, word: &str) -> Option<u32> {
+    u32::try_from(option(line, word)?).ok()
+}
+
 /// The numbers that stand right behind a word of a line, as a text.
 pub fn options<'t>(line: &'t str, word: &str) -> &'t str {
     behind(line, word)
@@ -89,6 +94,16 @@ impl<'t> Words<'t> {
     /// Reads the next word as a number (`number`); None where it is none.
     pub fn number(&mut self) -> Option<u64> {
         number(self.word()?)
+    }
+
+    /// The same of a number of 32 bits.
+    pub fn small(&mut self) -> Option<u32> {
+        u32::try_from(self.number()?).ok()
+    }
+
+    /// The same of a number of 8 bits.
+    pub fn byte(&mut self) -> Option<u8> {
+        u8::try_from(self.number()?).ok()
     }
 
     /// Reads the next word as a score, which may be negative; None where it is none.

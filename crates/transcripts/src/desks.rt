@@ -13,6 +13,7 @@ use std::alloc::{AllocError, Allocator, Global};
 use std::marker::Brand;
 use std::sync::Wait;
 use std::sync::ledger::Blank;
+use step_texts::read_totals;
 use text_rows::{Place, Row, Scene, Tally, option};
 
 /// What a head asks for.
@@ -26,21 +27,24 @@ struct Setting {
     ghost fine: { grain ≤ 6 },
 }
 
+/// The worker that a head names, or the first; None where there is none of that number.
+fn read_worker(head: &str) -> Option<Worker> {
+    Worker::new(u8::try_from(option(head, "worker").unwrap_or(1)).ok()?)
+}
+
 /// What a head asks for; None where a number is missing or not within its limits.
 fn read_setting(head: &str) -> Option<Setting> {
-    let segments = u32::try_from(option(head, "segments")?).ok()?;
-    let nodes = u32::try_from(option(head, "nodes")?).ok()?;
-    let grain = u8::try_from(option(head, "grain").unwrap_or(0)).ok()?;
-    let worker = u8::try_from(option(head, "worker").unwrap_or(1)).ok()?;
-    let pieces = usize::try_from(option(head, "pieces").unwrap_or(4096)).ok()?;
+    let config = read_totals(head)?;
+    let worker = read_worker(head)?;
+    let grain = option(head, "grain").unwrap_or(0);
     if grain > 6 {
         return None;
     }
     Some(Setting {
-        config: Config::new(segments, nodes)?,
-        grain,
-        worker: Worker::new(worker)?,
-        pieces,
+        config,
+        grain: grain as u8,
+        worker,
+        pieces: option(head, "pieces").unwrap_or(4096) as usize,
         refuses: option(head, "refuses").unwrap_or(0),
     })
 }
