@@ -8,9 +8,9 @@
 //! their own, so that the crates below are not proved once more with them.
 //!
 //! ```text
-//! let seat = seat_of(rt, desk, 1)?;
-//! asks(rt, desk, &mut seat, 0)?; // a job of one leaf
-//! thread::scope(rt, |scope| ..)  // one waits for the job, one does its steps: the first is woken
+//! let mut seat = seat_of(rt, desk, 1, 1);
+//! talks(rt, desk, &mut seat, &[Said::Ask(0, Ok(1))]); // a job of one leaf
+//! thread::scope(thread::scope_env(), rt, |scope| ..)  // one waits for it, one does its steps: the first is woken
 //! ```
 #![tactic(auto)]
 

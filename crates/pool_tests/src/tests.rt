@@ -1,3 +1,26 @@
+ghost use Rattle.std.specs.Prelude.{◌≡◌, true};
+
+mod calls;
 mod deques;
 mod desks;
 mod pools;
+mod signs;
+
+use std::process::Abort;
+
+/// Fails the test where this isn't so. An `assert!` in its place takes the prover twice as long.
+pub(crate) fn holds(rt: &impl Abort, is: bool)
+    ensures { is ≡ true }
+{
+    assert!(rt; is);
+}
+
+/// Fails the test where this isn't so, and says what it is of: `run 3`.
+pub(crate) fn holds_of(rt: &impl Abort, is: bool, what: &str, number: u64) {
+    assert!(rt; is, "{what} {number}");
+}
+
+/// Fails the test where this isn't so, and says what should be.
+pub(crate) fn holds_that(rt: &impl Abort, is: bool, what: &str) {
+    assert!(rt; is, "{what}");
+}

@@ -8,7 +8,7 @@
 //!
 //! ```text
 //! // a server of one session and two workers, and a client that is told what it should be told
-//! is_visited(rt, alloc, 1, Visit::Answered)
+//! is_visited(rt, 1, Visit::Answered)
 //! ```
 #![tactic(auto)]
 

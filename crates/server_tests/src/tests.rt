@@ -1,6 +1,6 @@
 //! Sessions over TCP, server and clients in one process. What each session is told is known beforehand, whatever else
 //! the server does.
-ghost use Rattle.std.specs.Prelude.{◌≡◌};
+ghost use Rattle.std.specs.Prelude.{◌≡◌, true};
 
 mod all_jobs;
 mod commands;
@@ -10,18 +10,19 @@ mod reserving;
 mod tables;
 
 use all_jobs::are_all_told;
-use doors::Attended;
-use reserving::{Held, MORE};
+use doors::{Attended, Guest, Together};
+use reserving::{MORE, is_held};
 use sched_rules::{Config, Worker};
 use std::alloc::Global;
 use std::io::{Read, Write};
 use std::marker::Brand;
-use std::net::{Net, TcpListener, TcpStream};
+use std::net::{Net, SocketAddr, TcpListener, TcpStream};
+use std::process::Abort;
 use std::sync::Wait;
 use std::sync::atomic::{AtomicU32, Ordering};
 use std::sync::ledger::Blank;
-use std::thread::{self, Threads};
-use std::time::{Clock, CpuClock};
+use std::thread::Threads;
+use std::time::{Clock, CpuClock, Duration};
 use tcp_server::desk::{Desk, DeskLedger, Hall, PARTS};
 use tcp_server::steal_pool::{Announce, Gate, OpenGate, PoolEnd};
 use tcp_server::{ServeFault, ServerConfig, serve, serve_announced};
@@ -154,6 +155,15 @@ enum Visit {
     More,
     /// One asks as many jobs as a tenant can ask.
     All,
+    /// A tenant asks this while its job's first computation is held; and how the job ends.
+    Held(&'static [Row], &'static str),
+}
+
+/// Fails the test where this isn't so. An `assert!` in its place takes the prover twice as long.
+fn holds(rt: &impl Abort, is: bool)
+    ensures { is ≡ true }
+{
+    assert!(rt; is);
 }
 
 /// Sends bytes, and tells whether they were sent.
@@ -197,8 +207,8 @@ fn are_answered(stream: &TcpStream, rows: &[Row]) -> bool {
 
 /// Whether two sessions at once are answered as each is alone.
 fn are_both_answered(one: &TcpStream, two: &TcpStream) -> bool {
-    for (first, second) in ANSWERED.iter().zip(SPENT.iter()) {
-        if !is_answered(two, *second) || !is_answered(one, *first) {
+    for number in 0..ANSWERED.len() {
+        if !is_answered(two, SPENT[number]) || !is_answered(one, ANSWERED[number]) {
             return false;
         }
     }
@@ -263,27 +273,17 @@ fn is_welcome(stream: &TcpStream) -> bool {
 /// Whether the connection of this number asks its own two jobs.
 fn has_asked(stream: &TcpStream, number: usize) -> bool {
     let (first, second) = (&JOBS[number % 4], &JOBS[number / 4 % 4]);
-    are_told(
-        stream,
-        &[
-            ("HELLO 16 64\n", "WELCOME 16 64\n"),
-            (first.0, "JOB 1\n"),
-            (second.0, "JOB 2\n"),
-        ],
-    )
+    is_answered(stream, ("HELLO 16 64\n", "WELCOME 16 64\n"))
+        && is_answered(stream, (first.0, "JOB 1\n"))
+        && is_answered(stream, (second.0, "JOB 2\n"))
 }
 
 /// Whether it is told of its second job and its first.
 fn is_told_of_its_own(stream: &TcpStream, number: usize) -> bool {
     let (first, second) = (&JOBS[number % 4], &JOBS[number / 4 % 4]);
-    are_told(
-        stream,
-        &[
-            ("WAIT 2\n", second.2),
-            ("WAIT 1\n", first.1),
-            ("WAIT 3\n", "ERR 17\n"),
-        ],
-    )
+    is_answered(stream, ("WAIT 2\n", second.2))
+        && is_answered(stream, ("WAIT 1\n", first.1))
+        && is_answered(stream, ("WAIT 3\n", "ERR 17\n"))
 }
 
 /// Whether each connection is told of its own jobs: all ask, and then each waits for its second job and its first.
@@ -308,8 +308,8 @@ fn is_given_back(lost: TcpStream, kept: &TcpStream) -> bool {
     told && is_welcome(kept)
 }
 
-/// Whether the clients at these connections are told what they should be told.
-fn are_served(alloc: Global, visit: Visit, mut streams: Vec<TcpStream>) -> bool {
+/// Whether the clients at these connections are told what they should be told, beside workers that go through this gate.
+fn are_served(alloc: Global, visit: Visit, mut streams: Vec<TcpStream>, gate: &Together) -> bool {
     match (visit, streams.as_slice()) {
         (Visit::Answered, [stream]) => are_answered(stream, &ANSWERED),
         (Visit::Spent, [stream]) => are_answered(stream, &SPENT),
@@ -319,6 +319,7 @@ fn are_served(alloc: Global, visit: Visit, mut streams: Vec<TcpStream>) -> bool 
         (Visit::More, [stream]) => are_told(stream, &MORE),
         (Visit::All, [stream]) => are_all_told(alloc, stream),
         (Visit::Many, many) => are_told_of_their_own(many),
+        (Visit::Held(more, end), [stream]) => is_held(stream, gate, more, end),
         _ => match (streams.pop(), streams.pop()) {
             (Some(lost), Some(kept)) => is_given_back(lost, &kept),
             _ => false,
@@ -329,57 +330,65 @@ fn are_served(alloc: Global, visit: Visit, mut streams: Vec<TcpStream>) -> bool 
 /// What is tried at a server.
 #[derive(Drop)]
 enum Trial {
-    /// Clients come, and are told what they should be told.
-    Visited(Visited),
+    /// A guest comes.
+    Attended(Attended),
     /// The server doesn't begin.
     Unserved(Unserved),
     /// Its sessions can't have threads.
     Threadless,
-    /// A guest comes.
-    Attended(Attended),
     /// Its workers can't have threads: who takes its own connection knows that it has stopped.
     Stopped,
     /// Its listener fails.
     Hasty,
-    /// A tenant's job is held.
-    Held(Held),
 }
 
 /// Whether all is as it should be where this is tried at this desk and this listener.
-fn is_tried<L, R>(
+fn is_tried<L: DeskLedger + Send + Sync, R>(
     rt: &R,
-    alloc: Global,
     desk: Desk<L>,
     listener: TcpListener,
     trial: &Trial,
 ) -> bool
 where
-    L: DeskLedger + Send + Sync,
-    R: Net<Listener = TcpListener, Stream = TcpStream> + Threads + Wait + Clock + CpuClock + Sync,
+    R: Net<Listener = TcpListener, Stream = TcpStream>
+        + AllocGlobal
+        + Threads
+        + Wait
+        + Clock
+        + CpuClock
+        + Sync,
     requires { L.all ≡ L.parts }
 {
     match trial {
-        Trial::Visited(visited) => are_visited(rt, alloc, desk, listener, visited),
-        Trial::Unserved(unserved) => is_unserved(rt, alloc, desk, listener, unserved),
-        Trial::Threadless => is_threadless(rt, alloc, desk, listener),
-        Trial::Attended(attended) => doors::is_attended(rt, alloc, desk, listener, attended),
-        Trial::Stopped => doors::is_stopped(rt, alloc, desk, listener),
-        Trial::Hasty => failing::is_hasty(rt, alloc, desk, listener),
-        Trial::Held(held) => reserving::is_held(rt, alloc, desk, listener, held),
+        Trial::Attended(attended) => doors::is_attended(rt, desk, listener, attended),
+        Trial::Unserved(unserved) => is_unserved(rt, desk, listener, unserved),
+        Trial::Threadless => is_threadless(rt, desk, listener),
+        Trial::Stopped => doors::is_stopped(rt, desk, listener),
+        Trial::Hasty => failing::is_hasty(rt, desk, listener),
     }
 }
 
 /// The same at a new desk over this ledger, and a listener of its own.
-fn is_well_at<L, R>(rt: &R, alloc: Global, hall: Hall, blank: Blank, trial: &Trial) -> bool
+fn is_well_at<L: DeskLedger + Send + Sync, R>(
+    rt: &R,
+    hall: Hall,
+    blank: Blank,
+    trial: &Trial,
+) -> bool
 where
-    L: DeskLedger + Send + Sync,
-    R: Net<Listener = TcpListener, Stream = TcpStream> + Threads + Wait + Clock + CpuClock + Sync,
+    R: Net<Listener = TcpListener, Stream = TcpStream>
+        + AllocGlobal
+        + Threads
+        + Wait
+        + Clock
+        + CpuClock
+        + Sync,
     requires name { blank.name ≡ L.name }
     requires parts { (blank.parts ≡ L.parts) × (L.all ≡ L.parts) × (L.all ≡ PARTS) }
 {
     let desk: Desk<L> = Desk::new(hall, blank);
     match TcpListener::bind(rt, "127.0.0.1:0") {
-        Ok(listener) => is_tried(rt, alloc, desk, listener, trial),
+        Ok(listener) => is_tried(rt, desk, listener, trial),
         Err(_) => false,
     }
 }
@@ -391,12 +400,18 @@ fn hall_of(alloc: Global, segments: u32, nodes: u32, grain: u8) -> Option<Hall> 
 }
 
 /// Whether all is as it should be where this is tried at a hall of so many segments and nodes.
-fn is_well<R>(rt: &R, alloc: Global, totals: (u32, u32), grain: u8, trial: &Trial) -> bool
+fn is_well<R>(rt: &R, totals: (u32, u32), grain: u8, trial: &Trial) -> bool
 where
-    R: Net<Listener = TcpListener, Stream = TcpStream> + Threads + Wait + Clock + CpuClock + Sync,
+    R: Net<Listener = TcpListener, Stream = TcpStream>
+        + AllocGlobal
+        + Threads
+        + Wait
+        + Clock
+        + CpuClock
+        + Sync,
 {
-    match hall_of(alloc, totals.0, totals.1, grain) {
-        Some(hall) => is_well_at::<Brand, R>(rt, alloc, hall, Blank::new(PARTS), trial),
+    match hall_of(rt.alloc(), totals.0, totals.1, grain) {
+        Some(hall) => is_well_at::<Brand, R>(rt, hall, Blank::new(PARTS), trial),
         None => false,
     }
 }
@@ -406,53 +421,46 @@ fn server_of(sessions: u16, workers: u8) -> ServerConfig {
     ServerConfig::new(sessions, Worker::new(workers.clamp(1, 32)).unwrap())
 }
 
-/// So many connections to a listener.
-fn connected<R: Net<Stream = TcpStream>>(
+/// Whether a connection now answers within ten seconds or fails.
+fn is_limited(stream: &TcpStream) -> bool {
+    stream
+        .set_read_timeout(Some(Duration::from_secs(10)))
+        .is_ok()
+}
+
+/// A connection that answers within ten seconds or fails.
+fn visitor<R: Net<Stream = TcpStream>>(rt: &R, address: SocketAddr) -> Option<TcpStream> {
+    match TcpStream::connect(rt, address) {
+        Ok(stream) if is_limited(&stream) => Some(stream),
+        _ => None,
+    }
+}
+
+/// Whether one more such connection joins these.
+fn has_joined<R: Net<Stream = TcpStream>>(
     rt: &R,
-    alloc: Global,
-    listener: &TcpListener,
+    address: SocketAddr,
+    streams: &mut Vec<TcpStream>,
+) -> bool {
+    match visitor(rt, address) {
+        Some(stream) => streams.push(stream).is_ok(),
+        None => false,
+    }
+}
+
+/// So many such connections.
+fn visitors<R: Net<Stream = TcpStream> + AllocGlobal>(
+    rt: &R,
+    address: SocketAddr,
     many: u16,
 ) -> Option<Vec<TcpStream>> {
-    let address = listener.local_addr().ok()?;
-    let mut streams = Vec::with_capacity(alloc, usize::from(many)).ok()?;
+    let mut streams = Vec::new(rt.alloc());
     for _ in 0..many {
-        streams.push(TcpStream::connect(rt, address).ok()?).ok()?;
+        if !has_joined(rt, address, &mut streams) {
+            return None;
+        }
     }
     Some(streams)
-}
-
-/// Clients beside a server of two workers, with a session for each.
-#[derive(Drop)]
-struct Visited {
-    sessions: u16,
-    visit: Visit,
-}
-
-/// Whether they are, and all steps are accounted for at the end.
-fn are_visited<L: DeskLedger + Send + Sync, R>(
-    rt: &R,
-    alloc: Global,
-    desk: Desk<L>,
-    listener: TcpListener,
-    trial: &Visited,
-) -> bool
-where
-    R: Net<Listener = TcpListener, Stream = TcpStream> + Threads + Wait + Clock + CpuClock + Sync,
-    requires { L.all ≡ L.parts }
-{
-    let Visited { sessions, visit } = *trial;
-    let Some(streams) = connected(rt, alloc, &listener, sessions) else {
-        return false;
-    };
-    let server = server_of(sessions, 2);
-    let (told, served) = thread::join(
-        rt,
-        move || are_served(alloc, visit, streams),
-        ||
-            requires { L.all ≡ L.parts }
-        { serve(rt, alloc, &desk, listener, server, &OpenGate) },
-    );
-    told && is_whole(desk, served)
 }
 
 /// Whether a server has ended well, and all steps are accounted for.
@@ -467,21 +475,26 @@ fn is_whole<L: DeskLedger>(desk: Desk<L>, served: Result<PoolEnd<L>, ServeFault>
 
 /// Clients at a server for so many sessions: they are told what they should be told, and all steps are accounted for at
 /// the end.
-fn is_visited<R>(rt: &R, alloc: Global, sessions: u16, visit: Visit) -> bool
+fn is_visited<R>(rt: &R, sessions: u16, visit: Visit) -> bool
 where
-    R: Net<Listener = TcpListener, Stream = TcpStream> + Threads + Wait + Clock + CpuClock + Sync,
+    R: Net<Listener = TcpListener, Stream = TcpStream>
+        + AllocGlobal
+        + Threads
+        + Wait
+        + Clock
+        + CpuClock
+        + Sync,
 {
-    is_well(
-        rt,
-        alloc,
-        (4096, 65536),
-        0,
-        &Trial::Visited(Visited { sessions, visit }),
-    )
+    let attended = Attended {
+        guest: Guest::Visit(visit),
+        sessions,
+        workers: 2,
+    };
+    is_well(rt, (4096, 65536), 0, &Trial::Attended(attended))
 }
 
 /// A server whose workers go through a gate: why it failed.
-fn fault_of<L, R, G>(
+fn fault_of<L: DeskLedger + Send + Sync, R: Net + Threads + Wait + Sync, G: Gate + Sync>(
     rt: &R,
     alloc: Global,
     desk: &Desk<L>,
@@ -489,10 +502,6 @@ fn fault_of<L, R, G>(
     server: ServerConfig,
     gate: &G,
 ) -> Option<ServeFault>
-where
-    L: DeskLedger + Send + Sync,
-    R: Net<Listener = TcpListener, Stream = TcpStream> + Threads + Wait + Sync,
-    G: Gate + Sync,
     requires { L.all ≡ L.parts }
 {
     serve(rt, alloc, desk, listener, server, gate).err()
@@ -500,37 +509,37 @@ where
 
 #[test]
 fn a_job_is_answered(rt: HostRuntime) {
-    assert!(rt; is_visited(&rt, rt.alloc(), 1, Visit::Answered));
+    holds(&rt, is_visited(&rt, 1, Visit::Answered));
 }
 
 #[test]
 fn a_job_is_spent(rt: HostRuntime) {
-    assert!(rt; is_visited(&rt, rt.alloc(), 1, Visit::Spent));
+    holds(&rt, is_visited(&rt, 1, Visit::Spent));
 }
 
 #[test]
 fn two_at_once_are_served_as_each_alone(rt: HostRuntime) {
-    assert!(rt; is_visited(&rt, rt.alloc(), 2, Visit::Both));
+    holds(&rt, is_visited(&rt, 2, Visit::Both));
 }
 
 #[test]
 fn a_byte_at_a_time_is_enough(rt: HostRuntime) {
-    assert!(rt; is_visited(&rt, rt.alloc(), 1, Visit::Bytes));
+    holds(&rt, is_visited(&rt, 1, Visit::Bytes));
 }
 
 #[test]
 fn foreign_lines_get_their_faults(rt: HostRuntime) {
-    assert!(rt; is_visited(&rt, rt.alloc(), 1, Visit::Foreign));
+    holds(&rt, is_visited(&rt, 1, Visit::Foreign));
 }
 
 #[test]
 fn a_lost_connection_gives_all_back(rt: HostRuntime) {
-    assert!(rt; is_visited(&rt, rt.alloc(), 2, Visit::Lost));
+    holds(&rt, is_visited(&rt, 2, Visit::Lost));
 }
 
 #[test]
 fn sixty_four_are_told_of_their_own(rt: HostRuntime) {
-    assert!(rt; is_visited(&rt, rt.alloc(), 64, Visit::Many));
+    holds(&rt, is_visited(&rt, 64, Visit::Many));
 }
 
 /// Counts how often it is said that a server has begun.
@@ -562,13 +571,12 @@ struct Unserved {
 /// Whether it is so, and its listener is closed.
 fn is_unserved<L: DeskLedger + Send + Sync, R>(
     rt: &R,
-    alloc: Global,
     desk: Desk<L>,
     listener: TcpListener,
     trial: &Unserved,
 ) -> bool
 where
-    R: Net<Listener = TcpListener, Stream = TcpStream> + Threads + Wait + Clock + CpuClock + Sync,
+    R: Net<Listener = TcpListener, Stream = TcpStream> + AllocGlobal + Threads + Wait + Sync,
     requires { L.all ≡ L.parts }
 {
     let Ok(address) = listener.local_addr() else {
@@ -581,15 +589,15 @@ where
         count: &count,
         works: trial.works,
     };
-    let served = serve_announced(rt, alloc, &desk, listener, server, &OpenGate, call);
+    let served = serve_announced(rt, rt.alloc(), &desk, listener, server, &OpenGate, call);
     let said = count.load(Ordering::SeqCst);
-    let is_so = is_said_so(trial.works, served.err(), said);
+    let is_so = is_said_so(trial.works, &served.err(), said);
     is_so && TcpStream::connect(rt, address).is_err()
 }
 
 /// Whether a server whose beginning can be said had no thread for its workers, and said nothing; and one whose beginning
 /// can't be said tried it once.
-fn is_said_so(works: bool, fault: Option<ServeFault>, said: u32) -> bool {
+fn is_said_so(works: bool, fault: &Option<ServeFault>, said: u32) -> bool {
     match fault {
         Some(ServeFault::NoThread) => works && said == 0,
         Some(ServeFault::Unsaid) => !works && said == 1,
@@ -604,7 +612,7 @@ fn nothing_is_said_where_the_pool_cannot_begin(rt: HostRuntime) {
         stack: Some(usize::MAX),
         works: true,
     };
-    assert!(rt; is_well(&rt, rt.alloc(), (8, 8), 0, &Trial::Unserved(unserved)));
+    holds(&rt, is_well(&rt, (8, 8), 0, &Trial::Unserved(unserved)));
 }
 
 /// It was tried once, and the listener is closed.
@@ -614,26 +622,28 @@ fn a_beginning_that_cannot_be_said_ends_the_server(rt: HostRuntime) {
         stack: None,
         works: false,
     };
-    assert!(rt; is_well(&rt, rt.alloc(), (8, 8), 0, &Trial::Unserved(unserved)));
+    holds(&rt, is_well(&rt, (8, 8), 0, &Trial::Unserved(unserved)));
 }
 
 /// Whether both clients of a server of two sessions that can't have a thread for either are let go.
 fn is_threadless<L: DeskLedger + Send + Sync, R>(
     rt: &R,
-    alloc: Global,
     desk: Desk<L>,
     listener: TcpListener,
 ) -> bool
 where
-    R: Net<Listener = TcpListener, Stream = TcpStream> + Threads + Wait + Clock + CpuClock + Sync,
+    R: Net<Listener = TcpListener, Stream = TcpStream> + AllocGlobal + Threads + Wait + Sync,
     requires { L.all ≡ L.parts }
 {
-    let Some(streams) = connected(rt, alloc, &listener, 2) else {
+    let Ok(address) = listener.local_addr() else {
+        return false;
+    };
+    let Some(streams) = visitors(rt, address, 2) else {
         return false;
     };
     let mut server = server_of(2, 2);
     server.sessions.stack = Some(usize::MAX);
-    let fault = fault_of(rt, alloc, &desk, listener, server, &OpenGate);
+    let fault = fault_of(rt, rt.alloc(), &desk, listener, server, &OpenGate);
     fault.is_none() && are_closed(&streams)
 }
 
@@ -649,5 +659,5 @@ fn are_closed(streams: &[TcpStream]) -> bool {
 
 #[test]
 fn a_connection_without_a_thread_is_closed_and_counts(rt: HostRuntime) {
-    assert!(rt; is_well(&rt, rt.alloc(), (8, 8), 0, &Trial::Threadless));
+    holds(&rt, is_well(&rt, (8, 8), 0, &Trial::Threadless));
 }

@@ -1,9 +1,9 @@
 ghost use Rattle.std.specs.Prelude.{◌<◌};
 
-use crate::tests::plain_core::{made, run, step as do_step};
+use crate::tests::plain_core::{free_segments, left, made, run, step as do_step};
+use crate::tests::{config_of, heap_of, holds, most_of, reserve_of};
 use counted_alloc::Counted;
-use linked_list_allocator::LocalHeap;
-use sched_core::{Config, Core, DidOf, Refusal, Step, StepOf};
+use sched_core::{Config, Core, DidOf, Step, StepOf};
 use sched_toys::Fan;
 use std::alloc::{Allocator, Global};
 use std::process::Abort;
@@ -13,9 +13,9 @@ use tenant_quota::{Left, Reserve};
 fn is_made_in(rt: &impl Abort, alloc: Global, units: usize, config: Config) -> bool
     requires { units < 65536 }
 {
-    let heap = LocalHeap::new(alloc, units * 16).expect(rt, "room for a heap");
+    let heap = heap_of(rt, alloc, units * 16);
     let is_made = made(&heap, config, Fan::new()).is_ok();
-    assert!(rt; heap.used() == 0);
+    holds(rt, heap.used() == 0);
     is_made
 }
 
@@ -32,36 +32,56 @@ fn refusals(rt: &impl Abort, alloc: Global, config: Config) -> usize {
 /// Each growth of `new` is refused in turn: a core has places for 64 tenants in three lists.
 #[test]
 fn each_growth_of_a_core_is_refused(rt: HostRuntime) {
-    let config = Config::new(64, 64).expect(&rt, "within the limits");
-    assert!(rt; refusals(&rt, rt.alloc(), config) > 64 * 3);
+    holds(
+        &rt,
+        refusals(&rt, rt.alloc(), config_of(&rt, 64, 64)) > 64 * 3,
+    );
 }
 
-/// Runs an admission where the memory for the answers is refused, and says whether it was run and what is left of the tenant.
-fn run_once<A: Allocator + Copy>(
+/// Whether the steps are run, and how many answers that gives.
+fn tries<A: Allocator + Copy>(
     alloc: A,
     core: &mut Core<Fan, A>,
-    reserve: Reserve,
-) -> (bool, usize, Option<Left>) {
+    steps: &[Step<Fan>],
+) -> (bool, usize) {
     let mut answers = Vec::new(alloc);
-    let is_run = run(core, &[StepOf::Admit(1, reserve)], &mut answers).is_ok();
-    (is_run, answers.len(), core.left(1))
+    let is_run = run(core, steps, &mut answers).is_ok();
+    (is_run, answers.len())
 }
 
-/// Where memory for the answers is refused, `run` tries no step; the next time it does.
-#[test]
-fn a_run_without_memory_for_its_answers(rt: HostRuntime) {
-    let config = Config::new(64, 64).expect(&rt, "within the limits");
-    let reserve = Reserve::new(4, 16).expect(&rt, "within the limits");
-    let counted = Counted::new(rt.alloc());
-    let mut core = made(&counted, config, Fan::new()).expect(&rt, "there is room");
+/// An admission is run or not, which gives so many answers and leaves this of the tenant.
+fn runs<A: Allocator + Copy>(
+    rt: &impl Abort,
+    alloc: A,
+    core: &mut Core<Fan, A>,
+    is_run: bool,
+    count: usize,
+    has_left: Option<Left>,
+) {
+    let admission = [StepOf::Admit(1, reserve_of(rt, 4, 16))];
+    holds(rt, tries(alloc, core, &admission) == (is_run, count));
+    holds(rt, left(core, 1) == has_left);
+}
+
+/// An admission isn't run where memory for its answer is refused, and the next time it is.
+fn runs_the_next_time<A: Allocator + Copy>(rt: &impl Abort, alloc: A, counted: &Counted<Global>) {
+    let core = made(alloc, config_of(rt, 64, 64), Fan::new());
+    let mut core = core.expect(rt, "there is room");
     counted.refuse(1);
-    assert!(rt; run_once(&counted, &mut core, reserve) == (false, 0, None));
+    runs(rt, alloc, &mut core, false, 0, None);
     let left = Left {
         segments: 4,
         nodes: 16,
         steps: 256,
     };
-    assert!(rt; run_once(&counted, &mut core, reserve) == (true, 1, Some(left)));
+    runs(rt, alloc, &mut core, true, 1, Some(left));
+}
+
+/// Where memory for the answers is refused, `run` tries no step; the next time it does.
+#[test]
+fn a_run_without_memory_for_its_answers(rt: HostRuntime) {
+    let counted = Counted::new(rt.alloc());
+    runs_the_next_time(&rt, &counted, &counted);
 }
 
 /// Segments of a core, from the least to the most.
@@ -77,55 +97,34 @@ const NODES: [u32; 24] = [
     4_194_304,
 ];
 
-/// Takes a step, which is answered so.
-fn does(
-    rt: &impl Abort,
-    core: &mut Core<Fan>,
-    step: &Step<Fan>,
-    answer: Result<DidOf<u64>, Refusal>,
-) {
-    assert!(rt; do_step(core, step) == answer);
+/// Takes a step, which does this.
+fn does(rt: &impl Abort, core: &mut Core<Fan>, step: &Step<Fan>, did: DidOf<u64>) {
+    holds(rt, do_step(core, step) == Ok(did));
 }
 
-/// The most that a tenant may reserve of a core of so many segments and nodes.
-fn most_of(segments: u32, nodes: u32) -> Option<Reserve> {
-    Reserve::new(
-        segments.min(Reserve::MAX_SEGMENTS),
-        nodes.min(Reserve::MAX_NODES),
-    )
+/// Tenant 2 is admitted with the least, and reserves the most then, where that is more.
+fn admit_next(rt: &impl Abort, core: &mut Core<Fan>, least: Reserve, most: Reserve) {
+    does(rt, core, &StepOf::Admit(2, least), DidOf::Admitted);
+    if most != least {
+        does(rt, core, &StepOf::AdmitMore(2, most), DidOf::AdmittedMore);
+    }
 }
 
 /// A new core admits a tenant, and no segment is taken. Another comes after it with the least there is, and reserves as
 /// much.
-fn is_used(rt: &impl Abort, core: &mut Core<Fan>, least: Reserve, reserve: Reserve, segments: u32) {
-    does(rt, core, &StepOf::Admit(1, reserve), Ok(DidOf::Admitted));
-    assert!(rt; core.free_segments() == segments as usize);
-    does(rt, core, &StepOf::Leave(1), Ok(DidOf::Left));
-    does(rt, core, &StepOf::Admit(2, least), Ok(DidOf::Admitted));
-    if reserve != least {
-        does(
-            rt,
-            core,
-            &StepOf::AdmitMore(2, reserve),
-            Ok(DidOf::AdmittedMore),
-        );
-    }
-}
-
-/// The totals of a core of so many segments and nodes, and the least and the most that a tenant may reserve of it.
-fn sizes_of(segments: u32, nodes: u32) -> Option<(Config, Reserve, Reserve)> {
-    Some((
-        Config::new(segments, nodes)?,
-        Reserve::new(1, 1)?,
-        most_of(segments, nodes)?,
-    ))
+fn is_used(rt: &impl Abort, core: &mut Core<Fan>, least: Reserve, most: Reserve, segments: u32) {
+    does(rt, core, &StepOf::Admit(1, most), DidOf::Admitted);
+    holds(rt, free_segments(core) == segments as usize);
+    does(rt, core, &StepOf::Leave(1), DidOf::Left);
+    admit_next(rt, core, least, most);
 }
 
 /// Makes a core, and admits tenants that reserve as much of it as a tenant may.
 fn is_made(rt: &impl Abort, alloc: Global, segments: u32, nodes: u32) {
-    let (config, least, reserve) = sizes_of(segments, nodes).expect(rt, "within the limits");
-    let mut core = made(alloc, config, Fan::new()).expect(rt, "there is room");
-    is_used(rt, &mut core, least, reserve, segments);
+    let core = made(alloc, config_of(rt, segments, nodes), Fan::new());
+    let mut core = core.expect(rt, "there is room");
+    let (least, most) = (reserve_of(rt, 1, 1), most_of(rt, segments, nodes));
+    is_used(rt, &mut core, least, most, segments);
 }
 
 /// Where there is room no growth is refused: cores of all sizes are made, and tenants of all sizes admitted, at once or

@@ -1,12 +1,14 @@
 ghost use Rattle.std.specs.Prelude.{◌≤◌, ◌<◌};
 
+use crate::tests::{heap_of, holds};
 use frame_table::FrameTable;
 use frame_tree::{Entry, FrameId, State};
 use linked_list_allocator::LocalHeap;
-use std::alloc::{AllocError, Allocator, Global};
+use std::alloc::{AllocError, Allocator};
 use std::process::Abort;
 
-fn name(tenant: u64, serial: u64) -> FrameId {
+/// A frame's name.
+pub fn name(tenant: u64, serial: u64) -> FrameId {
     FrameId { tenant, serial }
 }
 
@@ -17,10 +19,25 @@ pub fn reserve<T: Copy, A: Allocator + Copy>(
     tenant: u64,
     places: usize,
 ) -> Result<(), AllocError> {
-    assert!(rt; table.places(tenant) <= places);
-    assert!(rt; table.tenant_count() < 64);
-    assert!(rt; places >= 1 && places <= 4096);
+    holds(
+        rt,
+        table.places(tenant) <= places && table.tenant_count() < 64,
+    );
+    holds(rt, places >= 1 && places <= 4096);
     table.reserve(tenant, places)
+}
+
+/// Adds a frame where that can be done.
+fn put<T: Copy, A: Allocator>(
+    rt: &impl Abort,
+    table: &mut FrameTable<T, A>,
+    f: FrameId,
+    parent: Option<FrameId>,
+    home: u8,
+    value: T,
+) {
+    holds(rt, table.can_add(f, parent));
+    table.add(f, parent, home, value);
 }
 
 /// Adds a frame at home 0 where that can be done, with ten times its serial as its value.
@@ -34,19 +51,7 @@ fn add<A: Allocator>(
         Some(serial) => Some(name(f.tenant, serial)),
         None => None,
     };
-    assert!(rt; table.can_add(f, above));
-    table.add(f, above, 0, f.serial.wrapping_mul(10));
-}
-
-/// The values of the frames under one, which is there.
-fn under<'a>(rt: &impl Abort, table: &'a mut FrameTable<u64>, f: FrameId) -> &'a [u64] {
-    assert!(rt; table.contains(f));
-    table.remove_under(f)
-}
-
-/// All frames under one go, and have these values.
-fn abort_under(rt: &impl Abort, table: &mut FrameTable<u64>, f: FrameId, values: &[u64]) {
-    assert!(rt; under(rt, table, f) == values);
+    put(rt, table, f, above, 0, f.serial.wrapping_mul(10));
 }
 
 /// Makes places where that can be done and there is room.
@@ -72,7 +77,7 @@ pub fn table_of<A: Allocator + Copy>(
 }
 
 /// Frames 2, 3 and 4 under 1, frame 5 under 3.
-fn add_five(rt: &impl Abort, table: &mut FrameTable<u64>, tenant: u64) {
+fn add_five<A: Allocator>(rt: &impl Abort, table: &mut FrameTable<u64, A>, tenant: u64) {
     add(rt, table, name(tenant, 1), None);
     add(rt, table, name(tenant, 2), Some(1));
     add(rt, table, name(tenant, 3), Some(1));
@@ -80,35 +85,37 @@ fn add_five(rt: &impl Abort, table: &mut FrameTable<u64>, tenant: u64) {
     add(rt, table, name(tenant, 5), Some(3));
 }
 
-/// A table with these five of one tenant.
-fn five(rt: &impl Abort, alloc: Global, tenant: u64) -> FrameTable<u64> {
-    let mut table = table_of(rt, alloc, tenant, 5);
-    add_five(rt, &mut table, tenant);
-    table
+/// All frames under one go, and have these values.
+fn abort_under<A: Allocator>(
+    rt: &impl Abort,
+    table: &mut FrameTable<u64, A>,
+    f: FrameId,
+    values: &[u64],
+) {
+    holds(rt, table.contains(f));
+    holds(rt, table.remove_under(f) == values);
 }
 
 /// A leaf goes that has ten times its serial as its value.
 fn remove_leaf<A: Allocator>(rt: &impl Abort, table: &mut FrameTable<u64, A>, f: FrameId) {
-    assert!(rt; table.contains(f));
-    assert!(rt; !table.has_child(f));
-    assert!(rt; table.remove(f) == f.serial.wrapping_mul(10));
+    holds(rt, table.contains(f) && !table.has_child(f));
+    holds(rt, table.remove(f) == f.serial.wrapping_mul(10));
 }
 
 /// Gives back the places of a tenant that has no frame.
-fn release(rt: &impl Abort, table: &mut FrameTable<u64>, tenant: u64) {
-    assert!(rt; table.places(tenant) > 0);
-    assert!(rt; table.is_empty(tenant));
+fn release<A: Allocator>(rt: &impl Abort, table: &mut FrameTable<u64, A>, tenant: u64) {
+    holds(rt, table.places(tenant) > 0 && table.is_empty(tenant));
     table.release(tenant);
 }
 
 /// Whether a frame is there.
 fn is_there<A: Allocator>(rt: &impl Abort, table: &FrameTable<u64, A>, f: FrameId, is: bool) {
-    assert!(rt; table.contains(f) == is);
+    holds(rt, table.contains(f) == is);
 }
 
 /// Whether a frame has a child.
 fn has_child<A: Allocator>(rt: &impl Abort, table: &FrameTable<u64, A>, f: FrameId, has: bool) {
-    assert!(rt; table.has_child(f) == has);
+    holds(rt, table.has_child(f) == has);
 }
 
 /// Whether a frame can be added.
@@ -119,12 +126,12 @@ fn can_add<A: Allocator>(
     parent: Option<FrameId>,
     can: bool,
 ) {
-    assert!(rt; table.can_add(f, parent) == can);
+    holds(rt, table.can_add(f, parent) == can);
 }
 
 /// How many frames a tenant has.
 fn counts<A: Allocator>(rt: &impl Abort, table: &FrameTable<u64, A>, tenant: u64, count: usize) {
-    assert!(rt; table.frame_count(tenant) == count);
+    holds(rt, table.frame_count(tenant) == count);
 }
 
 /// A tenant's newest ready frame, and its home.
@@ -134,7 +141,7 @@ fn newest<A: Allocator>(
     tenant: u64,
     ready: Option<(FrameId, u8)>,
 ) {
-    assert!(rt; table.newest_ready(tenant) == ready);
+    holds(rt, table.newest_ready(tenant) == ready);
 }
 
 /// How many places a tenant has, of so many tenants.
@@ -145,8 +152,10 @@ fn has_places<A: Allocator>(
     places: usize,
     tenants: usize,
 ) {
-    assert!(rt; table.places(tenant) == places);
-    assert!(rt; table.tenant_count() == tenants);
+    holds(
+        rt,
+        table.places(tenant) == places && table.tenant_count() == tenants,
+    );
 }
 
 /// What is kept of a frame.
@@ -164,7 +173,7 @@ fn finds<A: Allocator>(
         state,
         value,
     };
-    assert!(rt; table.find(f) == Some(entry));
+    holds(rt, table.find(f) == Some(entry));
 }
 
 /// The example's two frames.
@@ -178,25 +187,27 @@ const CHILD: FrameId = FrameId {
     serial: 2,
 };
 
-/// The example's frames are added, and what is kept of the child is read.
+/// The example's frames are added.
 fn add_the_example(rt: &impl Abort, table: &mut FrameTable<char>) {
-    assert!(rt; table.can_add(ROOT, None));
-    table.add(ROOT, None, 0, 'a');
-    assert!(rt; table.can_add(CHILD, Some(ROOT)));
-    table.add(CHILD, Some(ROOT), 3, 'b');
+    put(rt, table, ROOT, None, 0, 'a');
+    put(rt, table, CHILD, Some(ROOT), 3, 'b');
+}
+
+/// What is kept of the example's child.
+fn keeps_the_child(rt: &impl Abort, table: &FrameTable<char>) {
     let entry = Entry {
         parent: Some(ROOT),
         state: State::Ready(3),
         value: 'b',
     };
-    assert!(rt; table.find(CHILD) == Some(entry));
+    holds(rt, table.find(CHILD) == Some(entry));
 }
 
 /// An abort at its root takes the child alone.
 fn abort_the_example(rt: &impl Abort, table: &mut FrameTable<char>) {
-    assert!(rt; table.contains(ROOT));
-    assert!(rt; table.remove_under(ROOT) == ['b'].as_slice());
-    assert!(rt; table.contains(ROOT));
+    holds(rt, table.contains(ROOT));
+    holds(rt, table.remove_under(ROOT) == ['b'].as_slice());
+    holds(rt, table.contains(ROOT));
 }
 
 #[test]
@@ -204,31 +215,41 @@ fn example_of_the_crate(rt: HostRuntime) {
     let mut table = FrameTable::new(rt.alloc()).expect(&rt, "room for a table");
     make_places(&rt, &mut table, 7, 4);
     add_the_example(&rt, &mut table);
+    keeps_the_child(&rt, &table);
     abort_the_example(&rt, &mut table);
+}
+
+/// Five frames are added, and an abort at their root leaves it alone.
+fn abort_five<A: Allocator>(rt: &impl Abort, table: &mut FrameTable<u64, A>, tenant: u64) {
+    add_five(rt, table, tenant);
+    abort_under(rt, table, name(tenant, 1), &[20, 30, 40, 50]);
+    counts(rt, table, tenant, 1);
+    is_there(rt, table, name(tenant, 1), true);
+    has_child(rt, table, name(tenant, 1), false);
+    is_there(rt, table, name(tenant, 5), false);
 }
 
 #[test]
 fn an_abort_at_the_root_of_five_leaves_it(rt: HostRuntime) {
-    let mut table = five(&rt, rt.alloc(), 7);
-    abort_under(&rt, &mut table, name(7, 1), &[20, 30, 40, 50]);
-    counts(&rt, &table, 7, 1);
-    is_there(&rt, &table, name(7, 1), true);
-    has_child(&rt, &table, name(7, 1), false);
-    is_there(&rt, &table, name(7, 5), false);
+    abort_five(&rt, &mut table_of(&rt, rt.alloc(), 7, 5), 7);
+}
+
+/// A tenant's one frame goes, and then its two places.
+fn give_back<A: Allocator>(rt: &impl Abort, table: &mut FrameTable<u64, A>) {
+    add(rt, table, name(3, 1), None);
+    has_places(rt, table, 3, 2, 1);
+    can_add(rt, table, name(3, 1), None, false);
+    can_add(rt, table, name(3, 2), Some(name(3, 2)), false);
+    can_add(rt, table, name(3, 2), Some(name(4, 1)), false);
+    can_add(rt, table, name(3, 2), Some(name(3, 1)), true);
+    remove_leaf(rt, table, name(3, 1));
+    release(rt, table, 3);
+    has_places(rt, table, 3, 0, 0);
 }
 
 #[test]
 fn places_are_given_back(rt: HostRuntime) {
-    let mut table = table_of(&rt, rt.alloc(), 3, 2);
-    add(&rt, &mut table, name(3, 1), None);
-    has_places(&rt, &table, 3, 2, 1);
-    can_add(&rt, &table, name(3, 1), None, false);
-    can_add(&rt, &table, name(3, 2), Some(name(3, 2)), false);
-    can_add(&rt, &table, name(3, 2), Some(name(4, 1)), false);
-    can_add(&rt, &table, name(3, 2), Some(name(3, 1)), true);
-    remove_leaf(&rt, &mut table, name(3, 1));
-    release(&rt, &mut table, 3);
-    has_places(&rt, &table, 3, 0, 0);
+    give_back(&rt, &mut table_of(&rt, rt.alloc(), 3, 2));
 }
 
 /// Two tenants that share a guess have a frame more each; of the first the frame before the last goes,
@@ -265,16 +286,21 @@ fn many_come_and_go<A: Allocator>(rt: &impl Abort, table: &mut FrameTable<u64, A
     counts(rt, table, 44, 3);
 }
 
+/// The same in a table where each has four places. No list grows.
+fn come_and_go_within_places<A: Allocator + Copy>(rt: &impl Abort, alloc: A, heap: &LocalHeap) {
+    let mut table = table_of(rt, alloc, 300, 4);
+    make_places(rt, &mut table, 44, 4);
+    let used = heap.used();
+    many_come_and_go(rt, &mut table);
+    holds(rt, heap.used() == used);
+}
+
 /// The oldest go first of one tenant and the newest first of another that shares its guess, so that lists move
 /// and guesses are wrong. No list grows.
 #[test]
 fn names_are_found_while_many_come_and_go(rt: HostRuntime) {
-    let heap = LocalHeap::new(rt.alloc(), 1 << 16).expect(&rt, "room for a heap");
-    let mut table = table_of(&rt, &heap, 300, 4);
-    make_places(&rt, &mut table, 44, 4);
-    let used = heap.used();
-    many_come_and_go(&rt, &mut table);
-    assert!(rt; heap.used() == used);
+    let heap = heap_of(&rt, rt.alloc(), 1 << 16);
+    come_and_go_within_places(&rt, &heap, &heap);
 }
 
 /// How many places tenants 7 and 3 have, of so many tenants.
@@ -291,8 +317,8 @@ fn shows<A: Allocator>(
 
 /// How many of three steps are taken in this heap: a table, and two reservations. Nothing changes where one is
 /// refused.
-pub fn reservations(rt: &impl Abort, heap: &LocalHeap) -> usize {
-    match FrameTable::new(heap) {
+pub fn reservations<A: Allocator + Copy>(rt: &impl Abort, alloc: A) -> usize {
+    match FrameTable::new(alloc) {
         Ok(mut table) => reserve_both(rt, &mut table),
         Err(_) => 0,
     }
@@ -314,8 +340,8 @@ fn reserve_both<A: Allocator + Copy>(rt: &impl Abort, table: &mut FrameTable<u64
 
 /// The same of a `reserve` that raises a tenant's places: what can be read stays as it was, and the same call
 /// is taken once there is room (3). Where no two tenants find places it is 0, and 1 where the raise is refused.
-pub fn more_places(rt: &impl Abort, heap: &LocalHeap) -> usize {
-    match FrameTable::new(heap) {
+pub fn more_places<A: Allocator + Copy>(rt: &impl Abort, alloc: A) -> usize {
+    match FrameTable::new(alloc) {
         Ok(mut table) => raise_after_both(rt, &mut table),
         Err(_) => 0,
     }

@@ -1,6 +1,6 @@
 //! Heaps with room for one unit of 16 bytes more each time, from none on: each growth is refused in turn.
 
-use crate::tests::{frames, guess_tables, nodes, quotas, segments};
+use crate::tests::{frames, guess_tables, heap_of, holds, nodes, quotas, segments};
 use linked_list_allocator::LocalHeap;
 use std::alloc::Global;
 use std::process::Abort;
@@ -38,9 +38,9 @@ fn steps(rt: &impl Abort, heap: &LocalHeap, made: Made) -> usize {
 
 /// The same in a heap with room for so many units, to which all is given back.
 fn steps_in(rt: &impl Abort, alloc: Global, units: u16, made: Made) -> usize {
-    let heap = LocalHeap::new(alloc, units as usize * 16).expect(rt, "room for a heap");
+    let heap = heap_of(rt, alloc, units as usize * 16);
     let taken = steps(rt, &heap, made);
-    assert!(rt; heap.used() == 0);
+    holds(rt, heap.used() == 0);
     taken
 }
 
@@ -60,9 +60,11 @@ fn refusals(rt: &impl Abort, alloc: Global, made: Made) -> [u32; ALL] {
 /// Each step was refused so often at least.
 fn are_refused(rt: &impl Abort, alloc: Global, made: Made, least: [u32; ALL]) {
     let refused = refusals(rt, alloc, made);
-    assert!(rt; refused[0] >= least[0]);
-    assert!(rt; refused[1] >= least[1]);
-    assert!(rt; refused[2] >= least[2]);
+    let is_first = refused[0] >= least[0];
+    holds(
+        rt,
+        is_first && refused[1] >= least[1] && refused[2] >= least[2],
+    );
 }
 
 /// A tenant's first places are five growths: the removed values, the slots, their keys, their serials, the

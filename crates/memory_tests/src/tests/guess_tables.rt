@@ -1,7 +1,8 @@
 ghost use Rattle.number_index.specs.Places.{AreRising};
 
-use linked_list_allocator::LocalHeap;
+use crate::tests::holds;
 use number_index::{Guesses, TenantIndex};
+use std::alloc::Allocator;
 use std::process::Abort;
 use std::test::Fail;
 
@@ -37,8 +38,8 @@ fn stands(
 )
     requires { AreRising (λ pair. pair.0) tenants.now }
 {
-    assert!(rt; index.place_of(tenants, number) == place);
-    assert!(rt; value_of(index, tenants, number) == value);
+    holds(rt, index.place_of(tenants, number) == place);
+    holds(rt, value_of(index, tenants, number) == value);
 }
 
 /// Each of the three is found, and one that isn't there isn't.
@@ -51,11 +52,11 @@ fn found_there(rt: &impl Abort, index: &TenantIndex, tenants: &[(u64, u32)])
     stands(rt, index, tenants, 8, 2, 0);
 }
 
-/// Whether a table is made in this heap: room for 16 places is 64 bytes.
-pub fn is_made(rt: &impl Abort, heap: &LocalHeap) -> bool {
-    match Guesses::new(heap, 16) {
+/// Whether a table is made where this allocates: room for 16 places is 64 bytes.
+pub fn is_made<A: Allocator>(rt: &impl Abort, alloc: A) -> bool {
+    match Guesses::new(alloc, 16) {
         Ok(guesses) => {
-            assert!(rt; guesses.guess(5) == 0);
+            holds(rt, guesses.guess(5) == 0);
             true
         }
         Err(_) => false,

@@ -1,8 +1,8 @@
 ghost use Rattle.std.specs.Prelude.{◌≡◌, None, replicate};
 ghost use Rattle.memory_tests.specs.Pairs.{IsPair};
 
+use crate::tests::holds;
 use cactus_stack::{NodeNo, Sight, Stack, Words};
-use linked_list_allocator::LocalHeap;
 use std::alloc::Allocator;
 use std::process::Abort;
 use std::test::Fail;
@@ -54,27 +54,22 @@ fn grow_root_no_further(rt: &impl Abort, stack: &mut Stack, pair: &Pair)
     requires { IsPair stack.old pair.now.root pair.now.child 32 17 }
     ensures { IsPair stack.new pair.now.root pair.now.child 32 17 }
 {
-    let refusal = stack
-        .grow(pair.root, 1)
-        .err()
-        .expect(rt, "no segment is free");
-    assert!(rt; refusal.number() == 1);
+    match stack.grow(pair.root, 1) {
+        Err(refusal) => holds(rt, refusal.number() == 1),
+        Ok(()) => panic!(rt; "no segment is free"),
+    }
 }
 
 fn has_free(rt: &impl Abort, stack: &Stack, count: usize) {
-    assert!(rt; stack.free_count() == count);
+    holds(rt, stack.free_count() == count);
 }
 
+/// The root has 32 words, the second as it was.
 fn root_is_grown(rt: &impl Abort, stack: &Stack, pair: &Pair)
     requires { IsPair stack.now pair.now.root pair.now.child 32 17 }
 {
-    assert!(rt; stack.own(pair.root).len() == 32);
-}
-
-fn root_has_its_words(rt: &impl Abort, stack: &Stack, pair: &Pair)
-    requires { IsPair stack.now pair.now.root pair.now.child 32 17 }
-{
-    assert!(rt; stack.own(pair.root).get(1) == Some(2));
+    let words = stack.own(pair.root);
+    holds(rt, words.len() == 32 && words.get(1) == Some(2));
 }
 
 fn close_child(stack: &mut Stack, pair: &Pair)
@@ -86,7 +81,7 @@ fn close_child(stack: &mut Stack, pair: &Pair)
 /// The words have these at these places.
 fn have_words(rt: &impl Abort, words: &Words<'_>, wanted: &[(usize, Option<u64>)]) {
     for (at, word) in wanted {
-        assert!(rt; words.get(*at) == *word);
+        holds(rt, words.get(*at) == *word);
     }
 }
 
@@ -99,21 +94,22 @@ fn has_level(
     wanted: &[(usize, Option<u64>)],
 ) {
     let words = sight.up(level).expect(rt, "the level is there");
-    assert!(rt; words.len() == len);
+    holds(rt, words.len() == len);
     have_words(rt, &words, wanted);
 }
 
 /// The child's second segment ends with its words, and there is no third.
 fn ends_in_two(rt: &impl Abort, sight: &Sight<'_>) {
     let own = sight.up(0).expect(rt, "the child's words");
-    assert!(rt; own.segment(1) == [9].as_slice());
-    assert!(rt; own.segment(2).is_empty());
+    holds(
+        rt,
+        own.segment(1) == [9].as_slice() && own.segment(2).is_empty(),
+    );
 }
 
 /// The child's words and the root's.
 fn show_levels(rt: &impl Abort, sight: &Sight<'_>) {
-    assert!(rt; sight.levels() == 2);
-    assert!(rt; sight.up(2).is_none());
+    holds(rt, sight.levels() == 2 && sight.up(2).is_none());
     let child = [
         (0, Some(7)),
         (1, Some(0)),
@@ -161,7 +157,6 @@ fn show_grown_root(rt: &impl Abort, stack: &mut Stack, pair: &Pair)
     has_free(rt, stack, 0);
     grow_root_no_further(rt, stack, pair);
     root_is_grown(rt, stack, pair);
-    root_has_its_words(rt, stack, pair);
 }
 
 #[test]
@@ -181,12 +176,12 @@ fn open_in_new<A: Allocator>(rt: &impl Abort, stack: &mut Stack<A>) {
     let node = stack
         .open(None, &[7], 20)
         .expect(rt, "two segments are free");
-    assert!(rt; stack.own(node).get(0) == Some(7));
+    holds(rt, stack.own(node).get(0) == Some(7));
 }
 
-/// Whether a stack is made in this heap.
-pub fn is_made(rt: &impl Abort, heap: &LocalHeap) -> bool {
-    match Stack::new(heap, 2) {
+/// Whether a stack is made where this allocates.
+pub fn is_made<A: Allocator + Clone>(rt: &impl Abort, alloc: A) -> bool {
+    match Stack::new(alloc, 2) {
         Ok(mut stack) => {
             open_in_new(rt, &mut stack);
             true

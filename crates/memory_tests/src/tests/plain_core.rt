@@ -1,6 +1,8 @@
-//! A core's calls without what their contracts say: no test needs it, and a function that knows it is dear to prove.
+//! A core's calls without what their contracts say: no test needs it, and a function that knows it is dear to prove, the
+//! more so where it knows the procedure.
 use sched_core::{Config, Core, Did, Procedure, Refusal, Step};
 use std::alloc::{AllocError, Allocator};
+use tenant_quota::Left;
 
 /// A core of these totals.
 pub fn made<P: Procedure + Drop, A: Allocator + Clone>(
@@ -26,4 +28,14 @@ pub fn run<P: Procedure, A: Allocator + Clone>(
     answers: &mut Vec<Result<Did<P>, Refusal>, A>,
 ) -> Result<(), AllocError> {
     core.run(steps, answers)
+}
+
+/// What a tenant has left.
+pub fn left<P: Procedure, A: Allocator>(core: &Core<P, A>, tenant: u64) -> Option<Left> {
+    core.left(tenant)
+}
+
+/// How many segments are free.
+pub fn free_segments<P: Procedure, A: Allocator>(core: &Core<P, A>) -> usize {
+    core.free_segments()
 }

@@ -1,8 +1,9 @@
 ghost use Rattle.segment_region.specs.Segments.{IsTaken};
 ghost use Rattle.memory_tests.specs.Taken.{AreTaken};
 
-use linked_list_allocator::LocalHeap;
+use crate::tests::holds;
 use segment_region::{Region, SegNo};
+use std::alloc::Allocator;
 use std::process::Abort;
 use std::test::Fail;
 
@@ -14,19 +15,19 @@ struct Two {
 }
 
 fn has_free(rt: &impl Abort, region: &Region, count: usize) {
-    assert!(rt; region.free_count() == count);
+    holds(rt, region.free_count() == count);
 }
 
 fn has_words(rt: &impl Abort, region: &Region, segment: SegNo, words: [u64; 16])
     requires { IsTaken region.now segment }
 {
-    assert!(rt; region.words(segment) == words.as_slice());
+    holds(rt, region.words(segment) == words.as_slice());
 }
 
 fn has_link(rt: &impl Abort, region: &Region, segment: SegNo, link: Option<SegNo>)
     requires { IsTaken region.now segment }
 {
-    assert!(rt; region.link(segment) == link);
+    holds(rt, region.link(segment) == link);
 }
 
 /// A taken segment as it is at first.
@@ -42,7 +43,7 @@ fn take_two(rt: &impl Abort, region: &mut Region) -> Two
 {
     let one = region.take().expect(rt, "two are free");
     let other = region.take().expect(rt, "one is free");
-    assert!(rt; one != other);
+    holds(rt, one != other);
     Two { one, other }
 }
 
@@ -51,7 +52,7 @@ fn has_no_more(rt: &impl Abort, region: &mut Region, two: &Two)
     ensures { AreTaken region.new two.now.one two.now.other }
 {
     has_free(rt, region, 0);
-    assert!(rt; region.take().is_none());
+    holds(rt, region.take().is_none());
 }
 
 fn write_one(region: &mut Region, two: &Two)
@@ -96,12 +97,17 @@ fn segments_are_taken_written_and_given_back(rt: HostRuntime) -> Result<(), Fail
     Ok(())
 }
 
-/// Whether a region is made in this heap.
-pub fn is_made(rt: &impl Abort, heap: &LocalHeap) -> bool {
-    match Region::new(heap, 2) {
+/// A new region has two segments, and lends one.
+fn lends_one<A: Allocator>(rt: &impl Abort, region: &mut Region<A>) {
+    holds(rt, region.free_count() == 2);
+    holds(rt, region.take().is_some());
+}
+
+/// Whether a region is made where this allocates.
+pub fn is_made<A: Allocator>(rt: &impl Abort, alloc: A) -> bool {
+    match Region::new(alloc, 2) {
         Ok(mut region) => {
-            assert!(rt; region.free_count() == 2);
-            assert!(rt; region.take().is_some());
+            lends_one(rt, &mut region);
             true
         }
         Err(_) => false,

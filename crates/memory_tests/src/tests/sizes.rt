@@ -2,6 +2,7 @@
 ghost use Rattle.std.specs.Prelude.{◌≤◌};
 
 use crate::tests::frames::{make_places, table_of};
+use crate::tests::{heap_of, holds};
 use frame_table::FrameTable;
 use linked_list_allocator::LocalHeap;
 use segment_region::Region;
@@ -14,7 +15,7 @@ fn make_region(rt: &impl Abort, alloc: Global, count: usize)
     requires { (1 ≤ count) × (count ≤ 65536) }
 {
     let region = Region::new(alloc, count).expect(rt, "room for a region");
-    assert!(rt; region.free_count() == count);
+    holds(rt, region.free_count() == count);
 }
 
 /// Every number of segments that a tenant may have, and 4,096 more up to the greatest.
@@ -57,10 +58,10 @@ fn used_after_a_raise(rt: &impl Abort, heap: &LocalHeap, places: usize) -> usize
 /// may grow to twice its length.
 #[test]
 fn tables_of_all_sizes(rt: HostRuntime) {
-    let heap = LocalHeap::new(rt.alloc(), 1 << 21).expect(&rt, "room for a heap");
+    let heap = heap_of(&rt, rt.alloc(), 1 << 21);
     let at_once = used_after_a_raise(&rt, &heap, 4096);
     for places in 1usize..4096 {
         let used = used_after_a_raise(&rt, &heap, places);
-        assert!(rt; used == at_once || places > 2032 && used > at_once);
+        holds(&rt, used == at_once || places > 2032 && used > at_once);
     }
 }

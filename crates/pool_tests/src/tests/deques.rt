@@ -2,11 +2,11 @@
 ghost use Rattle.std.specs.Prelude.{◌≡◌, ◌≤◌, ◌<◌, ◌+◌, map, vec_len};
 ghost use Rattle.task_deques.specs.Deals.{posts, IsWhole};
 
+use super::{holds, holds_that};
 use frame_tree::FrameId;
 use sched_rules::Worker;
 use std::alloc::{AllocError, Allocator, Global};
 use std::process::Abort;
-use std::test::Fail;
 use task_deques::{DequeEnds, Returned, Sums, Task, deal};
 
 mod growths;
@@ -82,22 +82,33 @@ fn worker(number: u8) -> Worker
     Worker::new(number).unwrap()
 }
 
+/// A deal to the workers 1 to `last`, with room for so many tasks each.
+fn dealt(rt: &impl Abort, alloc: Global, last: Worker, room: usize) -> Vec<DequeEnds<Global>>
+    ensures whole { IsWhole (map posts result.items) }
+    ensures count { vec_len result ≡ last }
+{
+    deal(alloc, last, room).expect(rt, "there is memory")
+}
+
 /// Worker 3 has no task of its own, and steals worker 1's.
 #[test]
 fn a_task_is_stolen(rt: HostRuntime) {
-    let mut all = deal(rt.alloc(), worker(3), 8).expect(&rt, "there is memory");
-    assert!(rt; pushes(&mut all, worker(1), 1));
-    assert!(rt; takes(&mut all, worker(3)) == 1);
+    let mut all = dealt(&rt, rt.alloc(), worker(3), 8);
+    holds(&rt, pushes(&mut all, worker(1), 1));
+    holds(&rt, takes(&mut all, worker(3)) == 1);
 }
 
 /// A worker tries the deques in the order of their numbers after its own, and then from the first on:
 /// worker 2 steals worker 3's task before worker 1's.
 #[test]
 fn the_next_worker_is_tried_first(rt: HostRuntime) {
-    let mut all = deal(rt.alloc(), worker(3), 8).expect(&rt, "there is memory");
-    assert!(rt; pushes(&mut all, worker(1), 1) && pushes(&mut all, worker(3), 3));
+    let mut all = dealt(&rt, rt.alloc(), worker(3), 8);
+    holds(
+        &rt,
+        pushes(&mut all, worker(1), 1) && pushes(&mut all, worker(3), 3),
+    );
     for serial in [3, 1, 0] {
-        assert!(rt; takes(&mut all, worker(2)) == serial);
+        holds(&rt, takes(&mut all, worker(2)) == serial);
     }
 }
 
@@ -141,20 +152,20 @@ fn are_taken(all: &mut Vec<DequeEnds<Global>>) -> bool
 #[test]
 fn own_newest_else_the_next_workers_oldest(rt: HostRuntime) {
     let three = worker(3);
-    let mut all = deal(rt.alloc(), three, 3).expect(&rt, "there is memory");
-    assert!(rt; are_kept(&mut all) && are_taken(&mut all));
-    assert!(rt; sums(rt.alloc(), three, all) == Ok(sums_of(5, 5, 0)));
+    let mut all = dealt(&rt, rt.alloc(), three, 3);
+    holds(&rt, are_kept(&mut all) && are_taken(&mut all));
+    holds(&rt, sums(rt.alloc(), three, all) == Ok(sums_of(5, 5, 0)));
 }
 
 /// Of five tasks one is stolen and one popped: three are left.
 #[test]
 fn what_is_left_is_counted(rt: HostRuntime) {
     let (one, two) = (worker(1), worker(2));
-    let mut all = deal(rt.alloc(), two, 8).expect(&rt, "there is memory");
-    assert!(rt; pushes_three(&mut all, one) && pushes(&mut all, one, 4));
-    assert!(rt; pushes(&mut all, one, 5));
-    assert!(rt; takes(&mut all, two) == 1 && takes(&mut all, one) == 5);
-    assert!(rt; sums(rt.alloc(), two, all) == Ok(sums_of(5, 2, 3)));
+    let mut all = dealt(&rt, rt.alloc(), two, 8);
+    holds(&rt, pushes_three(&mut all, one) && pushes(&mut all, one, 4));
+    holds(&rt, pushes(&mut all, one, 5));
+    holds(&rt, takes(&mut all, two) == 1 && takes(&mut all, one) == 5);
+    holds(&rt, sums(rt.alloc(), two, all) == Ok(sums_of(5, 2, 3)));
 }
 
 /// A worker takes its own newest task of a list, else the oldest.
@@ -188,7 +199,7 @@ fn is_as_a_list(
 /// one thread plays for both: each turn pushes a task or takes one, by turns that repeat after long.
 fn are_as_a_list(rt: &impl Abort, alloc: Global, last: Worker) -> bool {
     let mut list = Vec::new(alloc);
-    let mut all = deal(alloc, last, 16).expect(rt, "there is memory");
+    let mut all = dealt(rt, alloc, last, 16);
     let mut draw = 1u64;
     for turn in 1..2_000u64 {
         draw = draw.wrapping_mul(75) % 65_537;
@@ -204,8 +215,12 @@ fn are_as_a_list(rt: &impl Abort, alloc: Global, last: Worker) -> bool {
 /// With one or two workers in one thread the deques answer as one list of tasks does.
 #[test]
 fn as_one_list(rt: HostRuntime) {
-    assert!(rt; are_as_a_list(&rt, rt.alloc(), worker(1)), "one worker");
-    assert!(rt; are_as_a_list(&rt, rt.alloc(), worker(2)), "two workers");
+    holds_that(&rt, are_as_a_list(&rt, rt.alloc(), worker(1)), "one worker");
+    holds_that(
+        &rt,
+        are_as_a_list(&rt, rt.alloc(), worker(2)),
+        "two workers",
+    );
 }
 
 /// How many of so many pushes by a worker are kept.
@@ -234,9 +249,9 @@ fn found<A: Allocator>(all: &mut Vec<DequeEnds<A>, A>, worker: Worker, many: u64
 /// whose deque it tries last.
 #[test]
 fn a_deque_holds_as_many_as_it_has_room_for(rt: HostRuntime) {
-    let mut all = deal(rt.alloc(), worker(32), 1024).expect(&rt, "there is memory");
-    assert!(rt; kept(&mut all, worker(2), 1100) == 1024);
-    assert!(rt; found(&mut all, worker(3), 1100) == 1024);
+    let mut all = dealt(&rt, rt.alloc(), worker(32), 1024);
+    holds(&rt, kept(&mut all, worker(2), 1100) == 1024);
+    holds(&rt, found(&mut all, worker(3), 1100) == 1024);
 }
 
 /// How many of 32 workers take a task that this one has pushed for each of them.
@@ -256,15 +271,15 @@ fn takers<A: Allocator>(all: &mut Vec<DequeEnds<A>, A>, owner: Worker) -> u64 {
 /// Each of as many workers as can be steals, of the first, of the middle and of the last.
 #[test]
 fn each_of_32_workers_steals(rt: HostRuntime) {
-    let mut all = deal(rt.alloc(), worker(32), 32).expect(&rt, "there is memory");
-    assert!(rt; takers(&mut all, worker(1)) == 32, "of the first");
-    assert!(rt; takers(&mut all, worker(16)) == 32, "of the middle");
-    assert!(rt; takers(&mut all, worker(32)) == 32, "of the last");
+    let mut all = dealt(&rt, rt.alloc(), worker(32), 32);
+    holds_that(&rt, takers(&mut all, worker(1)) == 32, "of the first");
+    holds_that(&rt, takers(&mut all, worker(16)) == 32, "of the middle");
+    holds_that(&rt, takers(&mut all, worker(32)) == 32, "of the last");
 }
 
 /// Room that can't be had is refused, for tasks and for ends that come back.
 #[test]
 fn no_room(rt: HostRuntime) {
-    assert!(rt; deal(rt.alloc(), worker(2), usize::MAX).is_err());
-    assert!(rt; Returned::with_room(rt.alloc(), usize::MAX).is_err());
+    holds(&rt, deal(rt.alloc(), worker(2), usize::MAX).is_err());
+    holds(&rt, Returned::with_room(rt.alloc(), usize::MAX).is_err());
 }

@@ -1,5 +1,5 @@
 //! A desk in one thread and in several. Each test tries something at a desk of its own.
-ghost use Rattle.std.specs.Prelude.{◌≡◌, ◌≤◌};
+ghost use Rattle.std.specs.Prelude.{◌≡◌};
 
 mod endings;
 mod holds;
@@ -8,26 +8,24 @@ mod reserving;
 mod waiting;
 mod wakes;
 
-use desk::{
-    Badge, Config, Desk, DeskLedger, DidOf, Hall, LeafAnswer, Outcome, PARTS, Refusal, Seat,
-    StepOf, Worker,
+use super::calls::{
+    self, Found, Turn, admit, all_white, ask, cancel, corner, desk_of, end, get, live, offer,
+    opening, quota, wait,
 };
+use super::{holds, holds_of};
+use desk::{Badge, Desk, DeskLedger, DidOf, Leaf, LeafAnswer, PARTS, Refusal, Seat, Worker};
 use frame_tree::FrameId;
-use holds::Call;
-use othello_board::Board;
 use othello_moves::Choice;
-use position_text::{Position, Side};
+use position_text::Position;
 use std::alloc::Global;
 use std::marker::Brand;
 use std::process::Abort;
 use std::sync::Wait;
 use std::sync::ledger::Blank;
-use std::test::Fail;
 use std::thread::Threads;
 use std::time::{Clock, CpuClock};
-use tenant_quota::{Left, Reserve};
-use waiting::Waker;
-use wakes::{What, Who};
+use tenant_quota::Left;
+use waiting::{What, Who};
 
 /// What is tried at a new desk.
 #[derive(Clone, Copy)]
@@ -54,18 +52,8 @@ enum Trial {
     AllJobs,
     /// As many tenants as there can be, each told of its own.
     AllTenants,
-    /// This is called while a worker holds the desk.
-    Beside(Call),
-    /// A worker is woken for a frame that another has taken.
-    InVain,
-    /// A seat that waits for a job of this depth is woken.
-    Seat(u8, Waker),
-    /// A worker that waits is woken.
-    Worker(Waker),
     /// So many wait at once, and this comes to them.
     Crowd(Who, u64, What),
-    /// Two frames become ready while one holds the desk.
-    Children,
 }
 
 /// The segments of each desk.
@@ -83,7 +71,7 @@ fn totals(trial: Trial) -> (u32, u32) {
 }
 
 /// Tries something at a new desk, at which one worker searches each job.
-fn try_at<L, R>(rt: &R, alloc: Global, blank: Blank, trial: Trial) -> Result<(), Fail>
+fn try_at<L, R>(rt: &R, alloc: Global, blank: Blank, trial: Trial)
 where
     L: DeskLedger + Send + Sync,
     R: Wait + Abort + Threads + Clock + CpuClock + Sync,
@@ -91,18 +79,16 @@ where
     requires parts { (blank.parts ≡ L.parts) × (L.all ≡ L.parts) × (L.all ≡ PARTS) }
 {
     let (segments, nodes) = totals(trial);
-    let config = Config::new(segments, nodes).ok_or("within the limits")?;
-    let desk: Desk<L> = Desk::new(Hall::new(alloc, config, 6)?, blank);
+    let desk: Desk<L> = desk_of(alloc, segments, nodes, 6, blank).expect(rt, "there is memory");
     is_tried(rt, alloc, desk, trial);
-    Ok(())
 }
 
 /// The same with a blank of its own.
-fn try_out<R>(rt: &R, alloc: Global, trial: Trial) -> Result<(), Fail>
+fn try_out<R>(rt: &R, alloc: Global, trial: Trial)
 where
     R: Wait + Abort + Threads + Clock + CpuClock + Sync,
 {
-    try_at::<Brand, R>(rt, alloc, Blank::new(PARTS), trial)
+    try_at::<Brand, R>(rt, alloc, Blank::new(PARTS), trial);
 }
 
 /// What is tried up to the desk's end, and what is tried at a desk that is there.
@@ -134,34 +120,65 @@ where
         Trial::InTurn => two_seats_ask(rt, desk),
         Trial::Limits => limits(rt, desk),
         Trial::Late => endings::late(rt, desk),
-        Trial::Seat(depth, waker) => waiting::seat_waits(rt, desk, depth, waker),
-        Trial::Worker(waker) => waiting::worker_waits(rt, desk, waker),
-        Trial::Children => wakes::open_children(rt, desk),
-        Trial::InVain => wakes::wake_in_vain(rt, desk),
-        Trial::Beside(call) => holds::call_waits(rt, desk, call),
         Trial::AllJobs => many::all_jobs(rt, desk),
         Trial::ManyRaises => many::many_raises(rt, desk),
-        Trial::Crowd(who, many, what) => wakes::come_back_there(rt, desk, who, many, what),
+        Trial::Crowd(who, many, what) => waiting::come_back_there(rt, desk, who, many, what),
         _ => {}
     }
-}
-
-/// A position of these discs, seen by the side to move.
-fn position(rt: &impl Abort, own: u64, opp: u64) -> Position {
-    Position {
-        board: Board::new(own, opp).expect(rt, "a board"),
-        side: Side::Black,
-    }
-}
-
-/// The opening, Black to move.
-fn opening(rt: &impl Abort) -> Position {
-    position(rt, 1 << 28 | 1 << 35, 1 << 27 | 1 << 36)
 }
 
 /// The worker of this number.
 fn worker_of(rt: &impl Abort, number: u8) -> Worker {
     Worker::new(number).expect(rt, "a worker's number")
+}
+
+/// A worker does this with a frame, and it is taken.
+fn does<L: DeskLedger, R: Wait>(
+    rt: &R,
+    desk: &Desk<L>,
+    badge: &mut Badge<L>,
+    worker: Worker,
+    frame: FrameId,
+    turn: Turn,
+) -> bool {
+    offer(rt, desk, badge, worker, frame, turn).is_ok()
+}
+
+/// What a worker that takes the root of a job is to compute.
+fn begun<L: DeskLedger, R: Wait>(
+    rt: &R,
+    desk: &Desk<L>,
+    badge: &mut Badge<L>,
+    worker: Worker,
+    root: FrameId,
+) -> Option<Leaf> {
+    if !does(rt, desk, badge, worker, root, Turn::Steal(0)) {
+        return None;
+    }
+    match offer(rt, desk, badge, worker, root, Turn::Advance) {
+        Ok(DidOf::Computing(leaf)) => Some(leaf),
+        _ => None,
+    }
+}
+
+/// Which job is done by the last three of a worker's steps with its root.
+fn finished<L: DeskLedger, R: Wait>(
+    rt: &R,
+    desk: &Desk<L>,
+    badge: &mut Badge<L>,
+    worker: Worker,
+    root: FrameId,
+    leaf: Leaf,
+) -> Option<u64> {
+    for turn in [Turn::Answer(LeafAnswer::compute(leaf)), Turn::Advance] {
+        if !does(rt, desk, badge, worker, root, turn) {
+            return None;
+        }
+    }
+    match offer(rt, desk, badge, worker, root, Turn::Finish) {
+        Ok(DidOf::Finished(job)) => Some(job),
+        _ => None,
+    }
 }
 
 /// The five steps of a worker that compute and finish the job under this root.
@@ -172,33 +189,10 @@ fn compute<L: DeskLedger, R: Wait>(
     worker: Worker,
     root: FrameId,
 ) -> Option<u64> {
-    desk.offer(rt, badge, &StepOf::Steal(worker, 0, root)).ok()?;
-    let Ok(DidOf::Computing(leaf)) = desk.offer(rt, badge, &StepOf::Advance(worker, root)) else {
-        return None;
-    };
-    let answer = StepOf::Answer(worker, root, LeafAnswer::compute(leaf));
-    desk.offer(rt, badge, &answer).ok()?;
-    desk.offer(rt, badge, &StepOf::Advance(worker, root)).ok()?;
-    match desk.offer(rt, badge, &StepOf::Finish(worker, root)) {
-        Ok(DidOf::Finished(job)) => Some(job),
-        _ => None,
+    match begun(rt, desk, badge, worker, root) {
+        Some(leaf) => finished(rt, desk, badge, worker, root, leaf),
+        None => None,
     }
-}
-
-/// Value and choice of a job that is done.
-fn reply_of(outcome: Result<Outcome, Refusal>) -> Option<(i32, Option<Choice>)> {
-    match outcome {
-        Ok(Outcome::Done(reply)) => Some((reply.value(), reply.choice())),
-        _ => None,
-    }
-}
-
-fn left(segments: u32, nodes: u32, steps: u32) -> Result<Left, Refusal> {
-    Ok(Left {
-        segments,
-        nodes,
-        steps,
-    })
 }
 
 /// A seat of a new tenant that reserves so much.
@@ -208,79 +202,110 @@ fn seat_of<L: DeskLedger, R: Wait + Abort>(
     segments: u32,
     nodes: u32,
 ) -> Seat<L> {
-    let reserve = Reserve::new(segments, nodes).expect(rt, "within the limits");
-    desk.admit(rt, reserve).expect(rt, "there is room")
+    admit(rt, desk, segments, nodes).expect(rt, "there is room")
 }
 
 /// A badge.
 fn badge_of<L: DeskLedger, R: Wait + Abort>(rt: &R, desk: &Desk<L>) -> Badge<L> {
-    desk.badge(rt).expect(rt, "there are badges")
+    calls::badge(rt, desk).expect(rt, "there are badges")
 }
 
-/// The root of a seat's first job.
-fn root_of<L: DeskLedger>(seat: &Seat<L>) -> FrameId {
-    FrameId {
-        tenant: seat.tenant(),
-        serial: 1,
+/// The root of a tenant's job of this serial.
+fn root_of(tenant: u64, serial: u64) -> FrameId {
+    FrameId { tenant, serial }
+}
+
+/// What a seat says or sees, and what it is answered.
+#[derive(Clone, Copy)]
+enum Said {
+    /// It asks for the opening to this depth.
+    Ask(u8, Result<u64, Refusal>),
+    /// It cancels a job.
+    Cancel(u64, Result<(), Refusal>),
+    /// It reserves so many segments and nodes.
+    Reserve(u32, u32, Result<(), Refusal>),
+    /// It gets a job.
+    Get(u64, Found),
+    /// It waits for a job.
+    Wait(u64, Found),
+    /// Its tenant has so many segments, nodes and steps left.
+    Left(u32, u32, u32),
+    /// Its tenant has so many frames of 12 words.
+    Frames(u32),
+    /// Its share is this, and it has asked so often.
+    Share(u128, usize),
+    /// The desk has taken so many steps.
+    Count(u128),
+    /// No frame is ready, at a closed desk.
+    NoneReady,
+}
+
+/// Whether a seat that says this is answered so.
+fn is_answered<L: DeskLedger, R: Wait>(
+    rt: &R,
+    desk: &Desk<L>,
+    seat: &mut Seat<L>,
+    said: Said,
+) -> bool {
+    match said {
+        Said::Ask(depth, answer) => ask(rt, desk, seat, &opening(), depth) == answer,
+        Said::Cancel(job, answer) => cancel(rt, desk, seat, job) == answer,
+        Said::Reserve(segments, nodes, answer) => {
+            calls::reserve(rt, desk, seat, segments, nodes) == answer
+        }
+        _ => is_seen(rt, desk, seat, said),
     }
 }
 
-/// A seat asks for the opening to this depth, and is answered so.
-fn asks<L: DeskLedger, R: Wait + Abort>(
-    rt: &R,
-    desk: &Desk<L>,
-    seat: &mut Seat<L>,
-    depth: u8,
-    answer: Result<u64, Refusal>,
-)
-    requires { depth ≤ 12 }
-{
-    assert!(rt; desk.ask(rt, seat, &opening(rt), depth) == answer);
+/// Whether a seat sees this.
+fn is_seen<L: DeskLedger, R: Wait>(rt: &R, desk: &Desk<L>, seat: &Seat<L>, said: Said) -> bool {
+    match said {
+        Said::Get(job, found) => get(rt, desk, seat, job) == found,
+        Said::Wait(job, found) => wait(rt, desk, seat, job) == found,
+        Said::Left(segments, nodes, steps) => has_left(rt, desk, seat, segments, nodes, steps),
+        Said::Frames(many) => has_frames(rt, desk, seat, many),
+        Said::Share(share, asked) => seat.share() == share && seat.asked().len() == asked,
+        Said::Count(count) => desk.count(rt) == count,
+        Said::NoneReady => desk.next_ready(rt).is_none(),
+        _ => false,
+    }
 }
 
-/// A seat cancels a job, and is answered so.
-fn cancels<L: DeskLedger, R: Wait + Abort>(
-    rt: &R,
-    desk: &Desk<L>,
-    seat: &mut Seat<L>,
-    job: u64,
-    answer: Result<(), Refusal>,
-) {
-    assert!(rt; desk.cancel(rt, seat, job) == answer);
-}
-
-/// A seat gets this of a job.
-fn gets<L: DeskLedger, R: Wait + Abort>(
-    rt: &R,
-    desk: &Desk<L>,
-    seat: &Seat<L>,
-    job: u64,
-    answer: Result<Outcome, Refusal>,
-) {
-    assert!(rt; desk.get(rt, seat, job) == answer);
-}
-
-/// A seat's tenant has this left.
-fn has_left<L: DeskLedger, R: Wait + Abort>(
+/// Whether a seat's tenant has this left.
+fn has_left<L: DeskLedger, R: Wait>(
     rt: &R,
     desk: &Desk<L>,
     seat: &Seat<L>,
     segments: u32,
     nodes: u32,
     steps: u32,
-) {
-    assert!(rt; desk.quota(rt, seat) == left(segments, nodes, steps));
+) -> bool {
+    quota(rt, desk, seat)
+        == Some(Left {
+            segments,
+            nodes,
+            steps,
+        })
 }
 
-/// A seat's tenant has one frame of 12 words.
-fn has_one_frame<L: DeskLedger, R: Wait + Abort>(rt: &R, desk: &Desk<L>, seat: &Seat<L>) {
-    has_frames(rt, desk, seat, 1);
-}
-
-/// A seat's tenant has so many frames of 12 words.
-fn has_frames<L: DeskLedger, R: Wait + Abort>(rt: &R, desk: &Desk<L>, seat: &Seat<L>, many: u32) {
+/// Whether a seat's tenant has so many frames of 12 words.
+fn has_frames<L: DeskLedger, R: Wait>(rt: &R, desk: &Desk<L>, seat: &Seat<L>, many: u32) -> bool {
     let frames = many as usize;
-    assert!(rt; desk.live(rt, seat) == Ok((frames, 12 * frames)));
+    live(rt, desk, seat) == Some((frames, 12 * frames))
+}
+
+/// A seat says these in turn, and is answered so.
+fn talks<L: DeskLedger, R: Wait + Abort>(
+    rt: &R,
+    desk: &Desk<L>,
+    seat: &mut Seat<L>,
+    turns: &[Said],
+) {
+    let mut number = 0u64;
+    for said in turns {
+        number = number.saturating_add(1);
+        holds_of(rt, is_answered(rt, desk, seat, *said), "turn", number);
+    }
 }
 
 /// A worker does the first job, the opening at depth 0, and the seat that waited for it has its reply.
@@ -291,9 +316,9 @@ fn do_first<L: DeskLedger, R: Wait + Abort>(
     badge: &mut Badge<L>,
     worker: Worker,
 ) {
-    let root = root_of(seat);
-    assert!(rt; compute(rt, desk, badge, worker, root) == Some(1));
-    assert!(rt; reply_of(desk.wait(rt, seat, 1)) == Some((0, None)));
+    let root = root_of(seat.tenant(), 1);
+    holds(rt, compute(rt, desk, badge, worker, root) == Some(1));
+    holds(rt, wait(rt, desk, seat, 1) == Found::Done(0, None));
 }
 
 /// The end of a desk: so many steps its hall has taken, keeps, and let go with journals; and whether all
@@ -302,68 +327,98 @@ fn has_ended<L: DeskLedger, R: Wait + Abort>(
     rt: &R,
     desk: Desk<L>,
     badge: Badge<L>,
-    end: (u128, u128, u128, bool),
+    count: u128,
+    kept: u128,
+    gone: u128,
+    is_whole: bool,
 )
     requires { L.all ≡ L.parts }
 {
-    let (hall, whole) = desk.into_hall(badge);
-    assert!(rt; (hall.count(), hall.kept(), hall.gone(), whole.is_some()) == end);
-}
-
-/// A tenant's first job, which is done: its seat, and the badge of the worker of this number.
-fn work<L: DeskLedger, R: Wait + Abort>(rt: &R, desk: &Desk<L>, number: u8) -> (Seat<L>, Badge<L>) {
-    let worker = worker_of(rt, number);
-    let mut seat = seat_of(rt, desk, 4, 8);
-    let mut badge = badge_of(rt, desk);
-    asks(rt, desk, &mut seat, 0, Ok(1));
-    do_first(rt, desk, &seat, &mut badge, worker);
-    has_left(rt, desk, &seat, 4, 7, 123);
-    assert!(rt; (seat.share(), badge.share()) == (2, 5));
-    cancels(rt, desk, &mut seat, 1, Err(Refusal::NoJob));
-    (seat, badge)
+    let ended = end(desk, badge);
+    holds(rt, ended.count == count && ended.kept == kept);
+    holds(rt, ended.gone == gone && ended.is_whole == is_whole);
 }
 
 /// The seat's second job, which is cancelled.
-fn cancel_second<L: DeskLedger, R: Wait + Abort>(rt: &R, desk: &Desk<L>, seat: &mut Seat<L>) {
-    asks(rt, desk, seat, 0, Ok(2));
-    has_one_frame(rt, desk, seat);
-    cancels(rt, desk, seat, 2, Ok(()));
-    gets(rt, desk, seat, 2, Ok(Outcome::Cancelled));
-    has_left(rt, desk, seat, 4, 6, 123);
-    assert!(rt; seat.share() == 4);
-}
+const SECOND_IS_CANCELLED: [Said; 6] = [
+    Said::Ask(0, Ok(2)),
+    Said::Frames(1),
+    Said::Cancel(2, Ok(())),
+    Said::Get(2, Found::Cancelled),
+    Said::Left(4, 6, 123),
+    Said::Share(4, 2),
+];
 
 /// One seat, and one badge for its worker.
 fn one_stays<L: DeskLedger, R: Wait + Abort>(rt: &R, desk: Desk<L>)
     requires { L.all ≡ L.parts }
 {
-    let badge = stay(rt, &desk);
-    has_ended(rt, desk, badge, (10, 5, 10, true));
+    let mut badge = badge_of(rt, &desk);
+    stay(rt, &desk, &mut badge);
+    has_ended(rt, desk, badge, 10, 5, 10, true);
 }
 
-/// All that the seat does, until it leaves: its worker's badge.
-fn stay<L: DeskLedger, R: Wait + Abort>(rt: &R, desk: &Desk<L>) -> Badge<L>
+/// All that the seat does, until it leaves.
+fn stay<L: DeskLedger, R: Wait + Abort>(rt: &R, desk: &Desk<L>, badge: &mut Badge<L>)
     requires { L.all ≡ L.parts }
 {
-    let (mut seat, badge) = work(rt, desk, 1);
-    assert!(rt; desk.count(rt) == 7);
-    cancel_second(rt, desk, &mut seat);
-    assert!(rt; desk.count(rt) == 9);
+    let mut seat = seat_of(rt, desk, 4, 8);
+    work(rt, desk, &mut seat, badge);
+    talks(rt, desk, &mut seat, &SECOND_IS_CANCELLED);
+    holds(rt, desk.count(rt) == 9);
     desk.leave(rt, seat);
-    assert!(rt; desk.count(rt) == 10);
-    badge
+    holds(rt, desk.count(rt) == 10);
+}
+
+/// The seat's first job, which is done.
+fn work<L: DeskLedger, R: Wait + Abort>(
+    rt: &R,
+    desk: &Desk<L>,
+    seat: &mut Seat<L>,
+    badge: &mut Badge<L>,
+) {
+    talks(rt, desk, seat, &[Said::Ask(0, Ok(1))]);
+    do_first(rt, desk, seat, badge, worker_of(rt, 1));
+    holds(rt, badge.share() == 5);
+    let after = [
+        Said::Left(4, 7, 123),
+        Said::Share(2, 1),
+        Said::Cancel(1, Err(Refusal::NoJob)),
+        Said::Count(7),
+    ];
+    talks(rt, desk, seat, &after);
 }
 
 #[test]
-fn a_seat_and_a_badge(rt: HostRuntime) -> Result<(), Fail> {
-    try_out(&rt, rt.alloc(), Trial::One)
+fn a_seat_and_a_badge(rt: HostRuntime) {
+    try_out(&rt, rt.alloc(), Trial::One);
 }
 
 /// A frame is ready, the root of this seat's job.
 fn next_root<L: DeskLedger, R: Wait + Abort>(rt: &R, desk: &Desk<L>, seat: &Seat<L>) -> FrameId {
     let (root, home) = desk.next_ready(rt).expect(rt, "the root is ready");
-    assert!(rt; (root.tenant, home) == (seat.tenant(), 0));
+    holds(rt, root.tenant == seat.tenant() && home == 0);
     root
+}
+
+/// A position, how deep it is asked, and the reply.
+#[derive(Clone, Copy)]
+struct Asked {
+    position: Position,
+    depth: u8,
+    value: i32,
+}
+
+/// Whether a job is done with the reply, told by `get` and by `wait`; none of them has a choice.
+fn is_told<L: DeskLedger, R: Wait>(
+    rt: &R,
+    desk: &Desk<L>,
+    seat: &Seat<L>,
+    job: u64,
+    value: i32,
+) -> bool {
+    let done = Found::Done(value, None);
+    get(rt, desk, seat, job) == done && wait(rt, desk, seat, job) == done
 }
 
 /// A seat asks for a position; its worker, who waits until something is ready, computes it; it is read
@@ -374,82 +429,95 @@ fn ask_and_read<L: DeskLedger, R: Wait + Abort>(
     badge: &mut Badge<L>,
     worker: Worker,
     seat: &mut Seat<L>,
-    position: &Position,
-    depth: u8,
-    reply: (i32, Option<Choice>),
-)
-    requires { depth ≤ 12 }
-{
-    let job = desk
-        .ask(rt, seat, position, depth)
-        .expect(rt, "there is room");
-    has_one_frame(rt, desk, seat);
+    asked: &Asked,
+) {
+    let job = ask(rt, desk, seat, &asked.position, asked.depth).expect(rt, "there is room");
+    holds(rt, has_frames(rt, desk, seat, 1));
     let root = next_root(rt, desk, seat);
-    assert!(rt; compute(rt, desk, badge, worker, root) == Some(job));
-    assert!(rt; reply_of(desk.get(rt, seat, job)) == Some(reply));
-    assert!(rt; reply_of(desk.wait(rt, seat, job)) == Some(reply));
+    holds(rt, compute(rt, desk, badge, worker, root) == Some(job));
+    holds(rt, is_told(rt, desk, seat, job, asked.value));
 }
 
-/// Two seats ask for three positions in turn, which this worker computes.
-fn ask_in_turn<L: DeskLedger, R: Wait + Abort>(
-    rt: &R,
-    desk: &Desk<L>,
-    worker: Worker,
-    asked: [(Position, u8, (i32, Option<Choice>)); 3],
-) {
+/// What the two seats ask, and the replies.
+fn three() -> [Asked; 3] {
+    [
+        Asked {
+            position: opening(),
+            depth: 0,
+            value: 0,
+        },
+        Asked {
+            position: corner(),
+            depth: 0,
+            value: 124,
+        },
+        Asked {
+            position: all_white(),
+            depth: 12,
+            value: -128_000,
+        },
+    ]
+}
+
+/// Two seats ask for three positions in turn, which worker 7 computes.
+fn two_seats_ask<L: DeskLedger, R: Wait + Abort>(rt: &R, desk: &Desk<L>) {
     let mut one = seat_of(rt, desk, 4, 8);
     let mut other = seat_of(rt, desk, 3, 9);
     let mut badge = badge_of(rt, desk);
-    for (position, most, reply) in asked {
-        let depth = most.min(12);
-        ask_and_read(
-            rt, desk, &mut badge, worker, &mut one, &position, depth, reply,
-        );
-        ask_and_read(
-            rt, desk, &mut badge, worker, &mut other, &position, depth, reply,
-        );
-    }
-    has_left(rt, desk, &one, 4, 5, 113);
-    has_left(rt, desk, &other, 3, 6, 129);
-    assert!(rt; (one.asked().len(), other.share(), badge.share()) == (3, 4, 30));
+    ask_in_turn(rt, desk, &mut badge, &mut one, &mut other);
+    talks(
+        rt,
+        desk,
+        &mut one,
+        &[Said::Left(4, 5, 113), Said::Share(4, 3)],
+    );
+    talks(
+        rt,
+        desk,
+        &mut other,
+        &[Said::Left(3, 6, 129), Said::Share(4, 3)],
+    );
+    holds(rt, badge.share() == 30);
 }
 
-/// What they ask, and the replies.
-fn two_seats_ask<L: DeskLedger, R: Wait + Abort>(rt: &R, desk: &Desk<L>) {
-    let asked = [
-        (opening(rt), 0, (0, None)),
-        (position(rt, 1, 2), 0, (124, None)),
-        (position(rt, 0, u64::MAX), 12, (-128_000, None)),
-    ];
-    ask_in_turn(rt, desk, worker_of(rt, 7), asked);
+/// The two seats ask in turn.
+fn ask_in_turn<L: DeskLedger, R: Wait + Abort>(
+    rt: &R,
+    desk: &Desk<L>,
+    badge: &mut Badge<L>,
+    one: &mut Seat<L>,
+    other: &mut Seat<L>,
+) {
+    let worker = worker_of(rt, 7);
+    for asked in three() {
+        ask_and_read(rt, desk, badge, worker, one, &asked);
+        ask_and_read(rt, desk, badge, worker, other, &asked);
+    }
 }
 
 #[test]
-fn two_seats_ask_in_turn(rt: HostRuntime) -> Result<(), Fail> {
-    try_out(&rt, rt.alloc(), Trial::InTurn)
+fn two_seats_ask_in_turn(rt: HostRuntime) {
+    try_out(&rt, rt.alloc(), Trial::InTurn);
 }
 
 /// 256 asks, each of which is cancelled, and the 257th.
 fn ask_all<L: DeskLedger, R: Wait + Abort>(rt: &R, desk: &Desk<L>, seat: &mut Seat<L>) {
     for job in 1..257u64 {
-        asks(rt, desk, seat, 3, Ok(job));
-        cancels(rt, desk, seat, job, Ok(()));
+        let turns = [Said::Ask(3, Ok(job)), Said::Cancel(job, Ok(()))];
+        talks(rt, desk, seat, &turns);
     }
-    asks(rt, desk, seat, 3, Err(Refusal::NoJobsLeft));
-    gets(rt, desk, seat, 257, Err(Refusal::NoJob));
-    assert!(rt; (seat.share(), seat.asked().len()) == (513, 256));
+    let last = [
+        Said::Ask(3, Err(Refusal::NoJobsLeft)),
+        Said::Get(257, Found::Refused(Refusal::NoJob)),
+        Said::Share(513, 256),
+    ];
+    talks(rt, desk, seat, &last);
 }
 
 /// A tenant that finds no room.
 fn is_refused<L: DeskLedger, R: Wait + Abort>(rt: &R, desk: &Desk<L>) {
-    let reserve = Reserve::new(1, 1).expect(rt, "within the limits");
-    assert!(rt; desk.admit(rt, reserve).err() == Some(Refusal::Full));
-}
-
-/// At a closed desk no frame is ready, and who waits finds the job pending.
-fn wait_closed<L: DeskLedger, R: Wait + Abort>(rt: &R, desk: &Desk<L>, seat: &Seat<L>) {
-    assert!(rt; desk.next_ready(rt) == None);
-    assert!(rt; desk.wait(rt, seat, 1) == Ok(Outcome::Pending));
+    let refusal = admit(rt, desk, 1, 1).err();
+    holds(rt, refusal == Some(Refusal::Full));
 }
 
 /// A tenant of all segments asks as often as it may, and leaves.
@@ -462,20 +530,23 @@ fn fill<L: DeskLedger, R: Wait + Abort>(rt: &R, desk: &Desk<L>)
     desk.leave(rt, seat);
 }
 
+/// At a closed desk no frame is ready, and who waits finds the job pending.
+const WAIT_CLOSED: [Said; 2] = [Said::NoneReady, Said::Wait(1, Found::Pending)];
+
 /// 256 asks and the 257th; a desk without room, and a desk that is closed.
 fn limits<L: DeskLedger, R: Wait + Abort>(rt: &R, desk: &Desk<L>)
     requires { L.all ≡ L.parts }
 {
     fill(rt, desk);
     let mut seat = seat_of(rt, desk, 1, 1);
-    assert!(rt; seat.tenant() == 2);
-    asks(rt, desk, &mut seat, 3, Ok(1));
+    holds(rt, seat.tenant() == 2);
+    talks(rt, desk, &mut seat, &[Said::Ask(3, Ok(1))]);
     desk.close(rt);
-    wait_closed(rt, desk, &seat);
-    gets(rt, desk, &seat, 1, Ok(Outcome::Pending));
+    talks(rt, desk, &mut seat, &WAIT_CLOSED);
+    talks(rt, desk, &mut seat, &[Said::Get(1, Found::Pending)]);
 }
 
 #[test]
-fn asks_room_and_closing(rt: HostRuntime) -> Result<(), Fail> {
-    try_out(&rt, rt.alloc(), Trial::Limits)
+fn asks_room_and_closing(rt: HostRuntime) {
+    try_out(&rt, rt.alloc(), Trial::Limits);
 }

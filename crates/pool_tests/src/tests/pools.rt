@@ -12,18 +12,16 @@ mod rows;
 mod searches;
 mod seats;
 
-use desk::{Desk, DeskLedger, Hall, PARTS};
-use sched_rules::{Config, Worker};
+use super::calls::{desk_of, end};
+use desk::{Desk, DeskLedger, PARTS};
+use sched_rules::Worker;
 use std::alloc::Global;
 use std::marker::Brand;
 use std::sync::Wait;
 use std::sync::ledger::Blank;
 use std::thread;
 use std::thread::Threads;
-use steal_pool::{Gate, PoolEnd, PoolFault, PoolSizes, Quiet, run_pool, run_pool_sized};
-
-/// The most turns of a loop that waits for another thread.
-pub(crate) const MOST_TURNS: u32 = 10_000_000;
+use steal_pool::{Announce, Gate, NotRun, PoolEnd, PoolSizes, run_pool, run_pool_sized};
 
 /// What is said at the desk while a pool runs; true where all was as it should be.
 pub(crate) trait Scenario {
@@ -32,19 +30,18 @@ pub(crate) trait Scenario {
         requires { L.all ≡ L.parts };
 }
 
-/// What a pool came to: whether the scenario was content, the joined badge's share, how many tasks were pushed, taken
-/// and left, whether all that was out came back, and the segments that are free.
+/// What a pool came to where its scenario was content, and all shares and all segments came back: the joined badge's
+/// share, and how many tasks were pushed, taken and left.
 #[derive(Clone, Copy)]
 pub(crate) struct Played {
-    pub(crate) content: bool,
     pub(crate) share: u128,
-    pub(crate) tasks: [u128; 3],
-    pub(crate) whole: bool,
-    pub(crate) free: usize,
+    pub(crate) pushed: u128,
+    pub(crate) taken: u128,
+    pub(crate) left: u128,
 }
 
 /// The desk, its pool and its scenario.
-#[derive(Clone, Copy)]
+#[derive(Drop)]
 pub(crate) struct Table<'t, S, G> {
     pub(crate) scenario: &'t S,
     pub(crate) gate: &'t G,
@@ -75,7 +72,8 @@ impl<'t, S, G> Table<'t, S, G> {
     }
 }
 
-/// Plays a scenario beside a pool; None where the table is outside the limits or no pool ran.
+/// Plays a scenario beside a pool; None where the table is outside the limits, no pool ran, the scenario wasn't
+/// content, or not all came back.
 pub(crate) fn play<S: Scenario, G: Gate + Sync, R: Threads + Wait + Sync>(
     rt: &R,
     alloc: Global,
@@ -84,22 +82,7 @@ pub(crate) fn play<S: Scenario, G: Gate + Sync, R: Threads + Wait + Sync>(
     play_on::<Brand, S, G, R>(rt, alloc, Blank::new(PARTS), table)
 }
 
-/// The same, where the scenario was content, and all shares and all segments are back at the end.
-pub(crate) fn well<S: Scenario, G: Gate + Sync, R: Threads + Wait + Sync>(
-    rt: &R,
-    alloc: Global,
-    table: &Table<'_, S, G>,
-) -> Option<Played> {
-    let played = play(rt, alloc, table)?;
-    let are_back = played.whole && played.free == table.segments as usize;
-    if played.content && are_back {
-        Some(played)
-    } else {
-        None
-    }
-}
-
-/// The same as `play` over the ledger of the desk.
+/// The same over the ledger of the desk.
 fn play_on<L: DeskLedger + Send + Sync, S: Scenario, G: Gate + Sync, R: Threads + Wait + Sync>(
     rt: &R,
     alloc: Global,
@@ -109,33 +92,64 @@ fn play_on<L: DeskLedger + Send + Sync, S: Scenario, G: Gate + Sync, R: Threads 
     requires name { blank.name ≡ L.name }
     requires parts { (blank.parts ≡ L.parts) × (L.all ≡ L.parts) × (L.all ≡ 13835058055282163712) }
 {
-    if table.grain > 6 {
-        return None;
-    }
-    let hall = Hall::new(alloc, Config::new(table.segments, 1 << 20)?, table.grain).ok()?;
-    let desk: Desk<L> = Desk::new(hall, blank);
-    let (content, end) = beside(
-        rt,
-        alloc,
-        &desk,
-        table.workers,
-        table.gate,
-        table.scenario,
-        table.room,
-    );
-    let end = end.ok()?;
-    let share = end.badge.share();
-    let (hall, whole) = desk.into_hall(end.badge);
-    Some(Played {
-        content,
-        share,
-        tasks: [end.pushed, end.taken, end.left],
-        whole: whole.is_some(),
-        free: hall.core().free_segments(),
-    })
+    let desk: Desk<L> = desk_of(alloc, table.segments, 1 << 20, table.grain, blank)?;
+    let ended = beside(rt, alloc, &desk, table)?;
+    came_to(desk, ended, table.segments as usize)
 }
 
-/// Runs the pool.
+/// What a pool came to, where all shares and so many segments came back.
+fn came_to<L: DeskLedger>(desk: Desk<L>, end_of_pool: PoolEnd<L>, segments: usize) -> Option<Played>
+    requires { L.all ≡ L.parts }
+{
+    let played = Played {
+        share: end_of_pool.badge.share(),
+        pushed: end_of_pool.pushed,
+        taken: end_of_pool.taken,
+        left: end_of_pool.left,
+    };
+    let ended = end(desk, end_of_pool.badge);
+    if ended.is_whole && ended.free == segments {
+        Some(played)
+    } else {
+        None
+    }
+}
+
+/// Counts how often it is said that a pool has begun.
+#[derive(Drop)]
+struct Counted {
+    /// How often it was.
+    count: u32,
+    /// Whether it can be said.
+    works: bool,
+}
+
+impl Announce for Counted {
+    ghost says = { λ _ _ _. Unit {0} };
+
+    fn announce(&mut self) -> bool {
+        self.count = self.count.saturating_add(1);
+        self.works
+    }
+}
+
+/// Runs a pool of these sizes; tells how often it was said that it has begun, and how it ended.
+fn run_sized<L: DeskLedger + Send + Sync, G: Gate + Sync, R: Threads + Wait + Sync>(
+    rt: &R,
+    alloc: Global,
+    desk: &Desk<L>,
+    sizes: PoolSizes,
+    gate: &G,
+    works: bool,
+) -> (u32, Result<PoolEnd<L>, NotRun>)
+    requires { L.all ≡ L.parts }
+{
+    let call = Counted { count: 0, works };
+    let (call, ended) = run_pool_sized(rt, alloc, desk, sizes, gate, call);
+    (call.count, ended)
+}
+
+/// Runs the pool, with the usual room or with so much.
 fn run<L: DeskLedger + Send + Sync, G: Gate + Sync, R: Threads + Wait + Sync>(
     rt: &R,
     alloc: Global,
@@ -143,37 +157,33 @@ fn run<L: DeskLedger + Send + Sync, G: Gate + Sync, R: Threads + Wait + Sync>(
     workers: u8,
     gate: &G,
     room: Option<usize>,
-) -> Result<PoolEnd<L>, PoolFault>
+) -> Option<PoolEnd<L>>
     requires { L.all ≡ L.parts }
 {
-    let Some(workers) = Worker::new(workers) else {
-        return Err(PoolFault::NoThread);
-    };
+    let workers = Worker::new(workers)?;
     match room {
         Some(room) => {
             let sizes = PoolSizes {
                 room,
                 ..PoolSizes::usual(workers)
             };
-            let (_quiet, ended) = run_pool_sized(rt, alloc, desk, sizes, gate, Quiet);
-            ended.map_err(|_not_run| PoolFault::NoThread)
+            run_sized(rt, alloc, desk, sizes, gate, true).1.ok()
         }
-        None => run_pool(rt, alloc, desk, workers, gate),
+        None => run_pool(rt, alloc, desk, workers, gate).ok(),
     }
 }
 
-/// Runs the pool in a thread, plays, and closes the desk.
+/// Runs the pool in a thread, plays, and closes the desk: what the pool ends with, where the scenario was content.
 fn beside<L: DeskLedger + Send + Sync, S: Scenario, G: Gate + Sync, R: Threads + Wait + Sync>(
     rt: &R,
     alloc: Global,
     desk: &Desk<L>,
-    workers: u8,
-    gate: &G,
-    scenario: &S,
-    room: Option<usize>,
-) -> (bool, Result<PoolEnd<L>, PoolFault>)
+    table: &Table<'_, S, G>,
+) -> Option<PoolEnd<L>>
     requires { L.all ≡ L.parts }
 {
+    let (scenario, gate) = (table.scenario, table.gate);
+    let (workers, room) = (table.workers, table.room);
     thread::scope(
         thread::scope_env(),
         rt,
@@ -181,16 +191,17 @@ fn beside<L: DeskLedger + Send + Sync, S: Scenario, G: Gate + Sync, R: Threads +
             requires { L.all ≡ L.parts }
         {
             let started = scope.spawn(
-                move || -> Result<PoolEnd<L>, PoolFault>
+                move || -> Option<PoolEnd<L>>
                     requires { L.all ≡ L.parts }
                 { run(rt, alloc, desk, workers, gate, room) },
             );
-            let Ok(pool) = started else {
-                return (false, Err(PoolFault::NoThread));
-            };
-            let content = scenario.play(rt, desk);
+            let Ok(pool) = started else { return None };
+            let is_content = scenario.play(rt, desk);
             desk.close(rt);
-            (content, pool.join(rt))
+            match pool.join(rt) {
+                Some(ended) if is_content => Some(ended),
+                _ => None,
+            }
         },
     )
 }

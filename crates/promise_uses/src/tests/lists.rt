@@ -6,6 +6,7 @@ ghost use Rattle.jamboree_rules.specs.declared.leaf.LeafAnswer.{LeafAnswer};
 ghost use Rattle.jamboree_core.specs.Replies.{AreSearches, IsSearch};
 
 use super::driving::{Offers, drive};
+use super::holds;
 use crate::{
     entry_of_nine, nine_is_undisturbed, refusals, seven_alone, seven_and_nine, table_of_nine,
     three_answers, value_of_nine, value_of_seven, words_of_seven,
@@ -219,132 +220,242 @@ fn one(rt: &impl Abort, alloc: Global, tenant: u64, job: u64, depth: u8) -> Reco
     recorded
 }
 
-/// Words 8 and 9 of a done job.
-fn value_and_choice(job: Option<&Job>) -> Option<(u64, u64)> {
+/// Whether a job is done with these as its words 8 and 9.
+fn is_done_with(job: Option<&Job>, value: u64, choice: u64) -> bool {
     let Some(Job::Done(words)) = job else {
-        return None;
+        return false;
     };
     let words = words.as_slice();
-    Some((*words.get(8)?, *words.get(9)?))
+    words.len() > 9 && words[8] == value && words[9] == choice
 }
 
-/// How many of these answers are refusals, and how many of them Busy.
-fn refused(answers: &[StepAnswer]) -> (u32, u32) {
-    let (mut refused, mut busy) = (0u32, 0u32);
+/// Whether two of these answers are refusals, and one of them Busy.
+fn are_two_refused(answers: &[StepAnswer]) -> bool {
+    let (mut others, mut busy) = (0u32, 0u32);
     for answer in answers {
-        if answer.is_err() {
-            refused = refused.wrapping_add(1);
-        }
-        if matches!(answer, Err(Refusal::Busy)) {
-            busy = busy.wrapping_add(1);
+        match answer {
+            Ok(_) => {}
+            Err(Refusal::Busy) => busy = busy.wrapping_add(1),
+            Err(_) => others = others.wrapping_add(1),
         }
     }
-    (refused, busy)
+    others == 1 && busy == 1
+}
+
+/// Whether this answer stands at this place of a list.
+fn stands_at(answers: &[StepAnswer], place: usize, answer: &StepAnswer) -> bool {
+    place < answers.len() && answers[place] == *answer
 }
 
 /// Whether a list of answers is what a tenant was told of its taken steps.
 fn is_told(told: &[StepAnswer], tenants: &[u64], answers: &[StepAnswer], tenant: u64) -> bool {
-    let mut left = told.iter();
+    let mut place = 0usize;
     for (owner, answer) in tenants.iter().zip(answers) {
-        if *owner == tenant && answer.is_ok() && left.next() != Some(answer) {
-            return false;
+        if *owner == tenant && answer.is_ok() {
+            if !stands_at(told, place, answer) {
+                return false;
+            }
+            place = place.saturating_add(1);
         }
     }
-    left.next().is_none()
+    place == told.len()
 }
 
 /// Whether two lists of answers are the same.
 fn are_same(one: &[StepAnswer], other: &[StepAnswer]) -> bool {
-    if one.len() != other.len() {
-        return false;
-    }
-    for (a, b) in one.iter().zip(other) {
-        if *a != *b {
+    for place in 0..one.len() {
+        if !stands_at(other, place, &one[place]) {
             return false;
         }
     }
-    true
+    one.len() == other.len()
 }
 
 /// Whether a tenant's job of this number is worth this in a core, by d3 (19); a word has a million more.
 fn is_worth(after: &After<Global>, tenant: u64, job: u64, value: u64) -> bool {
-    value_and_choice(after.core.job(tenant, job)) == Some((value, 19))
+    is_done_with(after.core.job(tenant, job), value, 19)
+}
+
+/// Whether tenant 7's third job is worth -4.
+fn is_seven_worth(recorded: &Recorded, alloc: Global) -> bool {
+    match recorded.seven(alloc) {
+        Ok(after) => is_worth(&after, 7, 3, 999_996),
+        Err(AllocError) => false,
+    }
+}
+
+/// Whether tenant 9's fifth job is worth -3.
+fn is_nine_worth(recorded: &Recorded, alloc: Global) -> bool {
+    match recorded.nine(alloc) {
+        Ok(after) => is_worth(&after, 9, 5, 999_997),
+        Err(AllocError) => false,
+    }
+}
+
+/// Whether the list is answered as the hall answered it.
+fn is_answered_again(recorded: &Recorded, alloc: Global) -> bool {
+    match recorded.answered(alloc) {
+        Ok(after) => are_same(&after.answers, &recorded.answers),
+        Err(AllocError) => false,
+    }
+}
+
+/// Whether two of its steps are refused.
+fn is_refused_twice(recorded: &Recorded, alloc: Global) -> bool {
+    match recorded.refused(alloc) {
+        Ok(after) => are_two_refused(&after.answers),
+        Err(AllocError) => false,
+    }
+}
+
+/// Whether tenant 9's fifth job is worth -3 after both lists, and it has as much left.
+fn is_undisturbed(one: &After<Global>, other: &After<Global>) -> bool {
+    is_worth(one, 9, 5, 999_997)
+        && is_worth(other, 9, 5, 999_997)
+        && one.core.left(9) == other.core.left(9)
+}
+
+/// Whether it is so after these two.
+fn is_nine_undisturbed(recorded: &Recorded, other: &Recorded, alloc: Global) -> bool {
+    match recorded.beside(alloc, other) {
+        Ok((one, two)) => is_undisturbed(&one, &two),
+        Err(AllocError) => false,
+    }
+}
+
+/// Whether tenant 7 comes to the same alone, and is told the same.
+fn is_alone(recorded: &Recorded, alone: &After<Global>) -> bool {
+    alone.answers.len() > 32
+        && is_worth(alone, 7, 3, 999_996)
+        && is_told(&alone.answers, &recorded.tenants, &recorded.answers, 7)
+}
+
+/// Whether it is so after this list of its own.
+fn is_seven_alone(recorded: &Recorded, own: &Recorded, alloc: Global) -> bool {
+    match recorded.alone(alloc, own) {
+        Ok((_all, alone)) => is_alone(recorded, &alone),
+        Err(AllocError) => false,
+    }
+}
+
+/// What a hall tells of tenant 7's job.
+fn told_of_seven(hall: &Hall) -> Option<Valued> {
+    value_of_seven(hall)
+}
+
+/// What it tells of tenant 9's job.
+fn told_of_nine(hall: &Hall) -> Option<Valued> {
+    value_of_nine(hall)
+}
+
+/// The third entry of its table.
+fn third_of_nine(hall: &Hall) -> Option<Bound> {
+    entry_of_nine(hall)
+}
+
+/// Whether the opening's value is told so, by d3 (19).
+fn is_valued(told: Option<Valued>, value: i32) -> bool {
+    let Some(told) = told else {
+        return false;
+    };
+    told.value == value && matches!(told.choice, Some(Choice::Square(19)))
+}
+
+/// Whether this is an entry for f5 (37), by which it is worth -3 at most.
+fn is_third(told: Option<Bound>) -> bool {
+    let Some(told) = told else {
+        return false;
+    };
+    told.score == -3
+        && matches!(told.choice, Choice::Square(37))
+        && matches!(told.kind, BoundKind::Low)
+}
+
+/// Whether two halls tell the same of tenant 7's job, and that it has as much left.
+fn tell_the_same(one: &Hall, other: &Hall) -> bool {
+    told_of_seven(one) == told_of_seven(other) && one.core().left(7) == other.core().left(7)
+}
+
+/// Whether a hall tells the value and the choice of both jobs, and the third entry.
+fn is_told_of_both(hall: &Hall) -> bool {
+    is_valued(told_of_seven(hall), -4)
+        && is_valued(told_of_nine(hall), -3)
+        && is_third(third_of_nine(hall))
+}
+
+/// A law of lists or of halls.
+enum Law {
+    /// What done jobs reply.
+    Replies,
+    /// What a list is answered.
+    Answers,
+    /// A tenant in two lists.
+    TwoLists,
+    /// A tenant's own steps alone.
+    Alone,
+    /// What a hall tells.
+    Told,
+    /// The same journal in two halls.
+    Journals,
+}
+
+/// Whether a law is met by the list of both tenants. All tests call this function, since each function that holds a
+/// list of its own takes the prover two seconds more.
+fn is_met(rt: &impl Abort, alloc: Global, law: Law) -> bool {
+    let recorded = both(rt, alloc);
+    match law {
+        Law::Replies => is_seven_worth(&recorded, alloc) && is_nine_worth(&recorded, alloc),
+        Law::Answers => is_answered_again(&recorded, alloc) && is_refused_twice(&recorded, alloc),
+        Law::TwoLists => {
+            let other = one(rt, alloc, 9, 5, 1);
+            is_nine_undisturbed(&recorded, &other, alloc)
+        }
+        Law::Alone => {
+            let own = one(rt, alloc, 7, 3, 2);
+            is_seven_alone(&recorded, &own, alloc)
+        }
+        Law::Told => is_told_of_both(&recorded.hall),
+        Law::Journals => {
+            let own = one(rt, alloc, 7, 3, 2);
+            seven_and_nine(&recorded.hall, &own.hall);
+            tell_the_same(&own.hall, &recorded.hall)
+        }
+    }
 }
 
 /// The opening is worth -4 to depth 2 and -3 to depth 1.
 #[test]
 fn replies_of_a_list(rt: HostRuntime) {
-    let recorded = both(&rt, rt.alloc());
-    let seven = recorded.seven(rt.alloc()).expect(&rt, "there is memory");
-    assert!(rt; is_worth(&seven, 7, 3, 999_996));
-    let nine = recorded.nine(rt.alloc()).expect(&rt, "there is memory");
-    assert!(rt; is_worth(&nine, 9, 5, 999_997));
+    holds(&rt, is_met(&rt, rt.alloc(), Law::Replies));
 }
 
 /// A list on a new core is answered as a hall answered it; one step is refused by Busy and one by its tenant's state.
 #[test]
 fn answers_of_a_list(rt: HostRuntime) {
-    let recorded = both(&rt, rt.alloc());
-    let all = recorded.answered(rt.alloc()).expect(&rt, "there is memory");
-    assert!(rt; are_same(&all.answers, &recorded.answers));
-    let some = recorded.refused(rt.alloc()).expect(&rt, "there is memory");
-    assert!(rt; refused(&some.answers) == (2, 1));
+    holds(&rt, is_met(&rt, rt.alloc(), Law::Answers));
 }
 
 /// Tenant 9 among others, and alone in a smaller core.
 #[test]
 fn a_tenant_of_two_lists(rt: HostRuntime) {
-    let recorded = both(&rt, rt.alloc());
-    let other = one(&rt, rt.alloc(), 9, 5, 1);
-    let found = recorded.beside(rt.alloc(), &other);
-    let (one, two) = found.expect(&rt, "there is memory");
-    assert!(rt; is_worth(&one, 9, 5, 999_997) && is_worth(&two, 9, 5, 999_997));
-    assert!(rt; one.core.left(9) == two.core.left(9));
+    holds(&rt, is_met(&rt, rt.alloc(), Law::TwoLists));
 }
 
 /// What tenant 7 is told in a list of its own is what it was told of its taken steps among others.
 #[test]
 fn a_tenant_alone(rt: HostRuntime) {
-    let recorded = both(&rt, rt.alloc());
-    let own = one(&rt, rt.alloc(), 7, 3, 2);
-    let found = recorded.alone(rt.alloc(), &own);
-    let (_, alone) = found.expect(&rt, "there is memory");
-    assert!(rt; alone.answers.len() > 32 && is_worth(&alone, 7, 3, 999_996));
-    assert!(rt; is_told(&alone.answers, &recorded.tenants, &recorded.answers, 7));
-}
-
-/// What a hall tells of both jobs, and the third entry of a table.
-fn told_of_both(hall: &Hall) -> (Option<Valued>, Option<Valued>, Option<Bound>) {
-    (
-        value_of_seven(hall),
-        value_of_nine(hall),
-        entry_of_nine(hall),
-    )
+    holds(&rt, is_met(&rt, rt.alloc(), Law::Alone));
 }
 
 /// A hall tells the value and the choice of both jobs, and of the third choice of the opening, f5 (37), that it is
 /// worth -3 at most.
 #[test]
 fn what_a_hall_tells(rt: HostRuntime) {
-    let recorded = both(&rt, rt.alloc());
-    let choice = Some(Choice::Square(19));
-    let (seven, nine, entry) = told_of_both(&recorded.hall);
-    assert!(rt; seven == Some(Valued { value: -4, choice }));
-    assert!(rt; nine == Some(Valued { value: -3, choice }));
-    let third = Bound {
-        choice: Choice::Square(37),
-        score: -3,
-        kind: BoundKind::Low,
-    };
-    assert!(rt; entry == Some(third));
+    holds(&rt, is_met(&rt, rt.alloc(), Law::Told));
 }
 
 /// Two halls in which tenant 7's journals are the same tell the same of its job.
 #[test]
 fn the_same_journal_in_two_halls(rt: HostRuntime) {
-    let recorded = both(&rt, rt.alloc());
-    let own = one(&rt, rt.alloc(), 7, 3, 2);
-    seven_and_nine(&recorded.hall, &own.hall);
-    assert!(rt; value_of_seven(&own.hall) == value_of_seven(&recorded.hall));
-    assert!(rt; own.hall.core().left(7) == recorded.hall.core().left(7));
+    holds(&rt, is_met(&rt, rt.alloc(), Law::Journals));
 }

@@ -1,4 +1,5 @@
 //! The laws of streams: `solve` of three lines, and of a writer that fails.
+use super::holds;
 use crate::three_lines;
 use line_io::{FromReader, FromWriter, LineFault, Sink, WriteFailed};
 use std::alloc::Global;
@@ -46,15 +47,19 @@ fn are_written(alloc: Global, grain: u8) -> bool {
 #[test]
 fn three_lines_are_solved(rt: HostRuntime) {
     for grain in 0..7 {
-        assert!(rt; are_written(rt.alloc(), grain));
+        holds(&rt, are_written(rt.alloc(), grain));
     }
+}
+
+/// Whether a run ends by a fault where only so many bytes have room.
+fn is_full(alloc: Global, room: u32) -> bool {
+    matches!(solved(alloc, &mut Full { room }, 4), Err(LineFault::Write))
 }
 
 /// A writer that is full at some byte of the answers ends the run by a fault.
 #[test]
 fn a_write_fails(rt: HostRuntime) {
     for room in 0..20 {
-        let end = solved(rt.alloc(), &mut Full { room }, 4);
-        assert!(rt; matches!(end, Err(LineFault::Write)));
+        holds(&rt, is_full(rt.alloc(), room));
     }
 }

@@ -1,17 +1,18 @@
 //! Searches whose core has little memory, and how far a core goes.
 ghost use Rattle.std.specs.Prelude.{◌≤◌};
 
-use super::opening;
+use super::{heap_of, holds, holds_at, opening};
 use counted_alloc::Counted;
 use frame_tree::FrameId;
 use linked_list_allocator::LocalHeap;
 use lone_search::{Searched, Way, search_within, solve_by_core};
+use othello_eval::Valued;
 use othello_moves::Choice;
 use pool_rules::{Action, Holding, Task, Turn};
 use position_text::{Position, read};
 use sched_rules::{DidOf, Worker};
 use std::alloc::{AllocError, Allocator, Global};
-use std::test::Fail;
+use std::process::Abort;
 use tenant_quota::{Left, Reserve};
 
 /// Five squares are empty, White to move. It takes a corner, and wins by 26 discs.
@@ -31,6 +32,11 @@ fn solved<A: Allocator + Copy>(
     solve_by_core(alloc, position, depth, grain)
 }
 
+/// Whether the search was done by its core.
+fn is_done(found: &Searched) -> bool {
+    matches!(found.way, Way::Done)
+}
+
 /// Whether a core of 4,096 segments did the search, and its tenant had all of them left, and so many nodes and steps.
 fn is_done_with(found: &Searched, nodes: u32, steps: u32) -> bool {
     let left = Left {
@@ -38,7 +44,7 @@ fn is_done_with(found: &Searched, nodes: u32, steps: u32) -> bool {
         nodes,
         steps,
     };
-    found.way == Way::Done && found.left == left
+    is_done(found) && found.left == left
 }
 
 /// The frame of tenant 1 of this serial.
@@ -59,7 +65,7 @@ fn a_child_is_a_task(rt: HostRuntime) {
         holding: root,
         task: Some(task),
     };
-    assert!(rt; turn == wanted);
+    holds(&rt, turn == wanted);
 }
 
 /// Whether the opening is searched with a node for each of its four moves to one ply more than the grain, and with more
@@ -72,11 +78,167 @@ fn has_grain(alloc: Global, grain: u8) -> bool
         solved(alloc, &opening(), grain + 2, grain),
     ) {
         (Ok(near), Ok(shared)) => {
-            is_done_with(&near, 65_531, 1_048_544)
-                && shared.way == Way::Done
-                && shared.left.nodes < 65_531
+            is_done_with(&near, 65_531, 1_048_544) && is_done(&shared) && shared.left.nodes < 65_531
         }
         _ => false,
+    }
+}
+
+/// Searches at each grain.
+fn grains(rt: &impl Abort, alloc: Global) {
+    for grain in 0..7 {
+        holds_at(rt, grain as usize, has_grain(alloc, grain));
+    }
+}
+
+/// Whether this is the corner and its value.
+fn is_the_corner(answer: Valued) -> bool {
+    answer.value == 52_000 && matches!(answer.choice, Some(Choice::Square(0)))
+}
+
+/// Whether a core of 4,096 segments found the corner and its value, with so few nodes as it has at this grain.
+fn is_deep(found: &Searched, grain: u8) -> bool {
+    let nodes = found.left.nodes;
+    is_done(found)
+        && is_the_corner(found.answer)
+        && found.left.segments == 4096
+        && nodes > 60_000
+        && (grain > 0 || nodes < 65_520)
+}
+
+/// Whether such a core does the search of that position to this depth, at this grain.
+fn is_done_deep(alloc: Global, depth: u8, grain: u8) -> bool
+    requires depth { depth ≤ 12 }
+    requires grain { grain ≤ 6 }
+{
+    let Ok(position) = read(NEAR_THE_END) else {
+        return false;
+    };
+    match solved(alloc, &position, depth, grain) {
+        Ok(found) => is_deep(&found, grain),
+        Err(AllocError) => false,
+    }
+}
+
+/// Searches to each depth above 6, at each grain.
+fn deep_searches(rt: &impl Abort, alloc: Global) {
+    for depth in 7..13 {
+        for grain in 0..7 {
+            // Case 75 is depth 7 at grain 5.
+            let case = depth * 10 + grain;
+            holds_at(rt, case as usize, is_done_deep(alloc, depth, grain));
+        }
+    }
+}
+
+/// Whether the core of the opening's search to 11 plies comes to its last node.
+fn is_spent(alloc: Global) -> bool {
+    match solved(alloc, &opening(), 11, 0) {
+        Ok(found) => {
+            matches!(found.way, Way::Spent) && found.left.segments == 4096 && found.left.nodes == 0
+        }
+        Err(AllocError) => false,
+    }
+}
+
+/// Whether a small search is done in this heap; None where memory was wanting.
+fn is_done_in(heap: &LocalHeap, reserve: Reserve) -> Option<bool> {
+    match search_within(heap, &opening(), 0, 0, reserve) {
+        Ok(found) => Some(is_done(&found)),
+        Err(AllocError) => None,
+    }
+}
+
+/// The same in a heap of so many kilobytes, to which all is given back.
+fn is_done_within(rt: &impl Abort, alloc: Global, units: usize, reserve: Reserve) -> Option<bool>
+    requires { units ≤ 320 }
+{
+    let heap = heap_of(rt, alloc, units * 1024);
+    let is_done = is_done_in(&heap, reserve);
+    holds(rt, heap.used() == 0);
+    is_done
+}
+
+/// Searches in heaps with more and more room.
+fn growths(rt: &impl Abort, alloc: Global) {
+    let reserve = Reserve::new(2, 4).unwrap();
+    let (mut refused, mut done) = (0u32, 0u32);
+    for units in 0..320usize {
+        match is_done_within(rt, alloc, units, reserve) {
+            None => refused = refused.saturating_add(1),
+            Some(is_by_the_core) => {
+                holds(rt, is_by_the_core);
+                done = done.saturating_add(1);
+            }
+        }
+    }
+    holds(rt, refused > 16 && done > 0);
+}
+
+/// Whether the opening can't be searched in this heap.
+fn finds_none(heap: &LocalHeap, depth: u8, grain: u8) -> bool
+    requires depth { depth ≤ 12 }
+    requires grain { grain ≤ 6 }
+{
+    solved(heap, &opening(), depth, grain).is_err()
+}
+
+/// Searches to each depth, at each grain, in a heap without room.
+fn searches_without_memory(rt: &impl Abort, alloc: Global) {
+    let heap = heap_of(rt, alloc, 0);
+    for depth in 0..13 {
+        for grain in 0..7 {
+            holds(rt, finds_none(&heap, depth, grain));
+        }
+    }
+}
+
+/// How often a search that is done by its core calls its allocator; 0 where it isn't.
+fn calls_of(counted: &Counted<Global>, depth: u8) -> u64
+    requires { depth ≤ 12 }
+{
+    let before = counted.calls();
+    match solved(counted, &opening(), depth, 0) {
+        Ok(found) if is_done(&found) => counted.calls().wrapping_sub(before),
+        _ => 0,
+    }
+}
+
+/// Searches that call their allocator no more often than the first.
+fn calls_of_searches(rt: &impl Abort, alloc: Global) {
+    let counted = Counted::new(alloc);
+    let once = calls_of(&counted, 0);
+    holds(rt, once > 0);
+    for depth in 1..5u8 {
+        holds_at(rt, depth as usize, calls_of(&counted, depth) == once);
+    }
+}
+
+/// What is tried of searches.
+enum Trial {
+    /// The grain that is asked.
+    Grain,
+    /// Deep searches.
+    Deep,
+    /// A search to its last node.
+    Spent,
+    /// Growths that are refused.
+    Growths,
+    /// Searches without memory.
+    NoMemory,
+    /// The calls of an allocator.
+    Calls,
+}
+
+/// Tries it. All tests call this function, since each function that searches takes the prover two seconds more.
+fn tries(rt: &impl Abort, alloc: Global, trial: Trial) {
+    match trial {
+        Trial::Grain => grains(rt, alloc),
+        Trial::Deep => deep_searches(rt, alloc),
+        Trial::Spent => holds(rt, is_spent(alloc)),
+        Trial::Growths => growths(rt, alloc),
+        Trial::NoMemory => searches_without_memory(rt, alloc),
+        Trial::Calls => calls_of_searches(rt, alloc),
     }
 }
 
@@ -84,116 +246,36 @@ fn has_grain(alloc: Global, grain: u8) -> bool
 /// steps. To two plies more the moves have nodes of their own.
 #[test]
 fn the_grain_is_the_one_that_is_asked(rt: HostRuntime) {
-    for grain in 0..7 {
-        assert!(rt; has_grain(rt.alloc(), grain), "grain {grain}");
-    }
-}
-
-/// Whether a core of 4,096 segments found the corner and its value, with so few nodes as it has at this grain.
-fn is_deep(found: &Searched, grain: u8) -> bool {
-    let nodes = found.left.nodes;
-    found.way == Way::Done
-        && found.answer.value == 52_000
-        && found.answer.choice == Some(Choice::Square(0))
-        && found.left.segments == 4096
-        && nodes > 60_000
-        && (grain > 0 || nodes < 65_520)
+    tries(&rt, rt.alloc(), Trial::Grain);
 }
 
 /// Deep searches are done by their core, which is that of 4,096 segments and 65,536 nodes, at each grain.
 #[test]
-fn deep_searches_are_done_by_a_core(rt: HostRuntime) -> Result<(), Fail> {
-    let position = read(NEAR_THE_END).ok().ok_or("no position")?;
-    for depth in 7..13 {
-        for grain in 0..7 {
-            let found = solved(rt.alloc(), &position, depth, grain)?;
-            assert!(rt; is_deep(&found, grain), "depth {depth}, grain {grain}");
-        }
-    }
-    Ok(())
+fn deep_searches_are_done_by_a_core(rt: HostRuntime) {
+    tries(&rt, rt.alloc(), Trial::Deep);
 }
 
 /// A search that needs more nodes than there are goes on until none is left.
 #[test]
-fn a_search_goes_on_to_its_last_node(rt: HostRuntime) -> Result<(), Fail> {
-    let found = solved(rt.alloc(), &opening(), 11, 0)?;
-    assert!(rt; found.way == Way::Spent);
-    assert!(rt;
-        found.left.segments == 4096 && found.left.nodes == 0,
-        "{} steps",
-        found.left.steps
-    );
-    Ok(())
-}
-
-/// Whether a small search is done in this heap; None where memory was wanting.
-fn is_done_in(heap: &LocalHeap, reserve: Reserve) -> Option<bool> {
-    match search_within(heap, &opening(), 0, 0, reserve) {
-        Ok(found) => Some(found.way == Way::Done),
-        Err(AllocError) => None,
-    }
-}
-
-/// The same in a heap of so many kilobytes, to which all is given back.
-fn is_done_within(alloc: Global, units: usize, reserve: Reserve) -> Result<Option<bool>, Fail>
-    requires { units ≤ 320 }
-{
-    let heap = LocalHeap::new(alloc, units * 1024)?;
-    let is_done = is_done_in(&heap, reserve);
-    if heap.used() == 0 {
-        Ok(is_done)
-    } else {
-        Err(Fail::new("memory is kept"))
-    }
+fn a_search_goes_on_to_its_last_node(rt: HostRuntime) {
+    tries(&rt, rt.alloc(), Trial::Spent);
 }
 
 /// In heaps with more and more room each growth of the core and of the admission is refused in turn, and all that was
 /// taken is given back. What is found is found by the core.
 #[test]
-fn each_growth_is_refused_in_turn(rt: HostRuntime) -> Result<(), Fail> {
-    let reserve = Reserve::new(2, 4).unwrap();
-    let (mut refused, mut done) = (0u32, 0u32);
-    for units in 0..320usize {
-        match is_done_within(rt.alloc(), units, reserve)? {
-            None => refused = refused.saturating_add(1),
-            Some(true) => done = done.saturating_add(1),
-            Some(false) => return Err(Fail::new("not by the core")),
-        }
-    }
-    assert!(rt; refused > 16 && done > 0);
-    Ok(())
+fn each_growth_is_refused_in_turn(rt: HostRuntime) {
+    tries(&rt, rt.alloc(), Trial::Growths);
 }
 
 /// A search to any depth makes a core: without memory none is found.
 #[test]
-fn no_search_without_a_core(rt: HostRuntime) -> Result<(), Fail> {
-    let heap = LocalHeap::new(rt.alloc(), 0)?;
-    for depth in 0..13 {
-        for grain in 0..7 {
-            assert!(rt; solved(&heap, &opening(), depth, grain).is_err());
-        }
-    }
-    Ok(())
-}
-
-/// How often a search that is done by its core calls its allocator; None where it isn't.
-fn calls_of(counted: &Counted<Global>, depth: u8) -> Option<u64>
-    requires { depth ≤ 12 }
-{
-    let before = counted.calls();
-    match solved(counted, &opening(), depth, 0) {
-        Ok(found) if found.way == Way::Done => Some(counted.calls().wrapping_sub(before)),
-        _ => None,
-    }
+fn no_search_without_a_core(rt: HostRuntime) {
+    tries(&rt, rt.alloc(), Trial::NoMemory);
 }
 
 /// What a search takes of its allocator doesn't grow with it: the core takes its memory when it is made.
 #[test]
 fn searches_take_no_memory(rt: HostRuntime) {
-    let counted = Counted::new(rt.alloc());
-    let once = calls_of(&counted, 0);
-    assert!(rt; matches!(once, Some(calls) if calls > 0));
-    for depth in 1..5u8 {
-        assert!(rt; calls_of(&counted, depth) == once, "depth {depth}");
-    }
+    tries(&rt, rt.alloc(), Trial::Calls);
 }

@@ -1,25 +1,23 @@
 ghost use Rattle.jamboree_core.specs.Replies.{AreSearches};
 
-use super::{OPENING, opening};
+use super::{OPENING, heap_of, holds, opening};
 use frame_tree::FrameId;
 use jamboree::{Jamboree, Leaf, LeafAnswer};
 use jamboree_core::{run_from_new, run_searches, submit};
 use jamboree_rules::leaf_search::INF;
-use linked_list_allocator::LocalHeap;
 use sched_core::Core;
 use sched_rules::{Config, Did, Job, Refusal, Step, StepOf, Worker};
 use std::alloc::{AllocError, Allocator, Global};
 use std::process::Abort;
-use std::test::Fail;
 use tenant_quota::Reserve;
 
-/// Words 8 and 9 of a done job.
-fn value_and_choice(job: Option<&Job>) -> Option<(u64, u64)> {
+/// Whether a job is done with these as its words 8 and 9.
+fn is_done_with(job: Option<&Job>, value: u64, choice: u64) -> bool {
     let Some(Job::Done(words)) = job else {
-        return None;
+        return false;
     };
     let words = words.as_slice();
-    Some((*words.get(8)?, *words.get(9)?))
+    words.len() > 9 && words[8] == value && words[9] == choice
 }
 
 /// Totals of 64 segments and nodes.
@@ -79,12 +77,15 @@ fn many_steps(alloc: Global) -> Result<Vec<Step<Jamboree>>, AllocError> {
     Ok(steps)
 }
 
-/// A list of 662 steps as one call: how many answers there are, and how many steps were taken.
-fn run_list(alloc: Global, core: &mut Core<Jamboree>) -> Result<(usize, u32), AllocError> {
-    let steps = many_steps(alloc)?;
+/// Whether a list of 662 steps as one call has as many answers, of which 11 are that a step was taken.
+fn is_list_run(alloc: Global, core: &mut Core<Jamboree>) -> bool {
+    let Ok(steps) = many_steps(alloc) else {
+        return false;
+    };
     let mut answers = Vec::new(alloc);
-    run_searches(core, &steps, &mut answers)?;
-    Ok((answers.len(), taken(&answers)))
+    run_searches(core, &steps, &mut answers).is_ok()
+        && answers.len() == 662
+        && taken(&answers) == 11
 }
 
 /// The example at the head of the crate, and more: one answer each. The seven are taken, and then four Submits, for which
@@ -92,52 +93,54 @@ fn run_list(alloc: Global, core: &mut Core<Jamboree>) -> Result<(usize, u32), Al
 #[test]
 fn a_list_of_steps(rt: HostRuntime) {
     let mut core = Core::new(rt.alloc(), totals(), grain_2()).expect(&rt, "there is memory");
-    assert!(rt; run_list(rt.alloc(), &mut core) == Ok((662, 11)));
-    assert!(rt; value_and_choice(core.job(7, 1)) == Some((1_000_000, 65)));
+    holds(&rt, is_list_run(rt.alloc(), &mut core));
+    holds(&rt, is_done_with(core.job(7, 1), 1_000_000, 65));
 }
 
-/// Runs the seven steps from nothing: how many were taken, or none where a growth was refused, and then nothing was
-/// answered.
+/// Runs the seven steps from nothing. False where a growth was refused.
+fn is_run<A: Allocator + Copy>(
+    alloc: A,
+    answers: &mut Vec<Result<Did<Jamboree>, Refusal>, A>,
+) -> bool {
+    let steps = seven_steps();
+    run_from_new(alloc, totals(), grain_2(), steps.as_slice(), answers).is_ok()
+}
+
+/// How many of the seven were taken, or none where a growth was refused, and then nothing was answered.
 fn taken_from_new<A: Allocator + Copy>(rt: &impl Abort, alloc: A, answer_alloc: A) -> Option<u32> {
     let mut answers = Vec::new(answer_alloc);
-    let steps = seven_steps();
-    match run_from_new(alloc, totals(), grain_2(), steps.as_slice(), &mut answers) {
-        Ok(_) => Some(taken(&answers)),
-        Err(AllocError) => {
-            assert!(rt; answers.is_empty());
-            None
-        }
+    if is_run(alloc, &mut answers) {
+        Some(taken(&answers))
+    } else {
+        holds(rt, answers.is_empty());
+        None
     }
 }
 
 /// The same, the core in a heap of so many bytes and the answers in another. All is given back.
-fn taken_in(
-    rt: &impl Abort,
-    alloc: Global,
-    bytes: usize,
-    answer_bytes: usize,
-) -> Result<Option<u32>, AllocError> {
-    let heap = LocalHeap::new(alloc, bytes)?;
-    let answer_heap = LocalHeap::new(alloc, answer_bytes)?;
+fn taken_in(rt: &impl Abort, alloc: Global, bytes: usize, answer_bytes: usize) -> Option<u32> {
+    let heap = heap_of(rt, alloc, bytes);
+    let answer_heap = heap_of(rt, alloc, answer_bytes);
     let count = taken_from_new(rt, &heap, &answer_heap);
-    assert!(rt; heap.used() == 0 && answer_heap.used() == 0);
-    Ok(count)
+    holds(rt, heap.used() == 0 && answer_heap.used() == 0);
+    count
 }
 
 /// In heaps with more and more room each growth of the core is refused in turn, and with more room the
 /// admission, so that no step is taken. Where the answers find no room, no core is left.
 #[test]
-fn each_growth_of_a_run_from_new(rt: HostRuntime) -> Result<(), Fail> {
+fn each_growth_of_a_run_from_new(rt: HostRuntime) {
     let (mut refused, mut none, mut some) = (0u32, 0u32, 0u32);
     for units in 0..256usize {
-        match taken_in(&rt, rt.alloc(), units * 1024, 4096)? {
+        match taken_in(&rt, rt.alloc(), units * 1024, 4096) {
             None => refused = refused.wrapping_add(1),
             Some(0) => none = none.wrapping_add(1),
-            Some(7) => some = some.wrapping_add(1),
-            Some(_) => return Err(Fail::new("a part of the steps")),
+            Some(count) => {
+                holds(&rt, count == 7);
+                some = some.wrapping_add(1);
+            }
         }
     }
-    assert!(rt; refused > 0 && none > 0 && some > 0);
-    assert!(rt; taken_in(&rt, rt.alloc(), 262_144, 0)?.is_none());
-    Ok(())
+    holds(&rt, refused > 0 && none > 0 && some > 0);
+    holds(&rt, taken_in(&rt, rt.alloc(), 262_144, 0).is_none());
 }

@@ -1,7 +1,7 @@
 //! The examples of the crates of the game, and the known numbers of positions.
 mod examples;
 
-use super::OPENING;
+use super::{OPENING, holds, holds_at};
 use leaf_search::{INF, Scored, search};
 use othello_moves::Choice;
 
@@ -14,5 +14,5 @@ const FOUND: Scored = Scored {
 
 #[test]
 fn opening_at_depth_2(rt: HostRuntime) {
-    assert!(rt; search(OPENING, 2, -INF, INF) == FOUND);
+    holds(&rt, search(OPENING, 2, -INF, INF) == FOUND);
 }

@@ -4,6 +4,7 @@ ghost use Rattle.std.specs.Prelude.{◌≡◌, ℕ, List, codes, false};
 ghost use Rattle.std.specs.Str.{bytes_eq};
 ghost use Rattle.line_io.specs.Lines.{Whole, TooLong};
 
+use super::{given, holds, holds_at};
 use arrayvec::ArrayVec;
 use line_io::{
     Answer, Ends, FromReader, FromWriter, Line, ReadFailed, Sink, Source, TalkEnd, WriteFailed,
@@ -48,17 +49,26 @@ impl Answer for Echo {
     }
 }
 
+/// Whether all lines are echoed.
+fn echoes<S: Source, K: Sink>(source: &mut S, sink: &mut K) -> bool {
+    answer_lines(source, sink, &mut Echo::new()).is_ok()
+}
+
+/// How a talk that is echoed ends, where nothing fails.
+fn talks<R: Wait, S: Source, K: Sink>(rt: &R, source: &mut S, sink: &mut K) -> Option<TalkEnd> {
+    talk_lines(rt, source, sink, &mut Echo::new()).ok()
+}
+
 /// Whether these bytes are answered by those.
-fn are_echoed(alloc: Global, bytes: &[u8], answers: &[u8]) -> bool {
+fn is_echoed(alloc: Global, bytes: &[u8], answers: &[u8]) -> bool {
     let mut source = FromReader { reader: bytes };
     let mut sink = FromWriter::new(Vec::new(alloc));
-    let end = answer_lines(&mut source, &mut sink, &mut Echo::new());
-    end.is_ok() && sink.writer.as_slice() == answers
+    echoes(&mut source, &mut sink) && sink.writer.as_slice() == answers
 }
 
 #[test]
 fn lines_are_echoed(rt: HostRuntime) {
-    assert!(rt; are_echoed(rt.alloc(), b"one\r\ntwo", b"one\ntwo\n"));
+    holds(&rt, is_echoed(rt.alloc(), b"one\r\ntwo", b"one\ntwo\n"));
 }
 
 /// A reader and writer that fails a few times by an error, and then gives and takes all. It counts its calls, and
@@ -148,8 +158,10 @@ fn is_written(failure: &Failure) -> bool {
 
 #[test]
 fn whole_blocks_are_read_and_written_and_errors_answered_at_once(rt: HostRuntime) {
+    let mut case = 0usize;
     for failure in &FAILURES {
-        assert!(rt; is_read(failure) && is_written(failure), "{failure:?}");
+        holds_at(&rt, case, is_read(failure) && is_written(failure));
+        case = case.saturating_add(1);
     }
 }
 
@@ -196,8 +208,7 @@ impl Source for Asking<'_> {
             Some((line, rest)) if block.len() >= 4 => {
                 self.ear.asked.set(asked.saturating_add(1));
                 self.lines = rest;
-                block[..4].copy_from_slice(line);
-                Ok(4)
+                Ok(given(block, line.as_slice()))
             }
             _ => Ok(0),
         }
@@ -232,33 +243,45 @@ impl Ends for Echo {
     }
 }
 
-/// Whether a talk of three lines, of which this is the second, ends so after so many.
-fn is_talked<R: Wait>(rt: &R, second: [u8; 4], end: TalkEnd, lines: usize) -> bool {
+/// Three lines, none of which ends a talk.
+const SILENT: [[u8; 4]; 3] = [*b"one\n", *b"two\n", *b"six\n"];
+
+/// Three lines, the second of which ends a talk.
+const BYE: [[u8; 4]; 3] = [*b"one\n", *b"bye\n", *b"six\n"];
+
+/// How a talk of these lines ends.
+fn end_of_talk<R: Wait>(rt: &R, ear: &Ear, lines: &[[u8; 4]]) -> Option<TalkEnd> {
+    talks(rt, &mut Asking { ear, lines }, &mut Hearing(ear))
+}
+
+/// Whether a talk of three lines ends by its input, after all of them.
+fn is_talked_to_its_end<R: Wait>(rt: &R) -> bool {
     let ear = Ear::new();
-    let all = [*b"one\n", second, *b"six\n"];
-    let mut source = Asking {
-        ear: &ear,
-        lines: all.as_slice(),
-    };
-    let ended = talk_lines(rt, &mut source, &mut Hearing(&ear), &mut Echo::new());
-    ended == Ok(end) && ear.has_heard(lines)
+    matches!(
+        end_of_talk(rt, &ear, SILENT.as_slice()),
+        Some(TalkEnd::Input)
+    ) && ear.has_heard(3)
+}
+
+/// Whether one ends by its second line.
+fn is_talked_to_a_line<R: Wait>(rt: &R) -> bool {
+    let ear = Ear::new();
+    matches!(end_of_talk(rt, &ear, BYE.as_slice()), Some(TalkEnd::Line)) && ear.has_heard(2)
 }
 
 /// Whether all of three lines are answered, though the second would end a talk.
-fn are_answered() -> bool {
+fn is_heard_to_its_end() -> bool {
     let ear = Ear::new();
-    let all = [*b"one\n", *b"bye\n", *b"six\n"];
     let mut source = Asking {
         ear: &ear,
-        lines: all.as_slice(),
+        lines: BYE.as_slice(),
     };
-    let ended = answer_lines(&mut source, &mut Hearing(&ear), &mut Echo::new());
-    ended.is_ok() && ear.has_heard(3)
+    echoes(&mut source, &mut Hearing(&ear)) && ear.has_heard(3)
 }
 
 #[test]
 fn each_answer_is_written_before_more_is_read(rt: HostRuntime) {
-    assert!(rt; is_talked(&rt, *b"two\n", TalkEnd::Input, 3));
-    assert!(rt; is_talked(&rt, *b"bye\n", TalkEnd::Line, 2));
-    assert!(rt; are_answered());
+    holds(&rt, is_talked_to_its_end(&rt));
+    holds(&rt, is_talked_to_a_line(&rt));
+    holds(&rt, is_heard_to_its_end());
 }

@@ -1,15 +1,18 @@
 //! Sessions over memory, with an office of prepared replies.
 mod tables;
 
+ghost use Rattle.std.specs.Prelude.{◌≤◌};
+
+use super::{given, holds, holds_at, joined};
 use line_io::{FromReader, FromWriter, ReadFailed, Sink, Source, WriteFailed};
 use othello_eval::Valued;
 use sched_rules::Refusal;
 use session::{Analysis, Bounds, End, Live, Office, Question, SessionFault, Standing, serve_lines};
-use std::alloc::Global;
+use std::alloc::{AllocError, Global};
 use std::cell::Cell;
 use std::io::{self, ErrorKind, Write};
+use std::process::Abort;
 use std::sync::Wait;
-use std::test::Fail;
 use tenant_quota::{Left, Reserve};
 
 /// An office of prepared replies, which numbers the jobs and knows whether its tenant is there.
@@ -103,6 +106,16 @@ const NOTHING_TO_PLAY: Standing = Standing::Done(Analysis {
     bounds: Bounds::NONE,
 });
 
+/// How a session ends that the office serves.
+fn session<R: Wait, S: Source, K: Sink>(
+    rt: &R,
+    source: &mut S,
+    sink: &mut K,
+    office: &mut Prepared,
+) -> Result<End, SessionFault> {
+    serve_lines(rt, source, sink, office)
+}
+
 /// Whether a session of these lines ends so and writes this, and its tenant is gone.
 fn is_served<R: Wait>(
     rt: &R,
@@ -114,7 +127,7 @@ fn is_served<R: Wait>(
 ) -> bool {
     let mut source = FromReader { reader: lines };
     let mut sink = FromWriter::new(Vec::new(alloc));
-    let result = serve_lines(rt, &mut source, &mut sink, office);
+    let result = session(rt, &mut source, &mut sink, office);
     result == Ok(end) && !office.here && sink.writer.as_slice() == due
 }
 
@@ -162,8 +175,7 @@ impl Source for Blocks<'_> {
         match blocks.get(self.given) {
             Some(bytes) if bytes.len() <= block.len() => {
                 self.given = self.given.saturating_add(1);
-                block[..bytes.len()].copy_from_slice(bytes);
-                Ok(bytes.len())
+                Ok(given(block, bytes))
             }
             _ if self.fails => Err(ReadFailed),
             _ => Ok(0),
@@ -211,7 +223,7 @@ fn is_left<R: Wait>(
 ) -> bool {
     let mut office = Prepared::new(NOTHING_TO_PLAY, 4, 7, 123);
     let mut sink = FromWriter::new(narrow);
-    let result = serve_lines(rt, &mut source, &mut sink, &mut office);
+    let result = session(rt, &mut source, &mut sink, &mut office);
     result == end && !office.here && sink.writer.taken.as_slice() == due
 }
 
@@ -251,71 +263,83 @@ fn end_of(fails: bool, end: End) -> Result<End, SessionFault> {
     }
 }
 
-#[test]
-fn a_read_that_fails_leaves_the_answers_before_it(rt: HostRuntime) -> Result<(), Fail> {
-    let alloc = rt.alloc();
-    for count in 0..11 {
-        let due = ANSWERS[..count].concat(alloc)?;
-        for fails in [true, false] {
-            let source = Blocks {
-                blocks: &LINES[..count],
-                given: 0,
-                fails,
-            };
-            let end = end_of(fails, End::EndOfInput);
-            assert!(rt;
-                is_heard(&rt, alloc, source, end, due.as_slice()),
-                "after {count} lines"
-            );
-        }
-    }
-    assert_eq!(rt; SessionFault::Read.number(), 1);
-    Ok(())
+/// Whether a session of so many lines, whose source fails at its end or doesn't, writes this.
+fn is_heard_after<R: Wait>(rt: &R, alloc: Global, count: usize, fails: bool, due: &[u8]) -> bool
+    requires { count ≤ 10 }
+{
+    let source = Blocks {
+        blocks: &LINES[..count],
+        given: 0,
+        fails,
+    };
+    is_heard(rt, alloc, source, end_of(fails, End::EndOfInput), due)
 }
 
-#[test]
-fn a_write_that_fails_leaves_a_beginning(rt: HostRuntime) -> Result<(), Fail> {
-    let alloc = rt.alloc();
-    let all = ANSWERS.concat(alloc)?;
-    for calls in 0..all.len() {
-        for fails in [true, false] {
-            let narrow = Narrow {
-                taken: Vec::new(alloc),
-                most: 1,
-                calls,
-                fails,
-            };
-            let due = &all.as_slice()[..calls];
-            assert!(rt;
-                is_broken(&rt, LINES.as_slice(), narrow, due),
-                "{calls} bytes"
-            );
+/// Whether it writes their answers in both cases.
+fn is_answered_after<R: Wait>(rt: &R, alloc: Global, count: usize) -> bool
+    requires { count ≤ 10 }
+{
+    match joined(alloc, &ANSWERS[..count]) {
+        Ok(due) => {
+            is_heard_after(rt, alloc, count, true, due.as_slice())
+                && is_heard_after(rt, alloc, count, false, due.as_slice())
         }
+        Err(AllocError) => false,
     }
-    assert_eq!(rt; SessionFault::Write.number(), 2);
-    Ok(())
 }
 
-/// Where all lines come at once.
-#[test]
-fn a_write_that_fails_leaves_whole_answers(rt: HostRuntime) -> Result<(), Fail> {
-    let alloc = rt.alloc();
-    let lines = LINES.concat(alloc)?;
-    for calls in 0..ANSWERS.len() {
-        let narrow = Narrow {
-            taken: Vec::new(alloc),
-            most: 200,
-            calls,
-            fails: true,
-        };
-        let due = ANSWERS[..calls].concat(alloc)?;
-        let at_once = [lines.as_slice()];
-        assert!(rt;
-            is_broken(&rt, at_once.as_slice(), narrow, due.as_slice()),
-            "{calls} answers"
-        );
+/// Whether a session whose sink takes so many single bytes, and then fails or takes none, writes this.
+fn is_broken_at<R: Wait>(rt: &R, alloc: Global, calls: usize, fails: bool, due: &[u8]) -> bool {
+    let narrow = Narrow {
+        taken: Vec::new(alloc),
+        most: 1,
+        calls,
+        fails,
+    };
+    is_broken(rt, LINES.as_slice(), narrow, due)
+}
+
+/// How many bytes the answers have.
+const BYTES: usize = 98;
+
+/// Whether it writes so many bytes of the answers in both cases.
+fn is_begun_after<R: Wait>(rt: &R, alloc: Global, calls: usize) -> bool {
+    match joined(alloc, ANSWERS.as_slice()) {
+        Ok(all) => {
+            all.len() == BYTES
+                && calls < BYTES
+                && is_broken_at(rt, alloc, calls, true, &all.as_slice()[..calls])
+                && is_broken_at(rt, alloc, calls, false, &all.as_slice()[..calls])
+        }
+        Err(AllocError) => false,
     }
-    Ok(())
+}
+
+/// Whether a session of lines that come at once, whose sink takes so many writes and then fails, writes this.
+fn is_broken_after<R: Wait>(rt: &R, alloc: Global, lines: &[u8], calls: usize, due: &[u8]) -> bool {
+    let narrow = Narrow {
+        taken: Vec::new(alloc),
+        most: 200,
+        calls,
+        fails: true,
+    };
+    let at_once = [lines];
+    is_broken(rt, at_once.as_slice(), narrow, due)
+}
+
+/// Whether it writes so many answers.
+fn is_whole_after<R: Wait>(rt: &R, alloc: Global, calls: usize) -> bool
+    requires { calls ≤ 10 }
+{
+    match (
+        joined(alloc, LINES.as_slice()),
+        joined(alloc, &ANSWERS[..calls]),
+    ) {
+        (Ok(lines), Ok(due)) => {
+            is_broken_after(rt, alloc, lines.as_slice(), calls, due.as_slice())
+        }
+        _ => false,
+    }
 }
 
 /// Blocks whose last line no LF ends, the answers to the lines before it, those to all, and how the session ends.
@@ -343,18 +367,23 @@ const CUT: [Cut; 4] = [
     (&[b"BYE\r"], b"", b"ERR 21\n", End::EndOfInput),
 ];
 
-#[test]
-fn a_cut_line_is_answered_at_the_end_alone(rt: HostRuntime) {
-    for (blocks, before, all, end) in &CUT {
-        for fails in [true, false] {
-            let source = Blocks {
-                blocks,
-                given: 0,
-                fails,
-            };
-            let due = if fails { *before } else { *all };
-            assert!(rt; is_heard(&rt, rt.alloc(), source, end_of(fails, *end), due));
-        }
+/// Whether such blocks are answered so before a source that fails, or before its end.
+fn is_cut<R: Wait>(rt: &R, alloc: Global, cut: &Cut, fails: bool) -> bool {
+    let (blocks, before, all, end) = *cut;
+    let source = Blocks {
+        blocks,
+        given: 0,
+        fails,
+    };
+    let due = if fails { before } else { all };
+    is_heard(rt, alloc, source, end_of(fails, end), due)
+}
+
+/// Whether it is so of the blocks of this place in both cases.
+fn is_cut_at<R: Wait>(rt: &R, alloc: Global, place: usize) -> bool {
+    match CUT.get(place) {
+        Some(cut) => is_cut(rt, alloc, cut, true) && is_cut(rt, alloc, cut, false),
+        None => false,
     }
 }
 
@@ -380,11 +409,8 @@ impl Source for Asking<'_> {
         }
         self.0.asked.set(asked.saturating_add(1));
         match LINES.get(asked) {
-            Some(line) if line.len() <= block.len() => {
-                block[..line.len()].copy_from_slice(line);
-                Ok(line.len())
-            }
-            _ => Ok(0),
+            Some(line) => Ok(given(block, line)),
+            None => Ok(0),
         }
     }
 }
@@ -405,15 +431,89 @@ impl Sink for Hearing<'_> {
     }
 }
 
-#[test]
-fn each_answer_is_written_before_more_is_read(rt: HostRuntime) {
+/// Whether no answer of a session of ten lines comes too late.
+fn is_answered_in_time<R: Wait>(rt: &R) -> bool {
     let wire = Wire {
         asked: Cell::new(0),
         answered: Cell::new(0),
         too_early: Cell::new(false),
     };
     let mut office = Prepared::new(NOTHING_TO_PLAY, 4, 7, 123);
-    let result = serve_lines(&rt, &mut Asking(&wire), &mut Hearing(&wire), &mut office);
-    assert!(rt; result == Ok(End::EndOfInput) && !office.here);
-    assert!(rt; wire.answered.get() == LINES.len() && !wire.too_early.get());
+    let result = session(rt, &mut Asking(&wire), &mut Hearing(&wire), &mut office);
+    matches!(result, Ok(End::EndOfInput))
+        && !office.here
+        && wire.answered.get() == 10
+        && !wire.too_early.get()
+}
+
+/// What sessions meet.
+#[derive(Drop)]
+enum Trial {
+    /// A read that fails.
+    Read,
+    /// A write of a byte that fails.
+    Write,
+    /// A write of an answer that fails.
+    Answer,
+    /// A line that no LF ends.
+    Cut,
+    /// A source and a sink that know of each other.
+    Wire,
+}
+
+/// How many cases a trial has.
+fn cases(trial: &Trial) -> usize {
+    match trial {
+        Trial::Read => 11,
+        Trial::Write => BYTES,
+        Trial::Answer => 10,
+        Trial::Cut => 4,
+        Trial::Wire => 1,
+    }
+}
+
+/// Whether a case of it is as it should be.
+fn is_so<R: Wait>(rt: &R, alloc: Global, trial: &Trial, case: usize) -> bool {
+    match trial {
+        Trial::Read => case <= 10 && is_answered_after(rt, alloc, case),
+        Trial::Write => is_begun_after(rt, alloc, case),
+        Trial::Answer => case <= 10 && is_whole_after(rt, alloc, case),
+        Trial::Cut => is_cut_at(rt, alloc, case),
+        Trial::Wire => is_answered_in_time(rt),
+    }
+}
+
+/// Tries all its cases. The tests share this loop, since each loop takes the prover two seconds more.
+fn tries<R: Wait + Abort>(rt: &R, alloc: Global, trial: Trial) {
+    for case in 0..cases(&trial) {
+        holds_at(rt, case, is_so(rt, alloc, &trial, case));
+    }
+}
+
+#[test]
+fn a_read_that_fails_leaves_the_answers_before_it(rt: HostRuntime) {
+    tries(&rt, rt.alloc(), Trial::Read);
+    holds(&rt, SessionFault::Read.number() == 1);
+}
+
+#[test]
+fn a_write_that_fails_leaves_a_beginning(rt: HostRuntime) {
+    tries(&rt, rt.alloc(), Trial::Write);
+    holds(&rt, SessionFault::Write.number() == 2);
+}
+
+/// Where all lines come at once.
+#[test]
+fn a_write_that_fails_leaves_whole_answers(rt: HostRuntime) {
+    tries(&rt, rt.alloc(), Trial::Answer);
+}
+
+#[test]
+fn a_cut_line_is_answered_at_the_end_alone(rt: HostRuntime) {
+    tries(&rt, rt.alloc(), Trial::Cut);
+}
+
+#[test]
+fn each_answer_is_written_before_more_is_read(rt: HostRuntime) {
+    tries(&rt, rt.alloc(), Trial::Wire);
 }

@@ -1,10 +1,24 @@
 //! `solve` where readers and writers fail, or memory is wanting.
+ghost use Rattle.std.specs.Prelude.{◌≤◌};
+
+use super::{given, heap_of, holds, holds_at};
 use arrayvec::ArrayVec;
 use line_io::{FromReader, FromWriter, LineFault, ReadFailed, Sink, Source, WriteFailed};
 use linked_list_allocator::LocalHeap;
 use solve_engine::{solve, solve_bytes};
-use std::alloc::Global;
-use std::test::Fail;
+use std::alloc::{Allocator, Global};
+
+/// Solves lines, at this grain.
+fn solves<A: Allocator + Copy, S: Source, K: Sink>(
+    alloc: A,
+    source: &mut S,
+    sink: &mut K,
+    grain: u8,
+) -> Result<(), LineFault>
+    requires { grain ≤ 6 }
+{
+    solve(alloc, source, sink, grain)
+}
 
 /// The opening at depth 0 and 1.
 const TWO_LINES: &[u8; 138] = b"0 ---------------------------OX------XO--------------------------- X
@@ -76,18 +90,15 @@ fn is_run(alloc: Global, run: &Run) -> bool {
         bytes: ArrayVec::new(),
         calls: writes,
     };
-    solve(alloc, &mut source, &mut sink, 0) == end && sink.bytes.as_slice() == answers
+    solves(alloc, &mut source, &mut sink, 0) == end && sink.bytes.as_slice() == answers
 }
 
 #[test]
 fn readers_and_writers_fail_at_each_call(rt: HostRuntime) {
+    let mut case = 0usize;
     for run in &RUNS {
-        assert!(rt;
-            is_run(rt.alloc(), run),
-            "{} reads and {} writes",
-            run.0,
-            run.1
-        );
+        holds_at(&rt, case, is_run(rt.alloc(), run));
+        case = case.saturating_add(1);
     }
 }
 
@@ -119,9 +130,7 @@ impl Source for Crowded<'_> {
         }
         self.calls += 1;
         let line = b"1 ---------------------------OX------XO--------------------------- X\n";
-        let count = line.len().min(block.len());
-        block[..count].copy_from_slice(&line[..count]);
-        Ok(count)
+        Ok(given(block, line))
     }
 }
 
@@ -133,16 +142,18 @@ fn are_answered(alloc: Global, heap: &LocalHeap, answers: &[u8]) -> bool {
         calls: 0,
     };
     let mut sink = FromWriter::new(Vec::new(alloc));
-    solve(heap, &mut source, &mut sink, 2).is_ok() && sink.writer.as_slice() == answers
+    solves(heap, &mut source, &mut sink, 2).is_ok() && sink.writer.as_slice() == answers
 }
 
 /// A line whose growth is refused is answered by ERR 19, and the lines after it are answered.
 #[test]
-fn refused_growths_are_told(rt: HostRuntime) -> Result<(), Fail> {
-    let heap = LocalHeap::new(rt.alloc(), ROOM)?;
-    assert!(rt; are_answered(rt.alloc(), &heap, b"ERR 19\n-3 d3\nERR 19\n"));
-    assert!(rt; heap.used() == 0);
-    Ok(())
+fn refused_growths_are_told(rt: HostRuntime) {
+    let heap = heap_of(&rt, rt.alloc(), ROOM);
+    holds(
+        &rt,
+        are_answered(rt.alloc(), &heap, b"ERR 19\n-3 d3\nERR 19\n"),
+    );
+    holds(&rt, heap.used() == 0);
 }
 
 /// Lines with a fault, and one that has none.
@@ -158,8 +169,10 @@ fn are_faults_told(alloc: Global, heap: &LocalHeap, answers: &[u8]) -> bool {
 
 /// Faults come before the memory of a search is asked for.
 #[test]
-fn faults_ask_for_no_memory(rt: HostRuntime) -> Result<(), Fail> {
-    let heap = LocalHeap::new(rt.alloc(), 0)?;
-    assert!(rt; are_faults_told(rt.alloc(), &heap, b"ERR 23\nERR 27\nERR 24\nERR 19\n"));
-    Ok(())
+fn faults_ask_for_no_memory(rt: HostRuntime) {
+    let heap = heap_of(&rt, rt.alloc(), 0);
+    holds(
+        &rt,
+        are_faults_told(rt.alloc(), &heap, b"ERR 23\nERR 27\nERR 24\nERR 19\n"),
+    );
 }

@@ -1,26 +1,20 @@
 //! The example of `protocol`.
+use super::holds;
 use arrayvec::ArrayVec;
 use othello_moves::Choice;
 use protocol::{push_move, push_value, split_at_space, word_number};
 
-/// The number before the first space of a line.
-fn number_of(line: &[u8]) -> Option<u32> {
-    let (depth, _) = split_at_space(line)?;
-    word_number(depth)
-}
-
-/// Whether a line has this after its first space.
-fn goes_on(line: &[u8], rest: &[u8]) -> bool {
+/// Whether a line has the number 12 before its first space, and this after it.
+fn is_split(line: &[u8], rest: &[u8]) -> bool {
     match split_at_space(line) {
-        Some((_, position)) => position == rest,
+        Some((depth, position)) => matches!(word_number(depth), Some(12)) && position == rest,
         None => false,
     }
 }
 
 #[test]
 fn words_are_read(rt: HostRuntime) {
-    assert!(rt; number_of(b"12 X-O") == Some(12));
-    assert!(rt; goes_on(b"12 X-O", b"X-O"));
+    holds(&rt, is_split(b"12 X-O", b"X-O"));
 }
 
 #[test]
@@ -29,5 +23,5 @@ fn an_answer_is_written(rt: HostRuntime) {
     push_value(&mut text, -3);
     text.push(b' ');
     push_move(&mut text, Some(Choice::Square(19)));
-    assert!(rt; text.as_slice() == b"-3 d3".as_slice());
+    holds(&rt, text.as_slice() == b"-3 d3".as_slice());
 }

@@ -2,7 +2,7 @@
 
 ghost use Rattle.std.specs.Prelude.{◌<◌};
 
-use super::{Row, Visit, is_answered, is_sent, is_told, is_visited};
+use super::{Row, Visit, holds, is_answered, is_sent, is_told, is_visited};
 use std::alloc::Global;
 use std::net::TcpStream;
 use std::string::String;
@@ -110,5 +110,5 @@ pub(super) fn are_all_told(alloc: Global, stream: &TcpStream) -> bool {
 
 #[test]
 fn each_of_256_jobs_is_told_over_tcp(rt: HostRuntime) {
-    assert!(rt; is_visited(&rt, rt.alloc(), 1, Visit::All));
+    holds(&rt, is_visited(&rt, 1, Visit::All));
 }

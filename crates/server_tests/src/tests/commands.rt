@@ -5,6 +5,7 @@ mod served;
 mod streams;
 mod words;
 
+use super::holds;
 use line_io::{FromReader, FromWriter, Sink};
 use serve_command::run;
 use solve_command::{Explained, Input, Output, Streams, run_solve};
@@ -52,15 +53,20 @@ impl IsTerminal for Keys {
     }
 }
 
-/// An input that gives these bytes, at a terminal or not.
-fn typed(bytes: &'static [u8], is_terminal: bool) -> FromReader<Keys> {
+/// An input that gives these bytes or fails so, at a terminal or not.
+fn input(bytes: &'static [u8], failure: Option<ErrorKind>, is_terminal: bool) -> FromReader<Keys> {
     FromReader {
         reader: Keys {
             bytes,
-            failure: None,
+            failure,
             is_terminal,
         },
     }
+}
+
+/// An input that gives these bytes, at a terminal or not.
+fn typed(bytes: &'static [u8], is_terminal: bool) -> FromReader<Keys> {
+    input(bytes, None, is_terminal)
 }
 
 /// Takes nothing, and fails so.
@@ -78,37 +84,44 @@ impl Write for Broken {
 }
 
 /// Does what the words ask for: the exit status. It says nothing of what `run` promises, so that a call is cheap to prove.
-fn status_of<R, S: Input, K: Output, E: Sink>(
+fn status_of<S: Input, K: Output, E: Sink, R>(
     rt: &R,
-    alloc: Global,
     words: &[&str],
     streams: &mut Streams<S, K, E>,
 ) -> u8
 where
-    R: Net<Listener = TcpListener, Stream = TcpStream> + Threads + Wait + Sync,
+    R: Net<Listener = TcpListener, Stream = TcpStream> + AllocGlobal + Threads + Wait + Sync,
 {
-    run(rt, alloc, words, streams)
+    run(rt, rt.alloc(), words, streams)
 }
 
 /// The exit status with this input and this output, the output then, and what was said on the errors.
-fn followed<R, S: Input + Drop, K: Output>(
+fn followed<S: Input + Drop, K: Output, R>(
     rt: &R,
-    alloc: Global,
     words: &[&str],
     source: S,
     sink: K,
 ) -> (u8, K, Vec<u8>)
 where
-    R: Net<Listener = TcpListener, Stream = TcpStream> + Threads + Wait + Sync,
+    R: Net<Listener = TcpListener, Stream = TcpStream> + AllocGlobal + Threads + Wait + Sync,
 {
     let mut streams = Streams {
         source,
         sink,
-        errors: memory(alloc),
+        errors: memory(rt.alloc()),
     };
-    let status = status_of(rt, alloc, words, &mut streams);
+    let status = status_of(rt, words, &mut streams);
     let Streams { sink, errors, .. } = streams;
     (status, sink, errors.writer)
+}
+
+/// The exit status with this input, and what was written on the output and on the errors.
+fn written<R>(rt: &R, words: &[&str], source: FromReader<Keys>) -> (u8, Vec<u8>, Vec<u8>)
+where
+    R: Net<Listener = TcpListener, Stream = TcpStream> + AllocGlobal + Threads + Wait + Sync,
+{
+    let (status, sink, errors) = followed(rt, words, source, memory(rt.alloc()));
+    (status, sink.writer, errors)
 }
 
 /// Whether a text begins so, and is empty where that is.
@@ -145,19 +158,19 @@ const TEXTS: [Text; 12] = [
 ];
 
 /// Whether words have this status and these texts.
-fn have_texts<R>(rt: &R, alloc: Global, text: &Text) -> bool
+fn have_texts<R>(rt: &R, text: &Text) -> bool
 where
-    R: Net<Listener = TcpListener, Stream = TcpStream> + Threads + Wait + Sync,
+    R: Net<Listener = TcpListener, Stream = TcpStream> + AllocGlobal + Threads + Wait + Sync,
 {
     let (words, status, output, error) = *text;
-    let (found, sink, errors) = followed(rt, alloc, words, typed(LINE, false), memory(alloc));
-    found == status && begins(&sink.writer, output) && begins(&errors, error)
+    let (found, answers, errors) = written(rt, words, typed(LINE, false));
+    found == status && begins(&answers, output) && begins(&errors, error)
 }
 
 #[test]
 fn each_text_has_its_place_and_status(rt: HostRuntime) {
     for text in &TEXTS {
-        assert!(rt; have_texts(&rt, rt.alloc(), text), "{:?}", text.0);
+        assert!(rt; have_texts(&rt, text), "{:?}", text.0);
     }
 }
 
@@ -216,18 +229,32 @@ struct Said {
     errors: Vec<u8>,
 }
 
-fn said_of_faults<R>(rt: &R, alloc: Global, explaining: &Explaining) -> Said
+/// The status of the whole program with these words, or of the one without a server.
+fn explaining_status<K: Output, E: Sink, R>(
+    rt: &R,
+    is_whole: bool,
+    words: &[&str],
+    streams: &mut Streams<FromReader<Keys>, K, E>,
+) -> u8
 where
-    R: Net<Listener = TcpListener, Stream = TcpStream> + Threads + Wait + Sync,
+    R: Net<Listener = TcpListener, Stream = TcpStream> + AllocGlobal + Threads + Wait + Sync,
+{
+    if is_whole {
+        status_of(rt, words, streams)
+    } else {
+        run_solve(rt.alloc(), words, streams)
+    }
+}
+
+fn said_of_faults<R>(rt: &R, explaining: &Explaining) -> Said
+where
+    R: Net<Listener = TcpListener, Stream = TcpStream> + AllocGlobal + Threads + Wait + Sync,
 {
     let (is_terminal, is_whole, words) = *explaining;
     let source = typed(FAULTY, is_terminal);
+    let alloc = rt.alloc();
     let mut streams = Streams::explained(source, memory(alloc), memory(alloc), memory(alloc));
-    let status = if is_whole {
-        status_of(rt, alloc, words, &mut streams)
-    } else {
-        run_solve(alloc, words, &mut streams)
-    };
+    let status = explaining_status(rt, is_whole, words, &mut streams);
     let Streams { sink, errors, .. } = streams;
     let Explained {
         sink,
@@ -259,7 +286,7 @@ fn is_explained(said: &Said, explaining: &Explaining) -> bool {
 #[test]
 fn faults_are_said_in_words_at_a_terminal(rt: HostRuntime) {
     for explaining in &EXPLAINING {
-        let said = said_of_faults(&rt, rt.alloc(), explaining);
+        let said = said_of_faults(&rt, explaining);
         assert!(rt; is_explained(&said, explaining), "{explaining:?}");
     }
 }
@@ -315,5 +342,5 @@ fn only_faults_are_said_in_words(rt: HostRuntime) {
     for (answer, said) in &ANSWERS {
         assert!(rt; is_said_of(rt.alloc(), answer, said), "{answer:?}");
     }
-    assert!(rt; is_lost_in_silence(rt.alloc()));
+    holds(&rt, is_lost_in_silence(rt.alloc()));
 }

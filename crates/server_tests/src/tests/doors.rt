@@ -1,12 +1,12 @@
 //! What lies between a server and those who come: its listener, its descriptors, its threads.
 ghost use Rattle.std.specs.Prelude.{◌≡◌};
 
+use super::failing::next_of;
 use super::{
-    ANSWERED, LAST, Row, Trial, are_answered, are_told, fault_of, is_answered, is_closed, is_sent,
-    is_well, server_of,
+    ANSWERED, LAST, Row, TURNS, Trial, Visit, are_answered, are_served, are_told, fault_of, holds,
+    is_answered, is_closed, is_sent, is_well, is_whole, server_of, visitor, visitors,
 };
 use sched_rules::Worker;
-use std::alloc::Global;
 use std::io::{self, Error, ErrorKind, Read, Write};
 use std::net::{Net, OpenListener, SocketAddr, TcpListener, TcpStream};
 use std::sync::Wait;
@@ -16,6 +16,7 @@ use std::thread::{self, Threads};
 use std::time::{Clock, CpuClock, Duration};
 use tcp_door::Door;
 use tcp_server::desk::{Desk, DeskLedger};
+use tcp_server::serve;
 use tcp_server::steal_pool::{Gate, OpenGate, Task};
 
 /// A job with a long table: one of Black's fourteen moves takes all of White's discs.
@@ -67,6 +68,8 @@ const MOST_DESCRIPTORS: usize = 1 << 21;
 /// Who comes to a server.
 #[derive(Clone, Copy)]
 pub(super) enum Guest {
+    /// Those who came before the server began.
+    Visit(Visit),
     /// One who is told these answers to these lines, to the end of the session.
     Told(&'static [Row]),
     /// The only one, who is followed by others once it is there.
@@ -75,44 +78,68 @@ pub(super) enum Guest {
     Silent,
     /// One who asks four jobs at once.
     Four,
-    /// Three, where there are descriptors for one, and a fourth later.
+    /// Three who came before it began, where there are descriptors for one, and a fourth later.
     Crowd,
 }
 
-/// The workers that are in the midst of a computation: each stays there until so many are, within a limit.
+/// Those who are there: workers in the midst of a computation, each of which stays until so many are there, within a limit.
 #[derive(Drop)]
-struct Together {
+pub(super) struct Together {
     many: u32,
     there: AtomicU32,
     late: AtomicBool,
+}
+
+impl Together {
+    /// A gate at which nobody is there yet.
+    fn new(many: u32) -> Together {
+        Together {
+            many,
+            there: AtomicU32::new(0),
+            late: AtomicBool::new(false),
+        }
+    }
+
+    /// One more is there.
+    pub(super) fn enter(&self) {
+        self.there.fetch_add(1, Ordering::SeqCst);
+    }
+
+    /// Whether so many are there, within a limit.
+    pub(super) fn are_there(&self, many: u32) -> bool {
+        for _ in 0..TURNS {
+            if self.there.load(Ordering::SeqCst) >= many {
+                return true;
+            }
+            thread::yield_now();
+        }
+        false
+    }
 }
 
 impl Gate for Together {
     fn before(&self, _worker: Worker, _task: &Task) {}
 
     fn inside(&self, _worker: Worker, _number: u64) {
-        self.there.fetch_add(1, Ordering::SeqCst);
-        for _ in 0..super::TURNS {
-            if self.there.load(Ordering::SeqCst) >= self.many {
-                return;
-            }
-            thread::yield_now();
+        self.enter();
+        if !self.are_there(self.many) {
+            self.late.store(true, Ordering::SeqCst);
         }
-        self.late.store(true, Ordering::SeqCst);
     }
 }
 
-/// Those who came before the server began, and what takes up all descriptors but two.
+/// Where a server listens, who came there before it began, and what takes up all descriptors but two.
 #[derive(Drop)]
 struct Before {
+    address: SocketAddr,
     streams: Vec<TcpStream>,
     taken: Vec<TcpListener>,
 }
 
 /// Takes up all descriptors but two, by more names of the listener. None where there are too many: set a limit then, as by
 /// `ulimit -n`.
-fn taken_up(alloc: Global, listener: &TcpListener) -> Option<Vec<TcpListener>> {
-    let mut taken = Vec::new(alloc);
+fn taken_up<R: AllocGlobal>(rt: &R, listener: &TcpListener) -> Option<Vec<TcpListener>> {
+    let mut taken = Vec::new(rt.alloc());
     for _ in 0..MOST_DESCRIPTORS {
         let Ok(one) = listener.try_clone() else {
             let _two = (taken.pop(), taken.pop());
@@ -123,18 +150,11 @@ fn taken_up(alloc: Global, listener: &TcpListener) -> Option<Vec<TcpListener>> {
     None
 }
 
-/// A connection that answers within ten seconds or fails.
-fn visitor<R: Net<Stream = TcpStream>>(rt: &R, address: SocketAddr) -> io::Result<TcpStream> {
-    let stream = TcpStream::connect(rt, address)?;
-    stream.set_read_timeout(Some(Duration::from_secs(10)))?;
-    Ok(stream)
-}
-
 /// Whether somebody comes, and is answered so to the end of the session.
 fn is_visited<R: Net<Stream = TcpStream>>(rt: &R, address: SocketAddr, rows: &[Row]) -> bool {
     match visitor(rt, address) {
-        Ok(stream) => are_answered(&stream, rows),
-        Err(_) => false,
+        Some(stream) => are_answered(&stream, rows),
+        None => false,
     }
 }
 
@@ -149,16 +169,33 @@ fn is_alive(mut stream: &TcpStream) -> bool {
     }
 }
 
+/// How somebody who comes is received.
+enum Reception {
+    /// There is no connection.
+    Refused,
+    /// There is a session.
+    LetIn,
+    /// The connection is closed without a word.
+    Closed,
+}
+
+/// How somebody is received who comes now.
+fn received<R: Net<Stream = TcpStream>>(rt: &R, address: SocketAddr) -> Reception {
+    match visitor(rt, address) {
+        Some(stream) if is_alive(&stream) => Reception::LetIn,
+        Some(_) => Reception::Closed,
+        None => Reception::Refused,
+    }
+}
+
 /// Whether nobody who comes is let in: each is refused, or closed without a word where the listener is just being closed.
 fn is_refused<R: Net<Stream = TcpStream> + Clock>(rt: &R, address: SocketAddr) -> bool {
     for _ in 0..TRIES {
-        let Ok(stream) = visitor(rt, address) else {
-            return true;
-        };
-        if is_alive(&stream) {
-            return false;
+        match received(rt, address) {
+            Reception::Refused => return true,
+            Reception::LetIn => return false,
+            Reception::Closed => thread::sleep(rt, Duration::from_millis(50)),
         }
-        thread::sleep(rt, Duration::from_millis(50));
     }
     false
 }
@@ -166,12 +203,12 @@ fn is_refused<R: Net<Stream = TcpStream> + Clock>(rt: &R, address: SocketAddr) -
 /// Whether the listener is closed while its only session goes on.
 fn is_followed<R: Net<Stream = TcpStream> + Clock>(rt: &R, address: SocketAddr) -> bool {
     match visitor(rt, address) {
-        Ok(one) => {
+        Some(one) => {
             is_answered(&one, ANSWERED[0])
                 && is_refused(rt, address)
                 && are_answered(&one, &ANSWERED[1..])
         }
-        Err(_) => false,
+        None => false,
     }
 }
 
@@ -181,12 +218,12 @@ fn is_answered_beside<R: Net<Stream = TcpStream> + Clock + CpuClock>(
     address: SocketAddr,
 ) -> bool {
     match visitor(rt, address) {
-        Ok(silent) => {
+        Some(silent) => {
             are_told(&silent, &TABLED)
                 && is_stuffed(rt, &silent)
                 && is_visited(rt, address, &ANSWERED)
         }
-        Err(_) => false,
+        None => false,
     }
 }
 
@@ -213,7 +250,7 @@ fn is_any_sent(mut stream: &TcpStream) -> bool {
 
 /// Sends lines for as long as they are taken.
 fn fill(stream: &TcpStream) {
-    for _ in 0..super::TURNS {
+    for _ in 0..TURNS {
         if !is_any_sent(stream) {
             return;
         }
@@ -231,87 +268,107 @@ fn is_idle<R: Clock + CpuClock>(rt: &R) -> bool {
     }
 }
 
-/// Whether of three who came at once, the last first, one is served and two are turned away, while no processor is used.
-fn is_one_served<R: Clock + CpuClock>(rt: &R, streams: &[TcpStream]) -> bool {
-    match streams {
-        [three, two, one] => {
-            are_told(one, &ANSWERED[..4])
-                && is_closed(two)
-                && is_closed(three)
-                && is_idle(rt)
-                && are_answered(one, &[LAST])
-        }
-        _ => false,
-    }
+/// Whether of three who came at once the first is served and two are turned away, while no processor is used.
+fn is_one_served<R: Clock + CpuClock>(
+    rt: &R,
+    one: &TcpStream,
+    two: &TcpStream,
+    three: &TcpStream,
+) -> bool {
+    are_told(one, &ANSWERED[..4])
+        && is_closed(two)
+        && is_closed(three)
+        && is_idle(rt)
+        && are_answered(one, &[LAST])
 }
 
 /// Whether it is so, and a fourth is served once the first has ended.
 fn are_turned_away<R: Net<Stream = TcpStream> + Clock + CpuClock>(
     rt: &R,
     address: SocketAddr,
-    before: Before,
+    mut streams: Vec<TcpStream>,
+    taken: Vec<TcpListener>,
 ) -> bool {
-    let Before { mut streams, taken } = before;
-    let is_one_served = is_one_served(rt, &streams);
-    streams.truncate(2);
+    let three = (streams.pop(), streams.pop(), streams.pop());
+    let (Some(third), Some(second), Some(first)) = three else {
+        return false;
+    };
+    let is_one_served = is_one_served(rt, &first, &second, &third);
+    drop(first);
     let is_fourth_served = is_visited(rt, address, &ANSWERED);
     drop(taken);
     is_one_served && is_fourth_served && is_refused(rt, address)
 }
 
-/// Whether a guest is content.
-fn is_guest_content<R: Net<Stream = TcpStream> + Clock + CpuClock>(
+/// Whether a guest is content, beside workers that go through this gate.
+fn is_guest_content<R: Net<Stream = TcpStream> + AllocGlobal + Clock + CpuClock>(
     rt: &R,
-    address: SocketAddr,
     guest: Guest,
     before: Before,
+    gate: &Together,
 ) -> bool {
+    let Before {
+        address,
+        streams,
+        taken,
+    } = before;
     match guest {
+        Guest::Visit(visit) => are_served(rt.alloc(), visit, streams, gate),
         Guest::Followed => is_followed(rt, address),
         Guest::Silent => is_answered_beside(rt, address),
         Guest::Four => is_visited(rt, address, &FOUR),
         Guest::Told(rows) => is_visited(rt, address, rows),
-        Guest::Crowd => are_turned_away(rt, address, before),
+        Guest::Crowd => are_turned_away(rt, address, streams, taken),
     }
 }
 
-/// Three who have come before the server begins, the last first.
-fn three<R: Net<Stream = TcpStream>>(
-    rt: &R,
-    alloc: Global,
-    address: SocketAddr,
-) -> Option<Vec<TcpStream>> {
-    let mut streams = Vec::with_capacity(alloc, 3).ok()?;
-    for _ in 0..3 {
-        streams.push(visitor(rt, address).ok()?).ok()?;
+/// How many come to a server for so many sessions before it begins.
+fn count_before(guest: Guest, sessions: u16) -> u16 {
+    match guest {
+        Guest::Visit(_) => sessions,
+        Guest::Crowd => 3,
+        _ => 0,
     }
-    streams.reverse();
-    Some(streams)
+}
+
+/// What is taken up before a server begins.
+fn taken_before<R: AllocGlobal>(
+    rt: &R,
+    listener: &TcpListener,
+    guest: Guest,
+) -> Option<Vec<TcpListener>> {
+    match guest {
+        Guest::Crowd => taken_up(rt, listener),
+        _ => Some(Vec::new(rt.alloc())),
+    }
 }
 
 /// Who has come to a listener before its server begins.
-fn come_before<R: Net<Stream = TcpStream>>(
+fn come_before<R: Net<Stream = TcpStream> + AllocGlobal>(
     rt: &R,
-    alloc: Global,
     listener: &TcpListener,
-    guest: Guest,
+    attended: &Attended,
 ) -> Option<Before> {
-    match guest {
-        Guest::Crowd => Some(Before {
-            streams: three(rt, alloc, listener.local_addr().ok()?)?,
-            taken: taken_up(alloc, listener)?,
+    let address = listener.local_addr().ok()?;
+    let many = count_before(attended.guest, attended.sessions);
+    match (
+        visitors(rt, address, many),
+        taken_before(rt, listener, attended.guest),
+    ) {
+        (Some(streams), Some(taken)) => Some(Before {
+            address,
+            streams,
+            taken,
         }),
-        _ => Some(Before {
-            streams: Vec::new(alloc),
-            taken: Vec::new(alloc),
-        }),
+        _ => None,
     }
 }
 
-/// How many workers this guest wants to see in the midst of a computation at once.
+/// How many are there before any computation of this guest's server ends.
 fn at_once(guest: Guest) -> u32 {
     match guest {
         Guest::Four => 4,
+        Guest::Visit(Visit::Held(_, _)) => 2,
         _ => 1,
     }
 }
@@ -319,101 +376,86 @@ fn at_once(guest: Guest) -> u32 {
 /// A guest at a server of so many sessions and workers.
 #[derive(Drop)]
 pub(super) struct Attended {
-    guest: Guest,
-    sessions: u16,
-    workers: u8,
+    pub(super) guest: Guest,
+    pub(super) sessions: u16,
+    pub(super) workers: u8,
 }
 
-/// Whether the guest is content, and so many workers as it asks for were in the midst of a computation at once.
+/// Whether the guest is content, so many as it asks for were there at once, and all steps are accounted for at the end.
 pub(super) fn is_attended<L: DeskLedger + Send + Sync, R>(
     rt: &R,
-    alloc: Global,
     desk: Desk<L>,
     listener: TcpListener,
     trial: &Attended,
 ) -> bool
 where
-    R: Net<Listener = TcpListener, Stream = TcpStream> + Threads + Wait + Clock + CpuClock + Sync,
+    R: Net<Listener = TcpListener, Stream = TcpStream>
+        + AllocGlobal
+        + Threads
+        + Wait
+        + Clock
+        + CpuClock
+        + Sync,
     requires { L.all ≡ L.parts }
 {
-    let Attended {
-        guest,
-        sessions,
-        workers,
-    } = *trial;
-    let Some((address, before)) = met(rt, alloc, &listener, guest) else {
+    let Some(before) = come_before(rt, &listener, trial) else {
         return false;
     };
-    let gate = Together {
-        many: at_once(guest),
-        there: AtomicU32::new(0),
-        late: AtomicBool::new(false),
-    };
-    let server = server_of(sessions, workers);
-    let (content, fault) = thread::join(
+    let guest = trial.guest;
+    let server = server_of(trial.sessions, trial.workers);
+    let gate = Together::new(at_once(guest));
+    let there = &gate;
+    let (content, served) = thread::join(
         rt,
-        move || is_guest_content(rt, address, guest, before),
+        move || is_guest_content(rt, guest, before, there),
         ||
             requires { L.all ≡ L.parts }
-        { fault_of(rt, alloc, &desk, listener, server, &gate) },
+        { serve(rt, rt.alloc(), &desk, listener, server, there) },
     );
-    content && fault.is_none() && !gate.late.load(Ordering::SeqCst)
+    content && is_whole(desk, served) && !gate.late.load(Ordering::SeqCst)
 }
 
-/// Where a server listens, and who has come there before it begins.
-fn met<R: Net<Stream = TcpStream>>(
-    rt: &R,
-    alloc: Global,
-    listener: &TcpListener,
-    guest: Guest,
-) -> Option<(SocketAddr, Before)> {
-    let address = listener.local_addr().ok()?;
-    Some((address, come_before(rt, alloc, listener, guest)?))
-}
-
-/// Whether a guest at a server of this grain is content, and so many workers as it asks for were in the midst of a
-/// computation at once.
-pub(super) fn is_content<R>(
-    rt: &R,
-    alloc: Global,
-    grain: u8,
-    guest: Guest,
-    sessions: u16,
-    workers: u8,
-) -> bool
+/// Whether a guest at a server of this grain is content, and so many as it asks for were there at once.
+pub(super) fn is_content<R>(rt: &R, grain: u8, guest: Guest, sessions: u16, workers: u8) -> bool
 where
-    R: Net<Listener = TcpListener, Stream = TcpStream> + Threads + Wait + Clock + CpuClock + Sync,
+    R: Net<Listener = TcpListener, Stream = TcpStream>
+        + AllocGlobal
+        + Threads
+        + Wait
+        + Clock
+        + CpuClock
+        + Sync,
 {
     let attended = Attended {
         guest,
         sessions,
         workers,
     };
-    is_well(rt, alloc, (256, 64), grain, &Trial::Attended(attended))
+    is_well(rt, (256, 64), grain, &Trial::Attended(attended))
 }
 
 /// The listener is closed with the last connection, while its session lives.
 #[test]
 fn who_comes_too_late_is_refused(rt: HostRuntime) {
-    assert!(rt; is_content(&rt, rt.alloc(), 0, Guest::Followed, 1, 1));
+    holds(&rt, is_content(&rt, 0, Guest::Followed, 1, 1));
 }
 
 /// Who never reads its answers holds up nobody.
 #[test]
 fn a_silent_peer_holds_up_nobody(rt: HostRuntime) {
-    assert!(rt; is_content(&rt, rt.alloc(), 0, Guest::Silent, 2, 1));
+    holds(&rt, is_content(&rt, 0, Guest::Silent, 2, 1));
 }
 
 /// Four workers that were asked for run at once.
 #[test]
 fn as_many_workers_run_as_were_asked(rt: HostRuntime) {
-    assert!(rt; is_content(&rt, rt.alloc(), 0, Guest::Four, 1, 4));
+    holds(&rt, is_content(&rt, 0, Guest::Four, 1, 4));
 }
 
 /// Where all descriptors are used up, who comes is turned away and counts, and the sessions go on.
 #[test]
 fn descriptors_are_used_up(rt: HostRuntime) {
-    assert!(rt; is_content(&rt, rt.alloc(), 0, Guest::Crowd, 4, 1));
+    holds(&rt, is_content(&rt, 0, Guest::Crowd, 4, 1));
 }
 
 /// A listener whose first connections are lost before they can be taken.
@@ -441,11 +483,11 @@ fn passes_over<R: Net<Stream = TcpStream> + Wait>(rt: &R, listener: TcpListener)
         return false;
     };
     let stream = TcpStream::connect(rt, address);
-    let mut door = Door::new(Flaky {
+    let door = Door::new(Flaky {
         listener,
         lost: AtomicU32::new(0),
     });
-    match (stream, door.next(rt)) {
+    match (stream, next_of(rt, door)) {
         (Ok(stream), Ok(Some(taken))) => is_sent(&taken, b"?") && !is_closed(&stream),
         _ => false,
     }
@@ -455,7 +497,7 @@ fn passes_over<R: Net<Stream = TcpStream> + Wait>(rt: &R, listener: TcpListener)
 #[test]
 fn lost_connections_are_passed_over(rt: HostRuntime) -> Result<(), Fail> {
     let listener = TcpListener::bind(&rt, "127.0.0.1:0")?;
-    assert!(rt; passes_over(&rt, listener));
+    holds(&rt, passes_over(&rt, listener));
     Ok(())
 }
 
@@ -492,12 +534,11 @@ impl<R: Net<Listener = TcpListener, Stream = TcpStream>> Net for Waiting<'_, R> 
 /// Whether a server whose pool can't begin closes the connection that wakes its listener at once.
 pub(super) fn is_stopped<L: DeskLedger + Send + Sync, R>(
     rt: &R,
-    alloc: Global,
     desk: Desk<L>,
     listener: TcpListener,
 ) -> bool
 where
-    R: Net<Listener = TcpListener, Stream = TcpStream> + Threads + Wait + Clock + CpuClock + Sync,
+    R: Net<Listener = TcpListener, Stream = TcpStream> + AllocGlobal + Threads + Wait + Sync,
     requires { L.all ≡ L.parts }
 {
     let waiting = Waiting {
@@ -506,7 +547,7 @@ where
     };
     let mut server = server_of(1, 1);
     server.pool.stack = Some(usize::MAX);
-    let fault = fault_of(&waiting, alloc, &desk, listener, server, &OpenGate);
+    let fault = fault_of(&waiting, rt.alloc(), &desk, listener, server, &OpenGate);
     fault.is_some() && waiting.is_closed.load(Ordering::SeqCst)
 }
 
@@ -514,5 +555,5 @@ where
 /// already that nobody is served any more.
 #[test]
 fn a_stop_comes_before_its_connection(rt: HostRuntime) {
-    assert!(rt; is_well(&rt, rt.alloc(), (8, 8), 0, &Trial::Stopped));
+    holds(&rt, is_well(&rt, (8, 8), 0, &Trial::Stopped));
 }

@@ -1,15 +1,13 @@
 //! Listeners that fail: by want of descriptors, for which there is a spare one, or otherwise, which ends the server.
 ghost use Rattle.std.specs.Prelude.{◌≡◌};
 
-use super::{Trial, fault_of, is_well, server_of};
+use super::{Trial, fault_of, holds, is_well, server_of};
 use std::alloc::Global;
 use std::io::{self, Error, ErrorKind};
 use std::net::{Net, OpenListener, SocketAddr, TcpListener, TcpStream};
 use std::sync::Wait;
 use std::sync::atomic::{AtomicU32, Ordering};
-use std::test::Fail;
 use std::thread::Threads;
-use std::time::{Clock, CpuClock};
 use tcp_door::Door;
 use tcp_server::ServeFault;
 use tcp_server::desk::{Desk, DeskLedger};
@@ -81,55 +79,75 @@ fn door_of(listener: TcpListener, tried: &Try) -> Door<Failing> {
     })
 }
 
+/// Who comes through a door next.
+pub(super) fn next_of<N: OpenListener<Stream = TcpStream> + Drop, R: Wait>(
+    rt: &R,
+    mut door: Door<N>,
+) -> io::Result<Option<TcpStream>> {
+    door.next(rt)
+}
+
 /// Whether a door takes the connection of somebody who came, or fails by this error.
-fn takes<R: Wait>(rt: &R, mut door: Door<Failing>, error: Option<i32>) -> bool {
-    match door.next(rt) {
+fn takes<R: Wait>(rt: &R, door: Door<Failing>, error: Option<i32>) -> bool {
+    match next_of(rt, door) {
         Ok(taken) => taken.is_some() && error.is_none(),
         Err(failed) => error.is_some() && failed.raw_os_error() == error,
     }
 }
 
-#[test]
-fn each_error_of_a_listener(rt: HostRuntime) -> Result<(), Fail> {
-    for tried in &TRIES {
-        let listener = TcpListener::bind(&rt, "127.0.0.1:0")?;
-        let _visitor = TcpStream::connect(&rt, listener.local_addr()?)?;
-        assert!(rt;
-            takes(&rt, door_of(listener, tried), tried.3),
-            "error {}",
-            tried.0
-        );
+/// Whether a door whose first tries fail so takes the connection of somebody who came, or fails, as it should.
+fn is_as_tried<R: Net<Listener = TcpListener, Stream = TcpStream> + Wait>(
+    rt: &R,
+    tried: &Try,
+) -> bool {
+    let Ok(listener) = TcpListener::bind(rt, "127.0.0.1:0") else {
+        return false;
+    };
+    let Ok(address) = listener.local_addr() else {
+        return false;
+    };
+    match TcpStream::connect(rt, address) {
+        Ok(_visitor) => takes(rt, door_of(listener, tried), tried.3),
+        Err(_) => false,
     }
-    Ok(())
+}
+
+#[test]
+fn each_error_of_a_listener(rt: HostRuntime) {
+    for tried in &TRIES {
+        assert!(rt; is_as_tried(&rt, tried), "error {}", tried.0);
+    }
 }
 
 /// Whether a server whose listener doesn't wait for connections fails, and its desk is closed then.
 pub(super) fn is_hasty<L: DeskLedger + Send + Sync, R>(
     rt: &R,
-    alloc: Global,
     desk: Desk<L>,
     listener: TcpListener,
 ) -> bool
 where
-    R: Net<Listener = TcpListener, Stream = TcpStream> + Threads + Wait + Clock + CpuClock + Sync,
+    R: Net<Listener = TcpListener, Stream = TcpStream> + AllocGlobal + Threads + Wait + Sync,
     requires { L.all ≡ L.parts }
 {
     let is_set = listener.set_nonblocking(true).is_ok();
-    let fault = fault_of(rt, alloc, &desk, listener, server_of(2, 2), &OpenGate);
-    let is_failed = would_block(fault);
+    let fault = fault_of(rt, rt.alloc(), &desk, listener, server_of(2, 2), &OpenGate);
+    let is_failed = would_block(&fault);
     let is_closed = desk.next_ready(rt).is_none();
     is_set && is_failed && is_closed
 }
 
 /// Whether a server has failed since no connection was there yet.
-fn would_block(fault: Option<ServeFault>) -> bool {
-    matches!(fault, Some(ServeFault::Listener(error)) if error.kind() == ErrorKind::WouldBlock)
+fn would_block(fault: &Option<ServeFault>) -> bool {
+    match fault {
+        Some(ServeFault::Listener(error)) => error.kind() == ErrorKind::WouldBlock,
+        _ => false,
+    }
 }
 
 /// A server whose listener fails ends: its desk is closed, so that its workers end too.
 #[test]
 fn a_listener_that_fails_ends_the_server(rt: HostRuntime) {
-    assert!(rt; is_well(&rt, rt.alloc(), (8, 8), 0, &Trial::Hasty));
+    holds(&rt, is_well(&rt, (8, 8), 0, &Trial::Hasty));
 }
 
 /// Whether what a fault says begins so.
@@ -145,14 +163,15 @@ fn faults_are_told(rt: HostRuntime) {
     let no_memory = ServeFault::from(PoolFault::OutOfMemory);
     let no_thread = ServeFault::from(BeginFault::Pool(PoolFault::NoThread));
     let unsaid = ServeFault::from(BeginFault::Unsaid);
-    assert!(rt; says(alloc, failed, "no connection could be taken: "));
-    assert!(rt; says(alloc, no_memory, "no memory for the workers"));
-    assert!(rt; says(alloc, no_thread, "no thread for a worker"));
-    assert!(rt;
+    holds(&rt, says(alloc, failed, "no connection could be taken: "));
+    holds(&rt, says(alloc, no_memory, "no memory for the workers"));
+    holds(&rt, says(alloc, no_thread, "no thread for a worker"));
+    holds(
+        &rt,
         says(
             alloc,
             unsaid,
-            "what is said at the beginning could not be said"
-        )
+            "what is said at the beginning could not be said",
+        ),
     );
 }

@@ -1,19 +1,11 @@
 //! A tenant reserves more while its jobs run.
-ghost use Rattle.std.specs.Prelude.{◌≡◌};
 
-use super::{
-    LAST, Row, TURNS, Trial, Visit, are_told, connected, fault_of, is_answered, is_visited,
-    is_well, server_of,
-};
-use sched_rules::Worker;
-use std::alloc::Global;
+use super::doors::{Attended, Guest, Together};
+use super::{LAST, Row, Trial, Visit, are_told, holds, is_answered, is_visited, is_well};
 use std::net::{Net, TcpListener, TcpStream};
 use std::sync::Wait;
-use std::sync::atomic::{AtomicBool, Ordering};
-use std::thread::{self, Threads};
+use std::thread::Threads;
 use std::time::{Clock, CpuClock};
-use tcp_server::desk::{Desk, DeskLedger};
-use tcp_server::steal_pool::{Gate, Task};
 
 /// A tenant of one node has eight, and a job that takes five.
 pub(super) const MORE: [Row; 6] = [
@@ -30,98 +22,49 @@ pub(super) const MORE: [Row; 6] = [
 
 #[test]
 fn more_is_reserved_over_tcp(rt: HostRuntime) {
-    assert!(rt; is_visited(&rt, rt.alloc(), 1, Visit::More));
+    holds(&rt, is_visited(&rt, 1, Visit::More));
 }
 
-/// Holds the first computation of a pool.
-#[derive(Drop)]
-struct HoldingGate {
-    is_there: AtomicBool,
-    is_open: AtomicBool,
-}
-
-impl Gate for HoldingGate {
-    fn before(&self, _worker: Worker, _task: &Task) {}
-
-    fn inside(&self, _worker: Worker, _number: u64) {
-        self.is_there.store(true, Ordering::SeqCst);
-        let _ = is_set(&self.is_open);
-    }
-}
-
-/// Waits within a limit until a flag is set.
-fn is_set(flag: &AtomicBool) -> bool {
-    for _ in 0..TURNS {
-        if flag.load(Ordering::SeqCst) {
-            return true;
-        }
-        thread::yield_now();
-    }
-    false
-}
-
-/// A tenant of two nodes, at a server of one worker, which asks for more while its job's first computation is held, or
-/// doesn't; and how the job ends.
-#[derive(Drop)]
-pub(super) struct Held {
+/// A tenant of two nodes, at a server of one worker: it asks this while its job's first computation is held, and then the job
+/// ends so. The gate is open once the tenant is there too.
+pub(super) fn is_held(
+    stream: &TcpStream,
+    gate: &Together,
     more: &'static [Row],
     end: &'static str,
+) -> bool {
+    let is_held = is_answered(stream, ("HELLO 8 2\n", "WELCOME 8 2\n"))
+        && is_answered(stream, (MORE[2].0, "JOB 1\n"))
+        && gate.are_there(1)
+        && are_told(stream, more);
+    gate.enter();
+    is_held && is_answered(stream, ("WAIT 1\n", end)) && is_answered(stream, LAST)
 }
 
-impl Held {
-    /// Whether it is so on this connection.
-    fn is_ended(&self, stream: &TcpStream, gate: &HoldingGate) -> bool {
-        let is_held = is_answered(stream, ("HELLO 8 2\n", "WELCOME 8 2\n"))
-            && is_answered(stream, (MORE[2].0, "JOB 1\n"))
-            && is_set(&gate.is_there)
-            && are_told(stream, self.more);
-        gate.is_open.store(true, Ordering::SeqCst);
-        is_held && are_told(stream, &[("WAIT 1\n", self.end), LAST])
-    }
-}
-
-/// Whether it is so.
-pub(super) fn is_held<L: DeskLedger + Send + Sync, R>(
-    rt: &R,
-    alloc: Global,
-    desk: Desk<L>,
-    listener: TcpListener,
-    trial: &Held,
-) -> bool
+/// Whether a job at a server of 16 segments and 16 nodes ends so where this is asked while its first computation is held.
+fn ends<R>(rt: &R, more: &'static [Row], end: &'static str) -> bool
 where
-    R: Net<Listener = TcpListener, Stream = TcpStream> + Threads + Wait + Clock + CpuClock + Sync,
-    requires { L.all ≡ L.parts }
+    R: Net<Listener = TcpListener, Stream = TcpStream>
+        + AllocGlobal
+        + Threads
+        + Wait
+        + Clock
+        + CpuClock
+        + Sync,
 {
-    let Some(streams) = connected(rt, alloc, &listener, 1) else {
-        return false;
+    let attended = Attended {
+        guest: Guest::Visit(Visit::Held(more, end)),
+        sessions: 1,
+        workers: 1,
     };
-    let gate = HoldingGate {
-        is_there: AtomicBool::new(false),
-        is_open: AtomicBool::new(false),
-    };
-    let (told, fault) = thread::join(
-        rt,
-        || match streams.as_slice() {
-            [stream] => trial.is_ended(stream, &gate),
-            _ => false,
-        },
-        ||
-            requires { L.all ≡ L.parts }
-        { fault_of(rt, alloc, &desk, listener, server_of(1, 1), &gate) },
-    );
-    told && fault.is_none()
+    is_well(rt, (16, 16), 0, &Trial::Attended(attended))
 }
+
+/// What is asked in time.
+const IN_TIME: [Row; 1] = [("RESERVE 8 8\n", "RESERVED 8 8\n")];
 
 #[test]
 fn more_in_time_saves_a_job(rt: HostRuntime) {
-    let spent = Held {
-        more: &[],
-        end: "SPENT 1\n",
-    };
-    assert!(rt; is_well(&rt, rt.alloc(), (16, 16), 0, &Trial::Held(spent)));
-    let saved = Held {
-        more: &[("RESERVE 8 8\n", "RESERVED 8 8\n")],
-        end: "DONE 1 -3 d3\n",
-    };
-    assert!(rt; is_well(&rt, rt.alloc(), (16, 16), 0, &Trial::Held(saved)));
+    holds(&rt, ends(&rt, &[], "SPENT 1\n"));
+    holds(&rt, ends(&rt, &IN_TIME, "DONE 1 -3 d3\n"));
 }

@@ -2,6 +2,11 @@
 
 use super::doors::{Guest, is_content};
 use super::{ANSWERED, Row, SPENT};
+use std::net::{Net, TcpListener, TcpStream};
+use std::process::Abort;
+use std::sync::Wait;
+use std::thread::Threads;
+use std::time::{Clock, CpuClock};
 
 /// Jobs of depth 0 and 1 with their tables, which don't depend on who searched them: the first move is searched in full,
 /// and each of the others is found to be no better.
@@ -35,28 +40,36 @@ const TABLES: [Row; 15] = [
     ("BYE\n", "BYE\n"),
 ];
 
-/// A grain, how many workers, and what is told.
-const GRAINS: [(u8, u8, &[Row]); 14] = [
-    (0, 1, &TABLES),
-    (2, 1, &TABLES),
-    (6, 1, &TABLES),
-    (0, 8, &TABLES),
-    (2, 8, &TABLES),
-    (6, 8, &TABLES),
-    (0, 1, &ANSWERED),
-    (2, 1, &ANSWERED),
-    (6, 1, &ANSWERED),
-    (0, 8, &ANSWERED),
-    (2, 8, &ANSWERED),
-    (6, 8, &ANSWERED),
-    (0, 1, &SPENT),
-    (0, 8, &SPENT),
-];
+/// A grain, and how many workers.
+type Grain = (u8, u8);
+
+/// Each grain at which these jobs are told.
+const GRAINS: [Grain; 6] = [(0, 1), (2, 1), (6, 1), (0, 8), (2, 8), (6, 8)];
+
+/// The grain at which a job is spent.
+const FINEST: [Grain; 2] = [(0, 1), (0, 8)];
+
+/// Fails the test where these lines aren't told at each of these grains.
+fn are_told_at<R>(rt: &R, rows: &'static [Row], grains: &[Grain])
+where
+    R: Net<Listener = TcpListener, Stream = TcpStream>
+        + AllocGlobal
+        + Threads
+        + Wait
+        + Clock
+        + CpuClock
+        + Sync
+        + Abort,
+{
+    for (grain, workers) in grains {
+        let told = is_content(rt, *grain, Guest::Told(rows), 1, *workers);
+        assert!(rt; told, "grain {grain}, {workers} workers");
+    }
+}
 
 #[test]
 fn jobs_are_told_at_each_grain(rt: HostRuntime) {
-    for (grain, workers, rows) in &GRAINS {
-        let told = is_content(&rt, rt.alloc(), *grain, Guest::Told(rows), 1, *workers);
-        assert!(rt; told, "grain {grain}, {workers} workers");
-    }
+    are_told_at(&rt, &TABLES, &GRAINS);
+    are_told_at(&rt, &ANSWERED, &GRAINS);
+    are_told_at(&rt, &SPENT, &FINEST);
 }

@@ -1,15 +1,18 @@
 //! Tasks are announced before they are done.
 ghost use Rattle.std.specs.Prelude.{◌≡◌};
 
-use super::overlaps::is_set;
-use super::seats::{is_found, opening, seat};
-use super::{MOST_TURNS, Scenario, Table, well};
-use desk::{Desk, DeskLedger, Outcome};
+use super::seats::{asks, ends, seat};
+use super::{Scenario, Table, play};
+use crate::tests::calls::{Found, get, quota};
+use crate::tests::holds;
+use crate::tests::signs::{
+    MOST_TURNS, add, becomes_set, is_set, keep, none, reaches, set, unset, value,
+};
+use desk::{Desk, DeskLedger, Seat};
 use sched_rules::Worker;
 use std::alloc::Global;
 use std::sync::Wait;
-use std::sync::atomic::{AtomicBool, AtomicU64, Ordering};
-use std::test::Fail;
+use std::sync::atomic::{AtomicBool, AtomicU64};
 use std::thread;
 use std::thread::Threads;
 use steal_pool::{Gate, Task};
@@ -27,9 +30,9 @@ struct Announced {
 
 impl Gate for Announced {
     fn before(&self, _worker: Worker, _task: &Task) {
-        self.count.fetch_add(1, Ordering::SeqCst);
-        self.began.store(true, Ordering::SeqCst);
-        let _in_time = is_set(&self.let_go);
+        add(&self.count);
+        set(&self.began);
+        let _in_time = becomes_set(&self.let_go);
     }
 
     fn is_brief(&self) -> bool {
@@ -45,56 +48,51 @@ struct Untouched<'g> {
     gate: &'g Announced,
 }
 
+/// Whether nothing was done of a seat's only job.
+fn is_untouched<L: DeskLedger, R: Wait>(rt: &R, desk: &Desk<L>, seat: &Seat<L>) -> bool {
+    let left = Left {
+        segments: 7,
+        nodes: 7,
+        steps: 128,
+    };
+    quota(rt, desk, seat) == Some(left) && get(rt, desk, seat, 1) == Found::Pending
+}
+
 impl Scenario for Untouched<'_> {
     fn play<L: DeskLedger, R: Wait>(&self, rt: &R, desk: &Desk<L>) -> bool {
         let Some(mut seat) = seat(rt, desk, 8, 8) else {
             return false;
         };
-        let asked = desk.ask(rt, &mut seat, &opening(), 1) == Ok(1);
-        let began = is_set(&self.gate.began);
-        let quota = desk.quota(rt, &seat);
-        let pending = desk.get(rt, &seat, 1) == Ok(Outcome::Pending);
-        self.gate.let_go.store(true, Ordering::SeqCst);
-        let found = is_found(rt, desk, &seat, 1, &opening(), 1);
+        let began = asks(rt, desk, &mut seat, 1, 1) && becomes_set(&self.gate.began);
+        let is_untouched = is_untouched(rt, desk, &seat);
+        set(&self.gate.let_go);
+        let ended = ends(rt, desk, &seat, 1, 1);
         desk.leave(rt, seat);
-        let left = Left {
-            segments: 7,
-            nodes: 7,
-            steps: 128,
-        };
-        asked && began && quota == Ok(left) && pending && found
+        began && is_untouched && ended
     }
 }
 
-/// How many tasks one worker takes from its deque, and of how many a gate is told that is brief or isn't.
-fn told_and_taken<R: Threads + Wait + Sync>(
-    rt: &R,
-    alloc: Global,
-    is_brief: bool,
-) -> Option<(u128, u64)> {
+/// Whether one worker takes eight tasks from its deque, and a gate that is brief or isn't is told of nine.
+fn are_told<R: Threads + Wait + Sync>(rt: &R, alloc: Global, is_brief: bool) -> bool {
     let gate = Announced {
         is_brief,
-        began: AtomicBool::new(false),
-        let_go: AtomicBool::new(false),
-        count: AtomicU64::new(0),
+        began: unset(),
+        let_go: unset(),
+        count: none(),
     };
     let scenario = Untouched { gate: &gate };
-    let table = Table::of(&scenario, &gate, 1, 0, 8);
-    let [_, taken, _] = well(rt, alloc, &table)?.tasks;
-    Some((taken, gate.count.load(Ordering::SeqCst)))
+    match play(rt, alloc, &Table::of(&scenario, &gate, 1, 0, 8)) {
+        Some(played) => played.taken == 8 && value(&gate.count) == 9,
+        None => false,
+    }
 }
 
 /// One worker is told of each task before it does it: of the root, which the hall had, and of each task
 /// that it takes from its deque, under the lock or not.
 #[test]
-fn each_task_is_announced(rt: HostRuntime) -> Result<(), Fail> {
-    for is_brief in [false, true] {
-        let told = told_and_taken(&rt, rt.alloc(), is_brief).ok_or(
-            "no pool, or not as it should be",
-        )?;
-        assert!(rt; told == (8, 9));
-    }
-    Ok(())
+fn each_task_is_announced(rt: HostRuntime) {
+    holds(&rt, are_told(&rt, rt.alloc(), false));
+    holds(&rt, are_told(&rt, rt.alloc(), true));
 }
 
 /// Each task waits within a limit, before it is done, until the scenario has looked at the desk since.
@@ -107,14 +105,10 @@ struct Watched {
 
 impl Gate for Watched {
     fn before(&self, _worker: Worker, _task: &Task) {
-        let before = self.announced.fetch_add(1, Ordering::SeqCst);
-        for _ in 0..MOST_TURNS {
-            if self.looked.load(Ordering::SeqCst) > before {
-                return;
-            }
-            thread::yield_now();
+        let before = add(&self.announced);
+        if !reaches(&self.looked, before.saturating_add(1)) {
+            set(&self.is_late);
         }
-        self.is_late.store(true, Ordering::SeqCst);
     }
 
     fn inside(&self, _worker: Worker, _number: u64) {}
@@ -126,24 +120,29 @@ struct Watching<'g> {
     gate: &'g Watched,
 }
 
+/// Looks at the desk, within a limit, until a seat's first job has ended; after each look the gate is told.
+fn look<L: DeskLedger, R: Wait>(rt: &R, desk: &Desk<L>, seat: &Seat<L>, gate: &Watched) {
+    for _ in 0..MOST_TURNS {
+        let announced = value(&gate.announced);
+        let is_pending = get(rt, desk, seat, 1) == Found::Pending;
+        keep(&gate.looked, announced);
+        if !is_pending {
+            break;
+        }
+        thread::yield_now();
+    }
+}
+
 impl Scenario for Watching<'_> {
     fn play<L: DeskLedger, R: Wait>(&self, rt: &R, desk: &Desk<L>) -> bool {
         let Some(mut seat) = seat(rt, desk, 8, 8) else {
             return false;
         };
-        let asked = desk.ask(rt, &mut seat, &opening(), 1) == Ok(1);
-        for _ in 0..MOST_TURNS {
-            let announced = self.gate.announced.load(Ordering::SeqCst);
-            let is_pending = desk.get(rt, &seat, 1) == Ok(Outcome::Pending);
-            self.gate.looked.store(announced, Ordering::SeqCst);
-            if !is_pending {
-                break;
-            }
-            thread::yield_now();
-        }
-        let found = is_found(rt, desk, &seat, 1, &opening(), 1);
+        let asked = asks(rt, desk, &mut seat, 1, 1);
+        look(rt, desk, &seat, self.gate);
+        let ended = ends(rt, desk, &seat, 1, 1);
         desk.leave(rt, seat);
-        asked && found
+        asked && ended
     }
 }
 
@@ -151,12 +150,12 @@ impl Scenario for Watching<'_> {
 #[test]
 fn a_gate_that_waits_holds_up_its_worker_alone(rt: HostRuntime) {
     let gate = Watched {
-        announced: AtomicU64::new(0),
-        looked: AtomicU64::new(0),
-        is_late: AtomicBool::new(false),
+        announced: none(),
+        looked: none(),
+        is_late: unset(),
     };
     let scenario = Watching { gate: &gate };
     let table = Table::of(&scenario, &gate, 1, 0, 8);
-    assert!(rt; well(&rt, rt.alloc(), &table).is_some());
-    assert!(rt; !gate.is_late.load(Ordering::SeqCst));
+    let is_well = play(&rt, rt.alloc(), &table).is_some();
+    holds(&rt, is_well && !is_set(&gate.is_late));
 }

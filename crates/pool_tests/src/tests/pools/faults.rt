@@ -1,33 +1,18 @@
 //! Pools that can't begin.
 ghost use Rattle.std.specs.Prelude.{◌≡◌};
 
-use super::seats::{opening, seat};
-use desk::{Badge, Desk, DeskLedger, Hall, PARTS, Seat};
-use sched_rules::{Config, Worker};
+use super::run_sized;
+use super::seats::{asks, seat};
+use crate::tests::calls::{badge, desk_of, end};
+use crate::tests::{holds, holds_of, holds_that};
+use desk::{Desk, DeskLedger, PARTS, Seat};
+use sched_rules::Worker;
 use std::alloc::Global;
 use std::marker::Brand;
 use std::sync::Wait;
 use std::sync::ledger::Blank;
 use std::thread::Threads;
-use steal_pool::{Announce, BeginFault, NotRun, OpenGate, PoolFault, PoolSizes, run_pool_sized};
-
-/// Counts how often it is said that a pool has begun.
-#[derive(Drop)]
-struct Counted {
-    /// How often it was.
-    count: u32,
-    /// Whether it can be said.
-    works: bool,
-}
-
-impl Announce for Counted {
-    ghost says = { λ _ _ _. Unit {0} };
-
-    fn announce(&mut self) -> bool {
-        self.count = self.count.saturating_add(1);
-        self.works
-    }
-}
+use steal_pool::{BeginFault, NotRun, OpenGate, PoolFault, PoolSizes};
 
 /// What is found of a pool that doesn't run.
 #[derive(Clone, Copy)]
@@ -35,8 +20,6 @@ struct Found {
     not_run: NotRun,
     /// Whether the desk is closed then.
     is_closed: bool,
-    /// How many segments are free once the seat has left.
-    free: usize,
     /// How often it was said that the pool has begun.
     said: u32,
 }
@@ -46,45 +29,41 @@ fn four() -> PoolSizes {
     PoolSizes::usual(Worker::new(4).unwrap())
 }
 
-/// A hall of 64 segments.
-fn hall_of(alloc: Global) -> Option<Hall> {
-    Hall::new(alloc, Config::new(64, 1_024)?, 0).ok()
-}
-
 /// A seat with a job.
 fn asked<L: DeskLedger, R: Wait>(rt: &R, desk: &Desk<L>) -> Option<Seat<L>> {
     let mut seat = seat(rt, desk, 64, 1_024)?;
-    let is_asked = desk.ask(rt, &mut seat, &opening(), 3).is_ok();
-    if is_asked { Some(seat) } else { None }
+    if asks(rt, desk, &mut seat, 1, 3) {
+        Some(seat)
+    } else {
+        None
+    }
 }
 
-/// Why a pool of these sizes doesn't run, whether the desk is closed then, and how often something was said.
-fn not_run<L: DeskLedger + Send + Sync, R: Threads + Wait + Sync>(
+/// What is found of a pool of these sizes at a desk where a job was asked.
+fn found_of<L: DeskLedger + Send + Sync, R: Threads + Wait + Sync>(
     rt: &R,
     alloc: Global,
     desk: &Desk<L>,
     sizes: PoolSizes,
     works: bool,
-) -> Option<(NotRun, bool, u32)>
+) -> Option<Found>
     requires { L.all ≡ L.parts }
 {
     let seat = asked(rt, desk)?;
-    let call = Counted { count: 0, works };
-    let (call, ended) = run_pool_sized(rt, alloc, desk, sizes, &OpenGate, call);
+    let (said, ended) = run_sized(rt, alloc, desk, sizes, &OpenGate, works);
     let is_closed = desk.next_ready(rt).is_none();
     desk.leave(rt, seat);
-    Some((ended.err()?, is_closed, call.count))
+    match ended {
+        Ok(_) => None,
+        Err(not_run) => Some(Found {
+            not_run,
+            is_closed,
+            said,
+        }),
+    }
 }
 
-/// How many segments are free at the end.
-fn free_at<L: DeskLedger>(desk: Desk<L>, badge: Badge<L>) -> usize
-    requires { L.all ≡ L.parts }
-{
-    let (hall, _whole) = desk.into_hall(badge);
-    hall.core().free_segments()
-}
-
-/// Why a pool of these sizes doesn't run at a desk where a job was asked, and what there is then.
+/// The same at a new desk of 64 segments, all of which are free at its end.
 fn found_at<L: DeskLedger + Send + Sync, R: Threads + Wait + Sync>(
     rt: &R,
     alloc: Global,
@@ -95,15 +74,14 @@ fn found_at<L: DeskLedger + Send + Sync, R: Threads + Wait + Sync>(
     requires name { blank.name ≡ L.name }
     requires parts { (blank.parts ≡ L.parts) × (L.all ≡ L.parts) × (L.all ≡ 13835058055282163712) }
 {
-    let desk: Desk<L> = Desk::new(hall_of(alloc)?, blank);
-    let (not_run, is_closed, said) = not_run(rt, alloc, &desk, sizes, works)?;
-    let badge = desk.badge(rt)?;
-    Some(Found {
-        not_run,
-        is_closed,
-        free: free_at(desk, badge),
-        said,
-    })
+    let desk: Desk<L> = desk_of(alloc, 64, 1_024, 0, blank)?;
+    let found = found_of(rt, alloc, &desk, sizes, works)?;
+    let badge = badge(rt, &desk)?;
+    if end(desk, badge).free == 64 {
+        Some(found)
+    } else {
+        None
+    }
 }
 
 /// The same with a blank of its own.
@@ -128,10 +106,7 @@ fn is_because<R: Threads + Wait + Sync>(
 ) -> bool {
     match tried(rt, alloc, sizes, said == 0) {
         Some(found) => {
-            found.not_run == NotRun { fault, ended }
-                && found.is_closed
-                && found.free == 64
-                && found.said == said
+            found.not_run == NotRun { fault, ended } && found.is_closed && found.said == said
         }
         None => false,
     }
@@ -147,38 +122,57 @@ fn lacks_memory<R: Threads + Wait + Sync>(rt: &R, alloc: Global, sizes: PoolSize
 /// back, and of the room for threads. The desk is closed, the fault is 1, no thread was started, and nothing is said.
 #[test]
 fn no_memory(rt: HostRuntime) {
-    let mut deques = four();
-    deques.room = usize::MAX;
-    assert!(rt; lacks_memory(&rt, rt.alloc(), deques), "deques");
-    let mut ends = four();
-    ends.more_ends = usize::MAX;
-    assert!(rt; lacks_memory(&rt, rt.alloc(), ends), "ends");
-    let mut threads = four();
-    threads.more_threads = usize::MAX;
-    assert!(rt; lacks_memory(&rt, rt.alloc(), threads), "threads");
-    assert!(rt; PoolFault::OutOfMemory.number() == 1);
+    let deques = PoolSizes {
+        room: usize::MAX,
+        ..four()
+    };
+    holds_that(&rt, lacks_memory(&rt, rt.alloc(), deques), "deques");
+    let ends = PoolSizes {
+        more_ends: usize::MAX,
+        ..four()
+    };
+    holds_that(&rt, lacks_memory(&rt, rt.alloc(), ends), "ends");
+    let threads = PoolSizes {
+        more_threads: usize::MAX,
+        ..four()
+    };
+    holds_that(&rt, lacks_memory(&rt, rt.alloc(), threads), "threads");
+    holds(&rt, PoolFault::OutOfMemory.number() == 1);
+}
+
+/// Whether a pool of four doesn't run where the workers from this number on have the greatest stack, after so many
+/// threads had ended.
+fn lacks_threads<R: Threads + Wait + Sync>(rt: &R, alloc: Global, from: u8, ended: usize) -> bool {
+    let sizes = PoolSizes {
+        stack: Some((from, usize::MAX)),
+        ..four()
+    };
+    is_because(
+        rt,
+        alloc,
+        sizes,
+        BeginFault::Pool(PoolFault::NoThread),
+        ended,
+        0,
+    )
 }
 
 /// The first, the second or the last of four threads has the greatest stack, which can't be had: the
 /// desk is closed, the fault is 2, those that were started have ended, nothing is left, and nothing is said.
 #[test]
 fn no_thread(rt: HostRuntime) {
-    let fault = BeginFault::Pool(PoolFault::NoThread);
     for (from, ended) in [(1u8, 0usize), (2, 1), (4, 3)] {
-        let sizes = PoolSizes {
-            stack: Some((from, usize::MAX)),
-            ..four()
-        };
-        assert!(rt;
-            is_because(&rt, rt.alloc(), sizes, fault, ended, 0),
-            "worker {from}"
-        );
+        let is_well = lacks_threads(&rt, rt.alloc(), from, ended);
+        holds_of(&rt, is_well, "worker", u64::from(from));
     }
-    assert!(rt; PoolFault::NoThread.number() == 2);
+    holds(&rt, PoolFault::NoThread.number() == 2);
 }
 
 /// All four were started and it can't be said that they were: it was tried once, the desk is closed, and the four end.
 #[test]
 fn a_beginning_that_cannot_be_said(rt: HostRuntime) {
-    assert!(rt; is_because(&rt, rt.alloc(), four(), BeginFault::Unsaid, 4, 1));
+    holds(
+        &rt,
+        is_because(&rt, rt.alloc(), four(), BeginFault::Unsaid, 4, 1),
+    );
 }

@@ -1,11 +1,12 @@
 //! A pool with nothing to do.
 ghost use Rattle.std.specs.Prelude.{◌≡◌};
 
-use super::seats::{is_found, opening, seat};
-use super::{Scenario, Table, well};
+use super::seats::{has_reply, seat};
+use super::{Scenario, Table, play};
+use crate::tests::holds;
+use crate::tests::signs::pass;
 use desk::{Desk, DeskLedger};
 use std::sync::Wait;
-use std::thread;
 use std::time::{Clock, CpuClock, Duration};
 use steal_pool::OpenGate;
 
@@ -15,19 +16,23 @@ struct Silence<'c, C> {
     clock: &'c C,
 }
 
+/// Whether less than a twentieth of a second's processor time is used in a second, once a tenth of a second has passed.
+fn is_silent<C: Clock + CpuClock>(clock: &C) -> bool {
+    pass(clock, 100);
+    let before = clock.process_cpu_time().ok();
+    pass(clock, 1_000);
+    is_short(before, clock.process_cpu_time().ok())
+}
+
 impl<C: Clock + CpuClock> Scenario for Silence<'_, C> {
     fn play<L: DeskLedger, R: Wait>(&self, rt: &R, desk: &Desk<L>) -> bool {
         let Some(mut seat) = seat(rt, desk, 8, 8) else {
             return false;
         };
-        thread::sleep(self.clock, Duration::from_millis(100));
-        let before = self.clock.process_cpu_time().ok();
-        thread::sleep(self.clock, Duration::from_secs(1));
-        let after = self.clock.process_cpu_time().ok();
-        let asked = desk.ask(rt, &mut seat, &opening(), 1) == Ok(1);
-        let found = is_found(rt, desk, &seat, 1, &opening(), 1);
+        let is_silent = is_silent(self.clock);
+        let is_replied = has_reply(rt, desk, &mut seat, 1);
         desk.leave(rt, seat);
-        asked && found && is_short(before, after)
+        is_silent && is_replied
     }
 }
 
@@ -45,5 +50,5 @@ fn is_short(before: Option<Duration>, after: Option<Duration>) -> bool {
 fn an_idle_pool_sleeps(rt: HostRuntime) {
     let scenario = Silence { clock: &rt };
     let table = Table::of(&scenario, &OpenGate, 4, 0, 8);
-    assert!(rt; well(&rt, rt.alloc(), &table).is_some());
+    holds(&rt, play(&rt, rt.alloc(), &table).is_some());
 }

@@ -1,15 +1,17 @@
 //! Many short jobs: none of many workers is lost, and each has room on its stack.
 ghost use Rattle.std.specs.Prelude.{◌≡◌};
 
-use super::seats::{is_found, opening, seat};
-use super::{MOST_TURNS, Scenario, Table, well};
-use desk::{Desk, DeskLedger, Seat};
+use super::seats::{asks_many, ends, seat};
+use super::{Scenario, Table, play};
+use crate::tests::signs::{add, is_set, none, reaches, set, unset};
+use crate::tests::{holds, holds_that};
+use desk::{Desk, DeskLedger};
 use sched_rules::Worker;
 use std::alloc::Global;
+use std::fmt::Display;
+use std::process::Abort;
 use std::sync::Wait;
-use std::sync::atomic::{AtomicBool, AtomicU32, AtomicU64, Ordering};
-use std::test::Fail;
-use std::thread;
+use std::sync::atomic::{AtomicBool, AtomicU64, Ordering};
 use steal_pool::{BeginFault, Gate, PoolFault, Task};
 
 /// How many workers there are.
@@ -25,7 +27,7 @@ const WORDS: usize = 65_536;
 #[derive(Drop)]
 struct AllCome {
     is_said: AtomicBool,
-    there: AtomicU32,
+    there: AtomicU64,
     late: AtomicBool,
     sum: AtomicU64,
 }
@@ -44,42 +46,27 @@ impl Gate for AllCome {
     fn before(&self, _worker: Worker, _task: &Task) {}
 
     fn inside(&self, _worker: Worker, number: u64) {
-        if !self.is_said.load(Ordering::SeqCst) {
+        if !is_set(&self.is_said) {
             return;
         }
         self.sum.fetch_add(written(number), Ordering::SeqCst);
-        self.there.fetch_add(1, Ordering::SeqCst);
-        for _ in 0..MOST_TURNS {
-            if self.there.load(Ordering::SeqCst) >= u32::from(WORKERS) {
-                return;
-            }
-            thread::yield_now();
+        add(&self.there);
+        if !reaches(&self.there, u64::from(WORKERS)) {
+            set(&self.late);
         }
-        self.late.store(true, Ordering::SeqCst);
     }
 }
 
-/// Asks for so many short searches.
-fn asks<L: DeskLedger, R: Wait>(rt: &R, desk: &Desk<L>, seat: &mut Seat<L>, many: u64) -> bool {
-    for job in 0..many {
-        if desk.ask(rt, seat, &opening(), 0) != Ok(job + 1) {
-            return false;
-        }
-    }
-    true
-}
-
-/// A new seat asks for 256 short searches, has the reply to the last, and leaves.
-fn sits<L: DeskLedger, R: Wait>(rt: &R, desk: &Desk<L>) -> bool
+/// A new seat asks for so many short searches, has the reply to the last, and leaves.
+fn sits<L: DeskLedger, R: Wait>(rt: &R, desk: &Desk<L>, most: u32, many: u64) -> bool
     requires { L.all ≡ L.parts }
 {
-    let Some(mut seat) = seat(rt, desk, 256, 256) else {
+    let Some(mut seat) = seat(rt, desk, most, most) else {
         return false;
     };
-    let asked = asks(rt, desk, &mut seat, JOBS);
-    let found = is_found(rt, desk, &seat, JOBS, &opening(), 0);
+    let is_well = asks_many(rt, desk, &mut seat, many) && ends(rt, desk, &seat, many, 0);
     desk.leave(rt, seat);
-    asked && found
+    is_well
 }
 
 /// Eight seats one after another, and then a job for each worker.
@@ -91,18 +78,12 @@ struct Many<'g> {
 impl Scenario for Many<'_> {
     fn play<L: DeskLedger, R: Wait>(&self, rt: &R, desk: &Desk<L>) -> bool {
         for _ in 0..8 {
-            if !sits(rt, desk) {
+            if !sits(rt, desk, 256, JOBS) {
                 return false;
             }
         }
-        self.gate.is_said.store(true, Ordering::SeqCst);
-        let Some(mut last) = seat(rt, desk, 16, 16) else {
-            return false;
-        };
-        let asked = asks(rt, desk, &mut last, u64::from(WORKERS));
-        let found = is_found(rt, desk, &last, u64::from(WORKERS), &opening(), 0);
-        desk.leave(rt, last);
-        asked && found
+        set(&self.gate.is_said);
+        sits(rt, desk, 16, u64::from(WORKERS))
     }
 }
 
@@ -110,32 +91,31 @@ impl Scenario for Many<'_> {
 #[test]
 fn all_workers_go_on_after_many_jobs(rt: HostRuntime) {
     let gate = AllCome {
-        is_said: AtomicBool::new(false),
-        there: AtomicU32::new(0),
-        late: AtomicBool::new(false),
-        sum: AtomicU64::new(0),
+        is_said: unset(),
+        there: none(),
+        late: unset(),
+        sum: none(),
     };
     let scenario = Many { gate: &gate };
     let table = Table::of(&scenario, &gate, WORKERS, 0, 512);
-    assert!(rt; well(&rt, rt.alloc(), &table).is_some());
-    assert!(rt; !gate.late.load(Ordering::SeqCst), "a worker is lost");
+    holds(&rt, play(&rt, rt.alloc(), &table).is_some());
+    holds_that(&rt, !is_set(&gate.late), "no worker is lost");
+}
+
+/// A fault says this.
+fn says(rt: &impl Abort, alloc: Global, fault: impl Display + Drop, text: &str) {
+    match format!(in alloc; "{fault}") {
+        Ok(said) => holds(rt, said.as_str() == text),
+        Err(_) => panic!(rt; "no memory"),
+    }
 }
 
 /// What a fault says.
 #[test]
-fn faults_are_told(rt: HostRuntime) -> Result<(), Fail> {
-    let alloc: Global = rt.alloc();
-    for (fault, text) in [
-        (PoolFault::OutOfMemory, "out of memory"),
-        (PoolFault::NoThread, "no thread"),
-    ] {
-        assert!(rt; format!(in alloc; "{fault}")?.as_str() == text);
-    }
-    for (fault, text) in [
-        (BeginFault::Pool(PoolFault::NoThread), "no pool"),
-        (BeginFault::Unsaid, "it could not be said"),
-    ] {
-        assert!(rt; format!(in alloc; "{fault}")?.as_str() == text);
-    }
-    Ok(())
+fn faults_are_told(rt: HostRuntime) {
+    let alloc = rt.alloc();
+    says(&rt, alloc, PoolFault::OutOfMemory, "out of memory");
+    says(&rt, alloc, PoolFault::NoThread, "no thread");
+    says(&rt, alloc, BeginFault::Pool(PoolFault::NoThread), "no pool");
+    says(&rt, alloc, BeginFault::Unsaid, "it could not be said");
 }

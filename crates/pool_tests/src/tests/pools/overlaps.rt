@@ -1,15 +1,18 @@
 //! Computations at the same time, and answers that come too late.
 ghost use Rattle.std.specs.Prelude.{◌≡◌};
 
-use super::seats::{is_found, opening, seat};
-use super::{MOST_TURNS, Scenario, Table, well};
+use super::seats::{asks, asks_many, ends, has_reply, seat};
+use super::{Played, Scenario, Table, play};
+use crate::tests::calls::cancel;
+use crate::tests::holds;
+use crate::tests::signs::{becomes_set, is_set, pass, set, unset};
 use desk::{Desk, DeskLedger, Seat};
 use sched_rules::Worker;
 use std::alloc::Global;
 use std::sync::Wait;
-use std::sync::atomic::{AtomicBool, Ordering};
-use std::thread::{self, Threads};
-use std::time::{Clock, Duration};
+use std::sync::atomic::AtomicBool;
+use std::thread::Threads;
+use std::time::Clock;
 use steal_pool::{Gate, Task};
 
 /// The computation of this number waits within a limit until it is let go on.
@@ -27,21 +30,10 @@ fn is_held(number: u64, by_later: bool) -> HoldingGate {
     HoldingGate {
         number,
         by_later,
-        began: AtomicBool::new(false),
-        let_go: AtomicBool::new(false),
-        late: AtomicBool::new(false),
+        began: unset(),
+        let_go: unset(),
+        late: unset(),
     }
-}
-
-/// Waits within a limit until a flag is set.
-pub(crate) fn is_set(flag: &AtomicBool) -> bool {
-    for _ in 0..MOST_TURNS {
-        if flag.load(Ordering::SeqCst) {
-            return true;
-        }
-        thread::yield_now();
-    }
-    false
 }
 
 impl Gate for HoldingGate {
@@ -49,12 +41,12 @@ impl Gate for HoldingGate {
 
     fn inside(&self, _worker: Worker, number: u64) {
         if number > self.number && self.by_later {
-            self.let_go.store(true, Ordering::SeqCst);
+            set(&self.let_go);
         }
         if number == self.number {
-            self.began.store(true, Ordering::SeqCst);
-            if !is_set(&self.let_go) {
-                self.late.store(true, Ordering::SeqCst);
+            set(&self.began);
+            if !becomes_set(&self.let_go) {
+                set(&self.late);
             }
         }
     }
@@ -69,37 +61,40 @@ impl Scenario for TwoJobs {
         let Some(mut seat) = seat(rt, desk, 8, 8) else {
             return false;
         };
-        let asked = desk.ask(rt, &mut seat, &opening(), 0).is_ok()
-            && desk.ask(rt, &mut seat, &opening(), 0).is_ok();
-        let found = is_found(rt, desk, &seat, 1, &opening(), 0)
-            && is_found(rt, desk, &seat, 2, &opening(), 0);
+        let asked = asks_many(rt, desk, &mut seat, 2);
+        let ended = ends(rt, desk, &seat, 1, 0) && ends(rt, desk, &seat, 2, 0);
         desk.leave(rt, seat);
-        asked && found
+        asked && ended
     }
 }
 
-/// Whether a scenario is content with two workers and with eight, where this computation goes on only once the next was
-/// begun.
+/// Whether a scenario is content with so many workers, where this computation goes on only once the next was begun.
+fn overlaps<S: Scenario, R: Threads + Wait + Sync>(
+    rt: &R,
+    alloc: Global,
+    scenario: &S,
+    number: u64,
+    workers: u8,
+) -> bool {
+    let gate = is_held(number, true);
+    let is_well = play(rt, alloc, &Table::of(scenario, &gate, workers, 0, 16)).is_some();
+    is_well && !is_set(&gate.late)
+}
+
+/// Whether it is with two workers and with eight.
 fn overlap<S: Scenario, R: Threads + Wait + Sync>(
     rt: &R,
     alloc: Global,
     scenario: &S,
     number: u64,
 ) -> bool {
-    for workers in [2, 8] {
-        let gate = is_held(number, true);
-        let played = well(rt, alloc, &Table::of(scenario, &gate, workers, 0, 16));
-        if played.is_none() || gate.late.load(Ordering::SeqCst) {
-            return false;
-        }
-    }
-    true
+    overlaps(rt, alloc, scenario, number, 2) && overlaps(rt, alloc, scenario, number, 8)
 }
 
 /// The first computation of a pool goes on only once the second was begun.
 #[test]
 fn two_computations_overlap(rt: HostRuntime) {
-    assert!(rt; overlap(&rt, rt.alloc(), &TwoJobs, 1));
+    holds(&rt, overlap(&rt, rt.alloc(), &TwoJobs, 1));
 }
 
 /// One job of depth 1, asked once all workers have had time to fall asleep.
@@ -113,11 +108,10 @@ impl<C: Clock> Scenario for OneJob<'_, C> {
         let Some(mut seat) = seat(rt, desk, 16, 16) else {
             return false;
         };
-        thread::sleep(self.clock, Duration::from_millis(100));
-        let asked = desk.ask(rt, &mut seat, &opening(), 1).is_ok();
-        let found = is_found(rt, desk, &seat, 1, &opening(), 1);
+        pass(self.clock, 100);
+        let is_replied = has_reply(rt, desk, &mut seat, 1);
         desk.leave(rt, seat);
-        asked && found
+        is_replied
     }
 }
 
@@ -125,7 +119,7 @@ impl<C: Clock> Scenario for OneJob<'_, C> {
 /// computation waits, another worker begins the third.
 #[test]
 fn a_ready_frame_wakes_a_worker(rt: HostRuntime) {
-    assert!(rt; overlap(&rt, rt.alloc(), &OneJob { clock: &rt }, 2));
+    holds(&rt, overlap(&rt, rt.alloc(), &OneJob { clock: &rt }, 2));
 }
 
 /// A first seat's job is computed when the seat leaves, or cancels it; a second seat's job ends all the
@@ -141,40 +135,20 @@ impl Scenario for Late<'_> {
         let (Some(first), Some(second)) = (seat(rt, desk, 4, 4), seat(rt, desk, 4, 4)) else {
             return false;
         };
-        if self.leaves {
-            leaves(rt, desk, self.gate, first) && goes_on(rt, desk, self.gate, second)
-        } else {
-            cancels(rt, desk, self.gate, first) && goes_on(rt, desk, self.gate, second)
-        }
+        let gone = goes(rt, desk, self, first);
+        goes_on(rt, desk, self.gate, second) && gone
     }
 }
 
-/// A seat asks, and leaves once its job is computed.
-fn leaves<L: DeskLedger, R: Wait>(rt: &R, desk: &Desk<L>, gate: &HoldingGate, seat: Seat<L>) -> bool
+/// A seat asks, and leaves once its job is computed; or cancels it first.
+fn goes<L: DeskLedger, R: Wait>(rt: &R, desk: &Desk<L>, late: &Late<'_>, seat: Seat<L>) -> bool
     requires { L.all ≡ L.parts }
 {
     let mut seat = seat;
-    let asked = desk.ask(rt, &mut seat, &opening(), 0).is_ok();
-    let began = is_set(&gate.began);
+    let began = asks(rt, desk, &mut seat, 1, 0) && becomes_set(&late.gate.began);
+    let cancelled = late.leaves || cancel(rt, desk, &mut seat, 1).is_ok();
     desk.leave(rt, seat);
-    asked && began
-}
-
-/// A seat asks, and cancels once its job is computed.
-fn cancels<L: DeskLedger, R: Wait>(
-    rt: &R,
-    desk: &Desk<L>,
-    gate: &HoldingGate,
-    seat: Seat<L>,
-) -> bool
-    requires { L.all ≡ L.parts }
-{
-    let mut seat = seat;
-    let asked = desk.ask(rt, &mut seat, &opening(), 0).is_ok();
-    let began = is_set(&gate.began);
-    let cancelled = desk.cancel(rt, &mut seat, 1).is_ok();
-    desk.leave(rt, seat);
-    asked && began && cancelled
+    began && cancelled
 }
 
 /// The computation is let go on, and another seat's job ends.
@@ -187,25 +161,35 @@ fn goes_on<L: DeskLedger, R: Wait>(
     requires { L.all ≡ L.parts }
 {
     let mut seat = seat;
-    let asked = desk.ask(rt, &mut seat, &opening(), 0).is_ok();
-    gate.let_go.store(true, Ordering::SeqCst);
-    let found = is_found(rt, desk, &seat, 1, &opening(), 0);
+    let asked = asks(rt, desk, &mut seat, 1, 0);
+    set(&gate.let_go);
+    let ended = ends(rt, desk, &seat, 1, 0);
     desk.leave(rt, seat);
-    asked && found
+    asked && ended
+}
+
+/// What a pool comes to where the first seat leaves, or cancels its job.
+fn played_late<R: Threads + Wait + Sync>(rt: &R, alloc: Global, leaves: bool) -> Option<Played> {
+    let gate = is_held(1, false);
+    let late = Late {
+        gate: &gate,
+        leaves,
+    };
+    play(rt, alloc, &Table::of(&late, &gate, 2, 0, 8))
+}
+
+/// Whether the badge's share is two steps of a job that went, and the five of the other job.
+fn has_seven(played: Option<Played>) -> bool {
+    match played {
+        Some(played) => played.share == 2 + 5,
+        None => false,
+    }
 }
 
 /// An answer that comes after its tenant has left, or after its job was cancelled, is refused, and the
 /// pool goes on: the badge counts the two steps before the answer, and the five of the other job.
 #[test]
 fn late_answers(rt: HostRuntime) {
-    for leaves in [true, false] {
-        let gate = is_held(1, false);
-        let late = Late {
-            gate: &gate,
-            leaves,
-        };
-        let table = Table::of(&late, &gate, 2, 0, 8);
-        let played = well(&rt, rt.alloc(), &table);
-        assert!(rt; matches!(played, Some(played) if played.share == 2 + 5));
-    }
+    holds(&rt, has_seven(played_late(&rt, rt.alloc(), true)));
+    holds(&rt, has_seven(played_late(&rt, rt.alloc(), false)));
 }

@@ -1,8 +1,10 @@
 //! One worker, counted.
 ghost use Rattle.std.specs.Prelude.{◌≡◌};
 
-use super::seats::{is_found, opening, seat};
+use super::seats::{has_reply, seat};
 use super::{Played, Scenario, Table, play};
+use crate::tests::calls::quota;
+use crate::tests::holds;
 use desk::{Desk, DeskLedger};
 use std::sync::Wait;
 use steal_pool::OpenGate;
@@ -17,32 +19,31 @@ impl Scenario for OneJob {
         let Some(mut seat) = seat(rt, desk, 8, 8) else {
             return false;
         };
-        let asked = desk.ask(rt, &mut seat, &opening(), 1);
-        let found = is_found(rt, desk, &seat, 1, &opening(), 1);
-        let quota = desk.quota(rt, &seat);
+        let is_replied = has_reply(rt, desk, &mut seat, 1);
+        let quota = quota(rt, desk, &seat);
         desk.leave(rt, seat);
         let left = Left {
             segments: 8,
             nodes: 3,
             steps: 92,
         };
-        asked == Ok(1) && found && quota == Ok(left)
+        is_replied && quota == Some(left)
     }
 }
 
-/// Whether 36 steps were taken, 8 tasks pushed and taken, and all is back.
-fn is_counted(played: &Played) -> bool {
-    played.content
-        && played.share == 36
-        && played.tasks == [8, 8, 0]
-        && played.whole
-        && played.free == 8
+/// Whether a pool has ended well, 36 steps were taken, and 8 tasks pushed and taken.
+fn is_counted(played: Option<Played>) -> bool {
+    match played {
+        Some(played) => {
+            played.share == 36 && played.pushed == 8 && played.taken == 8 && played.left == 0
+        }
+        None => false,
+    }
 }
 
-/// One worker, the opening to depth 1 at grain 0: 36 steps, 8 tasks pushed and taken.
+/// One worker, the opening to depth 1 at grain 0: 36 steps, 8 tasks pushed and taken; all is back.
 #[test]
 fn one_worker_counted(rt: HostRuntime) {
     let table = Table::of(&OneJob, &OpenGate, 1, 0, 8);
-    let played = play(&rt, rt.alloc(), &table);
-    assert!(rt; matches!(played, Some(played) if is_counted(&played)));
+    holds(&rt, is_counted(play(&rt, rt.alloc(), &table)));
 }

@@ -1,16 +1,21 @@
 //! Searches at the same time: a short one is over before a long one that began earlier.
 ghost use Rattle.std.specs.Prelude.{◌≡◌};
 
-use super::seats::{is_found, opening, seat};
-use super::{Scenario, Table, well};
+use super::seats::{asks_many, ends, seat};
+use super::{Scenario, Table, play};
+use crate::tests::calls::ask;
+use crate::tests::holds_that;
+use crate::tests::signs::{add, comes, is_set, keep, none, set, unset, value};
 use desk::{Desk, DeskLedger, Seat};
 use othello_board::Board;
 use position_text::{Position, Side};
 use sched_rules::Worker;
+use std::alloc::Global;
+use std::io;
 use std::sync::Wait;
 use std::sync::atomic::{AtomicBool, AtomicU64, Ordering};
+use std::thread::Threads;
 use std::time::{Clock, CpuClock, Duration};
-use std::{io, thread};
 use steal_pool::{Gate, Task};
 
 /// How many short searches there are.
@@ -36,24 +41,13 @@ struct Long<'c, C> {
 fn gate_of<C>(clock: &C) -> Long<'_, C> {
     Long {
         clock,
-        began: AtomicU64::new(0),
-        before: AtomicU64::new(0),
-        over: AtomicU64::new(0),
-        over_at: AtomicU64::new(0),
-        is_beside: AtomicBool::new(false),
-        is_late: AtomicBool::new(false),
+        began: none(),
+        before: none(),
+        over: none(),
+        over_at: none(),
+        is_beside: unset(),
+        is_late: unset(),
     }
-}
-
-/// Whether a count comes to so many within ten seconds.
-fn comes<C: Clock>(clock: &C, count: &AtomicU64, many: u64) -> bool {
-    for _ in 0..10_000u32 {
-        if count.load(Ordering::SeqCst) >= many {
-            return true;
-        }
-        thread::sleep(clock, Duration::from_millis(1));
-    }
-    false
 }
 
 impl<C: Clock + CpuClock> Long<'_, C> {
@@ -69,18 +63,17 @@ impl<C: Clock + CpuClock> Long<'_, C> {
 
     /// A short search is over.
     fn count(&self) {
-        if self.over.fetch_add(1, Ordering::SeqCst) == SHORT - 1 {
-            let now = nanos(self.clock.process_cpu_time());
-            self.over_at.store(now, Ordering::SeqCst);
+        if add(&self.over) == SHORT - 1 {
+            keep(&self.over_at, nanos(self.clock.process_cpu_time()));
         }
     }
 
     /// Whether the short searches were over before three quarters of the long one were done.
     fn are_beside(&self) -> bool {
         let after = nanos(self.clock.thread_cpu_time());
-        let long = after.saturating_sub(self.before.load(Ordering::SeqCst));
+        let long = after.saturating_sub(value(&self.before));
         let now = nanos(self.clock.process_cpu_time());
-        let over_at = self.over_at.load(Ordering::SeqCst);
+        let over_at = value(&self.over_at);
         over_at > 0 && now.saturating_sub(over_at) > long / 4
     }
 }
@@ -98,9 +91,8 @@ impl<C: Clock + CpuClock> Gate for Long<'_, C> {
 
     fn inside(&self, _worker: Worker, number: u64) {
         if number == 1 {
-            let before = nanos(self.clock.thread_cpu_time());
-            self.before.store(before, Ordering::SeqCst);
-            self.began.store(1, Ordering::SeqCst);
+            keep(&self.before, nanos(self.clock.thread_cpu_time()));
+            keep(&self.began, 1);
         }
     }
 
@@ -110,7 +102,9 @@ impl<C: Clock + CpuClock> Gate for Long<'_, C> {
             return;
         }
         self.is_beside.store(self.are_beside(), Ordering::SeqCst);
-        self.is_late.store(!self.are_over(), Ordering::SeqCst);
+        if !self.are_over() {
+            set(&self.is_late);
+        }
     }
 }
 
@@ -138,25 +132,32 @@ impl<C: Clock + CpuClock> Scenario for Beside<'_, '_, C> {
         else {
             return false;
         };
-        let asked = desk.ask(rt, &mut long, &wide(), 7) == Ok(1);
-        let began = self.gate.begins();
-        let all = ask_short(rt, desk, &mut short);
-        let are_over = self.gate.are_over();
-        let found = is_found(rt, desk, &short, SHORT, &opening(), 0);
+        let began = ask(rt, desk, &mut long, &wide(), 7) == Ok(1) && self.gate.begins();
+        let are_over = are_short_over(rt, desk, &mut short, self.gate);
         desk.leave(rt, long);
         desk.leave(rt, short);
-        asked && began && all && are_over && found
+        began && are_over
     }
 }
 
-/// Asks for all short searches.
-fn ask_short<L: DeskLedger, R: Wait>(rt: &R, desk: &Desk<L>, seat: &mut Seat<L>) -> bool {
-    for job in 0..SHORT {
-        if desk.ask(rt, seat, &opening(), 0) != Ok(job + 1) {
-            return false;
-        }
-    }
-    true
+/// Whether all short searches are asked and over, and the last has its reply.
+fn are_short_over<L: DeskLedger, R: Wait, C: Clock + CpuClock>(
+    rt: &R,
+    desk: &Desk<L>,
+    seat: &mut Seat<L>,
+    gate: &Long<'_, C>,
+) -> bool {
+    let asked = asks_many(rt, desk, seat, SHORT);
+    let are_over = gate.are_over();
+    asked && are_over && ends(rt, desk, seat, SHORT, 0)
+}
+
+/// One try: whether all was as it should be, and whether the short ones were over before the long one.
+fn tried<R: Threads + Wait + Clock + CpuClock + Sync>(rt: &R, alloc: Global) -> (bool, bool) {
+    let gate = gate_of(rt);
+    let scenario = Beside { gate: &gate };
+    let is_well = play(rt, alloc, &Table::of(&scenario, &gate, 2, 6, 128)).is_some();
+    (is_well && !is_set(&gate.is_late), is_set(&gate.is_beside))
 }
 
 /// A worker does short searches while another is in the midst of a long one: in one try at least, as the system may let
@@ -164,15 +165,9 @@ fn ask_short<L: DeskLedger, R: Wait>(rt: &R, desk: &Desk<L>, seat: &mut Seat<L>)
 #[test]
 fn a_short_search_is_over_before_a_long_one(rt: HostRuntime) {
     for _ in 0..TRIES {
-        let gate = gate_of(&rt);
-        let scenario = Beside { gate: &gate };
-        let table = Table::of(&scenario, &gate, 2, 6, 128);
-        let is_well = well(&rt, rt.alloc(), &table).is_some();
-        assert!(rt;
-            is_well && !gate.is_late.load(Ordering::SeqCst),
-            "a search waits"
-        );
-        if gate.is_beside.load(Ordering::SeqCst) {
+        let (is_well, is_beside) = tried(&rt, rt.alloc());
+        holds_that(&rt, is_well, "no search waits");
+        if is_beside {
             return;
         }
     }

@@ -1,14 +1,13 @@
 //! What the scenarios say at a desk.
-ghost use Rattle.std.specs.Prelude.{◌≡◌, ◌≤◌};
+ghost use Rattle.std.specs.Prelude.{◌≡◌};
 
-use super::MOST_TURNS;
-use desk::{Desk, DeskLedger, Outcome, Seat};
-use othello_board::Board;
-use position_text::{Position, Side};
+use crate::tests::calls::{Found, admit, ask, get, opening};
+use crate::tests::signs::MOST_TURNS;
+use desk::{Desk, DeskLedger, Seat};
+use position_text::Position;
 use std::sync::Wait;
 use std::thread;
 use task_deques::leaf_search::search_full;
-use tenant_quota::Reserve;
 
 /// A seat, if the desk gives one.
 pub(crate) fn seat<L: DeskLedger, R: Wait>(
@@ -17,7 +16,33 @@ pub(crate) fn seat<L: DeskLedger, R: Wait>(
     segments: u32,
     nodes: u32,
 ) -> Option<Seat<L>> {
-    desk.admit(rt, Reserve::new(segments, nodes)?).ok()
+    admit(rt, desk, segments, nodes).ok()
+}
+
+/// Whether a seat's ask for the opening to this depth is taken, as a job of this number.
+pub(crate) fn asks<L: DeskLedger, R: Wait>(
+    rt: &R,
+    desk: &Desk<L>,
+    seat: &mut Seat<L>,
+    job: u64,
+    depth: u8,
+) -> bool {
+    ask(rt, desk, seat, &opening(), depth) == Ok(job)
+}
+
+/// Whether so many asks for the opening to depth 0 are taken, from job 1 on.
+pub(crate) fn asks_many<L: DeskLedger, R: Wait>(
+    rt: &R,
+    desk: &Desk<L>,
+    seat: &mut Seat<L>,
+    many: u64,
+) -> bool {
+    for before in 0..many {
+        if !asks(rt, desk, seat, before + 1, 0) {
+            return false;
+        }
+    }
+    true
 }
 
 /// The end of a job, asked for again and again; Pending where it doesn't come within the limit.
@@ -26,15 +51,20 @@ pub(crate) fn end_of<L: DeskLedger, R: Wait>(
     desk: &Desk<L>,
     seat: &Seat<L>,
     job: u64,
-) -> Outcome {
+) -> Found {
     for _ in 0..MOST_TURNS {
-        match desk.get(rt, seat, job) {
-            Ok(Outcome::Pending) => thread::yield_now(),
-            Ok(outcome) => return outcome,
-            Err(_) => break,
+        match get(rt, desk, seat, job) {
+            Found::Pending => thread::yield_now(),
+            found => return found,
         }
     }
-    Outcome::Pending
+    Found::Pending
+}
+
+/// What the serial search finds, at most to depth 12.
+fn sought(position: &Position, depth: u8) -> Found {
+    let found = search_full(position.board, depth.min(12));
+    Found::Done(found.score, found.choice)
 }
 
 /// Whether a job ends with what the serial search finds.
@@ -45,42 +75,27 @@ pub(crate) fn is_found<L: DeskLedger, R: Wait>(
     job: u64,
     position: &Position,
     depth: u8,
-) -> bool
-    requires { depth ≤ 12 }
-{
-    let Outcome::Done(reply) = end_of(rt, desk, seat, job) else {
-        return false;
-    };
-    let found = search_full(position.board, depth);
-    reply.value() == found.score && reply.choice() == found.choice
+) -> bool {
+    end_of(rt, desk, seat, job) == sought(position, depth)
 }
 
-/// The opening, Black to move.
-pub(crate) fn opening() -> Position {
-    Position {
-        board: Board {
-            own: 0x8_1000_0000,
-            opp: 0x10_0800_0000,
-        },
-        side: Side::Black,
-    }
+/// Whether a job of the opening ends with what the serial search finds.
+pub(crate) fn ends<L: DeskLedger, R: Wait>(
+    rt: &R,
+    desk: &Desk<L>,
+    seat: &Seat<L>,
+    job: u64,
+    depth: u8,
+) -> bool {
+    is_found(rt, desk, seat, job, &opening(), depth)
 }
 
-/// A disc of each player in the corner, Black to move: one move ends the game.
-pub(crate) fn corner() -> Position {
-    Position {
-        board: Board { own: 1, opp: 2 },
-        side: Side::Black,
-    }
-}
-
-/// All discs are White's, and Black is to move.
-pub(crate) fn all_white() -> Position {
-    Position {
-        board: Board {
-            own: 0,
-            opp: u64::MAX,
-        },
-        side: Side::Black,
-    }
+/// Whether a seat asks for the opening to this depth, as its first job, and has its reply.
+pub(crate) fn has_reply<L: DeskLedger, R: Wait>(
+    rt: &R,
+    desk: &Desk<L>,
+    seat: &mut Seat<L>,
+    depth: u8,
+) -> bool {
+    asks(rt, desk, seat, 1, depth) && ends(rt, desk, seat, 1, depth)
 }

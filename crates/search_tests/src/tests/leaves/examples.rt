@@ -1,6 +1,6 @@
 //! The examples of the root files of the crates below this one, which have no tests of their own, each public
 //! call of theirs once on an ordinary board, and the known numbers of positions after so many choices.
-use super::OPENING;
+use super::{OPENING, holds, holds_at};
 use othello_board::{Board, Cell, Direction};
 use othello_eval::{Valued, eval, final_value, plain};
 use othello_moves::{Choice, after, choice, choice_count, move_count, moves, over};
@@ -13,35 +13,46 @@ fn has_discs() -> bool {
         && matches!(OPENING.cell(19), Cell::Empty)
 }
 
+/// Whether a move turns a disc, and what is none turns none.
+fn has_flips() -> bool {
+    OPENING.flips(19) == 1 << 27 && OPENING.flips(20) == 0
+}
+
+/// Whether the other side has the other discs, and no square has two.
+fn has_another_side() -> bool {
+    Board::new(OPENING.opp, OPENING.own) == Some(OPENING.swap()) && Board::new(3, 2).is_none()
+}
+
+/// Whether a step leads to a square, or over the edge.
+fn has_edges() -> bool {
+    matches!(Direction::SouthEast.step(0), Some(9)) && Direction::NorthEast.step(7).is_none()
+}
+
 #[test]
 fn board_example(rt: HostRuntime) {
-    assert!(rt; OPENING.flips(19) == 1 << 27, "a move");
-    assert!(rt; OPENING.flips(20) == 0, "no move");
-    assert!(rt; has_discs(), "discs");
-    assert!(rt;
-        Board::new(OPENING.opp, OPENING.own) == Some(OPENING.swap()),
-        "the other side"
-    );
-    assert!(rt; Board::new(3, 2).is_none(), "two discs on a square");
-    assert!(rt; Direction::SouthEast.step(0) == Some(9), "a step");
-    assert!(rt; Direction::NorthEast.step(7).is_none(), "the edge");
+    holds(&rt, has_discs());
+    holds(&rt, has_flips());
+    holds(&rt, has_another_side());
+    holds(&rt, has_edges());
+}
+
+/// Whether the opening has its four moves, and no end.
+fn has_four_moves() -> bool {
+    moves(OPENING) == 1 << 19 | 1 << 26 | 1 << 37 | 1 << 44
+        && choice_count(OPENING) == 4
+        && move_count(OPENING) == 4
+        && !over(OPENING)
+}
+
+/// Whether its first choice is d3.
+fn has_a_first_choice() -> bool {
+    choice_count(OPENING) > 0 && matches!(choice(OPENING, 0), Choice::Square(19))
 }
 
 #[test]
 fn moves_example(rt: HostRuntime) {
-    assert!(rt;
-        moves(OPENING) == 1 << 19 | 1 << 26 | 1 << 37 | 1 << 44,
-        "squares"
-    );
-    assert!(rt;
-        choice_count(OPENING) == 4 && move_count(OPENING) == 4,
-        "moves"
-    );
-    assert!(rt; !over(OPENING), "an end");
-    assert!(rt;
-        choice_count(OPENING) > 0 && choice(OPENING, 0) == Choice::Square(19),
-        "the first"
-    );
+    holds(&rt, has_four_moves());
+    holds(&rt, has_a_first_choice());
 }
 
 /// The value and the choice at depth 1.
@@ -58,9 +69,9 @@ const LOST: Board = Board {
 
 #[test]
 fn eval_example(rt: HostRuntime) {
-    assert!(rt; eval(OPENING) == 0, "depth 0");
-    assert!(rt; plain(OPENING, 1) == VALUED, "depth 1");
-    assert!(rt; final_value(LOST) == -128_000, "an end");
+    holds(&rt, eval(OPENING) == 0);
+    holds(&rt, plain(OPENING, 1) == VALUED);
+    holds(&rt, final_value(LOST) == -128_000);
 }
 
 /// How many positions there are after exactly so many choices, a pass being one.
@@ -78,6 +89,6 @@ fn leaves(board: Board, depth: u8) -> u32 {
 #[test]
 fn leaves_from_the_opening(rt: HostRuntime) {
     for (depth, found) in [(1, 4), (2, 12), (3, 56), (4, 244), (5, 1396), (6, 8200)] {
-        assert!(rt; leaves(OPENING, depth) == found, "{depth} choices");
+        holds_at(&rt, depth as usize, leaves(OPENING, depth) == found);
     }
 }

@@ -1,15 +1,16 @@
 //! HELLO and RESERVE where memory is wanting, and then isn't: sessions at a desk whose hall lies in a small heap.
 ghost use Rattle.std.specs.Prelude.{◌≡◌, ◌<◌};
 
-use desk::{Config, Desk, DeskLedger, Hall, PARTS};
+use super::{given, heap_of, holds, small_hall};
+use desk::{Desk, DeskLedger, Hall, PARTS};
 use desk_office::serve_desk;
-use line_io::{FromWriter, ReadFailed, Source};
+use line_io::{FromWriter, ReadFailed, Sink, Source};
 use linked_list_allocator::LocalHeap;
 use std::alloc::Global;
 use std::marker::Brand;
+use std::process::Abort;
 use std::sync::Wait;
 use std::sync::ledger::Blank;
-use std::test::Fail;
 
 /// How many bytes are taken before the hall is made, and given back before a later line.
 const BALLAST: usize = 262_144;
@@ -45,8 +46,7 @@ impl Source for Ballasted<'_> {
                     let _ = self.ballast.take();
                 }
                 self.given = self.given.saturating_add(1);
-                block[..line.len()].copy_from_slice(line);
-                Ok(line.len())
+                Ok(given(block, line))
             }
             _ => Ok(0),
         }
@@ -102,6 +102,56 @@ const RESERVE: Plan = Plan {
     taken: b"WELCOME 1 2\nRESERVED 3 4\nQUOTA 3 4 64\nERR 20\nQUOTA 3 4 64\nBYE\n",
 };
 
+/// Serves a session.
+fn serves<L: DeskLedger, R: Wait, S: Source, K: Sink>(
+    rt: &R,
+    source: &mut S,
+    sink: &mut K,
+    desk: &Desk<L, &LocalHeap>,
+)
+    requires { L.all ≡ L.parts }
+{
+    let _end = serve_desk(rt, source, sink, desk);
+}
+
+/// What is written of the lines of the plan at this desk.
+fn told_at<L: DeskLedger, R: Wait>(
+    rt: &R,
+    alloc: Global,
+    desk: &Desk<L, &LocalHeap>,
+    ballast: Vec<u8, &LocalHeap>,
+    plan: Plan,
+) -> Vec<u8>
+    requires { L.all ≡ L.parts }
+{
+    let mut source = Ballasted {
+        ballast: Some(ballast),
+        lines: plan.lines,
+        back: plan.back,
+        given: 0,
+    };
+    let mut sink = FromWriter::new(Vec::new(alloc));
+    serves(rt, &mut source, &mut sink, desk);
+    source.close();
+    sink.writer
+}
+
+/// The same at a new desk of this hall.
+fn told_of<L: DeskLedger, R: Wait>(
+    rt: &R,
+    alloc: Global,
+    hall: Hall<&LocalHeap>,
+    ballast: Vec<u8, &LocalHeap>,
+    blank: Blank,
+    plan: Plan,
+) -> Vec<u8>
+    requires name { blank.name ≡ L.name }
+    requires parts { (blank.parts ≡ L.parts) × (L.all ≡ L.parts) × (L.all ≡ 13835058055282163712) }
+{
+    let desk: Desk<L, &LocalHeap> = Desk::new(hall, blank);
+    told_at(rt, alloc, &desk, ballast, plan)
+}
+
 /// What the session reads at a desk over this heap; None where not even the hall could be made.
 fn told_in<L: DeskLedger, R: Wait>(
     rt: &R,
@@ -114,90 +164,88 @@ fn told_in<L: DeskLedger, R: Wait>(
     requires parts { (blank.parts ≡ L.parts) × (L.all ≡ L.parts) × (L.all ≡ 13835058055282163712) }
 {
     let ballast = Vec::with_capacity(heap, BALLAST).ok()?;
-    let hall = Hall::new(heap, Config::new(8, 8)?, 2).ok()?;
-    let desk: Desk<L, &LocalHeap> = Desk::new(hall, blank);
-    let mut source = Ballasted {
-        ballast: Some(ballast),
-        lines: plan.lines,
-        back: plan.back,
-        given: 0,
-    };
-    let mut sink = FromWriter::new(Vec::new(alloc));
-    let _end = serve_desk(rt, &mut source, &mut sink, &desk);
-    source.close();
-    Some(sink.writer)
+    let hall = small_hall(heap, 2)?;
+    Some(told_of::<L, R>(rt, alloc, hall, ballast, blank, plan))
 }
 
-/// Whether memory was wanting for the line of the plan, in a heap with room for so many units beside the ballast, which
-/// gets all back. None where there isn't even room for what comes before.
-fn is_wanting<L: DeskLedger, R: Wait>(
+/// What came of the line of a plan.
+enum Outcome {
+    /// There isn't even room for what comes before it.
+    NoRoom,
+    /// Memory was wanting for it.
+    Refused,
+    /// It was taken.
+    Taken,
+    /// Something else is written.
+    Otherwise,
+}
+
+/// What comes of the line of the plan in a heap with room for so many units beside the ballast, which gets all back.
+fn outcome_in<L: DeskLedger, R: Wait + Abort>(
     rt: &R,
     alloc: Global,
     units: usize,
     blank: Blank,
     plan: Plan,
-) -> Result<Option<bool>, Fail>
+) -> Outcome
     requires few { units < 16384 }
     requires name { blank.name ≡ L.name }
     requires parts { (blank.parts ≡ L.parts) × (L.all ≡ L.parts) × (L.all ≡ 13835058055282163712) }
 {
-    let heap = LocalHeap::new(alloc, BALLAST + units * 32)?;
+    let heap = heap_of(rt, alloc, BALLAST + units * 32);
     let told = told_in::<L, R>(rt, alloc, &heap, blank, plan);
-    if heap.used() != 0 {
-        return Err(Fail::new("memory is kept"));
-    }
+    holds(rt, heap.used() == 0);
     match told {
-        None => Ok(None),
+        None => Outcome::NoRoom,
         Some(told) => judged(told.as_slice(), plan),
     }
 }
 
 /// The same of what was written.
-fn judged(told: &[u8], plan: Plan) -> Result<Option<bool>, Fail> {
+fn judged(told: &[u8], plan: Plan) -> Outcome {
     if !told.starts_with(plan.begins) {
-        return Ok(None);
+        Outcome::NoRoom
+    } else if told == plan.taken {
+        Outcome::Taken
+    } else if told == plan.refused {
+        Outcome::Refused
+    } else {
+        Outcome::Otherwise
     }
-    if told == plan.taken {
-        return Ok(Some(false));
-    }
-    if told == plan.refused {
-        return Ok(Some(true));
-    }
-    Err(Fail::new("answered otherwise"))
 }
 
 /// The same with a blank of its own.
-fn wants<R: Wait>(rt: &R, alloc: Global, units: usize, plan: Plan) -> Result<Option<bool>, Fail>
+fn outcome_of<R: Wait + Abort>(rt: &R, alloc: Global, units: usize, plan: Plan) -> Outcome
     requires { units < 16384 }
 {
-    is_wanting::<Brand, R>(rt, alloc, units, Blank::new(PARTS), plan)
+    outcome_in::<Brand, R>(rt, alloc, units, Blank::new(PARTS), plan)
 }
 
-/// In how many heaps with more and more room memory is wanting for the line of the plan, until it isn't.
-fn wanting_in<R: Wait>(rt: &R, alloc: Global, plan: Plan) -> Result<u32, Fail> {
+/// In how many heaps with more and more room memory is wanting for the line of the plan, until it isn't; 0 where
+/// something else is written, or it always is.
+fn wanting_in<R: Wait + Abort>(rt: &R, alloc: Global, plan: Plan) -> u32 {
     let mut refused = 0u32;
     for units in 0..16384usize {
-        match wants(rt, alloc, units, plan)? {
-            None => {}
-            Some(true) => refused = refused.saturating_add(1),
-            Some(false) => return Ok(refused),
+        match outcome_of(rt, alloc, units, plan) {
+            Outcome::NoRoom => {}
+            Outcome::Refused => refused = refused.saturating_add(1),
+            Outcome::Taken => return refused,
+            Outcome::Otherwise => return 0,
         }
     }
-    Err(Fail::new("more is wanting"))
+    0
 }
 
 /// In heaps with more and more room HELLO is refused for want of memory until it is taken. Where it is
 /// refused it is taken once there is room, on the same session; every other line is answered as ever, and
 /// each heap gets all back.
 #[test]
-fn a_refused_hello_is_taken_later(rt: HostRuntime) -> Result<(), Fail> {
-    assert!(rt; wanting_in(&rt, rt.alloc(), HELLO)? > 786 * 56 / 32);
-    Ok(())
+fn a_refused_hello_is_taken_later(rt: HostRuntime) {
+    holds(&rt, wanting_in(&rt, rt.alloc(), HELLO) > 786 * 56 / 32);
 }
 
 /// So it is of RESERVE, which leaves all as it was where it is refused.
 #[test]
-fn a_refused_raise_is_taken_later(rt: HostRuntime) -> Result<(), Fail> {
-    assert!(rt; wanting_in(&rt, rt.alloc(), RESERVE)? > 834 * 48 / 32);
-    Ok(())
+fn a_refused_raise_is_taken_later(rt: HostRuntime) {
+    holds(&rt, wanting_in(&rt, rt.alloc(), RESERVE) > 834 * 48 / 32);
 }

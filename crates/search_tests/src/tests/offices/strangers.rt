@@ -1,14 +1,13 @@
 //! An office that has no tenant refuses by number, and one that has a tenant takes no other. Sessions ask neither of it.
 ghost use Rattle.std.specs.Prelude.{◌≡◌};
 
-use desk::{Config, Desk, DeskLedger, Hall, PARTS, Refusal};
+use super::{holds, small_hall};
+use desk::{Desk, DeskLedger, Hall, PARTS, Refusal};
 use desk_office::DeskOffice;
 use session::Office;
-use std::alloc::Global;
 use std::marker::Brand;
 use std::sync::Wait;
 use std::sync::ledger::Blank;
-use std::test::Fail;
 use tenant_quota::Reserve;
 
 /// Whether there is no job 1 to be shown.
@@ -69,12 +68,6 @@ fn is_new_office_as_it_says<L: DeskLedger, R: Wait>(
     answer
 }
 
-/// A hall of 8 segments and 8 nodes.
-fn small_hall(alloc: Global) -> Result<Hall, Fail> {
-    let config = Config::new(8, 8).ok_or("no config")?;
-    Ok(Hall::new(alloc, config, 0)?)
-}
-
 /// Whether the offices of a new desk are so.
 fn is_new_desk_as_it_says<L: DeskLedger, R: Wait>(
     rt: &R,
@@ -95,8 +88,8 @@ fn are_offices_as_they_say<R: Wait>(rt: &R, hall: Hall, reserve: Reserve) -> boo
 }
 
 #[test]
-fn an_office_has_one_tenant_and_says_where_it_has_none(rt: HostRuntime) -> Result<(), Fail> {
-    let reserve = Reserve::new(1, 1).ok_or("no reservation")?;
-    assert!(rt; are_offices_as_they_say(&rt, small_hall(rt.alloc())?, reserve));
-    Ok(())
+fn an_office_has_one_tenant_and_says_where_it_has_none(rt: HostRuntime) {
+    let reserve = Reserve::new(1, 1).unwrap();
+    let hall = small_hall(rt.alloc(), 0).expect(&rt, "there is memory");
+    holds(&rt, are_offices_as_they_say(&rt, hall, reserve));
 }

@@ -1,12 +1,11 @@
 //! The answers to TABLE.
-use super::{Prepared, is_served};
+use super::{Prepared, holds, is_served, joined, session};
 use line_io::{FromReader, Sink, WriteFailed};
 use othello_eval::{Bound, BoundKind, Valued};
 use othello_moves::Choice;
-use session::{Analysis, Bounds, End, Standing, serve_lines};
+use session::{Analysis, Bounds, End, Standing};
 use std::alloc::{AllocError, Global};
 use std::sync::Wait;
-use std::test::Fail;
 
 /// An entry for a square.
 fn square(number: u8, kind: BoundKind, score: i32) -> Bound {
@@ -20,7 +19,7 @@ fn square(number: u8, kind: BoundKind, score: i32) -> Bound {
 /// A job that is done, with these entries, of at most 64.
 fn done(value: i32, choice: Choice, entries: &[Bound]) -> Standing {
     let mut bounds = Bounds::NONE;
-    for entry in entries.iter().take(64) {
+    for entry in entries {
         if bounds.as_slice().len() < 64 {
             bounds.push(*entry);
         }
@@ -54,7 +53,7 @@ fn a_pass_and_each_kind_are_shown(rt: HostRuntime) {
     };
     let passed = done(-6000, Choice::Pass, &[pass]);
     let due = b"WELCOME 4 8\nJOB 1\nTABLE 1 pass=-6000\nDONE 1 -6000 pass\n";
-    assert!(rt; is_shown(&rt, rt.alloc(), passed, due));
+    holds(&rt, is_shown(&rt, rt.alloc(), passed, due));
     let three = [
         square(0, BoundKind::Exact, 89),
         square(4, BoundKind::Low, 40),
@@ -62,7 +61,7 @@ fn a_pass_and_each_kind_are_shown(rt: HostRuntime) {
     ];
     let corner = done(89, Choice::Square(0), &three);
     let due = b"WELCOME 4 8\nJOB 1\nTABLE 1 a1=89 e1<40 h8>128000\nDONE 1 89 a1\n";
-    assert!(rt; is_shown(&rt, rt.alloc(), corner, due));
+    holds(&rt, is_shown(&rt, rt.alloc(), corner, due));
 }
 
 /// Takes each answer by one call, and keeps the last.
@@ -97,13 +96,13 @@ fn longest() -> Standing {
 
 /// What is written of it as the job of the greatest number.
 fn longest_text(alloc: Global) -> Result<Vec<u8>, AllocError> {
-    let entries = [b" pass<-2147483648".as_slice(); 64].concat(alloc)?;
-    [
+    let entries = joined(alloc, [b" pass<-2147483648".as_slice(); 64].as_slice())?;
+    let texts = [
         b"TABLE 99999999".as_slice(),
         entries.as_slice(),
         b"\n".as_slice(),
-    ]
-    .concat(alloc)
+    ];
+    joined(alloc, texts.as_slice())
 }
 
 /// Whether it is written so, by one call beside that of HELLO.
@@ -116,14 +115,13 @@ fn is_written_at_once<R: Wait>(rt: &R, alloc: Global, due: &[u8]) -> bool {
     };
     let lines = b"HELLO 4 8\nTABLE 99999999".as_slice();
     let mut source = FromReader { reader: lines };
-    let result = serve_lines(rt, &mut source, &mut sink, &mut office);
-    result == Ok(End::EndOfInput) && sink.calls == 2 && sink.answer.as_slice() == due
+    let result = session(rt, &mut source, &mut sink, &mut office);
+    matches!(result, Ok(End::EndOfInput)) && sink.calls == 2 && sink.answer.as_slice() == due
 }
 
 #[test]
-fn the_longest_table_is_written_by_one_call(rt: HostRuntime) -> Result<(), Fail> {
-    let due = longest_text(rt.alloc())?;
-    assert!(rt; is_written_at_once(&rt, rt.alloc(), due.as_slice()));
-    assert_eq!(rt; due.len(), 1103);
-    Ok(())
+fn the_longest_table_is_written_by_one_call(rt: HostRuntime) {
+    let due = longest_text(rt.alloc()).expect(&rt, "there is memory");
+    holds(&rt, is_written_at_once(&rt, rt.alloc(), due.as_slice()));
+    holds(&rt, due.len() == 1103);
 }

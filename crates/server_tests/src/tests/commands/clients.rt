@@ -1,9 +1,8 @@
 //! Servers of the program, and clients that come once they are told where a server listens.
-use super::{Memory, followed, memory, typed};
-use crate::tests::{LAST, Row, SPENT, are_told, is_answered};
+use super::{followed, typed, written};
+use crate::tests::{LAST, Row, SPENT, are_told, holds, is_answered};
 use line_io::{Sink, WriteFailed};
 use solve_command::Output;
-use std::alloc::Global;
 use std::net::{Net, TcpListener, TcpStream};
 use std::sync::atomic::{AtomicBool, Ordering};
 use std::sync::{Arc, Wait};
@@ -49,20 +48,15 @@ pub(super) fn address_in(line: &[u8]) -> Option<&str> {
 
 /// The exit status of a server that these words ask for, its client then and what it was told, and what was said on the
 /// errors.
-pub(super) fn served<R, C: Client>(
-    rt: &R,
-    alloc: Global,
-    words: &[&str],
-    client: C,
-) -> (u8, Told<C>, Vec<u8>)
+pub(super) fn served<C: Client, R>(rt: &R, words: &[&str], client: C) -> (u8, Told<C>, Vec<u8>)
 where
-    R: Net<Listener = TcpListener, Stream = TcpStream> + Threads + Wait + Sync,
+    R: Net<Listener = TcpListener, Stream = TcpStream> + AllocGlobal + Threads + Wait + Sync,
 {
     let told = Told {
-        text: Vec::new(alloc),
+        text: Vec::new(rt.alloc()),
         client,
     };
-    followed(rt, alloc, words, typed(b"", false), told)
+    followed(rt, words, typed(b"", false), told)
 }
 
 /// What can't be reserved at a server of 8 segments and 1 node.
@@ -147,39 +141,36 @@ fn a_server_says_where_it_listens_and_serves_as_asked(rt: HostRuntime) -> Result
         is_over: Arc::new(rt.alloc(), AtomicBool::new(false))?,
         thread: None,
     };
-    let (status, told, errors) = served(&rt, rt.alloc(), WORDS.as_slice(), visitor);
+    let (status, told, errors) = served(&rt, WORDS.as_slice(), visitor);
     let Told { text, client } = told;
     let Visitor { thread, .. } = client;
     let Some(thread) = thread else {
         panic!(rt; "no client came");
     };
     assert!(rt; thread.join(&rt), "its sessions");
-    assert!(rt; status == 0 && has_said(&text, b"\nended 2\n") && errors.is_empty());
+    holds(
+        &rt,
+        status == 0 && has_said(&text, b"\nended 2\n") && errors.is_empty(),
+    );
     Ok(())
 }
 
 /// The status of a server at this port, whether it has said where it listens, and what is said on the errors.
-fn served_at<R>(rt: &R, alloc: Global, port: &str) -> (u8, Memory, Vec<u8>)
+fn served_at<R>(rt: &R, port: &str) -> (u8, Vec<u8>, Vec<u8>)
 where
-    R: Net<Listener = TcpListener, Stream = TcpStream> + Threads + Wait + Sync,
+    R: Net<Listener = TcpListener, Stream = TcpStream> + AllocGlobal + Threads + Wait + Sync,
 {
     let words = ["othello", "serve", "--sessions", "1", "--port", port];
-    followed(
-        rt,
-        alloc,
-        words.as_slice(),
-        typed(b"", false),
-        memory(alloc),
-    )
+    written(rt, words.as_slice(), typed(b"", false))
 }
 
 #[test]
 fn a_port_that_is_taken_is_told(rt: HostRuntime) -> Result<(), Fail> {
     let taken = TcpListener::bind(&rt, "127.0.0.1:0")?;
     let port = format!(in rt.alloc(); "{}", taken.local_addr()?.port())?;
-    let (status, sink, errors) = served_at(&rt, rt.alloc(), port.as_str());
+    let (status, answers, errors) = served_at(&rt, port.as_str());
     let told = format!(in rt.alloc(); "othello: port {port}: ")?;
-    assert!(rt; status == 1 && sink.writer.is_empty());
-    assert!(rt; errors.as_slice().starts_with(told.as_bytes()));
+    holds(&rt, status == 1 && answers.is_empty());
+    holds(&rt, errors.as_slice().starts_with(told.as_bytes()));
     Ok(())
 }

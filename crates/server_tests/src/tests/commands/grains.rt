@@ -1,7 +1,6 @@
 //! A server has the grain that it is asked for: jobs for which its nodes suffice at one grain alone.
 use super::clients::{Client, address_in, served};
-use crate::tests::{LAST, are_told};
-use std::alloc::Global;
+use crate::tests::{LAST, is_answered};
 use std::net::{Net, TcpListener, TcpStream};
 use std::sync::Wait;
 use std::thread::Threads;
@@ -42,11 +41,10 @@ impl<R: Net<Stream = TcpStream>> Asker<'_, R> {
         let Ok(stream) = TcpStream::connect(self.rt, address) else {
             return false;
         };
-        let hello = ("HELLO 64 8\n", "WELCOME 64 8\n");
-        are_told(
-            &stream,
-            &[hello, (self.line, "JOB 1\n"), ("WAIT 1\n", self.end), LAST],
-        )
+        is_answered(&stream, ("HELLO 64 8\n", "WELCOME 64 8\n"))
+            && is_answered(&stream, (self.line, "JOB 1\n"))
+            && is_answered(&stream, ("WAIT 1\n", self.end))
+            && is_answered(&stream, LAST)
     }
 }
 
@@ -59,9 +57,9 @@ impl<R: Net<Stream = TcpStream>> Client for Asker<'_, R> {
 }
 
 /// Whether a server of eight nodes has the grain that it is asked for.
-fn has_grain<R>(rt: &R, alloc: Global, grain: &Grain) -> bool
+fn has_grain<R>(rt: &R, grain: &Grain) -> bool
 where
-    R: Net<Listener = TcpListener, Stream = TcpStream> + Threads + Wait + Sync,
+    R: Net<Listener = TcpListener, Stream = TcpStream> + AllocGlobal + Threads + Wait + Sync,
 {
     let (grain, line, end) = *grain;
     let asker = Asker {
@@ -82,7 +80,7 @@ where
         "--grain",
         grain,
     ];
-    let (status, told, _errors) = served(rt, alloc, words.as_slice(), asker);
+    let (status, told, _errors) = served(rt, words.as_slice(), asker);
     status == 0 && told.client.is_answered
 }
 
@@ -90,6 +88,6 @@ where
 #[test]
 fn a_server_has_the_grain_that_is_asked(rt: HostRuntime) {
     for grain in &GRAINS {
-        assert!(rt; has_grain(&rt, rt.alloc(), grain), "{grain:?}");
+        assert!(rt; has_grain(&rt, grain), "{grain:?}");
     }
 }

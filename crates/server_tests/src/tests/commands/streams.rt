@@ -1,6 +1,7 @@
 //! Streams that fail by each error that a process can meet, and terminals.
-use super::{Broken, Keys, LINE, followed, memory, status_of, typed};
-use line_io::{FromReader, FromWriter};
+use super::{Broken, LINE, followed, input, status_of, typed, written};
+use crate::tests::holds;
+use line_io::FromWriter;
 use serve_command::Unserved;
 use solve_command::Streams;
 use std::alloc::Global;
@@ -62,25 +63,14 @@ const FAILING: [Failing; 11] = [
     (&["othello", "--help"], None, false, ErrorKind::Other, 0, ""),
 ];
 
-/// An input of the opening that fails so, or not.
-fn input(failure: Option<ErrorKind>, is_terminal: bool) -> FromReader<Keys> {
-    FromReader {
-        reader: Keys {
-            bytes: LINE,
-            failure,
-            is_terminal,
-        },
-    }
-}
-
 /// Whether a program whose input and output fail so has this status and says this on its errors.
-fn is_told<R>(rt: &R, alloc: Global, failing: &Failing) -> bool
+fn is_told<R>(rt: &R, failing: &Failing) -> bool
 where
-    R: Net<Listener = TcpListener, Stream = TcpStream> + Threads + Wait + Sync,
+    R: Net<Listener = TcpListener, Stream = TcpStream> + AllocGlobal + Threads + Wait + Sync,
 {
     let (words, failure, is_terminal, broken, status, said) = *failing;
     let sink = FromWriter::new(Broken(broken));
-    let (found, _sink, errors) = followed(rt, alloc, words, input(failure, is_terminal), sink);
+    let (found, _sink, errors) = followed(rt, words, input(LINE, failure, is_terminal), sink);
     found == status && errors.as_slice() == said.as_bytes()
 }
 
@@ -89,26 +79,26 @@ where
 #[test]
 fn each_error_of_an_output(rt: HostRuntime) {
     for failing in &FAILING {
-        assert!(rt; is_told(&rt, rt.alloc(), failing), "{failing:?}");
+        assert!(rt; is_told(&rt, failing), "{failing:?}");
     }
 }
 
 /// The status of words that are refused where that can't be said.
-fn refused_in_silence<R>(rt: &R, alloc: Global) -> u8
+fn refused_in_silence<R>(rt: &R) -> u8
 where
-    R: Net<Listener = TcpListener, Stream = TcpStream> + Threads + Wait + Sync,
+    R: Net<Listener = TcpListener, Stream = TcpStream> + AllocGlobal + Threads + Wait + Sync,
 {
     let mut streams = Streams {
         source: typed(LINE, false),
         sink: FromWriter::new(Broken(ErrorKind::Other)),
         errors: FromWriter::new(Broken(ErrorKind::Other)),
     };
-    status_of(rt, alloc, &["othello", "solved"], &mut streams)
+    status_of(rt, &["othello", "solved"], &mut streams)
 }
 
 #[test]
 fn refused_words_that_cannot_be_explained(rt: HostRuntime) {
-    assert!(rt; refused_in_silence(&rt, rt.alloc()) == 2);
+    holds(&rt, refused_in_silence(&rt) == 2);
 }
 
 /// Whether the input is a terminal, how it fails, the exit status, and the errors.
@@ -122,23 +112,22 @@ const READINGS: [Reading; 4] = [
 ];
 
 /// Whether a program with this input has this status, says this on its errors, and answers where it could read.
-fn is_read<R>(rt: &R, alloc: Global, reading: &Reading) -> bool
+fn is_read<R>(rt: &R, reading: &Reading) -> bool
 where
-    R: Net<Listener = TcpListener, Stream = TcpStream> + Threads + Wait + Sync,
+    R: Net<Listener = TcpListener, Stream = TcpStream> + AllocGlobal + Threads + Wait + Sync,
 {
     let (is_terminal, failure, status, said) = *reading;
-    let source = input(failure, is_terminal);
-    let (found, sink, errors) = followed(rt, alloc, SOLVE, source, memory(alloc));
+    let (found, answers, errors) = written(rt, SOLVE, input(LINE, failure, is_terminal));
     found == status
         && errors.as_slice() == said.as_bytes()
-        && sink.writer.is_empty() == failure.is_some()
+        && answers.is_empty() == failure.is_some()
 }
 
 /// At a terminal a hint comes first; a failed read is told, and isn't the end.
 #[test]
 fn each_input(rt: HostRuntime) {
     for reading in &READINGS {
-        assert!(rt; is_read(&rt, rt.alloc(), reading), "{reading:?}");
+        assert!(rt; is_read(&rt, reading), "{reading:?}");
     }
 }
 
@@ -154,15 +143,19 @@ fn faults_are_told(rt: HostRuntime) {
     let unsaid = Unserved::from(ServeFault::Unsaid);
     let no_memory = Unserved::from(ServeFault::OutOfMemory);
     let no_thread = Unserved::from(ServeFault::NoThread);
-    assert!(rt; says(alloc, Unserved::OutOfMemory, "no memory for the segments"));
-    assert!(rt;
+    holds(
+        &rt,
+        says(alloc, Unserved::OutOfMemory, "no memory for the segments"),
+    );
+    holds(
+        &rt,
         says(
             alloc,
             Unserved::Unwritten,
-            "the output could not be written"
-        )
+            "the output could not be written",
+        ),
     );
-    assert!(rt; says(alloc, unsaid, "the output could not be written"));
-    assert!(rt; says(alloc, no_memory, "no memory for the workers"));
-    assert!(rt; says(alloc, no_thread, "no thread for a worker"));
+    holds(&rt, says(alloc, unsaid, "the output could not be written"));
+    holds(&rt, says(alloc, no_memory, "no memory for the workers"));
+    holds(&rt, says(alloc, no_thread, "no thread for a worker"));
 }

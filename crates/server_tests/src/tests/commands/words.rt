@@ -1,5 +1,6 @@
 //! Words of the command line: how they are read, and what is said of those that are refused.
 use super::memory;
+use crate::tests::holds;
 use command_line::{Options, WordsFault};
 use solve_command::words_of;
 use std::alloc::Global;
@@ -22,7 +23,10 @@ fn words_are_read(rt: HostRuntime) {
         grain: 2,
         visited: true,
     };
-    assert!(rt; ask_for(rt.alloc(), &["othello", "solve", "--visited"], solve));
+    holds(
+        &rt,
+        ask_for(rt.alloc(), &["othello", "solve", "--visited"], solve),
+    );
     let serve = Options::Serve {
         sessions: 2,
         port: 80,
@@ -32,7 +36,7 @@ fn words_are_read(rt: HostRuntime) {
         grain: 2,
     };
     let words = ["othello", "serve", "--sessions", "2", "--port=80"];
-    assert!(rt; ask_for(rt.alloc(), words.as_slice(), serve));
+    holds(&rt, ask_for(rt.alloc(), words.as_slice(), serve));
 }
 
 /// Words that are refused, the exit status, how the text begins, and what stands in it.
@@ -85,13 +89,18 @@ fn is_told(alloc: Global, fault: WordsFault, refused: &Refused) -> bool {
     }
 }
 
+/// Whether words are refused with this status and this text.
+fn are_refused(alloc: Global, refused: &Refused) -> bool {
+    match read(alloc, refused.0) {
+        Ok(_) => false,
+        Err(fault) => is_told(alloc, fault, refused),
+    }
+}
+
 #[test]
 fn refusals_are_told(rt: HostRuntime) {
     for refused in &REFUSED {
-        match read(rt.alloc(), refused.0) {
-            Ok(_) => panic!(rt; "{:?} were read", refused.0),
-            Err(fault) => assert!(rt; is_told(rt.alloc(), fault, refused), "{:?}", refused.0),
-        }
+        assert!(rt; are_refused(rt.alloc(), refused), "{:?}", refused.0);
     }
 }
 
@@ -107,7 +116,13 @@ fn are_lost(alloc: Global, kind: ErrorKind, status: u8, said: &str) -> bool {
 #[test]
 fn words_that_are_no_text_are_refused(rt: HostRuntime) {
     let no_text = "othello: a word of the command line is no text in UTF-8\n";
-    assert!(rt; are_lost(rt.alloc(), ErrorKind::InvalidData, 2, no_text));
+    holds(
+        &rt,
+        are_lost(rt.alloc(), ErrorKind::InvalidData, 2, no_text),
+    );
     let no_memory = "othello: no memory to read the command line\n";
-    assert!(rt; are_lost(rt.alloc(), ErrorKind::OutOfMemory, 1, no_memory));
+    holds(
+        &rt,
+        are_lost(rt.alloc(), ErrorKind::OutOfMemory, 1, no_memory),
+    );
 }

@@ -1,0 +1,80 @@
+//! What one thread tells another, and how long the other waits for it.
+use std::sync::atomic::{AtomicBool, AtomicU64, Ordering};
+use std::thread;
+use std::time::{Clock, Duration};
+
+/// The most turns of a loop that waits for another thread.
+pub(crate) const MOST_TURNS: u32 = 10_000_000;
+
+/// A flag that isn't set.
+pub(crate) fn unset() -> AtomicBool {
+    AtomicBool::new(false)
+}
+
+/// A count of nothing.
+pub(crate) fn none() -> AtomicU64 {
+    AtomicU64::new(0)
+}
+
+/// Sets a flag.
+pub(crate) fn set(flag: &AtomicBool) {
+    flag.store(true, Ordering::SeqCst);
+}
+
+/// Whether a flag is set now.
+pub(crate) fn is_set(flag: &AtomicBool) -> bool {
+    flag.load(Ordering::SeqCst)
+}
+
+/// Counts one more, and tells how many there were before.
+pub(crate) fn add(count: &AtomicU64) -> u64 {
+    count.fetch_add(1, Ordering::SeqCst)
+}
+
+/// How many there are now.
+pub(crate) fn value(count: &AtomicU64) -> u64 {
+    count.load(Ordering::SeqCst)
+}
+
+/// Keeps this number.
+pub(crate) fn keep(count: &AtomicU64, number: u64) {
+    count.store(number, Ordering::SeqCst);
+}
+
+/// Waits within a limit until a flag is set, and tells whether it is.
+pub(crate) fn becomes_set(flag: &AtomicBool) -> bool {
+    for _ in 0..MOST_TURNS {
+        if is_set(flag) {
+            return true;
+        }
+        thread::yield_now();
+    }
+    false
+}
+
+/// Waits within a limit until a count comes to so many, and tells whether it does.
+pub(crate) fn reaches(count: &AtomicU64, many: u64) -> bool {
+    for _ in 0..MOST_TURNS {
+        if value(count) >= many {
+            return true;
+        }
+        thread::yield_now();
+    }
+    false
+}
+
+/// Whether a count comes to so many within ten seconds.
+pub(crate) fn comes<C: Clock>(clock: &C, count: &AtomicU64, many: u64) -> bool {
+    for _ in 0..10_000u32 {
+        if value(count) >= many {
+            return true;
+        }
+        pass(clock, 1);
+    }
+    false
+}
+
+/// Lets so many milliseconds pass.
+pub(crate) fn pass<C: Clock>(clock: &C, millis: u64) {
+    thread::sleep(clock, Duration::from_millis(millis));
+}
