@@ -22,7 +22,7 @@
 //! opening.flips(19) == 1 << 27
 //! ```
 //!
-//! The example stands as a test in `search_tests`.
+//! The example stands as a test in `serial_tests`.
 #![tactic(auto)]
 
 mod boards;

@@ -22,7 +22,7 @@
 //! plain(opening, 1) == Valued { value: -3, choice: Some(Choice::Square(19)) }
 //! ```
 //!
-//! The example stands as a test in `search_tests`, which has the tests of the crates that it stands on.
+//! The example stands as a test in `serial_tests`, which has the tests of the crates that it stands on.
 #![tactic(auto)]
 
 pub use othello_moves;

@@ -25,7 +25,7 @@
 //! choice(opening, 0) == Choice::Square(19)
 //! ```
 //!
-//! The example stands as a test in `search_tests`.
+//! The example stands as a test in `serial_tests`.
 #![tactic(auto)]
 
 mod choices;

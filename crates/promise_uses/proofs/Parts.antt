@@ -1,5 +1,5 @@
 -- What the definitions of `promises` come to, part by part, and what holds of a value that there is.
-use Rattle.std.proofs.Common.{◌≡◌, ◌≢◌, ◌⊎◌, ℕ, List, [], ◌∷◌, ◌++◌, Bool, true, false, if◌then◌else◌, sym, Option, Some, None, Result, Ok, Err, refl, inl, inr, ap, ◌∙◌, subst}
+use Rattle.std.proofs.Common.{◌≡◌, ◌≢◌, ◌⊎◌, ℕ, List, [], ◌∷◌, Bool, true, false, if◌then◌else◌, sym, Option, Some, None, Result, Ok, Err, refl, inl, inr, ap, ◌∙◌, subst}
 use Rattle.std.specs.Prelude.{IfOk, IfSome}
 use Rattle.frame_tree.specs.declared.names.FrameId.{FrameId}
 use Rattle.sched_rules.specs.declared.refusal.Refusal.{Refusal}
@@ -9,7 +9,6 @@ use Rattle.sched_rules.specs.Trees.{Tenant, left, is_busy_in}
 use Rattle.sched_rules.specs.Lone.{lone_refusal}
 use Rattle.sched_rules.specs.Runs.{alone}
 use Rattle.jamboree_rules.specs.Procedure.{jamboree}
-use Rattle.jamboree_core.specs.Replies.{AreSearches, IsSearch}
 use Rattle.promises.specs.Tenants.{AreSame, IsForBusyWorker, IsForOwnState, SearchAnswer, SearchStep, own_steps}
 
 pub if-ok : {T E : Type 0} {P Q : T → Type 0} (r : Result T E) → ((value : T) → P value → Q value) → IfOk r P → IfOk r Q
@@ -71,12 +70,3 @@ pub of-nine : (grain : ℕ) (before : List SearchStep) (said : List SearchAnswer
     lone_refusal (jamboree grain) (alone (jamboree grain) (own_steps 9 before said)) (Spend (record { tenant = 9; serial = serial })) ≡ Some refusal
 of-nine grain before said serial refusal (inl own) = own
 of-nine grain before said serial refusal (inr busy) = absurd (let free : None ≡ Some busy.worker = busy.free in cc)
-
--- a list of searches with one more
-searches-with : (steps : List SearchStep) (step : SearchStep) → AreSearches steps → IsSearch step → AreSearches (steps ++ step ∷ [])
-searches-with [] step are is = (is, tt)
-searches-with (one ∷ more) step are is = (are.0, searches-with more step are.1 is)
-
-pub searches-kept : (taken : Bool) (steps new : List SearchStep) (step : SearchStep) → new ≡ (if taken then steps ++ step ∷ [] else steps) → AreSearches steps → IsSearch step → AreSearches new
-searches-kept true steps new step e are is = let P : List SearchStep → Type 0 = λ (l : List SearchStep). AreSearches l in subst P (sym e) (searches-with steps step are is)
-searches-kept false steps new step e are is = let P : List SearchStep → Type 0 = λ (l : List SearchStep). AreSearches l in subst P (sym e) are

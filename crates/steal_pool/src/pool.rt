@@ -158,7 +158,7 @@ pub fn run_pool_announced<
     }
 }
 
-/// How much a pool takes at its start. Tests (`pool_tests`) ask for more than can be had, one field at a time.
+/// How much a pool takes at its start. Tests (`thread_tests`) ask for more than can be had, one field at a time.
 #[derive(Clone, Copy, Debug)]
 pub struct PoolSizes {
     /// The number of the last worker, which is how many there are.
@@ -192,7 +192,7 @@ impl PoolSizes {
 }
 
 /// Runs a pool with these sizes: what `run_pool` and `run_pool_announced` do, which say when it returns. At an error it
-/// also tells how many workers' threads were started and have ended. For tests (`pool_tests`).
+/// also tells how many workers' threads were started and have ended. For tests (`thread_tests`).
 pub fn run_pool_sized<
     L: DeskLedger + Send + Sync,
     G: Gate + Sync,

@@ -1,7 +1,0 @@
-use Rattle.pool_tests.proofs.tests.desks.try_out.Given as goal
-
-abbrev pub ghosts-try_at-L-Ledger : goal.ghosts-try_at-L-Ledger
-ghosts-try_at-L-Ledger g a = record { name = a.blank.name; parts = a.blank.parts }
-
-abbrev pub ghosts-try_at-L-DeskLedger : goal.ghosts-try_at-L-DeskLedger
-ghosts-try_at-L-DeskLedger g a = record { all = a.blank.parts }

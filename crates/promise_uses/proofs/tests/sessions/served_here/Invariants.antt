@@ -1,7 +1,0 @@
-use Rattle.promise_uses.proofs.tests.sessions.served_here.Given as goal
-
-abbrev pub ghosts-served-L-Ledger : goal.ghosts-served-L-Ledger
-ghosts-served-L-Ledger g a = record { name = a.blank.name; parts = a.blank.parts }
-
-abbrev pub ghosts-served-L-DeskLedger : goal.ghosts-served-L-DeskLedger
-ghosts-served-L-DeskLedger g a = record { all = a.blank.parts }

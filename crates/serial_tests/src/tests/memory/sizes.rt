@@ -1,0 +1,67 @@
+//! Where there is room no growth is refused, whatever the size that is asked for.
+ghost use Rattle.std.specs.Prelude.{◌≤◌};
+
+use crate::tests::memory::frames::{make_places, table_of};
+use crate::tests::memory::{heap_of, holds};
+use frame_table::FrameTable;
+use linked_list_allocator::LocalHeap;
+use segment_region::Region;
+use std::alloc::Global;
+use std::process::Abort;
+use tenant_quota::Book;
+
+/// Makes a region of so many segments, all of them free.
+fn make_region(rt: &impl Abort, alloc: Global, count: usize)
+    requires { (1 ≤ count) × (count ≤ 65536) }
+{
+    let region = Region::new(alloc, count).expect(rt, "room for a region");
+    holds(rt, region.free_count() == count);
+}
+
+/// Every number of segments that a tenant may have, and 4,096 more up to the greatest.
+#[test]
+fn regions_of_all_sizes(rt: HostRuntime) {
+    for count in 1usize..4097 {
+        make_region(&rt, rt.alloc(), count);
+        make_region(&rt, rt.alloc(), 16 * count);
+    }
+}
+
+/// Makes a book.
+fn make_book(rt: &impl Abort, alloc: Global, segments: u32, nodes: u32)
+    requires segments { (1 ≤ segments) × (segments ≤ 65536) }
+    requires nodes { (1 ≤ nodes) × (nodes ≤ 4194304) }
+{
+    let _book = Book::new(alloc, segments, nodes).expect(rt, "room for a book");
+}
+
+/// Every number of nodes that a tenant may have, and 65,536 more up to the greatest.
+#[test]
+fn books_of_all_sizes(rt: HostRuntime) {
+    for count in 1u32..65537 {
+        make_book(&rt, rt.alloc(), 65537 - count, count);
+        make_book(&rt, rt.alloc(), count, 64 * count);
+    }
+}
+
+/// How much memory a table takes whose tenant has so many places at first, and then as many as can be, if they are more.
+fn used_after_a_raise(rt: &impl Abort, heap: &LocalHeap, places: usize) -> usize {
+    let mut table: FrameTable<u64, &LocalHeap> = table_of(rt, heap, 7, places);
+    if places < 4096 {
+        make_places(rt, &mut table, 7, 4096);
+    }
+    heap.used()
+}
+
+/// Any number of places, and a raise from there to the greatest. It makes as much room as is made at once, also for
+/// guesses where frames stand, of which a table of 64 would do for none of 4,096 frames; from 2,033 places on a list
+/// may grow to twice its length.
+#[test]
+fn tables_of_all_sizes(rt: HostRuntime) {
+    let heap = heap_of(&rt, rt.alloc(), 1 << 21);
+    let at_once = used_after_a_raise(&rt, &heap, 4096);
+    for places in 1usize..4096 {
+        let used = used_after_a_raise(&rt, &heap, places);
+        holds(&rt, used == at_once || places > 2032 && used > at_once);
+    }
+}

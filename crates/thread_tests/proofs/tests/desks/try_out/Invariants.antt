@@ -1,0 +1,7 @@
+use Rattle.thread_tests.proofs.tests.desks.try_out.Given as goal
+
+abbrev pub ghosts-try_at-L-Ledger : goal.ghosts-try_at-L-Ledger
+ghosts-try_at-L-Ledger g a = record { name = a.blank.name; parts = a.blank.parts }
+
+abbrev pub ghosts-try_at-L-DeskLedger : goal.ghosts-try_at-L-DeskLedger
+ghosts-try_at-L-DeskLedger g a = record { all = a.blank.parts }

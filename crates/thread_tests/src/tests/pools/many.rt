@@ -1,0 +1,112 @@
+//! Many short jobs: none of many workers is lost, and each has room on its stack.
+ghost use Rattle.std.specs.Prelude.{◌≡◌};
+
+use super::seats::{asks_many, ends, seat};
+use super::{Scenario, Table, play};
+use crate::tests::signs::{add, is_set, none, reaches, set, unset};
+use crate::tests::{holds, holds_that, says};
+use desk::{Desk, DeskLedger};
+use sched_rules::Worker;
+use std::alloc::Global;
+use std::sync::Wait;
+use std::sync::atomic::{AtomicBool, AtomicU64, Ordering};
+use steal_pool::{BeginFault, Gate, PoolFault, Task};
+
+/// How many workers there are.
+const WORKERS: u8 = 12;
+
+/// How many jobs each of the seats asks for.
+const JOBS: u64 = 256;
+
+/// The words that a computation writes on its worker's stack: half a megabyte.
+const WORDS: usize = 65_536;
+
+/// Once it is said that all are to come, each computation stays until as many workers are in one, within a limit.
+#[derive(Drop)]
+struct AllCome {
+    is_said: AtomicBool,
+    there: AtomicU64,
+    late: AtomicBool,
+    sum: AtomicU64,
+}
+
+/// Half a megabyte of a stack, written and read.
+fn written(number: u64) -> u64 {
+    let mut words = [number; WORDS];
+    for (place, word) in words.iter_mut().enumerate() {
+        *word = word.wrapping_mul(31).wrapping_add(place as u64);
+    }
+    let place = (number % 65_536) as usize;
+    words[place].wrapping_add(words[65_535 - place])
+}
+
+impl Gate for AllCome {
+    fn before(&self, _worker: Worker, _task: &Task) {}
+
+    fn inside(&self, _worker: Worker, number: u64) {
+        if !is_set(&self.is_said) {
+            return;
+        }
+        self.sum.fetch_add(written(number), Ordering::SeqCst);
+        add(&self.there);
+        if !reaches(&self.there, u64::from(WORKERS)) {
+            set(&self.late);
+        }
+    }
+}
+
+/// A new seat asks for so many short searches, has the reply to the last, and leaves.
+fn sits<L: DeskLedger, R: Wait>(rt: &R, desk: &Desk<L>, most: u32, many: u64) -> bool
+    requires { L.all ≡ L.parts }
+{
+    let Some(mut seat) = seat(rt, desk, most, most) else {
+        return false;
+    };
+    let is_well = asks_many(rt, desk, &mut seat, many) && ends(rt, desk, &seat, many, 0);
+    desk.leave(rt, seat);
+    is_well
+}
+
+/// Eight seats one after another, and then a job for each worker.
+#[derive(Drop)]
+struct Many<'g> {
+    gate: &'g AllCome,
+}
+
+impl Scenario for Many<'_> {
+    fn play<L: DeskLedger, R: Wait>(&self, rt: &R, desk: &Desk<L>) -> bool {
+        for _ in 0..8 {
+            if !sits(rt, desk, 256, JOBS) {
+                return false;
+            }
+        }
+        set(&self.gate.is_said);
+        sits(rt, desk, 16, u64::from(WORKERS))
+    }
+}
+
+/// After 2,048 short jobs all of twelve workers still work, at once, each with half a megabyte of its stack.
+#[test]
+fn all_workers_go_on_after_many_jobs(rt: HostRuntime) {
+    let gate = AllCome {
+        is_said: unset(),
+        there: none(),
+        late: unset(),
+        sum: none(),
+    };
+    let scenario = Many { gate: &gate };
+    let table = Table::of(&scenario, &gate, WORKERS, 0, 512);
+    holds(&rt, play(&rt, rt.alloc(), &table).is_some());
+    holds_that(&rt, !is_set(&gate.late), "no worker is lost");
+}
+
+/// What a fault says.
+#[test]
+fn faults_of_a_pool_are_told(rt: HostRuntime) {
+    let alloc = rt.alloc();
+    holds(&rt, says(alloc, PoolFault::OutOfMemory, "out of memory"));
+    holds(&rt, says(alloc, PoolFault::NoThread, "no thread"));
+    let no_pool = BeginFault::Pool(PoolFault::NoThread);
+    holds(&rt, says(alloc, no_pool, "no pool"));
+    holds(&rt, says(alloc, BeginFault::Unsaid, "it could not be said"));
+}

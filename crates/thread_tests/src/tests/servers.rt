@@ -1,0 +1,657 @@
+//! Sessions over TCP, server and clients in one process. What each session is told is known beforehand, whatever else
+//! the server does.
+ghost use Rattle.std.specs.Prelude.{◌≡◌};
+
+mod all_jobs;
+mod commands;
+mod doors;
+mod failing;
+mod reserving;
+mod tables;
+
+use super::holds;
+use all_jobs::are_all_told;
+use doors::{Attended, Guest, Together};
+use reserving::{MORE, is_held};
+use sched_rules::{Config, Worker};
+use std::alloc::Global;
+use std::io::{Read, Write};
+use std::marker::Brand;
+use std::net::{Net, SocketAddr, TcpListener, TcpStream};
+use std::process::Abort;
+use std::sync::Wait;
+use std::sync::atomic::{AtomicU32, Ordering};
+use std::sync::ledger::Blank;
+use std::thread::Threads;
+use std::time::{Clock, CpuClock, Duration};
+use tcp_server::desk::{Desk, DeskLedger, Hall, PARTS};
+use tcp_server::steal_pool::{Announce, Gate, OpenGate, PoolEnd};
+use tcp_server::{ServeFault, ServerConfig, serve, serve_announced};
+
+/// A line, and its answer.
+type Row = (&'static str, &'static str);
+
+/// The last line of a session.
+const LAST: Row = ("BYE\n", "BYE\n");
+
+/// A job that is answered.
+const ANSWERED: [Row; 5] = [
+    ("HELLO 4 8\n", "WELCOME 4 8\n"),
+    (
+        "ASK 0 ---------------------------OX------XO--------------------------- X\n",
+        "JOB 1\n",
+    ),
+    ("WAIT 1\n", "DONE 1 0 -\n"),
+    ("QUOTA\n", "QUOTA 4 7 123\n"),
+    ("BYE\n", "BYE\n"),
+];
+
+/// A job that is spent, at grain 0.
+const SPENT: [Row; 6] = [
+    ("HELLO 8 1\n", "WELCOME 8 1\n"),
+    (
+        "ASK 3 ---------------------------OX------XO--------------------------- X\n",
+        "JOB 1\n",
+    ),
+    ("WAIT 1\n", "SPENT 1\n"),
+    ("QUOTA\n", "QUOTA 8 0 14\n"),
+    ("LIVE\n", "LIVE 0 0\n"),
+    ("BYE\n", "BYE\n"),
+];
+
+/// Lines that are no command as they stand, up to BYE with CR.
+const FOREIGN: [(&[u8], &str); 20] = [
+    (b"WAIT x\n", "ERR 28\n"),
+    (b"HELLO 4097 1\n", "ERR 23\n"),
+    (b"HELLO 4 8\n", "WELCOME 4 8\n"),
+    (b"\n", "ERR 21\n"),
+    (b"get 1\n", "ERR 21\n"),
+    (b"GET\n", "ERR 21\n"),
+    (b"GET 1 \n", "ERR 21\n"),
+    (
+        b"AAAAAAAAAAAAAAAAAAAAAAAAAAAAAAAAAAAAAAAAAAAAAAAAAAAAAAAAAAAAAAAAAAAAAAAAAAAAAAAAAAAAAAAAAAAAAAAAAAAAAAAAAAAAAAAAAAAAAAAAAAAAAAAA\r\n",
+        "ERR 21\n",
+    ),
+    (
+        b"AAAAAAAAAAAAAAAAAAAAAAAAAAAAAAAAAAAAAAAAAAAAAAAAAAAAAAAAAAAAAAAAAAAAAAAAAAAAAAAAAAAAAAAAAAAAAAAAAAAAAAAAAAAAAAAAAAAAAAAAAAAAAAAAA\n",
+        "ERR 22\n",
+    ),
+    (b"GET 123456789\n", "ERR 23\n"),
+    (b"WAIT x\n", "ERR 23\n"),
+    (b"GET 0\n", "ERR 17\n"),
+    (
+        b"ASK 0  ---------------------------OX------XO--------------------------- X\n",
+        "ERR 24\n",
+    ),
+    (
+        b"ASK 0 ---\xff-----------------------OX------XO--------------------------- X\n",
+        "ERR 25\n",
+    ),
+    (
+        b"ASK 0 ---------------------------OX------XO--------------------------- Q\n",
+        "ERR 26\n",
+    ),
+    (
+        b"ASK 13 ---------------------------OX------XO--------------------------- X\n",
+        "ERR 27\n",
+    ),
+    (b"HELLO 1 1\n", "ERR 29\n"),
+    (
+        b"ASK 0 ---------------------------OX------XO--------------------------- X\n",
+        "JOB 1\n",
+    ),
+    (b"WAIT 1\n", "DONE 1 0 -\n"),
+    (b"BYE\r\n", "BYE\n"),
+];
+
+/// Lines that reserve all there is, and wait for a job that takes a while.
+const LONG_WAIT: &str =
+    "HELLO 4096 65536\nASK 7 ---------------------------OX------XO--------------------------- X\nWAIT 1\n";
+
+/// Jobs, each with its answer as a first and as a second job.
+const JOBS: [(&str, &str, &str); 4] = [
+    (
+        "ASK 1 ---------------------------OX------XO--------------------------- X\n",
+        "DONE 1 -3 d3\n",
+        "DONE 2 -3 d3\n",
+    ),
+    (
+        "ASK 1 XO-------------------------------------------------------------- X\n",
+        "DONE 1 6000 c1\n",
+        "DONE 2 6000 c1\n",
+    ),
+    (
+        "ASK 1 XO-------------------------------------------------------------- O\n",
+        "DONE 1 -6000 pass\n",
+        "DONE 2 -6000 pass\n",
+    ),
+    (
+        "ASK 1 -OXO------------------------------------------------------------ X\n",
+        "DONE 1 89 a1\n",
+        "DONE 2 89 a1\n",
+    ),
+];
+
+/// How often a client asks again for what another one has still reserved.
+const TURNS: u32 = 1_000_000;
+
+/// What the clients of a server do.
+#[derive(Clone, Copy)]
+enum Visit {
+    /// One job is answered, each line sent after the answer to the one before.
+    Answered,
+    /// One job is spent.
+    Spent,
+    /// The two at once, line by line.
+    Both,
+    /// The lines of one job, a byte at a time.
+    Bytes,
+    /// A connection is lost while its session waits; another one then gets what it had reserved.
+    Lost,
+    /// Each connection has two jobs of its own.
+    Many,
+    /// Most lines are foreign.
+    Foreign,
+    /// A tenant reserves more.
+    More,
+    /// One asks as many jobs as a tenant can ask.
+    All,
+    /// A tenant asks this while its job's first computation is held; and how the job ends.
+    Held(&'static [Row], &'static str),
+}
+
+/// Sends bytes, and tells whether they were sent.
+fn is_sent(mut stream: &TcpStream, bytes: &[u8]) -> bool {
+    stream.write_all(bytes).is_ok()
+}
+
+/// Whether this is what the server says next.
+fn is_told(mut stream: &TcpStream, text: &str) -> bool {
+    let mut held = [0; 64];
+    match held.get_mut(..text.len()) {
+        Some(told) => stream.read_exact(told).is_ok() && &*told == text.as_bytes(),
+        None => false,
+    }
+}
+
+/// Sends a line, and tells whether this is its answer.
+fn is_answered(stream: &TcpStream, row: Row) -> bool {
+    is_sent(stream, row.0.as_bytes()) && is_told(stream, row.1)
+}
+
+/// Whether each line is answered as it should be.
+fn are_told(stream: &TcpStream, rows: &[Row]) -> bool {
+    for row in rows {
+        if !is_answered(stream, *row) {
+            return false;
+        }
+    }
+    true
+}
+
+/// Whether the server has closed this connection without a word.
+fn is_closed(mut stream: &TcpStream) -> bool {
+    matches!(stream.read(&mut [0; 1]), Ok(0))
+}
+
+/// Whether each line is answered as it should be, and the connection is closed then.
+fn are_answered(stream: &TcpStream, rows: &[Row]) -> bool {
+    are_told(stream, rows) && is_closed(stream)
+}
+
+/// Whether two sessions at once are answered as each is alone.
+fn are_both_answered(one: &TcpStream, two: &TcpStream) -> bool {
+    for number in 0..ANSWERED.len() {
+        if !is_answered(two, SPENT[number]) || !is_answered(one, ANSWERED[number]) {
+            return false;
+        }
+    }
+    is_answered(two, LAST)
+}
+
+/// Sends a line a byte at a time, and tells whether this is its answer.
+fn is_answered_by_bytes(stream: &TcpStream, row: Row) -> bool {
+    for byte in row.0.as_bytes() {
+        if !is_sent(stream, &[*byte]) {
+            return false;
+        }
+    }
+    is_told(stream, row.1)
+}
+
+/// Whether lines that come a byte at a time are answered as whole ones.
+fn are_bytes_answered(stream: &TcpStream) -> bool {
+    for row in &ANSWERED {
+        if !is_answered_by_bytes(stream, *row) {
+            return false;
+        }
+    }
+    true
+}
+
+/// Whether each foreign line gets its fault, and the session goes on.
+fn are_faults_told(stream: &TcpStream) -> bool {
+    for (line, answer) in &FOREIGN {
+        if !is_sent(stream, line) || !is_told(stream, answer) {
+            return false;
+        }
+    }
+    is_closed(stream)
+}
+
+/// The next byte that the server says.
+fn next_byte(mut stream: &TcpStream) -> Option<u8> {
+    let mut told = [0; 1];
+    match stream.read_exact(&mut told) {
+        Ok(()) => Some(told[0]),
+        Err(_) => None,
+    }
+}
+
+/// Whether all that there is can be reserved, within so many turns.
+fn is_welcome(stream: &TcpStream) -> bool {
+    for _ in 0..TURNS {
+        if !is_sent(stream, b"HELLO 4096 65536\n") {
+            return false;
+        }
+        if next_byte(stream) == Some(b'W') {
+            return is_told(stream, "ELCOME 4096 65536\n");
+        }
+        if !is_told(stream, "RR 14\n") {
+            return false;
+        }
+    }
+    false
+}
+
+/// Whether the connection of this number asks its own two jobs.
+fn has_asked(stream: &TcpStream, number: usize) -> bool {
+    let (first, second) = (&JOBS[number % 4], &JOBS[number / 4 % 4]);
+    is_answered(stream, ("HELLO 16 64\n", "WELCOME 16 64\n"))
+        && is_answered(stream, (first.0, "JOB 1\n"))
+        && is_answered(stream, (second.0, "JOB 2\n"))
+}
+
+/// Whether it is told of its second job and its first.
+fn is_told_of_its_own(stream: &TcpStream, number: usize) -> bool {
+    let (first, second) = (&JOBS[number % 4], &JOBS[number / 4 % 4]);
+    is_answered(stream, ("WAIT 2\n", second.2))
+        && is_answered(stream, ("WAIT 1\n", first.1))
+        && is_answered(stream, ("WAIT 3\n", "ERR 17\n"))
+}
+
+/// Whether each connection is told of its own jobs: all ask, and then each waits for its second job and its first.
+fn are_told_of_their_own(streams: &[TcpStream]) -> bool {
+    for (number, stream) in streams.iter().enumerate() {
+        if !has_asked(stream, number) {
+            return false;
+        }
+    }
+    for (number, stream) in streams.iter().enumerate() {
+        if !is_told_of_its_own(stream, number) {
+            return false;
+        }
+    }
+    true
+}
+
+/// Whether a session whose connection is lost gives back what it had reserved.
+fn is_given_back(lost: TcpStream, kept: &TcpStream) -> bool {
+    let told = is_answered(&lost, (LONG_WAIT, "WELCOME 4096 65536\n"));
+    drop(lost);
+    told && is_welcome(kept)
+}
+
+/// Whether the clients at these connections are told what they should be told, beside workers that go through this gate.
+fn are_served(alloc: Global, visit: Visit, mut streams: Vec<TcpStream>, gate: &Together) -> bool {
+    match (visit, streams.as_slice()) {
+        (Visit::Answered, [stream]) => are_answered(stream, &ANSWERED),
+        (Visit::Spent, [stream]) => are_answered(stream, &SPENT),
+        (Visit::Both, [one, two]) => are_both_answered(one, two),
+        (Visit::Bytes, [stream]) => are_bytes_answered(stream),
+        (Visit::Foreign, [stream]) => are_faults_told(stream),
+        (Visit::More, [stream]) => are_told(stream, &MORE),
+        (Visit::All, [stream]) => are_all_told(alloc, stream),
+        (Visit::Many, many) => are_told_of_their_own(many),
+        (Visit::Held(more, end), [stream]) => is_held(stream, gate, more, end),
+        _ => match (streams.pop(), streams.pop()) {
+            (Some(lost), Some(kept)) => is_given_back(lost, &kept),
+            _ => false,
+        },
+    }
+}
+
+/// What is tried at a server.
+#[derive(Drop)]
+enum Trial {
+    /// A guest comes.
+    Attended(Attended),
+    /// The server doesn't begin.
+    Unserved(Unserved),
+    /// Its sessions can't have threads.
+    Threadless,
+    /// Its workers can't have threads: who takes its own connection knows that it has stopped.
+    Stopped,
+    /// Its listener fails.
+    Hasty,
+}
+
+/// Whether all is as it should be where this is tried at this desk and this listener.
+fn is_tried<L: DeskLedger + Send + Sync, R>(
+    rt: &R,
+    desk: Desk<L>,
+    listener: TcpListener,
+    trial: &Trial,
+) -> bool
+where
+    R: Net<Listener = TcpListener, Stream = TcpStream>
+        + AllocGlobal
+        + Threads
+        + Wait
+        + Clock
+        + CpuClock
+        + Sync,
+    requires { L.all ≡ L.parts }
+{
+    match trial {
+        Trial::Attended(attended) => doors::is_attended(rt, desk, listener, attended),
+        Trial::Unserved(unserved) => is_unserved(rt, desk, listener, unserved),
+        Trial::Threadless => is_threadless(rt, desk, listener),
+        Trial::Stopped => doors::is_stopped(rt, desk, listener),
+        Trial::Hasty => failing::is_hasty(rt, desk, listener),
+    }
+}
+
+/// The same at a new desk over this ledger, and a listener of its own.
+fn is_well_at<L: DeskLedger + Send + Sync, R>(
+    rt: &R,
+    hall: Hall,
+    blank: Blank,
+    trial: &Trial,
+) -> bool
+where
+    R: Net<Listener = TcpListener, Stream = TcpStream>
+        + AllocGlobal
+        + Threads
+        + Wait
+        + Clock
+        + CpuClock
+        + Sync,
+    requires name { blank.name ≡ L.name }
+    requires parts { (blank.parts ≡ L.parts) × (L.all ≡ L.parts) × (L.all ≡ PARTS) }
+{
+    let desk: Desk<L> = Desk::new(hall, blank);
+    match TcpListener::bind(rt, "127.0.0.1:0") {
+        Ok(listener) => is_tried(rt, desk, listener, trial),
+        Err(_) => false,
+    }
+}
+
+/// A hall of so many segments and nodes.
+fn hall_of(alloc: Global, segments: u32, nodes: u32, grain: u8) -> Option<Hall> {
+    let config = Config::new(segments, nodes)?;
+    Hall::new(alloc, config, grain.min(6)).ok()
+}
+
+/// Whether all is as it should be where this is tried at a hall of so many segments and nodes.
+fn is_well<R>(rt: &R, totals: (u32, u32), grain: u8, trial: &Trial) -> bool
+where
+    R: Net<Listener = TcpListener, Stream = TcpStream>
+        + AllocGlobal
+        + Threads
+        + Wait
+        + Clock
+        + CpuClock
+        + Sync,
+{
+    match hall_of(rt.alloc(), totals.0, totals.1, grain) {
+        Some(hall) => is_well_at::<Brand, R>(rt, hall, Blank::new(PARTS), trial),
+        None => false,
+    }
+}
+
+/// A server for so many sessions with so many workers, of which there is one at least and 32 at most.
+fn server_of(sessions: u16, workers: u8) -> ServerConfig {
+    ServerConfig::new(sessions, Worker::new(workers.clamp(1, 32)).unwrap())
+}
+
+/// Whether a connection now answers within ten seconds or fails.
+fn is_limited(stream: &TcpStream) -> bool {
+    stream
+        .set_read_timeout(Some(Duration::from_secs(10)))
+        .is_ok()
+}
+
+/// A connection that answers within ten seconds or fails.
+fn visitor<R: Net<Stream = TcpStream>>(rt: &R, address: SocketAddr) -> Option<TcpStream> {
+    match TcpStream::connect(rt, address) {
+        Ok(stream) if is_limited(&stream) => Some(stream),
+        _ => None,
+    }
+}
+
+/// Whether one more such connection joins these.
+fn has_joined<R: Net<Stream = TcpStream>>(
+    rt: &R,
+    address: SocketAddr,
+    streams: &mut Vec<TcpStream>,
+) -> bool {
+    match visitor(rt, address) {
+        Some(stream) => streams.push(stream).is_ok(),
+        None => false,
+    }
+}
+
+/// So many such connections.
+fn visitors<R: Net<Stream = TcpStream> + AllocGlobal>(
+    rt: &R,
+    address: SocketAddr,
+    many: u16,
+) -> Option<Vec<TcpStream>> {
+    let mut streams = Vec::new(rt.alloc());
+    for _ in 0..many {
+        if !has_joined(rt, address, &mut streams) {
+            return None;
+        }
+    }
+    Some(streams)
+}
+
+/// Whether a server has ended well, and all steps are accounted for.
+fn is_whole<L: DeskLedger>(desk: Desk<L>, served: Result<PoolEnd<L>, ServeFault>) -> bool
+    requires { L.all ≡ L.parts }
+{
+    match served {
+        Ok(end) => desk.into_hall(end.badge).1.is_some(),
+        Err(_) => false,
+    }
+}
+
+/// Clients at a server for so many sessions: they are told what they should be told, and all steps are accounted for at
+/// the end.
+fn is_visited<R>(rt: &R, sessions: u16, visit: Visit) -> bool
+where
+    R: Net<Listener = TcpListener, Stream = TcpStream>
+        + AllocGlobal
+        + Threads
+        + Wait
+        + Clock
+        + CpuClock
+        + Sync,
+{
+    let attended = Attended {
+        guest: Guest::Visit(visit),
+        sessions,
+        workers: 2,
+    };
+    is_well(rt, (4096, 65536), 0, &Trial::Attended(attended))
+}
+
+/// A server whose workers go through a gate: why it failed.
+fn fault_of<L: DeskLedger + Send + Sync, R: Net + Threads + Wait + Sync, G: Gate + Sync>(
+    rt: &R,
+    alloc: Global,
+    desk: &Desk<L>,
+    listener: TcpListener,
+    server: ServerConfig,
+    gate: &G,
+) -> Option<ServeFault>
+    requires { L.all ≡ L.parts }
+{
+    serve(rt, alloc, desk, listener, server, gate).err()
+}
+
+#[test]
+fn a_job_is_answered(rt: HostRuntime) {
+    holds(&rt, is_visited(&rt, 1, Visit::Answered));
+}
+
+#[test]
+fn a_job_is_spent(rt: HostRuntime) {
+    holds(&rt, is_visited(&rt, 1, Visit::Spent));
+}
+
+#[test]
+fn two_at_once_are_served_as_each_alone(rt: HostRuntime) {
+    holds(&rt, is_visited(&rt, 2, Visit::Both));
+}
+
+#[test]
+fn a_byte_at_a_time_is_enough(rt: HostRuntime) {
+    holds(&rt, is_visited(&rt, 1, Visit::Bytes));
+}
+
+#[test]
+fn foreign_lines_get_their_faults(rt: HostRuntime) {
+    holds(&rt, is_visited(&rt, 1, Visit::Foreign));
+}
+
+#[test]
+fn a_lost_connection_gives_all_back(rt: HostRuntime) {
+    holds(&rt, is_visited(&rt, 2, Visit::Lost));
+}
+
+#[test]
+fn sixty_four_are_told_of_their_own(rt: HostRuntime) {
+    holds(&rt, is_visited(&rt, 64, Visit::Many));
+}
+
+/// Counts how often it is said that a server has begun.
+#[derive(Drop)]
+struct Counted<'a> {
+    /// How often it was.
+    count: &'a AtomicU32,
+    /// Whether it can be said.
+    works: bool,
+}
+
+impl Announce for Counted<'_> {
+    ghost says = { λ _ _ _. Unit {0} };
+
+    fn announce(&mut self) -> bool {
+        self.count.fetch_add(1, Ordering::SeqCst);
+        self.works
+    }
+}
+
+/// A server of two sessions, at whose desk nobody sits, with workers of these stacks, and whose beginning can be said or
+/// can't.
+#[derive(Drop)]
+struct Unserved {
+    stack: Option<usize>,
+    works: bool,
+}
+
+/// Whether it is so, and its listener is closed.
+fn is_unserved<L: DeskLedger + Send + Sync, R>(
+    rt: &R,
+    desk: Desk<L>,
+    listener: TcpListener,
+    trial: &Unserved,
+) -> bool
+where
+    R: Net<Listener = TcpListener, Stream = TcpStream> + AllocGlobal + Threads + Wait + Sync,
+    requires { L.all ≡ L.parts }
+{
+    let Ok(address) = listener.local_addr() else {
+        return false;
+    };
+    let mut server = server_of(2, 2);
+    server.pool.stack = trial.stack;
+    let count = AtomicU32::new(0);
+    let call = Counted {
+        count: &count,
+        works: trial.works,
+    };
+    let served = serve_announced(rt, rt.alloc(), &desk, listener, server, &OpenGate, call);
+    let said = count.load(Ordering::SeqCst);
+    let is_so = is_said_so(trial.works, &served.err(), said);
+    is_so && TcpStream::connect(rt, address).is_err()
+}
+
+/// Whether a server whose beginning can be said had no thread for its workers, and said nothing; and one whose beginning
+/// can't be said tried it once.
+fn is_said_so(works: bool, fault: &Option<ServeFault>, said: u32) -> bool {
+    match fault {
+        Some(ServeFault::NoThread) => works && said == 0,
+        Some(ServeFault::Unsaid) => !works && said == 1,
+        _ => false,
+    }
+}
+
+/// Nothing is said, and the listener is closed.
+#[test]
+fn nothing_is_said_where_the_pool_cannot_begin(rt: HostRuntime) {
+    let unserved = Unserved {
+        stack: Some(usize::MAX),
+        works: true,
+    };
+    holds(&rt, is_well(&rt, (8, 8), 0, &Trial::Unserved(unserved)));
+}
+
+/// It was tried once, and the listener is closed.
+#[test]
+fn a_beginning_that_cannot_be_said_ends_the_server(rt: HostRuntime) {
+    let unserved = Unserved {
+        stack: None,
+        works: false,
+    };
+    holds(&rt, is_well(&rt, (8, 8), 0, &Trial::Unserved(unserved)));
+}
+
+/// Whether both clients of a server of two sessions that can't have a thread for either are let go.
+fn is_threadless<L: DeskLedger + Send + Sync, R>(
+    rt: &R,
+    desk: Desk<L>,
+    listener: TcpListener,
+) -> bool
+where
+    R: Net<Listener = TcpListener, Stream = TcpStream> + AllocGlobal + Threads + Wait + Sync,
+    requires { L.all ≡ L.parts }
+{
+    let Ok(address) = listener.local_addr() else {
+        return false;
+    };
+    let Some(streams) = visitors(rt, address, 2) else {
+        return false;
+    };
+    let mut server = server_of(2, 2);
+    server.sessions.stack = Some(usize::MAX);
+    let fault = fault_of(rt, rt.alloc(), &desk, listener, server, &OpenGate);
+    fault.is_none() && are_closed(&streams)
+}
+
+/// Whether the server has closed each of these connections without a word.
+fn are_closed(streams: &[TcpStream]) -> bool {
+    for stream in streams {
+        if !is_closed(stream) {
+            return false;
+        }
+    }
+    true
+}
+
+#[test]
+fn a_connection_without_a_thread_is_closed_and_counts(rt: HostRuntime) {
+    holds(&rt, is_well(&rt, (8, 8), 0, &Trial::Threadless));
+}
