@@ -22,11 +22,9 @@ pub(crate) fn digest_of(text: &[u8]) -> Option<[u8; 32]> {
 fn hex_value(byte: u8) -> Option<u8>
     ensures { IfSome result (λ value. value < 16) }
 {
-    match byte {
-        b'0'..=b'9' => Some(byte - b'0'),
-        b'a'..=b'f' => Some(byte - b'a' + 10),
-        b'A'..=b'F' => Some(byte - b'A' + 10),
-        _ => None,
+    match char::from(byte).to_digit(16) {
+        Some(digit) => Some(digit as u8),
+        None => None,
     }
 }
 

@@ -95,10 +95,8 @@ fn finish(high: u8, byte: u8, bytes: &mut Vec<u8>) -> Result<Option<Escape>, All
 
 /// The value of a hexadecimal digit.
 fn hex_value(byte: u8) -> Option<u8> {
-    match byte {
-        b'0'..=b'9' => Some(byte - b'0'),
-        b'a'..=b'f' => Some(byte - b'a' + 10),
-        b'A'..=b'F' => Some(byte - b'A' + 10),
-        _ => None,
+    match char::from(byte).to_digit(16) {
+        Some(digit) => Some(digit as u8),
+        None => None,
     }
 }
