@@ -1,6 +1,6 @@
 //! What the definitions of `line_relay` give, for all values.
-ghost use Rattle.std.specs.List.{concat, list_any};
-ghost use Rattle.std.specs.Prelude.{All, Bool, Err, List, None, Ok, Option, Result, Some, [], codes, false, if◌then◌else◌, length, map, take, true, ℕ, ◌++◌, ◌-◌, ◌==◌, ◌∷◌, ◌≡◌};
+ghost use Rattle.std.specs.List.{concat, flat_map, list_any};
+ghost use Rattle.std.specs.Prelude.{All, Bool, Err, List, None, Ok, Option, Result, Some, [], codes, false, if◌then◌else◌, length, map, slice_index, take, true, ℕ, ◌++◌, ◌-◌, ◌==◌, ◌∷◌, ◌≡◌};
 ghost use Rattle.std.specs.Str.{bytes_eq};
 ghost use Rattle.std.specs.Str.Lines.{strip_carriage_return};
 ghost use Rattle.line_io.specs.Leads.{Leads};
@@ -9,7 +9,7 @@ ghost use Rattle.line_io.specs.Streams.{Ended, Failed, Gave, ReadAnswer, Took};
 ghost use Rattle.line_io.specs.Writes.{IsWritten, with_newline, written_texts};
 ghost use Rattle.line_io.specs.declared.faults.ReadFailed.{ReadFailed};
 ghost use Rattle.line_io.specs.declared.faults.WriteFailed.{WriteFailed};
-ghost use Rattle.line_relay.specs.Asks.{AnswerRead, Asked};
+ghost use Rattle.line_relay.specs.Asks.{AnswerRead, Asked, sent_line, sent_lines};
 ghost use Rattle.line_relay.specs.Passed.{IsRead, PassedOn, deed_of, sent_first, sent_texts, told_first, told_texts};
 ghost use Rattle.line_relay.specs.Relays.{Answered, EndsAt, EndsBefore, Handled, IsRelayEnd, Relayed, Replied, Turn, TurnDone, Unanswered};
 ghost use Rattle.line_relay.specs.Takes.{ByteTaken, CutShort, EndedTaken, LineRead, LineTaken, Stops, TakesFirst, has_end};
@@ -72,8 +72,10 @@ pub fn verdicts()
     ensures deed_for_end { (line : LineText) → deed_for End line ≡ Ends }
 {}
 
-/// Of `line_relay`, Asks: what `AnswerRead` and `Asked` give.
+/// Of `line_relay`, Asks: what `sent_line`, `sent_lines`, `AnswerRead` and `Asked` give.
 pub fn asks<S: Source, T: Sink>()
+    ensures sent_line { (line : List ℕ) → sent_line line ≡ (if slice_index line (length line - 1) == 13 then with_newline (line ++ 13 ∷ []) else with_newline line) }
+    ensures sent_lines { (lines : List (List ℕ)) → sent_lines lines ≡ flat_map sent_line lines }
     ensures answer_read_ok { (from : S × List ℕ) (text : List ℕ) (it : Unit {0}) (to : S × List ℕ) → AnswerRead S.gives from text (Ok it) to → (answer : List ℕ) × (text ≡ with_newline answer) × EndedTaken S.gives from answer to }
     ensures answer_read_err_read { (from : S × List ℕ) (text : List ℕ) (to : S × List ℕ) → AnswerRead S.gives from text (Err server_read) to → CutShort S.gives from Failed to }
     ensures answer_read_err_write { (from : S × List ℕ) (text : List ℕ) (to : S × List ℕ) → AnswerRead S.gives from text (Err server_write) to → ⊥ }
@@ -88,7 +90,7 @@ pub fn asks<S: Source, T: Sink>()
 
 /// Of `line_relay`, Relays: what `Replied`, `Answered`, `Unanswered`, `Handled`, `TurnDone`, `EndsAt`, `EndsBefore`, `IsRelayEnd` and `Relayed` give.
 pub fn relays<C: Source, K: Sink, S: Source, T: Sink, J: Judge>()
-    ensures replied_sends { (text : List ℕ) (server : Peer S T) (judge : J) (told : List ℕ) (server' : Peer S T) (judge' : J) → Replied S.gives T.takes J.hears (Sends text) server judge told server' judge' → Asked S.gives T.takes server (with_newline text) (with_newline told) (Ok tt) server' × J.hears judge told judge' }
+    ensures replied_sends { (text : List ℕ) (server : Peer S T) (judge : J) (told : List ℕ) (server' : Peer S T) (judge' : J) → Replied S.gives T.takes J.hears (Sends text) server judge told server' judge' → Asked S.gives T.takes server (sent_line text) (with_newline told) (Ok tt) server' × J.hears judge told judge' }
     ensures replied_answers { (number : ℕ) (server : Peer S T) (judge : J) (told : List ℕ) (server' : Peer S T) (judge' : J) → Replied S.gives T.takes J.hears (Answers number) server judge told server' judge' → (server' ≡ server) × (judge' ≡ judge) × (told ≡ error_text number) }
     ensures replied_ends { (server : Peer S T) (judge : J) (told : List ℕ) (server' : Peer S T) (judge' : J) → Replied S.gives T.takes J.hears Ends server judge told server' judge' → ⊥ }
     ensures answered_judged { (turn : Turn) (sink : K) (server : Peer S T) (judge : J) (r : Result (Unit {0}) WriteFailed) (sink' : K) (server' : Peer S T) (judge' : J) (is : Answered K.takes S.gives T.takes J.judges J.hears turn sink server judge r sink' server' judge') → J.judges judge turn.line turn.verdict is.judging }
@@ -96,7 +98,7 @@ pub fn relays<C: Source, K: Sink, S: Source, T: Sink, J: Judge>()
     ensures answered_told { (turn : Turn) (sink : K) (server : Peer S T) (judge : J) (r : Result (Unit {0}) WriteFailed) (sink' : K) (server' : Peer S T) (judge' : J) (is : Answered K.takes S.gives T.takes J.judges J.hears turn sink server judge r sink' server' judge') → IsWritten K.takes sink (with_newline turn.told) sink' r }
     ensures unanswered_judged { (line : LineText) (fault : ServerFault) (sink : K) (server : Peer S T) (judge : J) (sink' : K) (server' : Peer S T) (judge' : J) (is : Unanswered K.takes S.gives T.takes J.judges J.hears line fault sink server judge sink' server' judge') → J.judges judge line is.verdict judge' }
     ensures unanswered_sends { (line : LineText) (fault : ServerFault) (sink : K) (server : Peer S T) (judge : J) (sink' : K) (server' : Peer S T) (judge' : J) (is : Unanswered K.takes S.gives T.takes J.judges J.hears line fault sink server judge sink' server' judge') → deed_for is.verdict line ≡ Sends is.text }
-    ensures unanswered_asked { (line : LineText) (fault : ServerFault) (sink : K) (server : Peer S T) (judge : J) (sink' : K) (server' : Peer S T) (judge' : J) (is : Unanswered K.takes S.gives T.takes J.judges J.hears line fault sink server judge sink' server' judge') → Asked S.gives T.takes server (with_newline is.text) is.rest (Err fault) server' }
+    ensures unanswered_asked { (line : LineText) (fault : ServerFault) (sink : K) (server : Peer S T) (judge : J) (sink' : K) (server' : Peer S T) (judge' : J) (is : Unanswered K.takes S.gives T.takes J.judges J.hears line fault sink server judge sink' server' judge') → Asked S.gives T.takes server (sent_line is.text) is.rest (Err fault) server' }
     ensures unanswered_untold { (line : LineText) (fault : ServerFault) (sink : K) (server : Peer S T) (judge : J) (sink' : K) (server' : Peer S T) (judge' : J) (is : Unanswered K.takes S.gives T.takes J.judges J.hears line fault sink server judge sink' server' judge') → sink' ≡ sink }
     ensures handled_ok_true { (line : LineText) (sink : K) (server : Peer S T) (judge : J) (sink' : K) (server' : Peer S T) (judge' : J) → Handled K.takes S.gives T.takes J.judges J.hears line sink server judge (Ok true) sink' server' judge' → (verdict : Verdict) × (told : List ℕ) × Answered K.takes S.gives T.takes J.judges J.hears (record { line = line; verdict = verdict; told = told }) sink server judge (Ok tt) sink' server' judge' }
     ensures handled_ok_false { (line : LineText) (sink : K) (server : Peer S T) (judge : J) (sink' : K) (server' : Peer S T) (judge' : J) → Handled K.takes S.gives T.takes J.judges J.hears line sink server judge (Ok false) sink' server' judge' → (verdict : Verdict) × J.judges judge line verdict judge' × (deed_for verdict line ≡ Ends) × (sink' ≡ sink) × (server' ≡ server) }
@@ -134,7 +136,8 @@ pub fn passed<C: Source, K: Sink, S: Source, T: Sink, J: Judge>()
     ensures passed_on_whole { (from : Peer C K × Peer S T × J) (turns : List Turn) (to : Peer C K × Peer S T × J) (is : PassedOn C.gives K.takes S.gives T.takes from turns to) → up_to_last_end is.used ≡ is.used }
     ensures passed_on_lines { (from : Peer C K × Peer S T × J) (turns : List Turn) (to : Peer C K × Peer S T × J) (is : PassedOn C.gives K.takes S.gives T.takes from turns to) → lines_of is.used ≡ map (λ (t : Turn). t.line) turns }
     ensures passed_on_sending { (from : Peer C K × Peer S T × J) (turns : List Turn) (to : Peer C K × Peer S T × J) (is : PassedOn C.gives K.takes S.gives T.takes from turns to) → Leads T.takes from.1.sink (map Took is.sent) to.1.sink }
-    ensures passed_on_sent_is { (from : Peer C K × Peer S T × J) (turns : List Turn) (to : Peer C K × Peer S T × J) (is : PassedOn C.gives K.takes S.gives T.takes from turns to) → concat is.sent ≡ written_texts (sent_texts turns) }
+    ensures passed_on_sent_is { (from : Peer C K × Peer S T × J) (turns : List Turn) (to : Peer C K × Peer S T × J) (is : PassedOn C.gives K.takes S.gives T.takes from turns to) → concat is.sent ≡ sent_lines (sent_texts turns) }
+    ensures passed_on_read_as { (from : Peer C K × Peer S T × J) (turns : List Turn) (to : Peer C K × Peer S T × J) (is : PassedOn C.gives K.takes S.gives T.takes from turns to) → lines_of (concat is.sent) ≡ map line_text (sent_texts turns) }
     ensures passed_on_each_one { (from : Peer C K × Peer S T × J) (turns : List Turn) (to : Peer C K × Peer S T × J) (is : PassedOn C.gives K.takes S.gives T.takes from turns to) → length is.answers ≡ length (sent_texts turns) }
     ensures passed_on_one_line { (from : Peer C K × Peer S T × J) (turns : List Turn) (to : Peer C K × Peer S T × J) (is : PassedOn C.gives K.takes S.gives T.takes from turns to) → All (λ a. has_end a ≡ false) is.answers }
     ensures passed_on_heard { (from : Peer C K × Peer S T × J) (turns : List Turn) (to : Peer C K × Peer S T × J) (is : PassedOn C.gives K.takes S.gives T.takes from turns to) → Leads (ByteTaken S.gives) (from.1.source, from.1.ahead) (written_texts is.answers) (to.1.source, to.1.ahead) }

@@ -20,6 +20,7 @@ returns g c = record {
   passed_on_lines = λ from turns to is. is.lines;
   passed_on_sending = λ from turns to is. is.sending;
   passed_on_sent_is = λ from turns to is. is.sent_is;
+  passed_on_read_as = λ from turns to is. is.read_as;
   passed_on_each_one = λ from turns to is. is.each_one;
   passed_on_one_line = λ from turns to is. is.one_line;
   passed_on_heard = λ from turns to is. is.heard;
