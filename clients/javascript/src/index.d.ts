@@ -1,5 +1,10 @@
 import type { ConnectionOptions } from "node:tls";
 
+declare global {
+  interface SymbolConstructor { readonly asyncDispose: unique symbol; } // as the language's own types have it from version 5.2 on
+}
+type Listened = Parameters<EventTarget["addEventListener"]>;
+
 /** What the numbers of `ERR` say. */
 export declare const FAULTS: Readonly<Record<number, string>>;
 export declare const START: string;
@@ -138,8 +143,10 @@ export declare class Client extends Analyser {
   info(): Promise<Depths>;
   ping(): Promise<number>;
   close(): Promise<void>;
-  addEventListener<Name extends keyof ClientEvents>(name: Name, heard: (event: ClientEvents[Name]) => void, options?: AddEventListenerOptions | boolean): void;
-  removeEventListener<Name extends keyof ClientEvents>(name: Name, heard: (event: ClientEvents[Name]) => void, options?: AddEventListenerOptions | boolean): void;
+  addEventListener<Name extends keyof ClientEvents>(name: Name, heard: (event: ClientEvents[Name]) => void, options?: Listened[2]): void;
+  addEventListener(name: string, heard: Listened[1], options?: Listened[2]): void;
+  removeEventListener<Name extends keyof ClientEvents>(name: Name, heard: (event: ClientEvents[Name]) => void, options?: Parameters<EventTarget["removeEventListener"]>[2]): void;
+  removeEventListener(name: string, heard: Listened[1], options?: Parameters<EventTarget["removeEventListener"]>[2]): void;
 }
 
 /** `othello://host:port`, `?tls=1`; without an address COLUWEN_URL's, or this host's. */
