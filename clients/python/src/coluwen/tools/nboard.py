@@ -1,10 +1,10 @@
 """An engine for boards that speak NBoard's protocol, which has its values from a server of `othello serve`.
 
-usage: coluwen-nboard [--depth 6] [--tls [--authority FILE]] [--token FILE] [HOST PORT]     (what the board sends comes by standard input)
+usage: coluwen-nboard [--depth 6] [--server HOST:PORT] [..]     (what the board sends comes by standard input)
 
 A board starts it as its engine, with this line as the command. By hand:
 
-    $ printf 'nboard 1\\nset depth 4\\nmove F5\\nhint 2\\ngo\\nping 7\\n' | coluwen-nboard 127.0.0.1 4711
+    $ printf 'nboard 1\\nset depth 4\\nmove F5\\nhint 2\\ngo\\nping 7\\n' | coluwen-nboard --server 127.0.0.1:4711
     set myname Coluwen
     search d6 -0.10 0 1
     ..
@@ -35,7 +35,7 @@ reached or was lost is told by `status` and by one line on standard error, withi
 What is known here of the protocol is the list of sentences above, from its users' descriptions; its own text was not at hand. So not
 taken from it, but chosen here: whose view `analysis` takes (the player's to move), what `go` answers where the game is over (`=== PA`),
 and that `hint` ends at the depth that is set, where some engines go on until the next `ping`. `learn`, `set contempt` and the
-`book` sentences aren't spoken. It was tried by clients/nboard/drive.py, and with no board's program.
+`book` sentences aren't spoken. It was tried by our own conversation alone, and with no board's program.
 """
 from __future__ import annotations
 
@@ -43,14 +43,14 @@ import queue
 import sys
 import threading
 import time
-from collections.abc import Callable
+from collections.abc import Callable, Sequence
 
-from .board import PASS, Board
-from .client import DEEPEST
-from .command import OutputClosed, client_of, leave, parser, run, say
-from .engine import Engine, in_discs
-from .errors import ColuwenError, FormatError, IllegalMove, Refused, Stopped, Unreachable
-from .formats import ggf
+from .._core import DEEPEST
+from ..board import PASS, Board
+from ..errors import ColuwenError, FormatError, IllegalMove, Refused, Unreachable
+from ..formats import ggf
+from .command import OutputClosed, client_of, ending, parser, say
+from .player import Player, Stopped, in_discs
 
 NAME = "coluwen-nboard"
 
@@ -63,11 +63,11 @@ def move_of(word: str) -> str:
     return "PA" if word == PASS else word.upper()
 
 
-def played(board: Board, text: str) -> None:
-    """Makes a move, `F5/eval/time` or `PA`."""
+def played(board: Board, text: str) -> Board:
+    """The board after a move, `F5/eval/time` or `PA`."""
     word = text.strip().split("/")[0].lower()
     try:
-        board.play(PASS if word in ("pa", "pass", "--") else word)
+        return board.push(PASS if word in ("pa", "pass", "--") else word)
     except IllegalMove as fault:
         raise Unfit(str(fault)) from None
 
@@ -75,9 +75,9 @@ def played(board: Board, text: str) -> None:
 class Searcher(threading.Thread):
     """Carries out one search after another; the board's thread stops them."""
 
-    def __init__(self, engine: Engine, tell: Callable[[str], None]):
+    def __init__(self, player: Player, tell: Callable[[str], None]):
         super().__init__(daemon=True)
-        self.engine, self.tell = engine, tell
+        self.player, self.tell = player, tell
         self.asked: queue.Queue[tuple[Callable[..., None], tuple[object, ...]]] = queue.Queue()
         self.idle = threading.Event()
         self.lost: Exception | None = None
@@ -85,27 +85,26 @@ class Searcher(threading.Thread):
 
     def begin(self, search: Callable[..., None], *words: object) -> None:
         self.idle.clear()
-        self.engine.stop.clear()
+        self.player.begin()
         self.asked.put((search, words))
 
     def stop(self) -> None:
         """Stops what is looked for, and returns when nothing more will be said of it."""
-        self.engine.stop.set()
+        self.player.stop()
         self.idle.wait()
 
     def run(self) -> None:
         while True:
             search, words = self.asked.get()
             begun = time.monotonic()
-            self.engine.frames()
             try:
                 search(*words)
-                self.tell(f"nodestats {self.engine.frames()} {time.monotonic() - begun:.3f}")
+                self.tell(f"nodestats {self.player.nodes} {time.monotonic() - begun:.3f}")
                 self.tell("status")
             except Stopped:
                 self.tell("status")
             except (OSError, Refused) as fault:
-                self.lost = fault if isinstance(fault, ColuwenError) else Unreachable(f"{self.engine.client.address}: {fault}")
+                self.lost = fault if isinstance(fault, ColuwenError) else Unreachable(str(fault))
                 self.tell(f"status {self.lost}")
             except OutputClosed as fault:
                 self.lost = fault
@@ -117,12 +116,12 @@ class Searcher(threading.Thread):
         if board.is_over:
             self.tell("=== PA")
             return
-        self.tell(f"status looking {self.engine.limit(board.position, self.engine.depth)} plies deep")
-        found = self.engine.search(board.position)
-        self.tell(f"=== {move_of(found.best)}/{in_discs(found.score)}/{time.monotonic() - begun:.2f}")
+        self.tell(f"status looking {self.player.limit(board.position, self.player.depth)} plies deep")
+        found = self.player.search(board.position)
+        self.tell(f"=== {move_of(found.best or PASS)}/{in_discs(found.score)}/{time.monotonic() - begun:.2f}")
 
     def hint(self, board: Board, count: int) -> None:
-        for found in self.engine.deepening(board.position) if not board.is_over else ():
+        for found in self.player.deepening(board.position) if not board.is_over else ():
             best_first = sorted(found.table, key=lambda entry: (entry.move != found.best, -entry.score.value, not entry.score.is_exact))  # noqa: B023
             for entry in best_first[:count]:
                 said = {"=": "", "<": " at most", ">": " at least"}[entry.score.sign]
@@ -132,7 +131,7 @@ class Searcher(threading.Thread):
         positions = [*(position for position, move in board.positions() if move != PASS), board.position]
         for number in range(len(positions) - 1, -1, -1):
             self.tell(f"status analyzing: {number} moves made")
-            self.tell(f"analysis {number} {in_discs(self.engine.search(positions[number]).score)}")
+            self.tell(f"analysis {number} {in_discs(self.player.search(positions[number]).score)}")
 
 
 class Bridge:
@@ -171,25 +170,18 @@ class Bridge:
 
     def set_depth(self, text: str) -> None:
         depth = max(self.number(text), 1)
-        self.searcher.engine.depth = min(depth, DEEPEST)
+        self.searcher.player.depth = min(depth, DEEPEST)
         if depth > DEEPEST:
             self.tell(f"status the server looks {DEEPEST} plies deep at most")
 
     def set_game(self, text: str) -> None:
         try:
-            game, end = ggf.read_game(text.strip())
+            self.board = ggf.read_game(text.strip()).board()
         except FormatError as fault:
             raise Unfit(str(fault)) from None
-        if text.strip()[end:].strip():
-            raise Unfit("behind the game stands more")
-        self.board = game.board()
 
     def move(self, text: str) -> None:
-        board = Board(self.board.start)
-        for move in self.board.moves:
-            board.play(move)
-        played(board, text)
-        self.board = board  # a search that was begun keeps its own
+        self.board = played(self.board, text)
 
     def hint(self, text: str) -> None:
         self.searcher.begin(self.searcher.hint, self.board, self.number(text))
@@ -204,11 +196,11 @@ class Bridge:
         self.tell(f"pong {text}")
 
 
-def main() -> int:
-    words = parser(__doc__, NAME)
-    words.add_argument("--depth", type=int, default=6, choices=range(1, DEEPEST + 1), metavar="1..12")
-    asked = words.parse_args()
-    client = client_of(asked, NAME)
+def main(words: Sequence[str] | None = None) -> int:
+    options = parser(__doc__, NAME, outage=0)
+    options.add_argument("--depth", type=int, default=6, choices=range(1, DEEPEST + 1), metavar="1..12", help="how many plies it looks at first (%(default)d)")
+    asked = options.parse_args(words)
+    client = client_of(asked, NAME, counts=True)
     lock = threading.Lock()
     heard: queue.Queue[str | None] = queue.Queue()
 
@@ -221,8 +213,8 @@ def main() -> int:
             heard.put(line)
         heard.put(None)
 
-    client.open().close()  # a wrong port is said at once
-    searcher = Searcher(Engine(client, asked.depth, lambda text: tell(f"status {text}")), tell)
+    client.ping()  # a wrong port is said at once
+    searcher = Searcher(Player(client, asked.depth, lambda text: tell(f"status {text}")), tell)
     searcher.start()
     threading.Thread(target=hear, daemon=True).start()
     bridge = Bridge(searcher, tell)
@@ -240,9 +232,7 @@ def main() -> int:
             return 0
 
 
-def command() -> None:
-    leave(run(NAME, main))
-
+command = ending(NAME, main)
 
 if __name__ == "__main__":
     command()

@@ -11,6 +11,7 @@ A line ends with its LF, and what has none is no line. Words are parted by one s
     CANCEL k     CANCELLED k
     QUOTA        QUOTA s n t
     LIVE         LIVE f w
+    INFO         INFO g ..                                     g: the grain; what stands behind it is any words
     BYE          BYE
     each         ERR n                                         n: 10 to 99
 
@@ -43,13 +44,15 @@ FORMS = {
     "CANCEL": re.compile(rf"(?P<state>CANCELLED) (?P<job>{NUMBER})"),
     "QUOTA": re.compile(rf"QUOTA (?P<a>{NUMBER}) (?P<b>{NUMBER}) (?P<c>{NUMBER})"),
     "LIVE": re.compile(rf"LIVE (?P<a>{NUMBER}) (?P<b>{NUMBER})"),
+    "INFO": re.compile(rf"INFO (?P<a>{NUMBER})(?P<more>(?: [!-~]+)*)"),
     "BYE": re.compile("BYE"),
 }
 
 
 @dataclasses.dataclass(frozen=True)
 class Answer:
-    """An answer that fits its line. `state`: its first word; `job`: the job's number; `numbers`: of WELCOME, RESERVED, QUOTA and LIVE."""
+    """An answer that fits its line. `state`: its first word; `job`: the job's number; `numbers`: of WELCOME, RESERVED, QUOTA, LIVE and INFO;
+    `more`: the words behind the grain of INFO."""
 
     state: str
     job: int = 0
@@ -57,13 +60,14 @@ class Answer:
     move: str = ""
     entries: tuple[tuple[str, str, int], ...] = ()
     numbers: tuple[int, ...] = ()
+    more: tuple[str, ...] = ()
 
     def words(self) -> str:
         """As it stands in a row of clients/conformance.txt."""
         found = [self.state, *([str(self.job)] if self.job else []), *map(str, self.numbers)]
         if self.state == "DONE":
             found += [str(self.value), self.move]
-        return " ".join(found + [f"{move}{sign}{value}" for move, sign, value in self.entries])
+        return " ".join(found + [f"{move}{sign}{value}" for move, sign, value in self.entries] + list(self.more))
 
 
 def parse(line: str, answer: bytes, jobs: int = 0) -> Answer:
@@ -77,6 +81,8 @@ def parse(line: str, answer: bytes, jobs: int = 0) -> Answer:
                       else "the server ended the session")  # fmt: skip
 
     word, *rest = line.split(" ")
+    if word == "HELLO":
+        rest = rest[:2]  # a token isn't answered
     if not answer.endswith(b"\n") or len(answer) > LONGEST:
         raise misfit()
     text = answer[:-1].decode("latin-1")
@@ -91,10 +97,10 @@ def parse(line: str, answer: bytes, jobs: int = 0) -> Answer:
     numbers = tuple(int(told[name]) for name in "abc" if told.get(name) is not None)
     entries = tuple((move, sign, int(value)) for move, sign, value in ENTRY.findall(told.get("entries") or ""))
     value = int(told.get("value") or 0)
-    wanted = {"HELLO": rest[:2], "RESERVE": rest, "ASK": [str(jobs + 1)], "QUOTA": None, "LIVE": None, "BYE": None}.get(word, rest)
+    wanted = {"HELLO": rest, "RESERVE": rest, "ASK": [str(jobs + 1)], "QUOTA": None, "LIVE": None, "INFO": None, "BYE": None}.get(word, rest)
     given = [str(number) for number in numbers] if numbers else [str(job)]
     moves = [move for move, *_ in entries]
     values = [value, *(each for *_, each in entries)]
     if (wanted is not None and wanted != given) or len(set(moves)) != len(moves) or max(abs(each) for each in values) > GREATEST:
         raise misfit()
-    return Answer(state, job, value, told.get("move") or "", entries, numbers)
+    return Answer(state, job, value, told.get("move") or "", entries, numbers, tuple((told.get("more") or "").split()))

@@ -1,10 +1,10 @@
 """An engine by the Go Text Protocol, version 2, as boards and referees of Othello use it; its values come from a server of `othello serve`.
 
-usage: coluwen-gtp [--depth 6] [--tls [--authority FILE]] [--token FILE] [HOST PORT]     (commands come by standard input)
+usage: coluwen-gtp [--depth 6] [--server HOST:PORT] [..]     (commands come by standard input)
 
 A board starts it as its engine, with this line as the command. By hand:
 
-    $ printf 'play black f5\\ngenmove white\\nquit\\n' | coluwen-gtp 127.0.0.1 4711
+    $ printf 'play black f5\\ngenmove white\\nquit\\n' | coluwen-gtp --server 127.0.0.1:4711
 
 Squares are named as in Othello, A1 at the top left. `play COLOUR SQUARE` and `genmove COLOUR`: where that colour isn't to move and the
 other one can't, the pass between them is made (gtp-rhino, quarry); a pass may be played too. `genmove` of a player who can't move
@@ -24,14 +24,15 @@ from __future__ import annotations
 
 import re
 import sys
-from collections.abc import Callable
+from collections.abc import Callable, Sequence
 
-from . import __version__
-from .board import BLACK, OTHER, PASS, WHITE, Board, Position
-from .client import DEEPEST, Result
-from .command import client_of, leave, parser, run, say, teller
-from .engine import Engine
-from .errors import FormatError, IllegalMove
+from .. import __version__
+from .._core import DEEPEST
+from ..analyst import Result
+from ..board import BLACK, OTHER, PASS, WHITE, Board, Position
+from ..errors import FormatError, IllegalMove
+from .command import client_of, ending, parser, say, teller
+from .player import Player
 
 NAME = "coluwen-gtp"
 COLOURS = {"b": BLACK, "black": BLACK, "w": WHITE, "white": WHITE}
@@ -49,17 +50,15 @@ def colour_of(word: str) -> str:
 
 def final_score(position: Position) -> str:
     """The result of a finished game: empty squares are the winner's."""
-    black, white = position.discs(BLACK), position.discs(WHITE)
-    if black == white:
-        return "0"
-    return f"{'B' if black > white else 'W'}+{abs(black - white) + position.empties}"
+    discs = position.final_discs(BLACK)
+    return f"{'B' if discs > 0 else 'W'}+{abs(discs)}" if discs else "0"
 
 
 class Gtp:
     """The commands, each a method; the game that is played."""
 
-    def __init__(self, engine: Engine):
-        self.engine, self.board = engine, Board()
+    def __init__(self, player: Player):
+        self.player, self.board = player, Board()
         self.last: Result | None = None
         self.commands: dict[str, Callable[[list[str]], str]] = {
             "protocol_version": lambda _: "2", "name": lambda _: "Coluwen", "version": lambda _: __version__, "known_command": self.known_command,
@@ -106,19 +105,19 @@ class Gtp:
     def turned_to(self, colour: str) -> None:
         """Makes the pass that must stand before a move of this colour, if one must."""
         if self.board.side != colour and self.board.position.must_pass:
-            self.board.play(PASS)
+            self.board = self.board.push(PASS)
 
     def play(self, words: list[str]) -> str:
         if len(words) != 2:
             raise Unfit("syntax error")
         colour, move = colour_of(words[0]), words[1].lower()
         self.turned_to(colour)
-        if move == PASS and self.board.side != colour and self.board.moves[-1:] == [PASS]:
+        if move == PASS and self.board.side != colour and self.board.moves[-1:] == (PASS,):
             return ""  # it was made already
         try:
             if self.board.side != colour:
                 raise IllegalMove("")
-            self.board.play(move)
+            self.board = self.board.push(move)
         except IllegalMove:
             raise Unfit("illegal move") from None
         return ""
@@ -131,13 +130,15 @@ class Gtp:
             if not position.must_pass:
                 return "PASS" if not Position(position.cells, OTHER[position.side]).squares() else self.out_of_turn(colour)
             position = position.play(PASS)
-        self.last = self.engine.search(position)
-        return self.last.best.upper()
+        return self.best(position)
 
     def out_of_turn(self, colour: str) -> str:
         """A move of the player whose turn it isn't: GTP lets a board ask for it."""
-        self.last = self.engine.search(Position(self.board.position.cells, colour))
-        return self.last.best.upper()
+        return self.best(Position(self.board.position.cells, colour))
+
+    def best(self, position: Position) -> str:
+        self.last = self.player.search(position)
+        return (self.last.best or PASS).upper()
 
     def genmove(self, words: list[str]) -> str:
         colour = colour_of(words[0] if words else "")
@@ -146,12 +147,13 @@ class Gtp:
         self.turned_to(colour)
         move = self.reg_genmove(words)
         if not self.board.is_over:
-            self.board.play(move)
+            self.board = self.board.push(move)
         return move
 
     def undo(self, _: list[str]) -> str:
-        if not self.board.undo():
+        if not self.board.moves:
             raise Unfit("cannot undo")
+        self.board = self.board.pop()
         return ""
 
     def showboard(self, _: list[str]) -> str:
@@ -165,7 +167,7 @@ class Gtp:
     def set_depth(self, words: list[str]) -> str:
         if len(words) != 1 or not words[0].isdecimal() or not 1 <= int(words[0]) <= DEEPEST:
             raise Unfit(f"a depth is from 1 to {DEEPEST}")
-        self.engine.depth = int(words[0])
+        self.player.depth = int(words[0])
         return ""
 
     def score(self, _: list[str]) -> str:
@@ -183,26 +185,23 @@ class Gtp:
         return ""
 
 
-def main() -> int:
-    words = parser(__doc__, NAME)
-    words.add_argument("--depth", type=int, default=6, choices=range(1, DEEPEST + 1), metavar="1..12")
-    asked = words.parse_args()
-    client = client_of(asked, NAME)
-    client.open().close()  # a wrong port is said at once
-    gtp = Gtp(Engine(client, asked.depth, teller(NAME)))
-    for line in sys.stdin:
-        text, more = gtp.heard(line)
-        if text:
-            say(text)
-        if not more:
-            break
-    client.close()
+def main(words: Sequence[str] | None = None) -> int:
+    options = parser(__doc__, NAME, outage=0)
+    options.add_argument("--depth", type=int, default=6, choices=range(1, DEEPEST + 1), metavar="1..12", help="how many plies it looks (%(default)d)")
+    asked = options.parse_args(words)
+    with client_of(asked, NAME) as client:
+        client.ping()  # a wrong port is said at once
+        gtp = Gtp(Player(client, asked.depth, teller(NAME)))
+        for line in sys.stdin:
+            text, more = gtp.heard(line)
+            if text:
+                say(text)
+            if not more:
+                break
     return 0
 
 
-def command() -> None:
-    leave(run(NAME, main))
-
+command = ending(NAME, main)
 
 if __name__ == "__main__":
     command()

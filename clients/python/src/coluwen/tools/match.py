@@ -1,19 +1,23 @@
-"""A match of two engines over a list of openings, each played in both colours: a table with the error of the score.
+"""A match of two engines over a list of openings, each played in both colours: a table with the error of the score, and Elo.
 
-usage: coluwen-match [--openings FILE] [--games FILE] [--seconds 60] ONE OTHER
+usage: coluwen-match [--openings FILE] [--games FILE] [--seconds 60] [--at-once 2] ONE OTHER
 
-ONE and OTHER are each `depth:6` (the server of `--host` and `--port`, so many plies), `gtp:COMMAND` or `nboard:COMMAND` (a program, with its
+ONE and OTHER are each `depth:6` (the server of --server, so many plies), `gtp:COMMAND` or `nboard:COMMAND` (a program, with its
 words, as 'gtp:gtp-rhino -l 2'), with `NAME=` before it if it is to have a name. FILE of --openings has games of any format, transcripts a
 line for example; without it each pair of games begins from one of the four first moves and their replies. --games keeps the games as GGF.
+--at-once plays so many openings at the same time, each by programs of its own.
 
     $ coluwen-match --openings openings.txt depth:4 'gtp:gtp-rhino -l 1 -b 0'
 
 The referee keeps the rules itself: an engine that plays what isn't legal, says nothing for --seconds or ends loses that game by 64 discs,
 and is told. Passes are made by the referee, and are told to engines that take them. The score is wins and half the draws; its error is
-that of the mean of the pairs (both colours of an opening), one standard deviation.
+that of the mean of the pairs (both colours of an opening), one standard deviation. Elo is the difference of ratings that such a score
+stands for, with what the score less and more its error stand for; there is none where all games were won or lost.
 """
 from __future__ import annotations
 
+import concurrent.futures
+import contextlib
 import dataclasses
 import math
 import pathlib
@@ -22,15 +26,15 @@ import shlex
 import subprocess
 import sys
 import threading
-from collections.abc import Callable, Iterable
+from collections.abc import Callable, Iterable, Iterator, Sequence
 
-from . import formats
-from .board import BLACK, NAMES, OTHER, PASS, WHITE, Board, Position
-from .client import Client
-from .command import client_of, leave, parser, run, say, teller
-from .engine import Engine
-from .errors import ColuwenError, IllegalMove
-from .formats import Game, Played, ggf
+from .. import formats
+from ..analyst import Analyst
+from ..board import BLACK, NAMES, PASS, WHITE, Board, Position
+from ..errors import ColuwenError, IllegalMove
+from ..formats import Game, Played, ggf
+from .command import LONG_OUTAGE, client_of, ending, parser, say, teller
+from .player import Player as Searcher
 
 NAME = "coluwen-match"
 LOST = 64  # discs by which a game is lost that isn't played to its end
@@ -67,12 +71,12 @@ class Forfeit(ColuwenError):
 class Plies(Player):
     """So many plies of the server."""
 
-    def __init__(self, name: str, client: Client, depth: int):
+    def __init__(self, name: str, analyst: Analyst, depth: int):
         super().__init__(name)
-        self.engine = Engine(client, depth, teller(NAME))
+        self.searcher = Searcher(analyst, depth, teller(NAME))
 
     def move(self, board: Board) -> str:
-        return self.engine.search(board.position).best
+        return self.searcher.search(board.position).best or PASS
 
 
 class Program(Player):
@@ -176,13 +180,13 @@ class NBoardProgram(Program):
         pass
 
 
-def player_of(word: str, client: Client, seconds: float) -> Player:
+def player_of(word: str, analyst: Analyst, seconds: float) -> Player:
     """The player that a word of the command line says."""
     name, _, rest = word.partition("=") if word.split(":")[0].count("=") else ("", "", word)
     kind, _, command = rest.partition(":")
     name = name or rest
     if kind == "depth" and command.isdecimal() and 1 <= int(command) <= 12:
-        return Plies(name, client, int(command))
+        return Plies(name, analyst, int(command))
     if kind in ("gtp", "nboard") and command.strip():
         return (GtpProgram if kind == "gtp" else NBoardProgram)(name, command, seconds)
     raise ColuwenError(f"{word!r} is no player: depth:1..12, gtp:COMMAND or nboard:COMMAND")
@@ -199,9 +203,7 @@ class Outcome:
 
 def play(black: Player, white: Player, opening: Board, number: int) -> Outcome:
     """One game, by the referee's rules."""
-    board, players, fault, discs = Board(opening.start), {BLACK: black, WHITE: white}, "", 0
-    for move in opening.moves:
-        board.play(move)
+    board, players, fault, discs = opening, {BLACK: black, WHITE: white}, "", 0
     try:
         for player in players.values():
             player.begin(board)
@@ -209,11 +211,11 @@ def play(black: Player, white: Player, opening: Board, number: int) -> Outcome:
             move, side = PASS, board.side
             if not board.position.must_pass:
                 move = moved(players[side], board)
-            board.play(move)
+            board = board.push(move)
             for at, player in players.items():
                 if at != side or move == PASS:
                     player.told(move, side)
-        discs = final_discs(board.position)
+        discs = board.position.final_discs(BLACK)
     except Forfeit as forfeit:
         fault, discs = str(forfeit), -LOST if forfeit.player is black else LOST
     moves = tuple(Played(move) for move in board.moves)
@@ -230,23 +232,14 @@ def moved(player: Player, board: Board) -> str:
     return move
 
 
-def final_discs(position: Position) -> int:
-    """Black's discs more than white's at the end, with the empty squares the winner's."""
-    discs = position.discs(BLACK) - position.discs(WHITE)
-    return discs + position.empties * ((discs > 0) - (discs < 0))
-
-
 def openings_of(path: str | None) -> list[Board]:
     """The openings of a file; else the four first moves with each reply."""
     if path:
-        return [game.board() for game in formats.games(path)]
+        return [game.board() for game in formats.strictly(formats.games(path))]
     found = []
     for first in Position.opening().legal_moves():
         for reply in Position.opening().play(first).legal_moves():
-            board = Board()
-            board.play(first)
-            board.play(reply)
-            found.append(board)
+            found.append(Board().push(first).push(reply))
     return found
 
 
@@ -275,7 +268,7 @@ class Table:
         mean, spread = mean_and_error(pairs)
         won, drawn = sum(d > 0 for d in every), sum(d == 0 for d in every)
         rows.append(f"{'in all':24}{len(every):>6}{won:>6}{drawn:>6}{len(every) - won - drawn:>6}{100 * score:>8.1f}%{100 * error:>7.1f}%{mean:>+8.2f}{spread:>8.2f}")
-        return rows
+        return [*rows, f"Elo {elo_text(score, error)}"]
 
 
 def row_of(label: str, discs: list[int], points: list[float]) -> str:
@@ -295,42 +288,67 @@ def mean_and_error(numbers: list[float]) -> tuple[float, float]:
     return mean, math.sqrt(sum((each - mean) ** 2 for each in numbers) / (len(numbers) - 1) / len(numbers))
 
 
-def match(one: Player, other: Player, openings: Iterable[Board], tell: Callable[[str], None]) -> tuple[Table, list[Outcome]]:
-    """Each opening in both colours."""
-    table = Table(one.name, other.name)
-    outcomes: list[Outcome] = []
-    for opening in openings:
-        for side in (BLACK, WHITE):
-            black, white = (one, other) if side == BLACK else (other, one)
-            outcome = play(black, white, opening, len(outcomes) + 1)
-            outcomes.append(outcome)
-            table.add(side, outcome)
-            passes = sum(played.move == PASS for played in outcome.game.moves)
-            told = outcome.fault or f"{len(outcome.game.words())} moves, {passes} passes"
-            tell(f"{len(outcomes)}: {black.name} {outcome.discs:+d} {white.name} ({told})")
+def elo(score: float) -> float:
+    """The difference of ratings that a score (over 0, under 1) stands for."""
+    return 400 * math.log10(score / (1 - score))
+
+
+def elo_text(score: float, error: float) -> str:
+    """The same in words, with what the score less and more its error stand for."""
+    if not 0 < score < 1:
+        return "isn't known: one side has won all games" if score in (0, 1) else "isn't known"
+    low, high = (f"{elo(at):+.0f}" if 0 < at < 1 else "unknown" for at in (score - error, score + error))
+    return f"{elo(score):+.0f} ({low} to {high})"
+
+
+Pair = Callable[[], contextlib.AbstractContextManager[tuple[Player, Player]]]
+
+
+def match(pair: Pair, openings: Iterable[Board], tell: Callable[[str], None], at_once: int = 1) -> tuple[Table, list[Outcome]]:
+    """Each opening in both colours, so many openings at the same time; `pair` gives two players of their own to each of these."""
+    openings = list(openings)
+    spare: queue.SimpleQueue[tuple[Player, Player]] = queue.SimpleQueue()
+    with contextlib.ExitStack() as stack, concurrent.futures.ThreadPoolExecutor(at_once) as pool:
+        pairs = [stack.enter_context(pair()) for _ in range(min(at_once, max(len(openings), 1)))]
+        for one in pairs:
+            spare.put(one)
+
+        def both(number: int) -> list[Outcome]:
+            one, other = players = spare.get()
+            try:
+                return [play(*((one, other) if side == BLACK else (other, one)), openings[number], 2 * number + at + 1) for at, side in enumerate((BLACK, WHITE))]
+            finally:
+                spare.put(players)
+
+        table, outcomes = Table(pairs[0][0].name, pairs[0][1].name), list[Outcome]()
+        for found in pool.map(both, range(len(openings))):
+            for side, outcome in zip((BLACK, WHITE), found):
+                outcomes.append(outcome)
+                table.add(side, outcome)
+                passes = sum(played.move == PASS for played in outcome.game.moves)
+                told = outcome.fault or f"{len(outcome.game.words())} moves, {passes} passes"
+                tell(f"{len(outcomes)}: {outcome.game.black} {outcome.discs:+d} {outcome.game.white} ({told})")
     return table, outcomes
 
 
-def main() -> int:
-    words = parser(__doc__, NAME, words=False)
-    words.add_argument("one", metavar="ONE")
-    words.add_argument("other", metavar="OTHER")
-    words.add_argument("--host", default="127.0.0.1")
-    words.add_argument("--port", type=int, default=4711)
-    words.add_argument("--openings", metavar="FILE", help="games of any format that each pair begins with")
-    words.add_argument("--games", metavar="FILE", help="keeps the games, as GGF")
-    words.add_argument("--seconds", type=float, default=60, metavar="S", help="after which an engine that says nothing has lost (60)")
-    asked = words.parse_args()
-    client = client_of(asked, NAME)
-    players: list[Player] = []
-    try:
-        for word in (asked.one, asked.other):
-            players.append(player_of(word, client, asked.seconds))
-        table, outcomes = match(players[0], players[1], openings_of(asked.openings), say)
-    finally:
-        for player in players:
-            player.close()
-        client.close()
+def main(words: Sequence[str] | None = None) -> int:
+    options = parser(__doc__, NAME, LONG_OUTAGE)
+    options.add_argument("one", metavar="ONE")
+    options.add_argument("other", metavar="OTHER")
+    options.add_argument("--openings", metavar="FILE", help="games of any format that each pair begins with")
+    options.add_argument("--games", metavar="FILE", help="keeps the games, as GGF")
+    options.add_argument("--seconds", type=float, default=60, metavar="S", help="after which an engine that says nothing has lost (%(default)g)")
+    options.add_argument("--at-once", type=int, default=1, metavar="N", help="how many openings are played at the same time (%(default)d)")
+    asked = options.parse_args(words)
+    with client_of(asked, NAME) as client:
+
+        @contextlib.contextmanager
+        def pair() -> Iterator[tuple[Player, Player]]:
+            with contextlib.ExitStack() as stack:
+                one, other = (stack.enter_context(contextlib.closing(player_of(word, client, asked.seconds))) for word in (asked.one, asked.other))
+                yield one, other
+
+        table, outcomes = match(pair, openings_of(asked.openings), say, max(asked.at_once, 1))
     if asked.games:
         pathlib.Path(asked.games).write_text(ggf.write(outcome.game for outcome in outcomes), encoding="latin-1")
     say("\n".join(table.lines()))
@@ -340,11 +358,7 @@ def main() -> int:
     return 3 if faults else 0
 
 
-def command() -> None:
-    leave(run(NAME, main))
-
-
-__all__ = ["OTHER", "Forfeit", "GtpProgram", "NBoardProgram", "Outcome", "Player", "Plies", "Program", "Table", "match", "openings_of", "play"]
+command = ending(NAME, main)
 
 if __name__ == "__main__":
     command()

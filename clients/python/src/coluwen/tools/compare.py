@@ -8,10 +8,10 @@ import math
 import pathlib
 import statistics
 
-from . import formats
-from .board import PASS, Position
-from .errors import FormatError
-from .score import A_DISC, GREATEST_EVALUATION
+from .. import formats
+from ..board import PASS, Position
+from ..errors import FormatError
+from ..score import A_DISC, GREATEST_EVALUATION
 
 SHOWN = 20  # rows that differ
 
@@ -43,7 +43,7 @@ def rows_of(path: str) -> list[Row]:
     """The rows of a CSV with a head, or of an .obf."""
     if pathlib.PurePath(path).suffix.lower() == ".obf":
         return [Row(problem.position.text, "", "" if problem.discs() is None else str(A_DISC * (problem.discs() or 0)), problem.best())
-                for problem in formats.problems(path) if problem.expected]  # fmt: skip
+                for problem in formats.strictly(formats.problems(path)) if problem.expected]  # fmt: skip
     rows = csv_rows(pathlib.Path(path))
     if not rows:
         return []
@@ -96,6 +96,10 @@ def compare(one: str, other: str) -> bool:
     """Tells how two runs differ. Whether they don't."""
     runs = [rows_of(one), rows_of(other)]
     by_depth = all(row.depth for run in runs for row in run)
+    depths = [{row.depth for row in run if row.depth} for run in runs]
+    if by_depth and all(depths) and not depths[0] & depths[1]:
+        print(f"the depths are unlike: {one} has {' '.join(sorted(depths[0]))}, and {other} {' '.join(sorted(depths[1]))}; so nothing can be compared")
+        return False
     keyed = [{(row.position, row.depth if by_depth else ""): row for row in run} for run in runs]
     both = [key for key in keyed[0] if key in keyed[1]]
     different = [key for key in both if differ(keyed[0][key], keyed[1][key])]

@@ -5,7 +5,7 @@ import html
 import math
 
 from .compare import Row
-from .score import A_DISC, GREATEST_EVALUATION
+from ..score import A_DISC, GREATEST_EVALUATION
 
 WIDTH, HEIGHT, LEFT, TOP, GAP = 720, 220, 70, 50, 90
 RANGES = 12  # of points of the evaluation
@@ -49,8 +49,14 @@ def value_bars(values: list[int]) -> list[tuple[str, int]]:
 def bars(top: int, label: str, counts: list[tuple[str, int]], colour: str) -> list[str]:
     """One diagram: a bar for each name, with its number above it."""
     most, bottom = max([1, *(count for _, count in counts)]), top + HEIGHT
+    step = max(1, 10 ** (len(str(most)) - 1) // (2 if most < 2 * 10 ** (len(str(most)) - 1) else 1))
     text = [f'<text x="{LEFT}" y="{bottom + 58}">{html.escape(label)}</text>',
-            f'<line x1="{LEFT}" y1="{bottom}" x2="{LEFT + WIDTH}" y2="{bottom}" stroke="black"/>']  # fmt: skip
+            f'<line x1="{LEFT}" y1="{bottom}" x2="{LEFT + WIDTH}" y2="{bottom}" stroke="black"/>',
+            f'<line x1="{LEFT}" y1="{top}" x2="{LEFT}" y2="{bottom}" stroke="black"/>',
+            f'<text x="{LEFT - 52}" y="{top + HEIGHT / 2:.0f}" text-anchor="middle" transform="rotate(-90 {LEFT - 52} {top + HEIGHT / 2:.0f})">positions</text>']  # fmt: skip
+    for count in range(0, most + 1, step):
+        y = bottom - count / most * (HEIGHT - 20)
+        text.append(f'<line x1="{LEFT - 4}" y1="{y:.1f}" x2="{LEFT}" y2="{y:.1f}" stroke="black"/><text x="{LEFT - 8}" y="{y + 4:.1f}" text-anchor="end" font-size="10">{count}</text>')
     for number, (name, count) in enumerate(counts):
         wide = WIDTH / len(counts)
         left, height = LEFT + number * wide, count / most * (HEIGHT - 20)
