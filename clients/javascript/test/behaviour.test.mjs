@@ -7,7 +7,6 @@ import { setTimeout as sleep } from "node:timers/promises";
 import { Client, ColuwenError } from "../src/index.mjs";
 
 const FOLDER = new URL("../../behaviour/", import.meta.url);
-const AGAIN = 2; // so often a line that may come any number of times is answered where the same line follows
 const SIGNS = { n: "\n", r: "\r", t: "\t", "\\": "\\" };
 const spelled = (text) => text.replaceAll(/\\(x(..)|.)/g, (_, sign, byte) => (byte ? String.fromCharCode(parseInt(byte, 16)) : SIGNS[sign]));
 
@@ -50,17 +49,11 @@ async function playScript(script, stream, next) {
       assert.equal(await next(), text);
     } else if (word === "*") {
       const [, answer] = script[at + 1];
-      const [, after] = script.slice(at + 2).find(([each]) => each === ">") ?? [];
-      for (let count = 0; ; count += 1) {
-        const line = await next();
-        if (line !== text || (line === after && count === AGAIN)) {
-          if (script[at + 2]?.[0] === ">") assert.equal(line, after);
-          else assert.equal(line, null);
-          at += script[at + 2]?.[0] === ">" ? 2 : 1;
-          break;
-        }
-        stream.write(`${spelled(answer)}\n`, "latin1");
-      }
+      let line = await next();
+      for (; line === text; line = await next()) stream.write(`${spelled(answer)}\n`, "latin1");
+      const after = script[at + 2]?.[0] === ">" ? script[at + 2][1] : null; // the line that came is this one, or the end
+      assert.equal(line, after);
+      at += after === null ? 1 : 2;
     } else if (word === "<" || word === "<|") {
       stream.write(`${spelled(text)}${word === "<" ? "\n" : ""}`, "latin1");
     } else if (word === "pause") {
