@@ -44,9 +44,10 @@ def fail(text):
 
 def make(tree, out, epoch):
     """Makes the packages of a tree into a folder."""
-    tree, out = pathlib.Path(tree), pathlib.Path(out)
     about = json.loads((tree / "clients/javascript/package.json").read_text())
     pack_npm(tree, out / f"{about['name']}-{about['version']}.tgz", about["files"], epoch)
+    if f"  <version>{about['version']}</version>" not in (tree / "clients/java/pom.xml").read_text() or about["version"] != (tree / "VERSION").read_text().strip():
+        fail("VERSION, package.json and pom.xml have other versions")
     subprocess.run([tree / "clients/java/build", "jars", out], check=True, env=dict(os.environ, SOURCE_DATE_EPOCH=str(epoch)))
 
 
