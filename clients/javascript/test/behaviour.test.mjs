@@ -7,7 +7,6 @@ import { setTimeout as sleep } from "node:timers/promises";
 import { Client, ColuwenError } from "../src/index.mjs";
 
 const FOLDER = new URL("../../behaviour/", import.meta.url);
-const AGAIN = 2; // so often a line that may come any number of times is answered where the same line follows
 const SIGNS = { n: "\n", r: "\r", t: "\t", "\\": "\\" };
 const spelled = (text) => text.replaceAll(/\\(x(..)|.)/g, (_, sign, byte) => (byte ? String.fromCharCode(parseInt(byte, 16)) : SIGNS[sign]));
 
@@ -50,17 +49,11 @@ async function playScript(script, stream, next) {
       assert.equal(await next(), text);
     } else if (word === "*") {
       const [, answer] = script[at + 1];
-      const [, after] = script.slice(at + 2).find(([each]) => each === ">") ?? [];
-      for (let count = 0; ; count += 1) {
-        const line = await next();
-        if (line !== text || (line === after && count === AGAIN)) {
-          if (script[at + 2]?.[0] === ">") assert.equal(line, after);
-          else assert.equal(line, null);
-          at += script[at + 2]?.[0] === ">" ? 2 : 1;
-          break;
-        }
-        stream.write(`${spelled(answer)}\n`, "latin1");
-      }
+      let line = await next();
+      for (; line === text; line = await next()) stream.write(`${spelled(answer)}\n`, "latin1");
+      const after = script[at + 2]?.[0] === ">" ? script[at + 2][1] : null; // the line that came is this one, or the end
+      assert.equal(line, after);
+      at += after === null ? 1 : 2;
     } else if (word === "<" || word === "<|") {
       stream.write(`${spelled(text)}${word === "<" ? "\n" : ""}`, "latin1");
     } else if (word === "pause") {
@@ -93,7 +86,9 @@ async function playSound(stream, next) {
 /** A server that plays a row's scripts. `faults`: what was wrong; `got`: the lines that came; `ends`: of each connection its end. */
 async function begin({ scripts }) {
   const state = { faults: [], got: [], ends: [], at: 0, connections: 0 };
+  const streams = [];
   const server = net.createServer({ noDelay: true }, (stream) => {
+    streams.push(stream);
     stream.on("error", () => {});
     state.connections += 1;
     const script = scripts[state.at];
@@ -113,8 +108,11 @@ async function begin({ scripts }) {
   });
   await new Promise((resolve) => { server.listen(0, "127.0.0.1", resolve); });
   state.port = server.address().port;
-  state.close = () => new Promise((resolve) => { server.close(resolve); });
-  if (scripts[0] === "nobody") await state.close();
+  state.close = () => {
+    for (const stream of streams) stream.destroy();
+    server.close();
+  };
+  if (scripts[0] === "nobody") state.close();
   return state;
 }
 
@@ -190,16 +188,27 @@ function check({ lines, fault, taken }, wanted) {
 async function play(row) {
   const server = await begin(row);
   const client = new Client({ host: "127.0.0.1", port: server.port, sessions: 1, ahead: 1, silence: 1000, patience: 2000, outage: 0, ...row.options });
+  try {
+    await playCalls(row, client, server);
+  } finally {
+    await client.close();
+    server.close();
+  }
+}
+
+async function playCalls(row, client, server) {
   const started = new Map();
   for (let at = 0; at < row.calls.length; at += 1) {
     const [word, rest] = row.calls[at];
-    const wanted = row.calls.slice(at + 1).map((each) => each.join(" ").trim());
-    wanted.length = wanted.findIndex((line) => !/^(result|moves|item|taken|info|done|fault)/.test(line)) >= 0 ? wanted.findIndex((line) => !/^(result|moves|item|taken|info|done|fault)/.test(line)) : wanted.length;
+    const lines = row.calls.slice(at + 1).map((each) => each.join(" ").trim());
+    const count = lines.findIndex((line) => !/^(result|moves|item|taken|info|done|fault)/.test(line));
+    const wanted = count < 0 ? lines : lines.slice(0, count);
+    const [first, ...others] = rest.split(" ");
     if (word === "call") check(await outcomeOf(client, rest), wanted);
-    else if (word === "start") started.set(rest.split(" ")[0], outcomeOf(client, rest.split(" ").slice(1).join(" ")));
+    else if (word === "start") started.set(first, outcomeOf(client, others.join(" ")));
     else if (word === "join") check(await started.get(rest), wanted);
     else if (word === "sleep") await sleep(Number(rest));
-    else if (word === "sent") assert.equal(server.got.filter((line) => line.split(" ")[0] === rest.split(" ")[0]).length, Number(rest.split(" ")[1]));
+    else if (word === "sent") assert.equal(server.got.filter((line) => line.split(" ")[0] === first).length, Number(others[0]));
     else if (word === "connections") assert.equal(server.connections, Number(rest));
   }
   await client.close();
@@ -207,11 +216,9 @@ async function play(row) {
   const count = server.got.length;
   await sleep(300);
   assert.equal(server.got.length, count, "something was sent after the end");
-  if (server.faults.length) throw server.faults[0];
   await Promise.all(server.ends);
   if (server.faults.length) throw server.faults[0];
   if (row.scripts.every((script) => Array.isArray(script))) assert.equal(server.at, row.scripts.length, "a connection didn't come");
-  if (row.scripts[0] !== "nobody") await server.close();
 }
 
 describe("behaviour rows", { concurrency: 50, timeout: 60_000 }, () => {

@@ -32,7 +32,6 @@ import org.junit.jupiter.api.TestFactory;
 
 /** The behaviour rows (clients/behaviour) by this client, all at once. The property {@code clients} names the folder above them. */
 class BehaviourTest {
-  private static final int AGAIN = 2; // so often a line that may come any number of times is answered where the same line follows
   private static final String GIVEN = "(result|moves|item|taken|info|done|fault)\\b.*";
 
   private record Step(String word, String text) {}
@@ -86,10 +85,7 @@ class BehaviourTest {
           var answer = spelled(script.get(at + 1).text()) + "\n";
           var after = at + 2 < script.size() && script.get(at + 2).word().equals(">") ? script.get(at + 2).text() : null;
           var line = lines.next();
-          for (int count = 0; step.text().equals(line) && !(line.equals(after) && count >= AGAIN); count++) {
-            lines.send(answer);
-            line = lines.next();
-          }
+          for (; step.text().equals(line); line = lines.next()) lines.send(answer);
           assertEquals(after, line);
           at += after == null ? 1 : 2;
         }
