@@ -97,7 +97,7 @@ class AsyncClient:
                     fault = task.exception()
                     if fault and not isinstance(fault, ColuwenError):
                         raise fault
-                    many.settle(asked, number, fault or task.result())
+                    many.settle(asked, number, fault if isinstance(fault, ColuwenError) else task.result())
                 elif (asked := task.result()) is _END:
                     is_over = True
                 else:

@@ -219,7 +219,7 @@ class Analyst(abc.ABC):
                     fault = future.exception()
                     if fault and not isinstance(fault, ColuwenError):
                         raise fault
-                    many.settle(asked, number, fault or future.result())  # type: ignore[arg-type]
+                    many.settle(asked, number, fault if isinstance(fault, ColuwenError) else future.result())
                     if many.known and (not many.in_order or many.given in many.known):
                         break
                 yield from many.ready()
@@ -243,4 +243,3 @@ class Analyst(abc.ABC):
     def limit(self, position: Position, depth: int) -> int:
         """How deep a position is surely looked at where so many plies are wanted: to the end from 12 empty squares on."""
         return min(depth, position.empties, DEEPEST) if position.empties <= DEEPEST else min(depth, self.info().sure)
-

@@ -262,7 +262,10 @@ class Board:
     moves: tuple[str, ...] = ()
 
     def __post_init__(self) -> None:
-        self.__dict__.setdefault("_past", functools.reduce(_with, self.moves, (self.start,)))
+        past = [self.start]
+        for move in self.moves:
+            past.append(past[-1].play(move))
+        self.__dict__["_past"] = tuple(past)
 
     @classmethod
     def parse(cls, text: str) -> Board:
@@ -326,7 +329,3 @@ class Board:
 
     def _repr_svg_(self) -> str:
         return self.position._repr_svg_()
-
-
-def _with(past: tuple[Position, ...], move: str) -> tuple[Position, ...]:
-    return (*past, past[-1].play(move))

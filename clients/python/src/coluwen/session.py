@@ -205,4 +205,4 @@ class Session:
 def _state_of(answer: Answer) -> State:
     if answer.state == "DONE":
         return Done(answer.value, answer.move)
-    return {"PENDING": Pending(), "SPENT": Spent(), "CANCELLED": Cancelled()}[answer.state]
+    return Spent() if answer.state == "SPENT" else Cancelled() if answer.state == "CANCELLED" else Pending()

@@ -69,7 +69,7 @@ def fen(position: Position) -> str:
 
 def read_board(lines: list[str], at: int, place: Place = Place()) -> tuple[Problem, int] | None:
     """The board that begins at a line (from 0), and behind which line it ends; None where none begins there."""
-    rows, here = [], at
+    rows, here = list[str](), at
     while here < len(lines) and len(rows) < 8:
         found = ROW.fullmatch(lines[here])
         if found:
