@@ -204,7 +204,7 @@ class Analyst(abc.ABC):
 
         Positions are taken as they are wanted: no more than `window` (64 for each that is worked on at once) are taken and not given on.
         `on_progress` is called with a `Progress` for each that is given on. What isn't wanted any more, as the loop was left, is cancelled."""
-        many = Many(positions, depth, order, window or 64 * self.parallel, on_progress)
+        many = Many(positions, depth, order, 64 * self.parallel if window is None else window, on_progress)
         return self._many(many, iter(positions), timeout)
 
     def _many(self, many: Many, source: Iterator[Asked], timeout: float | None) -> Iterator[Outcome]:

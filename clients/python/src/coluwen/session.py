@@ -170,9 +170,11 @@ class Session:
         self._call(f"CANCEL {job}")
 
     def quota(self) -> Quota:
+        """What is left of the reservation."""
         return Quota(*self._call("QUOTA").numbers)
 
     def live(self) -> Live:
+        """What the jobs have open."""
         return Live(*self._call("LIVE").numbers)
 
     def drop(self, why: str = "it was dropped") -> None:
