@@ -306,22 +306,22 @@ Pair = Callable[[], contextlib.AbstractContextManager[tuple[Player, Player]]]
 
 def match(pair: Pair, openings: Iterable[Board], tell: Callable[[str], None], at_once: int = 1) -> tuple[Table, list[Outcome]]:
     """Each opening in both colours, so many openings at the same time; `pair` gives two players of their own to each of these."""
-    openings = list(openings)
+    begun = list(openings)
     spare: queue.SimpleQueue[tuple[Player, Player]] = queue.SimpleQueue()
     with contextlib.ExitStack() as stack, concurrent.futures.ThreadPoolExecutor(at_once) as pool:
-        pairs = [stack.enter_context(pair()) for _ in range(min(at_once, max(len(openings), 1)))]
+        pairs = [stack.enter_context(pair()) for _ in range(min(at_once, max(len(begun), 1)))]
         for one in pairs:
             spare.put(one)
 
         def both(number: int) -> list[Outcome]:
             one, other = players = spare.get()
             try:
-                return [play(*((one, other) if side == BLACK else (other, one)), openings[number], 2 * number + at + 1) for at, side in enumerate((BLACK, WHITE))]
+                return [play(*((one, other) if side == BLACK else (other, one)), begun[number], 2 * number + at + 1) for at, side in enumerate((BLACK, WHITE))]
             finally:
                 spare.put(players)
 
         table, outcomes = Table(pairs[0][0].name, pairs[0][1].name), list[Outcome]()
-        for found in pool.map(both, range(len(openings))):
+        for found in pool.map(both, range(len(begun))):
             for side, outcome in zip((BLACK, WHITE), found):
                 outcomes.append(outcome)
                 table.add(side, outcome)
