@@ -207,10 +207,10 @@ def server(*words):
 
 
 @contextlib.contextmanager
-def supervised(port, *words, most=8, log=subprocess.DEVNULL, ask=None):
+def supervised(port, *words, most=8, keep=False, log=subprocess.DEVNULL, ask=None):
     """A supervisor with a server at a port."""
     asks = ["--ask", str(ask)] if ask else []
-    command = [str(HERE / "supervise"), "--most", str(most), *asks, program(), "serve", "--port", str(port), *words]
+    command = [str(HERE / "supervise"), "--most", str(most), *["--keep"] * keep, *asks, program(), "serve", "--port", str(port), *words]
     with ended_after(subprocess.Popen(command, stdout=log)) as process:
         subprocess.run([str(HERE / "ready"), str(port), "120"], check=True)
         yield process

@@ -22,6 +22,7 @@ const FORMS = {
   CANCEL: form(`(?<state>CANCELLED) (?<job>${NUMBER})`),
   QUOTA: form(`QUOTA (?<a>${NUMBER}) (?<b>${NUMBER}) (?<c>${NUMBER})`),
   LIVE: form(`LIVE (?<a>${NUMBER}) (?<b>${NUMBER})`),
+  INFO: form(`INFO (?<a>${NUMBER})(?: [!-~]+)*`),
   BYE: form("BYE"),
 };
 
@@ -29,7 +30,7 @@ const FORMS = {
 function wantedOf(word, rest, jobs) {
   if (word === "HELLO") return rest.slice(0, 2);
   if (word === "ASK") return [String(jobs + 1)];
-  return ["QUOTA", "LIVE", "BYE"].includes(word) ? null : rest;
+  return ["QUOTA", "LIVE", "INFO", "BYE"].includes(word) ? null : rest;
 }
 
 /**

@@ -2,11 +2,12 @@
 use Rattle.std.specs.Prelude.{◌≡◌, ℕ, List, [], ◌∷◌, ◌++◌, map, length, false, All}
 use Rattle.std.specs.List.{concat}
 use Rattle.line_io.specs.Leads.{Leads}
-use Rattle.line_io.specs.Lines.{lines_of, up_to_last_end}
+use Rattle.line_io.specs.Lines.{line_text, lines_of, up_to_last_end}
 use Rattle.line_io.specs.Streams.{ReadAnswer, Gave, WriteAnswer, Took}
 use Rattle.line_io.specs.Writes.{written_texts}
 use Rattle.protocol.specs.Texts.{error_text}
 use Rattle.line_relay.specs.declared.ahead.Peer.{Peer}
+use Rattle.line_relay.specs.Asks.{sent_lines}
 use Rattle.line_relay.specs.Relays.{Turn}
 use Rattle.line_relay.specs.Takes.{ByteTaken, has_end}
 use Rattle.line_relay.specs.Verdicts.{Deed, Sends, Answers, Ends, deed_for}
@@ -40,7 +41,7 @@ told_texts [] answers = []
 told_texts (t ∷ ts) answers = told_first (deed_of t) answers (λ rest. told_texts ts rest)
 
 -- what some turns come to in all: which bytes of the client were used, and that these are whole lines, those of the turns; that the server was sent
--- the lines that pass, each with LF; that just so many lines were taken of the server's bytes, its answers; and that the client was told, each with
+-- the lines that pass, each with LF, and that who cuts lines as this relay does reads just these lines; that just so many lines were taken of the server's bytes, its answers; and that the client was told, each with
 -- LF, these answers and the ERR of the lines that don't pass, in the order of the lines
 pub record PassedOn {C K S T J : Type 0} (reads : C → ReadAnswer → C → Type 0) (tells : K → WriteAnswer → K → Type 0) (gives : S → ReadAnswer → S → Type 0) (takes : T → WriteAnswer → T → Type 0) (from : Peer C K × Peer S T × J) (turns : List Turn) (to : Peer C K × Peer S T × J) : Type 0 where
   pub used : List ℕ
@@ -49,7 +50,8 @@ pub record PassedOn {C K S T J : Type 0} (reads : C → ReadAnswer → C → Typ
   pub lines : lines_of used ≡ map (λ t. t.line) turns
   pub sent : List (List ℕ)
   pub sending : Leads takes from.1.sink (map Took sent) to.1.sink
-  pub sent_is : concat sent ≡ written_texts (sent_texts turns)
+  pub sent_is : concat sent ≡ sent_lines (sent_texts turns)
+  pub read_as : lines_of (concat sent) ≡ map line_text (sent_texts turns)
   pub answers : List (List ℕ)
   pub each_one : length answers ≡ length (sent_texts turns)
   pub one_line : All (λ a. has_end a ≡ false) answers

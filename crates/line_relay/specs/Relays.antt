@@ -13,7 +13,7 @@ use Rattle.line_relay.specs.declared.faults.ServerFault.{ServerFault}
 use Rattle.line_relay.specs.declared.judging.Verdict.{Verdict}
 use Rattle.line_relay.specs.declared.relaying.RelayEnd.{RelayEnd}
 use Rattle.line_relay.specs.declared.relaying.RelayEnd.TheVariants.{Line as by_line, Input as by_input}
-use Rattle.line_relay.specs.Asks.{Asked}
+use Rattle.line_relay.specs.Asks.{Asked, sent_line}
 use Rattle.line_relay.specs.Takes.{LineTaken, CutShort}
 use Rattle.line_relay.specs.Verdicts.{Deed, Sends, Answers, Ends, deed_for}
 
@@ -27,7 +27,7 @@ pub record Turn : Type 0 where
 -- number, and the server and the judge stay as they are
 abbrev pub Replied : {S T J : Type 0} → (S → ReadAnswer → S → Type 0) → (T → WriteAnswer → T → Type 0) → (J → List ℕ → J → Type 0) → Deed → Peer S T → J → List ℕ → Peer S T → J → Type 0
 Replied gives takes hears (Sends text) server judge told server' judge' =
-    Asked gives takes server (with_newline text) (with_newline told) (Ok tt) server' × hears judge told judge'
+    Asked gives takes server (sent_line text) (with_newline told) (Ok tt) server' × hears judge told judge'
 Replied gives takes hears (Answers number) server judge told server' judge' = (server' ≡ server) × (judge' ≡ judge) × (told ≡ error_text number)
 Replied gives takes hears Ends server judge told server' judge' = ⊥
 
@@ -38,7 +38,7 @@ Found gives takes hears deed server judge text (Ok true) server' judge' =
     (told : List ℕ) × (text ≡ with_newline told) × Replied gives takes hears deed server judge told server' judge'
 Found gives takes hears deed server judge text (Ok false) server' judge' = (deed ≡ Ends) × (server' ≡ server) × (judge' ≡ judge)
 Found gives takes hears deed server judge text (Err fault) server' judge' =
-    (sent : List ℕ) × (deed ≡ Sends sent) × Asked gives takes server (with_newline sent) text (Err fault) server' × (judge' ≡ judge)
+    (sent : List ℕ) × (deed ≡ Sends sent) × Asked gives takes server (sent_line sent) text (Err fault) server' × (judge' ≡ judge)
 
 -- the relations: what a write to the client may do, what a read from the server and a write to it may do, and of the judge how it may judge a line and
 -- what it becomes when it hears an answer
@@ -57,7 +57,7 @@ module _ {K S T J : Type 0} (tells : K → WriteAnswer → K → Type 0) (gives 
     pub rest : List ℕ
     pub judged : judges judge line verdict judge'
     pub sends : deed_for verdict line ≡ Sends text
-    pub asked : Asked gives takes server (with_newline text) rest (Err fault) server'
+    pub asked : Asked gives takes server (sent_line text) rest (Err fault) server'
     pub untold : sink' ≡ sink
 
   -- what came of a line: it was answered (true), or it ended the relay (false): then nothing was written, and nothing was read of the server. Or the

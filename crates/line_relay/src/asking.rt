@@ -1,12 +1,12 @@
 //! A line sent to the server with its answer, and what the client is told.
-ghost use Rattle.std.specs.Prelude.{◌≡◌, ◌<◌, length};
+ghost use Rattle.std.specs.Prelude.{◌≡◌, ◌<◌, ◌-◌, ◌==◌, length, slice_index};
 ghost use Rattle.line_io.specs.Writes.{with_newline};
 ghost use Rattle.protocol.specs.Texts.{error_text};
-ghost use Rattle.line_relay.specs.Asks.{AnswerRead, Asked};
+ghost use Rattle.line_relay.specs.Asks.{AnswerRead, Asked, sent_line};
 
 use crate::ahead::Peer;
 use crate::faults::ServerFault;
-use crate::lines::LF;
+use crate::lines::{CR, LF};
 use arrayvec::ArrayVec;
 use line_io::{Sink, Source, write_text};
 use protocol::push_error;
@@ -39,14 +39,28 @@ fn read_answer<S: Source, K>(
     Err(ServerFault::LongAnswer)
 }
 
-/// Writes a line or an answer of at most 2,047 bytes over the text, with an LF after it.
+/// Writes a line of at most 2,046 bytes over the text, as the server is sent it: with an LF after it, and with a CR before that
+/// where the line itself ends in one, since the server drops one.
 pub(crate) fn write_line(text: &mut RelayText, line: &[u8])
-    requires { length line.now < 2048 }
-    ensures { text.new.items ≡ with_newline line.now }
+    requires { length line.now < 2047 }
+    ensures { text.new.items ≡ sent_line line.now }
 {
     text.clear();
     text.try_extend_from_slice(line).unwrap();
+    if ends_in_return(line) {
+        text.push(CR);
+    }
     text.push(LF);
+}
+
+/// Whether the line's last byte is CR.
+fn ends_in_return(line: &[u8]) -> bool
+    ensures { result ≡ (slice_index line.now (length line.now - 1) == 13) }
+{
+    match line.split_last() {
+        Some((last, _)) => *last == CR,
+        None => false,
+    }
 }
 
 /// Writes `ERR`, this number and an LF over the text.

@@ -10,7 +10,7 @@ use crate::judging::Judge;
 use line_io::{Sink, Source};
 
 /// Lines pass unchanged, for each judge: over any turns, the server was sent the lines of the client but for those that were
-/// refused and for the tokens that were cut, and the client was told, line by line, the server's answer or `ERR`.
+/// refused and for the tokens that were cut, so that a server that cuts lines as the relay does reads just these lines, and the client was told, line by line, the server's answer or `ERR`.
 pub fn lines_pass_unchanged<C: Source, K: Sink, S: Source, T: Sink, J: Judge>()
     ensures { (from to : Peer C K × Peer S T × J) (turns : List Turn)
         → Leads (TurnDone C.gives K.takes S.gives T.takes J.judges J.hears) from turns to

@@ -3,7 +3,8 @@
 //! and the server hears nothing of the line.
 //!
 //! A line is what an LF ends. Bytes after the last LF are no line. One CR directly before the LF is dropped, as a session
-//! drops it, and a line of more than 128 bytes is too long, as it is for a session. An answer passes byte for byte.
+//! drops it, and a line of more than 128 bytes is too long, as it is for a session. A line that still ends in CR is sent with a
+//! CR more, so that a server, which drops one, reads the very line that was judged. An answer passes byte for byte.
 //!
 //! Values and what they stand for. A [`ReadAhead`] is the list of the bytes that were read and not used yet. A [`Peer`] is
 //! where a side's bytes come from and go to, and what was read ahead of it. A [`Judge`] is a state with two relations: how it

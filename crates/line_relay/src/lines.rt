@@ -10,6 +10,9 @@ use std::sync::Wait;
 /// The byte that ends a line.
 pub(crate) const LF: u8 = 10;
 
+/// The byte that is dropped where it stands directly before an LF.
+pub(crate) const CR: u8 = 13;
+
 /// Reads up to the end of the next line, and no block beyond it: at `true` the cutter holds that line, at `false` the input
 /// ended first, and the bytes after the last LF are no line. Err where a read failed.
 pub fn next_line<S: Source, K, R: Wait>(

@@ -1,7 +1,8 @@
 //! The definitions of a token and of what becomes of a line, tried on small lines: each contract is computed from the definitions
 //! alone.
-ghost use Rattle.std.specs.Prelude.{◌≡◌, codes, Some, None};
+ghost use Rattle.std.specs.Prelude.{◌≡◌, [], ◌∷◌, ◌++◌, codes, Some, None};
 ghost use Rattle.line_io.specs.Lines.{Whole, TooLong};
+ghost use Rattle.line_relay.specs.Asks.{sent_line};
 ghost use Rattle.line_relay.specs.Tokens.{token_of, without_token};
 ghost use Rattle.line_relay.specs.Verdicts.{Sends, Answers, Ends, deed_for};
 ghost use Rattle.line_relay.specs.declared.judging.Verdict.TheVariants.{Pass, Cut, Refuse, End};
@@ -15,6 +16,13 @@ pub fn tokens_are_found()
     ensures two { token_of (codes "HELLO 64 4096 a b") ≡ None }
     ensures another_word { without_token (codes "RESERVE 64 4096 abc") ≡ codes "RESERVE 64 4096 abc" }
     ensures small_letters { token_of (codes "hello 64 4096 abc") ≡ None }
+{}
+
+/// A line is sent with an LF; one that ends in CR with a CR more before that.
+pub fn lines_are_sent()
+    ensures plain { sent_line (codes "QUOTA") ≡ codes "QUOTA" ++ 10 ∷ [] }
+    ensures returned { sent_line (codes "QUOTA" ++ 13 ∷ []) ≡ codes "QUOTA" ++ 13 ∷ 13 ∷ 10 ∷ [] }
+    ensures empty { sent_line [] ≡ 10 ∷ [] }
 {}
 
 /// What becomes of a line, by how it is judged.

@@ -1,6 +1,6 @@
 //! Scenes of talks between a client, the gate and servers.
 //!
-//! Rows `> LINE` are sent by the client, and `NAME> LINE` by a server; the gate's connections to servers are answered by the
+//! Rows `> LINE` are sent by the client, and `NAME> LINE` by a server, where `\r` is a CR, as it is in rows that are due; the gate's connections to servers are answered by the
 //! servers in the order in which these rows name them first, and there are no others. Due are, in their order, `< LINE` to the
 //! client, `NAME< LINE` to a server, `! fades` where the book hears that the session is about to end, `! NAME ends` where the gate ends the
 //! connection to a server, and last how the talk ended.
@@ -31,6 +31,17 @@ type Log = RefCell<Vec<u8>>;
 fn note(log: &Log, bytes: &[u8]) {
     if let Ok(mut noted) = log.try_borrow_mut() {
         let _ = noted.extend_from_slice(bytes);
+    }
+}
+
+/// Notes these bytes, a CR as `\r`.
+fn note_bytes(log: &Log, bytes: &[u8]) {
+    for byte in bytes {
+        if *byte == b'\r' {
+            note(log, b"\\r");
+        } else {
+            note(log, &[*byte]);
+        }
     }
 }
 
@@ -83,7 +94,7 @@ impl Sink for Told<'_> {
             note(self.log, self.name.as_bytes());
             note(self.log, b"< ");
         }
-        note(self.log, bytes);
+        note_bytes(self.log, bytes);
         Ok(bytes.len())
     }
 }

@@ -33,7 +33,7 @@ from ..analyst import Analyst
 from ..board import BLACK, NAMES, PASS, WHITE, Board, Position
 from ..errors import ColuwenError, IllegalMove
 from ..formats import Game, Played, ggf
-from .command import LONG_OUTAGE, client_of, ending, parser, say, teller
+from .command import LONG_OUTAGE, analyst_of, ending, parser, say, teller
 from .player import Player as Searcher
 
 NAME = "coluwen-match"
@@ -340,7 +340,7 @@ def main(words: Sequence[str] | None = None) -> int:
     options.add_argument("--seconds", type=float, default=60, metavar="S", help="after which an engine that says nothing has lost (%(default)g)")
     options.add_argument("--at-once", type=int, default=1, metavar="N", help="how many openings are played at the same time (%(default)d)")
     asked = options.parse_args(words)
-    with client_of(asked, NAME) as client:
+    with analyst_of(asked, NAME) as client:
 
         @contextlib.contextmanager
         def pair() -> Iterator[tuple[Player, Player]]:

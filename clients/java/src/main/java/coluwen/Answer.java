@@ -34,13 +34,16 @@ record Answer(String state, int job, int value, String move, List<Entry> entries
   private static final String JOB = " (?<job>" + NUMBER + ")";
   private static final String DONE = "(?<state>DONE)" + JOB + " (?<value>" + VALUE + ") (?<move>" + PLACE + "|-)";
   private static final String TWO = " (?<a>" + NUMBER + ") (?<b>" + NUMBER + ")";
-  private static final Map<String, Pattern> FORMS = Map.of(
-      "HELLO", Pattern.compile("(?<state>WELCOME)" + TWO), "RESERVE", Pattern.compile("(?<state>RESERVED)" + TWO),
-      "ASK", Pattern.compile("(?<state>JOB)" + JOB), "GET", Pattern.compile(DONE + "|" + ended("PENDING|SPENT|CANCELLED")),
-      "WAIT", Pattern.compile(DONE + "|" + ended("SPENT|CANCELLED")),
-      "TABLE", Pattern.compile("(?<state>TABLE)" + JOB + "(?<entries>(?: (?:" + PLACE + ")[=<>]" + VALUE + ")*)|" + ended("PENDING|SPENT|CANCELLED")),
-      "CANCEL", Pattern.compile("(?<state>CANCELLED)" + JOB), "QUOTA", Pattern.compile("(?<state>QUOTA)" + TWO + " (?<c>" + NUMBER + ")"),
-      "LIVE", Pattern.compile("(?<state>LIVE)" + TWO), "BYE", Pattern.compile("(?<state>BYE)"));
+  private static final Map<String, Pattern> FORMS = Map.ofEntries(
+      form("HELLO", "(?<state>WELCOME)" + TWO), form("RESERVE", "(?<state>RESERVED)" + TWO), form("ASK", "(?<state>JOB)" + JOB),
+      form("GET", DONE + "|" + ended("PENDING|SPENT|CANCELLED")), form("WAIT", DONE + "|" + ended("SPENT|CANCELLED")),
+      form("TABLE", "(?<state>TABLE)" + JOB + "(?<entries>(?: (?:" + PLACE + ")[=<>]" + VALUE + ")*)|" + ended("PENDING|SPENT|CANCELLED")),
+      form("CANCEL", "(?<state>CANCELLED)" + JOB), form("QUOTA", "(?<state>QUOTA)" + TWO + " (?<c>" + NUMBER + ")"),
+      form("LIVE", "(?<state>LIVE)" + TWO), form("INFO", "(?<state>INFO) (?<a>" + NUMBER + ")(?: [!-~]+)*"), form("BYE", "(?<state>BYE)"));
+
+  private static Map.Entry<String, Pattern> form(String word, String text) {
+    return Map.entry(word, Pattern.compile(text));
+  }
 
   private static String ended(String states) {
     return "(?<other>" + states + ") (?<otherJob>" + NUMBER + ")";
@@ -77,7 +80,7 @@ record Answer(String state, int job, int value, String move, List<Entry> entries
     return switch (words.get(0)) {
       case "HELLO" -> words.subList(1, 3);
       case "ASK" -> List.of(String.valueOf(jobs + 1));
-      case "QUOTA", "LIVE", "BYE" -> null;
+      case "QUOTA", "LIVE", "INFO", "BYE" -> null;
       default -> words.subList(1, words.size());
     };
   }

@@ -2,7 +2,7 @@ package coluwen;
 
 import java.util.Map;
 
-/** What can go wrong, each by a class of its own. */
+/** What can go wrong, each by a class of its own. A wrong argument is an {@code IllegalArgumentException}, before anything is sent. */
 public class ColuwenException extends RuntimeException {
   private static final long serialVersionUID = 1;
 
@@ -15,7 +15,8 @@ public class ColuwenException extends RuntimeException {
       Map.entry(22, "the line is too long"), Map.entry(23, "not a number, or outside the limits"),
       Map.entry(24, "the position hasn't 66 bytes"), Map.entry(25, "a byte of the position spells no cell"),
       Map.entry(26, "no space and side follow the cells"), Map.entry(27, "the depth is over 12"),
-      Map.entry(28, "no HELLO yet"), Map.entry(29, "HELLO again"));
+      Map.entry(28, "no HELLO yet"), Map.entry(29, "HELLO again"), Map.entry(30, "nobody has this token"),
+      Map.entry(31, "too many lines in a time"));
 
   ColuwenException(String text, Throwable cause) {
     super(text, cause);
@@ -72,6 +73,15 @@ public class ColuwenException extends RuntimeException {
     }
   }
 
+  /** The client or the session was closed: nothing more is sent. */
+  public static final class Closed extends ColuwenException {
+    private static final long serialVersionUID = 1;
+
+    Closed(String what) {
+      super("this " + what + " is closed", null);
+    }
+  }
+
   /** A job was cancelled, since nobody wants its result any more. */
   public static final class Stopped extends ColuwenException {
     private static final long serialVersionUID = 1;
@@ -81,14 +91,17 @@ public class ColuwenException extends RuntimeException {
     }
   }
 
-  /** A position can't be searched so deep at the server's grain; {@code greatest} is the greatest depth that can be had of it. */
+  /**
+   * A position can't be searched so deep at the server's grain; {@code greatest} is a depth that can be had of each position, 0 where
+   * nothing is known of less.
+   */
   public static final class TooDeep extends ColuwenException {
     private static final long serialVersionUID = 1;
     private final int depth;
     private final int greatest;
 
     TooDeep(int depth, int greatest) {
-      super("depth " + depth + " can't be had at this server's grain; the greatest that can is " + greatest, null);
+      super("depth " + depth + " can't be had at this server's grain; depth " + greatest + " can", null);
       this.depth = depth;
       this.greatest = greatest;
     }
@@ -102,7 +115,7 @@ public class ColuwenException extends RuntimeException {
     }
   }
 
-  /** A move that the rules don't allow at its position, or a text that is no position. */
+  /** A move that the rules don't allow at its position. A text that is no position is an {@code IllegalArgumentException}. */
   public static final class IllegalMove extends ColuwenException {
     private static final long serialVersionUID = 1;
 

@@ -16,7 +16,7 @@ public record Position(String cells, char side) {
   private static final String START = "-".repeat(27) + "OX" + "-".repeat(6) + "XO" + "-".repeat(27);
 
   public Position {
-    if (!cells.matches("[XO-]{64}") || (side != 'X' && side != 'O')) throw new IllegalMove(cells + " and " + side + " are no position");
+    if (!cells.matches("[XO-]{64}") || (side != 'X' && side != 'O')) throw new IllegalArgumentException(cells + " and " + side + " are no position");
   }
 
   public static Position opening() {
@@ -26,7 +26,7 @@ public record Position(String cells, char side) {
   /** The position of a text of 66 letters: X, x or * is black, O or o white, - or . empty. */
   public static Position parse(String text) {
     var found = text.replaceAll("\\s", "").replace('x', 'X').replace('*', 'X').replace('o', 'O').replace('.', '-');
-    if (!found.matches("[XO-]{64}[XO]")) throw new IllegalMove(text + " is no position: 64 cells, a space, and the side to move");
+    if (!found.matches("[XO-]{64}[XO]")) throw new IllegalArgumentException(text + " is no position: 64 cells, a space, and the side to move");
     return new Position(found.substring(0, 64), found.charAt(64));
   }
 
