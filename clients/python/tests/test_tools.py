@@ -79,10 +79,11 @@ def test_lines_at_once() -> None:
 def test_gtp() -> None:
     with told(sound(5)) as server, Client("127.0.0.1", server.port) as client:
         gtp = Gtp(Searcher(client, 3))
-        said = [gtp.heard(line)[0] for line in ("1 protocol_version", "name", "boardsize 8", "play black f5", "play black d6", "play white d6", "genmove black", "undo", "undo", "undo", "undo", "final_score", "boardsize 9",
-                                                 "coluwen-position " + "XO" + "-" * 62 + " O", "genmove white", "genmove black", "showboard", "what", "", "known_command play", "coluwen-depth 0", "quit")]  # fmt: skip
+        commands = ("1 protocol_version", "name", "boardsize 8", "play black f5", "play black d6", "play white d6", "genmove black", *["undo"] * 4, "final_score", "boardsize 9",
+                    f"coluwen-position XO{'-' * 62} O", "genmove white", "genmove black", "showboard", "what", "", "known_command play", "coluwen-depth 0", "quit")  # fmt: skip
+        said = [gtp.heard(line)[0] for line in commands]
         assert said[:6] == ["=1 2\n", "= Coluwen\n", "=\n", "=\n", "? illegal move\n", "=\n"] and said[7:13] == ["=\n", "=\n", "=\n", "? cannot undo\n", "? cannot score\n", "? unacceptable size\n"]
-        assert said[6] == "= C4\n" and said[13:16] == ["=\n", "= PASS\n", "= C1\n"]
+        assert said[6] == "= C3\n" and said[13:16] == ["=\n", "= PASS\n", "= C1\n"]
         assert said[17] == "? unknown command\n" and said[18] == "" and said[19] == "= true\n" and said[20].startswith("? ")
         position = Board.parse("X" * 63 + "- O")
         gtp.board = position
