@@ -6,6 +6,11 @@ import java.net.Socket;
 import java.net.URI;
 import java.net.UnknownHostException;
 import java.nio.charset.StandardCharsets;
+import java.nio.file.Files;
+import java.nio.file.Path;
+import java.security.GeneralSecurityException;
+import java.security.KeyStore;
+import java.security.cert.CertificateFactory;
 import java.time.Duration;
 import java.util.ArrayList;
 import java.util.HashMap;
@@ -19,6 +24,7 @@ import java.util.function.Consumer;
 import java.util.function.DoubleConsumer;
 import javax.net.ssl.SSLContext;
 import javax.net.ssl.SSLException;
+import javax.net.ssl.TrustManagerFactory;
 
 /**
  * Values of positions from a server, by as many sessions as they need.
@@ -32,7 +38,7 @@ import javax.net.ssl.SSLException;
  *
  * What there is to wait for it tells to the logger {@code coluwen} (and {@code onEvent}).
  */
-public final class Client implements Analyser {
+public final class Client implements Analyst {
   private static final System.Logger LOGGER = System.getLogger("coluwen");
 
   /** Something that is told: {@code opened}, {@code full}, {@code silent} or {@code lost}. */
@@ -62,9 +68,9 @@ public final class Client implements Analyser {
     private SSLContext tls;
     private String token;
     private int sessions = 4;
-    private int ahead = 4;
+    private int ahead = 1;
     private Duration silence = Duration.ofMillis(1500);
-    private Duration outage = Duration.ofMinutes(5);
+    private Duration outage = Duration.ofMinutes(2);
     private Duration patience = Duration.ofSeconds(30);
     private Duration timeout;
     private int segments;
@@ -112,7 +118,7 @@ public final class Client implements Analyser {
       return this;
     }
 
-    /** How many questions a session has at once (4). */
+    /** How many questions a session has at once (1). */
     public Builder ahead(int value) {
       ahead = within("ahead", 1, value, 256);
       return this;
@@ -124,7 +130,7 @@ public final class Client implements Analyser {
       return this;
     }
 
-    /** For how long a server that was heard before is asked again then, by new sessions (5 min). */
+    /** For how long a server that was heard before is asked again then, by new sessions (2 min). */
     public Builder outage(Duration value) {
       outage = value;
       return this;
@@ -162,6 +168,40 @@ public final class Client implements Analyser {
     public Client build() {
       return new Client(this);
     }
+
+    private void set(String name, String value) throws IOException, GeneralSecurityException {
+      switch (name) {
+        case "tls" -> tls(value.isEmpty() || value.equals("0") ? null : value.equals("1") ? SSLContext.getDefault() : trusting(Path.of(value)));
+        case "token" -> token(Files.readString(Path.of(value)).strip());
+        case "sessions" -> sessions(Integer.parseInt(value));
+        case "ahead" -> ahead(Integer.parseInt(value));
+        case "segments" -> segments(Integer.parseInt(value));
+        case "nodes" -> nodes(Integer.parseInt(value));
+        case "silence" -> silence(seconds(value));
+        case "outage" -> outage(seconds(value));
+        case "patience" -> patience(seconds(value));
+        case "timeout" -> timeout(seconds(value));
+        default -> throw new IllegalArgumentException("there is no option " + name);
+      }
+    }
+
+    private static Duration seconds(String value) {
+      return Duration.ofMillis(Math.round(1000 * Double.parseDouble(value)));
+    }
+
+    /** TLS by a file of authorities. */
+    private static SSLContext trusting(Path authorities) throws IOException, GeneralSecurityException {
+      var store = KeyStore.getInstance(KeyStore.getDefaultType());
+      store.load(null, null);
+      try (var file = Files.newInputStream(authorities)) {
+        for (var each : CertificateFactory.getInstance("X.509").generateCertificates(file)) store.setCertificateEntry("authority " + store.size(), each);
+      }
+      var trust = TrustManagerFactory.getInstance(TrustManagerFactory.getDefaultAlgorithm());
+      trust.init(store);
+      var found = SSLContext.getInstance("TLS");
+      found.init(null, trust.getTrustManagers(), null);
+      return found;
+    }
   }
 
   public static Builder builder() {
@@ -171,10 +211,13 @@ public final class Client implements Analyser {
   /** A client of the server that COLUWEN_URL names, or of this host's. */
   public static Client connect() {
     var address = System.getenv("COLUWEN_URL");
-    return address == null ? builder().build() : connect(address);
+    return address == null || address.isEmpty() ? builder().build() : connect(address);
   }
 
-  /** A client of the server that an address names: {@code othello://host:port}, with {@code ?tls=1} by TLS. */
+  /**
+   * A client of the server that an address names: {@code othello://host:port}, and behind a question mark {@code tls} (1, or a file of authorities), {@code token} (a file
+   * that has it), or any other option by its name, times in seconds.
+   */
   public static Client connect(String address) {
     return at(address).build();
   }
@@ -183,16 +226,14 @@ public final class Client implements Analyser {
   public static Builder at(String address) {
     try {
       var uri = URI.create(address);
-      var tls = uri.getQuery() == null ? "tls=0" : uri.getQuery();
       var isBare = uri.getPath().isEmpty() || uri.getPath().equals("/");
-      if (!"othello".equals(uri.getScheme()) || uri.getHost() == null || !isBare || uri.getUserInfo() != null || !tls.matches("tls=[01]")) throw new IllegalArgumentException();
+      if (!"othello".equals(uri.getScheme()) || uri.getHost() == null || !isBare || uri.getUserInfo() != null) throw new IllegalArgumentException("it isn't of that form");
       var found = builder().host(uri.getHost().replaceAll("^\\[|\\]$", ""));
       if (uri.getPort() >= 0) found.port(uri.getPort());
-      return tls.equals("tls=1") ? found.tls(SSLContext.getDefault()) : found;
-    } catch (IllegalArgumentException | NullPointerException fault) {
-      throw new IllegalArgumentException(address + " is no address: othello://host:port?tls=1");
-    } catch (java.security.NoSuchAlgorithmException fault) {
-      throw new IllegalStateException(fault);
+      for (var word : uri.getQuery() == null ? new String[0] : uri.getQuery().split("&")) found.set(word.replaceAll("=.*", ""), word.substring(word.indexOf('=') + 1));
+      return found;
+    } catch (IllegalArgumentException | NullPointerException | IOException | GeneralSecurityException fault) {
+      throw new IllegalArgumentException(address + " is no address, othello://host:port?tls=1: " + fault.getMessage(), fault);
     }
   }
 
@@ -222,8 +263,8 @@ public final class Client implements Analyser {
   }
 
   @Override
-  public Depths info() {
-    return joined(asked(new Core.Question(Core.Kind.INFO, "", 0, 0), done -> done.depths));
+  public Info info() {
+    return joined(asked(new Core.Question(Core.Kind.INFO, "", 0, 0), done -> done.info));
   }
 
   @Override

@@ -14,6 +14,7 @@ import java.util.LinkedHashSet;
 import java.util.LinkedList;
 import java.util.List;
 import java.util.Map;
+import java.util.Optional;
 import java.util.function.Supplier;
 
 /**
@@ -45,7 +46,7 @@ final class Core {
 
   enum Kind { JOB, PING, INFO }
 
-  /** What is asked. Once it is settled it has a fault, or what was found: {@code state} and {@code entries} of a job, milliseconds of a ping, depths. */
+  /** What is asked. Once it is settled it has a fault, or what was found: {@code state} and {@code entries} of a job, milliseconds of a ping, what is known of the server. */
   static final class Question {
     final Kind kind;
     final String position;
@@ -56,7 +57,7 @@ final class Core {
     Answer done;
     List<Answer.Entry> entries;
     double milliseconds;
-    Depths depths;
+    Info info;
     private int level;
     private int job;
     private int losses;
@@ -132,7 +133,7 @@ final class Core {
   private final Map<Integer, Integer> needs = new HashMap<>(); // of a depth the level that its last job needed
   private final List<Question> deep = new ArrayList<>(); // they wait for what is known of the server's grain
   private List<Action> out = new ArrayList<>();
-  private Depths depths;
+  private Info info;
   private boolean isEnded;
   private boolean wasTold;
   private double heard = -NEVER; // when the server last said anything
@@ -422,12 +423,12 @@ final class Core {
   /** What asks for the server's grain, or can't be answered at it. */
   private void tooDeep(Question question) {
     var isInfo = question.kind == Kind.INFO;
-    if (depths == null && (isInfo || limits.isFree())) {
+    if (info == null && (isInfo || limits.isFree())) {
       deep.add(question);
       return;
     }
-    question.depths = depths;
-    settle(question, isInfo ? null : new TooDeep(question.depth, limits.isFree() ? Math.min(depths.sure(), question.depth - 1) : 0));
+    question.info = info;
+    settle(question, isInfo ? null : new TooDeep(question.depth, limits.isFree() ? Math.min(info.sure(), question.depth - 1) : 0));
   }
 
   private void probed(Seat seat, Wire.Reply reply, double now) {
@@ -439,7 +440,7 @@ final class Core {
       failDeep(fault);
     }
     if (seat.probing != null || deep.isEmpty()) return;
-    depths = new Depths(seat.probe.grain, Math.min(seat.probe.grain + 4, DEEPEST), Math.min(seat.probe.grain + 5, DEEPEST));
+    info = new Info(seat.probe.grain, Math.min(seat.probe.grain + 4, DEEPEST), Math.min(seat.probe.grain + 5, DEEPEST), seat.probe.version);
     var known = List.copyOf(deep);
     deep.clear();
     known.forEach(this::tooDeep);
@@ -563,6 +564,7 @@ final class Core {
     private static final int LEAST = 2;
     private static final int LAST = 8;
     private int grain = 6;
+    private Optional<String> version = Optional.empty(); // of a site, which says it last
     private int place;
     private int depth = LEAST;
     private int nodes = -1; // that were left before a job
@@ -577,6 +579,7 @@ final class Core {
           return "INFO";
         case "INFO":
           grain = answer.numbers().get(0);
+          version = Optional.of(answer.more()).filter(more -> !more.isEmpty()).map(more -> more.substring(more.lastIndexOf(' ') + 1));
           return null;
         case "JOB", "PENDING":
           return "GET " + answer.job();

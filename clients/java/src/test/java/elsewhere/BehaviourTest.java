@@ -4,7 +4,7 @@ import static org.junit.jupiter.api.Assertions.assertEquals;
 import static org.junit.jupiter.api.Assertions.assertNull;
 import static org.junit.jupiter.api.Assertions.assertTrue;
 
-import coluwen.Analyser;
+import coluwen.Analyst;
 import coluwen.Client;
 import coluwen.ColuwenException;
 import coluwen.Position;
@@ -177,7 +177,7 @@ class BehaviourTest {
     var taken = new AtomicInteger();
     Stream<String> source = isEndless ? Stream.generate(() -> text.replace(" endless", "")) : Arrays.stream(text.split(", "));
     Iterable<String> counted = () -> source.peek(each -> taken.incrementAndGet()).iterator();
-    Analyser.Bulk bulk = "known".equals(how.get("order")) ? client.bulk().asKnown() : client.bulk();
+    Analyst.Bulk bulk = "known".equals(how.get("order")) ? client.bulk().asKnown() : client.bulk();
     var found = new ArrayList<coluwen.Outcome<String>>();
     try (var outcomes = client.analyseMany(counted, Position::parse, depth, bulk)) {
       var iterator = outcomes.iterator();

@@ -13,7 +13,7 @@ import java.util.function.Function;
 import java.util.stream.Stream;
 
 /** What a client of a server and an engine of this host have in common. Threads may share it. */
-public interface Analyser extends AutoCloseable {
+public interface Analyst extends AutoCloseable {
   /**
    * The score of a position so many plies deep (0 to 12), its best move and its table. The future fails by {@code TooDeep} where the depth
    * can't be had, and by {@code Late} once the job has taken this long (null: no limit). Where it is cancelled, so is the job.
@@ -21,7 +21,7 @@ public interface Analyser extends AutoCloseable {
   CompletableFuture<Result> analyseAsync(Position position, int depth, Duration timeout);
 
   /** How deep it looks at mid-game positions, found out once. */
-  Depths info();
+  Info info();
 
   /** How long it takes to say a word. */
   Duration ping();
@@ -70,14 +70,14 @@ public interface Analyser extends AutoCloseable {
       }));
     }
     try {
-      return futures.stream().map(Analyser::joined).sorted(Comparator.comparing(Entry::score).reversed()).toList();
+      return futures.stream().map(Analyst::joined).sorted(Comparator.comparing(Entry::score).reversed()).toList();
     } finally {
       questions.forEach(question -> question.cancel(true));
     }
   }
 
-  /** How many questions were taken, and are done, and at fault. */
-  record Progress(int taken, int done, int faults) {}
+  /** How many questions are answered, of these at fault; and how many there are, where the source is a collection, else -1. */
+  record Progress(int done, int faults, int total) {}
 
   /** How many questions are asked: {@code isOrdered}, by their order or as they are known; {@code window}; {@code timeout} of each (null: no limit); {@code onProgress}, called after each. */
   record Bulk(boolean isOrdered, int window, Duration timeout, Consumer<Progress> onProgress) {
@@ -102,7 +102,7 @@ public interface Analyser extends AutoCloseable {
     }
   }
 
-  /** Questions in their order, by this analyser's window and timeout. */
+  /** Questions in their order, by this analyst's window and timeout. */
   default Bulk bulk() {
     return new Bulk(true, window(), timeout(), progress -> {});
   }
