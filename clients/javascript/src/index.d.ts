@@ -129,6 +129,17 @@ export interface ClientOptions extends PlaceOptions {
   nodes?: number;
 }
 
+export interface EngineOptions { workers?: number; timeout?: number; }
+
+/** Values without a server: the proved search as WebAssembly, in workers of this process or page. No depth is beyond it. */
+export declare class Engine extends Analyser {
+  constructor(options?: EngineOptions);
+  analyse(position: string | Position, depth: number, how?: How): Promise<Result>;
+  info(): Promise<Depths>;
+  ping(): Promise<number>;
+  close(): Promise<void>;
+}
+
 export interface ClientEvents {
   opened: ClientEvent<{ segments: number; nodes: number }>;
   full: ClientEvent<Refused>;

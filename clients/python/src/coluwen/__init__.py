@@ -1,4 +1,4 @@
-"""Values of Othello positions from a server of `othello serve`, and what Othello's programs share: rules, scores, formats.
+"""Values of Othello positions from a server of `othello serve` or by an engine of this computer, and what Othello's programs share: rules, scores, formats.
 
     from coluwen import Client, Position
     with Client() as client:
@@ -13,13 +13,14 @@ from .aio import AsyncClient
 from .analyst import Analyst, Outcome, Progress, Result
 from .board import BLACK, PASS, SQUARES, START, WHITE, Board, Position
 from .client import Client, connect
+from .engine import AsyncEngine, Engine, Fallback
 from .errors import FAULTS, Broken, Closed, ColuwenError, FormatError, IllegalMove, Late, Refused, Silent, TooDeep, Unreachable
 from .score import Entry, Score
 from .session import Cancelled, Done, Live, Pending, Quota, Session, Spent
 
 __version__ = "1.0.0"
 __all__ = [
-    "BLACK", "FAULTS", "PASS", "SQUARES", "START", "WHITE", "Analyst", "AsyncClient", "Board", "Broken", "Cancelled", "Client", "Closed", "ColuwenError", "Done", "Entry",
-    "FormatError", "IllegalMove", "Info", "Late", "Live", "Outcome", "Pending", "Position", "Progress", "Quota", "Refused", "Reservation", "Result", "Score", "Session",
+    "BLACK", "FAULTS", "PASS", "SQUARES", "START", "WHITE", "Analyst", "AsyncClient", "AsyncEngine", "Board", "Broken", "Cancelled", "Client", "Closed", "ColuwenError", "Done", "Engine", "Entry",
+    "Fallback", "FormatError", "IllegalMove", "Info", "Late", "Live", "Outcome", "Pending", "Position", "Progress", "Quota", "Refused", "Reservation", "Result", "Score", "Session",
     "Silent", "Spent", "TooDeep", "Unreachable", "connect", "tls_context", "token_in",
 ]  # fmt: skip

@@ -13,6 +13,7 @@ from __future__ import annotations
 
 import collections
 import dataclasses
+import functools
 import itertools
 from collections.abc import Callable, Generator, Iterator
 from typing import Any
@@ -285,6 +286,7 @@ class Core:
         self._full: float | None = None  # since when it says that it is full
         self._reached = False
         self._pause = 0.0  # no connection is begun before
+        self._granted = options.sessions  # how many sessions there were when no more were granted
         self._noted: set[str] = set()
 
     # What callers do.
@@ -529,7 +531,12 @@ class Core:
 
     def _bye(self, session: _Session, now: float) -> None:
         session.is_ending = True
-        self._send(session, "BYE", lambda one, found, at: self._shut(one), now)
+        self._send(session, "BYE", self._left, now)
+
+    def _left(self, session: _Session, found: Answer | Refused, now: float) -> None:
+        """A session has ended, and its place is free."""
+        self._pause = 0.0
+        self._shut(session)
 
     def _works(self, session: _Session) -> list[Work]:
         """What a session has to do."""
@@ -540,19 +547,21 @@ class Core:
             session.is_ready = True
             self.opened_sessions += 1
             self._full, self._pause = None, 0.0
-            self._noted.clear()
+            self._granted = max(self._granted, sum(other.is_ready for other in self._sessions.values()))
+            self._noted -= {"full", "outage"}
             return
         self._shut(session)
-        if found.number not in LATER:
-            self._fail_waiting(lambda: Refused(found.number))
+        number = found.number
+        if number not in LATER:
+            self._fail_waiting(lambda: Refused(number))
             return
         there = sum(other.is_ready for other in self._sessions.values())
         self._full = now if self._full is None else self._full
         if there:
             self._tell(f"{there} of {self.options.sessions} sessions were granted", "granted")
-            self._pause = now + RARELY
+            self._granted, self._pause = there, now + RARELY
         elif now - self._full >= self.options.patience:
-            self._fail_waiting(lambda: Refused(found.number))
+            self._fail_waiting(lambda: Refused(number))
         else:
             self._pause = now + AGAIN
             if now - self._full > 1:
@@ -615,10 +624,10 @@ class Core:
             return
         for flight in session.flights:
             if flight.cancels:
-                self._send(session, f"CANCEL {flight.job}", lambda one, found, at: self._cancelled(one, flight, found, at), now)  # noqa: B023
+                self._send(session, f"CANCEL {flight.job}", functools.partial(self._cancelled, flight), now)
                 return
             if flight.found:
-                self._send(session, f"TABLE {flight.job}", lambda one, found, at: self._tabled(one, flight, found, at), now)  # noqa: B023
+                self._send(session, f"TABLE {flight.job}", functools.partial(self._tabled, flight), now)
                 return
         if session.wire.jobs >= MOST_JOBS:
             session.takes_no_more = True
@@ -635,7 +644,7 @@ class Core:
         elif session.flights:
             flight = session.flights[0]
             if now >= flight.look:
-                self._send(session, f"GET {flight.job}", lambda one, found, at: self._looked(one, flight, found, at), now)
+                self._send(session, f"GET {flight.job}", functools.partial(self._looked, flight), now)
         elif session.takes_no_more:
             self._bye(session, now)
 
@@ -651,7 +660,7 @@ class Core:
             if session.suits(work, self.levels):
                 return work if not (session.flights and (work.alone or isinstance(work, Errand))) else None
             others = any(other is not session and other.suits(work, self.levels) for other in self._sessions.values())
-            if not others and len(self._sessions) >= self.options.sessions:
+            if not others and len(self._sessions) >= self._granted:
                 session.takes_no_more = True
                 return None
         return None
@@ -676,16 +685,15 @@ class Core:
             session.not_before = now + AGAIN
             self._wait(question)
         elif found.number in USED_UP and session.wire.jobs:
-            wanted = more(session.reserved, self.levels[-1]) if self.options.is_free and found.number != 13 else None
-            if wanted:
+            if self.options.is_free and found.number != 13 and (wanted := more(session.reserved, self.levels[-1])):
                 session.asking = question
-                self._send(session, f"RESERVE {wanted.segments} {wanted.nodes}", lambda one, answer, at: self._raised(one, wanted, answer, at), now)
+                self._send(session, f"RESERVE {wanted.segments} {wanted.nodes}", functools.partial(self._raised, wanted), now)
             else:
                 self._used_up(session, question)
         else:
             self._end(question, fault=found)
 
-    def _raised(self, session: _Session, wanted: Reservation, found: Answer | Refused, now: float) -> None:
+    def _raised(self, wanted: Reservation, session: _Session, found: Answer | Refused, now: float) -> None:
         question, session.asking = session.asking, None
         if isinstance(found, Refused):
             if question:
@@ -702,7 +710,7 @@ class Core:
         if not question.ended:
             self._wait(question)
 
-    def _looked(self, session: _Session, flight: _Flight, found: Answer | Refused, now: float) -> None:
+    def _looked(self, flight: _Flight, session: _Session, found: Answer | Refused, now: float) -> None:
         question = flight.question
         if isinstance(found, Refused):
             if found.number == TOO_FAST:
@@ -740,17 +748,17 @@ class Core:
             if not self._learning:
                 self.ask(self.learning(), now)
 
-    def _tabled(self, session: _Session, flight: _Flight, found: Answer | Refused, now: float) -> None:
+    def _tabled(self, flight: _Flight, session: _Session, found: Answer | Refused, now: float) -> None:
         if isinstance(found, Refused) and found.number == TOO_FAST:
             session.not_before = now + AGAIN
         elif isinstance(found, Refused) or found.state != "TABLE" or not flight.found:
             self._lose(session, Broken(f"no table of job {flight.job}"), now)
         elif self.options.counts:
-            self._send(session, "QUOTA", lambda one, quota, at: self._counted(one, flight, found.entries, quota), now)
+            self._send(session, "QUOTA", functools.partial(self._counted, flight, found.entries), now)
         else:
             self._done(session, flight, found.entries, None)
 
-    def _counted(self, session: _Session, flight: _Flight, entries: tuple[tuple[str, str, int], ...], found: Answer | Refused) -> None:
+    def _counted(self, flight: _Flight, entries: tuple[tuple[str, str, int], ...], session: _Session, found: Answer | Refused, _: float) -> None:
         nodes = None
         if not isinstance(found, Refused):
             nodes, session.left = session.left - found.numbers[1], found.numbers[1]
@@ -764,11 +772,11 @@ class Core:
             self._needs[question.depth] = max(question.level, self._needs.get(question.depth, 0))
         self._end(question, Found(done.value, done.move, entries, flight.seconds, nodes))
 
-    def _cancelled(self, session: _Session, flight: _Flight, found: Answer | Refused, now: float) -> None:
+    def _cancelled(self, flight: _Flight, session: _Session, found: Answer | Refused, now: float) -> None:
         if isinstance(found, Refused) and found.number == TOO_FAST:
             session.not_before = now + AGAIN
         elif isinstance(found, Refused) and not flight.question.ended:  # it has ended meanwhile: it is looked at once more
-            self._send(session, f"GET {flight.job}", lambda one, answer, at: self._looked(one, flight, answer, at), now)
+            self._send(session, f"GET {flight.job}", functools.partial(self._looked, flight), now)
         else:
             session.flights.remove(flight)
             self._end(flight.question, fault=Late(flight.question.timeout or 0.0))

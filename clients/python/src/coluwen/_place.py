@@ -46,7 +46,7 @@ class Place:
            nodes: int | None = None, counts: bool = False) -> Place:  # fmt: skip
         """The same from `Client`'s words, each of which is tested. Where no host is named it is that of COLUWEN_URL, if there is one."""
         named = url_of(os.environ.get(URL, "")) if host is None and port is None else {}
-        host, port = host or named.pop("host", HOST), port or named.pop("port", PORT)
+        at: tuple[str, int] = (host or str(named.get("host", HOST)), port or int(named.get("port", PORT)))
         tls, token = named.get("tls") if tls is None else tls, named.get("token") if token is None else token
         for name, number in (("sessions", sessions), ("ahead", ahead), ("segments", segments), ("nodes", nodes), ("port", port)):
             if number is not None and (isinstance(number, bool) or not isinstance(number, int) or number < 1):
@@ -57,8 +57,8 @@ class Place:
         if token is not None and not re.fullmatch("[!-~]{1,64}", token):
             raise ValueError("a token has 1 to 64 letters, digits and signs")
         context = tls_context() if tls is True else tls or None
-        options = Options(f"{host}:{port}", token, sessions, ahead, patience, silence, outage, segments, nodes, counts)
-        return cls(host, port, context, timeout, options)
+        options = Options(f"{at[0]}:{at[1]}", token, sessions, ahead, patience, silence, outage, segments, nodes, counts)
+        return cls(*at, context, timeout, options)
 
     @property
     def parallel(self) -> int:

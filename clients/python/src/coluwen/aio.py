@@ -73,7 +73,7 @@ class AsyncClient:
     async def analyse_many(self, positions: Iterable[Asked] | AsyncIterable[Asked], depth: int | None = None, *, order: Order = "asked", timeout: float | None = None,
                            window: int | None = None, on_progress: Callable[[Progress], object] | None = None) -> AsyncIterator[Outcome]:  # fmt: skip
         """As `Client.analyse_many`; the positions may come from an asynchronous source."""
-        many = Many(positions, depth, order, window or 64 * self.parallel, on_progress)
+        many = Many(positions, depth, order, 64 * self.parallel if window is None else window, on_progress)
         source = aiter(positions) if isinstance(positions, AsyncIterable) else _slowly(positions)
         ended: asyncio.Queue[tuple[Any, int, asyncio.Task[Any]]] = asyncio.Queue()
         begun: dict[int, asyncio.Task[Any]] = {}  # by their numbers; -1 is the next of the source
@@ -97,7 +97,7 @@ class AsyncClient:
                     fault = task.exception()
                     if fault and not isinstance(fault, ColuwenError):
                         raise fault
-                    many.settle(asked, number, fault or task.result())
+                    many.settle(asked, number, fault if isinstance(fault, ColuwenError) else task.result())
                 elif (asked := task.result()) is _END:
                     is_over = True
                 else:

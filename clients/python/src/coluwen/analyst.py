@@ -30,7 +30,7 @@ Self = TypeVar("Self", bound="Analyst")
 class Result:
     """What a search found: the score of the position, its first best move (None at depth 0 and in a finished game), and what is known of
     each move in the order in which they were tried: the best one's value exactly, of most others a bound (`Entry`). `seconds`: from when it
-    was asked to when it was known; `nodes`: what it took of the reservation, where that is counted."""
+    was asked to when it was known; `nodes`: what it took of the reservation, where that is counted, or how many positions an engine entered."""
 
     position: Position
     depth: int
@@ -204,7 +204,7 @@ class Analyst(abc.ABC):
 
         Positions are taken as they are wanted: no more than `window` (64 for each that is worked on at once) are taken and not given on.
         `on_progress` is called with a `Progress` for each that is given on. What isn't wanted any more, as the loop was left, is cancelled."""
-        many = Many(positions, depth, order, window or 64 * self.parallel, on_progress)
+        many = Many(positions, depth, order, 64 * self.parallel if window is None else window, on_progress)
         return self._many(many, iter(positions), timeout)
 
     def _many(self, many: Many, source: Iterator[Asked], timeout: float | None) -> Iterator[Outcome]:
@@ -219,7 +219,7 @@ class Analyst(abc.ABC):
                     fault = future.exception()
                     if fault and not isinstance(fault, ColuwenError):
                         raise fault
-                    many.settle(asked, number, fault or future.result())  # type: ignore[arg-type]
+                    many.settle(asked, number, fault if isinstance(fault, ColuwenError) else future.result())
                     if many.known and (not many.in_order or many.given in many.known):
                         break
                 yield from many.ready()
@@ -243,4 +243,3 @@ class Analyst(abc.ABC):
     def limit(self, position: Position, depth: int) -> int:
         """How deep a position is surely looked at where so many plies are wanted: to the end from 12 empty squares on."""
         return min(depth, position.empties, DEEPEST) if position.empties <= DEEPEST else min(depth, self.info().sure)
-

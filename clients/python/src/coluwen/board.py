@@ -153,9 +153,11 @@ class Position:
 
     @property
     def empties(self) -> int:
+        """How many squares are empty."""
         return self.cells.count(EMPTY)
 
     def discs(self, side: str) -> int:
+        """How many discs a side has."""
         return self.cells.count(side)
 
     def squares(self) -> list[str]:
@@ -173,10 +175,12 @@ class Position:
 
     @property
     def must_pass(self) -> bool:
+        """Whether only the opponent can move."""
         return not can_move(self._discs, self.side) and can_move(self._discs, OTHER[self.side])
 
     @property
     def is_over(self) -> bool:
+        """Whether neither player can move."""
         return not can_move(self._discs, self.side) and not can_move(self._discs, OTHER[self.side])
 
     def flips(self, square: str) -> list[str]:
@@ -188,6 +192,7 @@ class Position:
         return [SQUARES[one] for one in range(64) if flipped >> one & 1]
 
     def is_legal(self, move: str) -> bool:
+        """Whether the player to move may make this move."""
         return bool(self.flips(move)) if move.lower() != PASS else self.must_pass
 
     def play(self, move: str) -> Position:
@@ -262,7 +267,10 @@ class Board:
     moves: tuple[str, ...] = ()
 
     def __post_init__(self) -> None:
-        self.__dict__.setdefault("_past", functools.reduce(_with, self.moves, (self.start,)))
+        past = [self.start]
+        for move in self.moves:
+            past.append(past[-1].play(move))
+        self.__dict__["_past"] = tuple(past)
 
     @classmethod
     def parse(cls, text: str) -> Board:
@@ -326,7 +334,3 @@ class Board:
 
     def _repr_svg_(self) -> str:
         return self.position._repr_svg_()
-
-
-def _with(past: tuple[Position, ...], move: str) -> tuple[Position, ...]:
-    return (*past, past[-1].play(move))

@@ -130,4 +130,4 @@ class Client(Analyst):
 def connect(url: str | None = None, **options: Any) -> Client:
     """A client of the server of an address, `othello://host:port?tls=1&token=FILE`, else of that of the variable COLUWEN_URL, else of 127.0.0.1:4711.
     Options are those of `Client`, and come before those of the address."""
-    return Client(**{**url_of(url or os.environ.get(URL, "")), **options})
+    return Client(**{**url_of(url or os.environ.get(URL) or ""), **options})

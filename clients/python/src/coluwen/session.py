@@ -170,9 +170,11 @@ class Session:
         self._call(f"CANCEL {job}")
 
     def quota(self) -> Quota:
+        """What is left of the reservation."""
         return Quota(*self._call("QUOTA").numbers)
 
     def live(self) -> Live:
+        """What the jobs have open."""
         return Live(*self._call("LIVE").numbers)
 
     def drop(self, why: str = "it was dropped") -> None:
@@ -205,4 +207,4 @@ class Session:
 def _state_of(answer: Answer) -> State:
     if answer.state == "DONE":
         return Done(answer.value, answer.move)
-    return {"PENDING": Pending(), "SPENT": Spent(), "CANCELLED": Cancelled()}[answer.state]
+    return Spent() if answer.state == "SPENT" else Cancelled() if answer.state == "CANCELLED" else Pending()

@@ -149,7 +149,7 @@ def games_of(data: bytes, name: str = "", kind: str | None = None) -> Iterator[G
     if kind == "wtb":
         yield from wthor.read(data, name)
     elif kind in ("ggf", "sgf", "pgn"):
-        yield from {"ggf": ggf, "sgf": sgf, "pgn": pgn}[kind].read(text_of(data), name)  # type: ignore[attr-defined]
+        yield from {"ggf": ggf, "sgf": sgf, "pgn": pgn}[kind].read(text_of(data), name)
     elif kind == "obf":
         yield Place(name).fault("an .obf has positions, and no games")
     else:

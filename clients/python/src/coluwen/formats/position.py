@@ -69,10 +69,11 @@ def fen(position: Position) -> str:
 
 def read_board(lines: list[str], at: int, place: Place = Place()) -> tuple[Problem, int] | None:
     """The board that begins at a line (from 0), and behind which line it ends; None where none begins there."""
-    rows, here = [], at
+    rows, here, first = list[str](), at, at
     while here < len(lines) and len(rows) < 8:
         found = ROW.fullmatch(lines[here])
         if found:
+            first = first if rows else here
             rows.append("".join(CELLS[letter] for letter in found[1] if letter in CELLS))
         elif rows or not HEAD.fullmatch(lines[here]):
             return None
@@ -84,4 +85,4 @@ def read_board(lines: list[str], at: int, place: Place = Place()) -> tuple[Probl
     cells = "".join(rows)
     told = TO_MOVE.fullmatch(lines[here]) if here < len(lines) else None
     side = FEN_CELLS[told["side"][0]] if told else "XO"[(64 - cells.count("-")) % 2]
-    return Problem(Position(cells, side), place=Place(place.file, at + 1, 1)), here + 1 if told else here
+    return Problem(Position(cells, side), place=Place(place.file, first + 1, 1)), here + 1 if told else here

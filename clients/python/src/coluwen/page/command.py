@@ -1,6 +1,6 @@
 """The analysis board for browsers on this host, or for a class: http://127.0.0.1:8047/
 
-Values come from the server of --server; with --tls it is spoken to over TLS. For a class, `--address 0.0.0.0` lets other
+Values come from the server of --server, with --tls over TLS, or where none is named from this computer's own engine. For a class, `--address 0.0.0.0` lets other
 hosts of the network in, and `--certificate FILE` (certificate and key) has their browsers speak https. They name this host by its address,
 by its own name, or by one that --name gives; any other name is refused, so that no foreign page reads this one.
 
@@ -19,8 +19,9 @@ import socket
 import ssl
 from collections.abc import Sequence
 
-from .._core import Info
+from .._core import DEEPEST, Info
 from ..aio import AsyncClient
+from ..engine import AsyncEngine
 from ..errors import ColuwenError
 from ..tools import command as commands
 from .files import Site, names_of
@@ -30,6 +31,7 @@ from .web import Limits, Web
 
 NAME = "coluwen-page"
 LEAST = 4  # plies, of the first step
+WITHOUT_SERVER = 8  # plies that are offered where this computer's own engine searches
 
 
 def offered(info: Info, most: int) -> list[int]:
@@ -44,7 +46,7 @@ def options() -> argparse.ArgumentParser:
     words.add_argument("--address", default="127.0.0.1", help="of which address; 0.0.0.0 for browsers of other hosts (127.0.0.1)")
     words.add_argument("--name", action="append", default=[], help="a name that browsers have for this host")
     words.add_argument("--certificate", metavar="FILE", help="certificate and key, by which browsers speak https")
-    words.add_argument("--most-depth", type=int, default=99, help="offer no more plies (as many as the server's grain lets through)")
+    words.add_argument("--most-depth", type=int, help=f"offer no more plies (as many as the server's grain lets through; without a server {WITHOUT_SERVER})")
     words.add_argument("--sessions", type=int, default=4, help="how many sessions of the server are used at once; others wait (4)")
     words.add_argument("--connections", type=int, default=Limits.connections, help="of browsers at once (%(default)s)")
     words.add_argument("--per-address", type=int, default=Limits.per_address, help="of these for one address (%(default)s)")
@@ -57,8 +59,8 @@ async def serve(asked: argparse.Namespace) -> None:
     if asked.certificate:
         context = ssl.create_default_context(ssl.Purpose.CLIENT_AUTH)
         context.load_cert_chain(asked.certificate)
-    commands.tell_by_log(NAME)
-    async with AsyncClient(**{**commands.server_options(asked), "patience": 0, "sessions": max(asked.sessions, 1)}) as client:
+    analyst = commands.analyst_of(asked, NAME, patience=0, sessions=max(asked.sessions, 1))
+    async with AsyncEngine(analyst=analyst) as client:
         await client.ping()
         service = Service(Library(client, client.parallel), [LEAST])
         names = {"localhost", socket.gethostname(), *asked.name}
@@ -68,7 +70,7 @@ async def serve(asked: argparse.Namespace) -> None:
         port = server.sockets[0].getsockname()[1]
         site.port = port
         print(f"http{'s' * bool(context)}://{asked.address}:{port}/", flush=True)
-        learning = asyncio.ensure_future(learn(service, client, asked.most_depth))
+        learning = asyncio.ensure_future(learn(service, client, asked.most_depth or (DEEPEST if commands.names_server(asked) else WITHOUT_SERVER)))
         stop = asyncio.Event()
         for number in (signal.SIGINT, signal.SIGTERM):
             asyncio.get_running_loop().add_signal_handler(number, stop.set)

@@ -111,7 +111,8 @@ async def read(data: bytes, name: str) -> Found:
     if len(data) <= SHORT:
         return await asyncio.to_thread(read_games, data, name)
     pipe = asyncio.subprocess.PIPE
-    process = await asyncio.create_subprocess_exec(sys.executable, "-P", "-m", "coluwen.page.games", name, stdin=pipe, stdout=pipe, stderr=asyncio.subprocess.DEVNULL, env=environment())
+    words = (sys.executable, "-P", "-m", "coluwen.page.games", name)
+    process = await asyncio.create_subprocess_exec(*words, stdin=pipe, stdout=pipe, stderr=asyncio.subprocess.DEVNULL, env=environment())
     try:
         told, _ = await asyncio.wait_for(process.communicate(data), SECONDS)
         found: Found = json.loads(told) if process.returncode == 0 else {"games": [], "faults": [fault_said(FormatError("it couldn't be read", name))]}

@@ -43,7 +43,7 @@ from .. import formats
 from ..analyst import Analyst, Outcome, Result
 from ..board import Position
 from ..errors import ColuwenError, FormatError, Refused, TooDeep
-from .command import LONG_OUTAGE, NO_VALUE, client_of, ending, parser, teller
+from .command import LONG_OUTAGE, NO_VALUE, analyst_of, ending, parser, teller
 from .compare import Row, compare, csv_rows
 from .lines import grain_for, question_of
 from .plot import draw
@@ -253,7 +253,7 @@ def answer_all(asked: argparse.Namespace) -> int:
         if first:
             print(f"{first} positions were done earlier", file=sys.stderr)
         progress = Progress(source.total, first)
-        with client_of(asked, NAME, sessions=asked.sessions) as client:
+        with analyst_of(asked, NAME, sessions=asked.sessions) as client:
             client.ping()
             try:
                 for one, answer in answered(client, positions):

@@ -19,8 +19,10 @@ from typing import Any
 
 from .. import __version__
 from .._place import OUTAGE, PATIENCE, SILENCE, URL, tls_context, token_in, url_of
+from ..analyst import Analyst
 from ..client import Client
-from ..errors import ColuwenError
+from ..engine import Engine, Fallback
+from ..errors import ColuwenError, Unreachable
 
 NO_VALUE = 3
 LONG_OUTAGE = 600.0  # seconds: of a command that has much to lose
@@ -40,8 +42,10 @@ def parser(text: str | None, name: str, outage: float = OUTAGE) -> argparse.Argu
 
 
 def add_server_options(words: argparse.ArgumentParser, outage: float = OUTAGE) -> None:
-    group = words.add_argument_group("the server")
-    group.add_argument("--server", metavar="HOST:PORT", help=f"or othello://HOST:PORT?tls=1&token=FILE; else that of the variable {URL}, else 127.0.0.1:4711")
+    group = words.add_argument_group("what gives the values", "A server, where one is named; else processes of the program `othello` on this computer.")
+    group.add_argument("--server", metavar="HOST:PORT", help=f"or othello://HOST:PORT?tls=1&token=FILE; else that of the variable {URL}, if it is set")
+    group.add_argument("--fallback", choices=("engine",), help="what the server can't give, as it is too deep for its grain, an engine of this computer gives")
+    group.add_argument("--workers", type=count, metavar="N", help="how many processes an engine of this computer has (one for each processor)")
     group.add_argument("--tls", action="store_true", help="speak TLS, and check the host's certificate")
     group.add_argument("--authority", metavar="FILE", help="with --tls: the authorities to check it by")
     group.add_argument("--token", metavar="FILE", help="a file that has the customer's token")
@@ -50,6 +54,13 @@ def add_server_options(words: argparse.ArgumentParser, outage: float = OUTAGE) -
     group.add_argument("--outage", type=seconds, default=outage, metavar="S", help="seconds for which a server that was there and is silent or lost is asked again (%(default)g)")
     group.add_argument("--segments", type=int, metavar="N", help="for experts: what each session reserves, 1 to 4096")
     group.add_argument("--nodes", type=int, metavar="N", help="for experts: the same, 1 to 65536")
+
+
+def count(text: str) -> int:
+    found = int(text)
+    if found < 1:
+        raise ValueError(text)
+    return found
 
 
 def seconds(text: str) -> float:
@@ -70,10 +81,22 @@ def server_options(asked: argparse.Namespace) -> dict[str, Any]:
     return {**own, **named}
 
 
-def client_of(asked: argparse.Namespace, name: str, **more: Any) -> Client:
-    """The client that a command line says. What it tells goes to standard error."""
+def names_server(asked: argparse.Namespace) -> bool:
+    """Whether a command line names a server, or the variable does."""
+    return bool(asked.server or asked.tls or asked.token or os.environ.get(URL))
+
+
+def analyst_of(asked: argparse.Namespace, name: str, **more: Any) -> Analyst:
+    """What gives the values that a command line asks for: the server that it names, with `more` of `Client`'s options; else an engine of its own. What
+    it tells goes to standard error."""
     tell_by_log(name)
-    return Client(**{**server_options(asked), **more})
+    if not names_server(asked):
+        try:
+            return Engine(asked.workers)
+        except Unreachable as fault:
+            raise Unreachable(f"no server is named (--server HOST:PORT), and {fault}") from None
+    client = Client(**{**server_options(asked), **more})
+    return Fallback(client, Engine(asked.workers)) if asked.fallback else client
 
 
 def tell_by_log(name: str) -> None:

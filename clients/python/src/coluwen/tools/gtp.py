@@ -31,7 +31,7 @@ from .._core import DEEPEST
 from ..analyst import Result
 from ..board import BLACK, OTHER, PASS, WHITE, Board, Position
 from ..errors import FormatError, IllegalMove
-from .command import client_of, ending, parser, say, teller
+from .command import analyst_of, ending, parser, say, teller
 from .player import Player
 
 NAME = "coluwen-gtp"
@@ -189,7 +189,7 @@ def main(words: Sequence[str] | None = None) -> int:
     options = parser(__doc__, NAME, outage=0)
     options.add_argument("--depth", type=int, default=6, choices=range(1, DEEPEST + 1), metavar="1..12", help="how many plies it looks (%(default)d)")
     asked = options.parse_args(words)
-    with client_of(asked, NAME) as client:
+    with analyst_of(asked, NAME) as client:
         client.ping()  # a wrong port is said at once
         gtp = Gtp(Player(client, asked.depth, teller(NAME)))
         for line in sys.stdin:

@@ -23,7 +23,7 @@ from .._core import DEEPEST
 from ..analyst import Analyst, Result
 from ..board import CELLS, EMPTY, LENGTH, Position
 from ..errors import FAULTS, Late, Refused, TooDeep
-from .command import NO_VALUE, client_of, ending, parser, say, teller
+from .command import NO_VALUE, analyst_of, ending, parser, say, teller
 
 NAME = "coluwen"
 LONGEST = 128  # bytes of a line
@@ -104,7 +104,7 @@ def main(words: Sequence[str] | None = None) -> int:
     asked = options.parse_args(words)
     tell, told, begun = teller(NAME), set[int](), time.monotonic()
     count = without = 0
-    with client_of(asked, NAME, sessions=1, ahead=max(asked.ahead, 1)) as client:
+    with analyst_of(asked, NAME, sessions=1, ahead=max(asked.ahead, 1)) as client:
         client.ping()  # a wrong port is said before any line comes
         for count, answer in enumerate(answers(client, lines_of(), max(asked.ahead, 1), asked.timeout), 1):
             say(text_of(answer) + (f"\n{board_of(answer)}" if asked.tables and isinstance(answer, Result) else ""))

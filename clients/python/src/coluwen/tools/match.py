@@ -33,7 +33,7 @@ from ..analyst import Analyst
 from ..board import BLACK, NAMES, PASS, WHITE, Board, Position
 from ..errors import ColuwenError, IllegalMove
 from ..formats import Game, Played, ggf
-from .command import LONG_OUTAGE, client_of, ending, parser, say, teller
+from .command import LONG_OUTAGE, analyst_of, ending, parser, say, teller
 from .player import Player as Searcher
 
 NAME = "coluwen-match"
@@ -306,22 +306,22 @@ Pair = Callable[[], contextlib.AbstractContextManager[tuple[Player, Player]]]
 
 def match(pair: Pair, openings: Iterable[Board], tell: Callable[[str], None], at_once: int = 1) -> tuple[Table, list[Outcome]]:
     """Each opening in both colours, so many openings at the same time; `pair` gives two players of their own to each of these."""
-    openings = list(openings)
+    begun = list(openings)
     spare: queue.SimpleQueue[tuple[Player, Player]] = queue.SimpleQueue()
     with contextlib.ExitStack() as stack, concurrent.futures.ThreadPoolExecutor(at_once) as pool:
-        pairs = [stack.enter_context(pair()) for _ in range(min(at_once, max(len(openings), 1)))]
+        pairs = [stack.enter_context(pair()) for _ in range(min(at_once, max(len(begun), 1)))]
         for one in pairs:
             spare.put(one)
 
         def both(number: int) -> list[Outcome]:
             one, other = players = spare.get()
             try:
-                return [play(*((one, other) if side == BLACK else (other, one)), openings[number], 2 * number + at + 1) for at, side in enumerate((BLACK, WHITE))]
+                return [play(*((one, other) if side == BLACK else (other, one)), begun[number], 2 * number + at + 1) for at, side in enumerate((BLACK, WHITE))]
             finally:
                 spare.put(players)
 
         table, outcomes = Table(pairs[0][0].name, pairs[0][1].name), list[Outcome]()
-        for found in pool.map(both, range(len(openings))):
+        for found in pool.map(both, range(len(begun))):
             for side, outcome in zip((BLACK, WHITE), found):
                 outcomes.append(outcome)
                 table.add(side, outcome)
@@ -340,7 +340,7 @@ def main(words: Sequence[str] | None = None) -> int:
     options.add_argument("--seconds", type=float, default=60, metavar="S", help="after which an engine that says nothing has lost (%(default)g)")
     options.add_argument("--at-once", type=int, default=1, metavar="N", help="how many openings are played at the same time (%(default)d)")
     asked = options.parse_args(words)
-    with client_of(asked, NAME) as client:
+    with analyst_of(asked, NAME) as client:
 
         @contextlib.contextmanager
         def pair() -> Iterator[tuple[Player, Player]]:

@@ -49,7 +49,7 @@ from .._core import DEEPEST
 from ..board import PASS, Board
 from ..errors import ColuwenError, FormatError, IllegalMove, Refused, Unreachable
 from ..formats import ggf
-from .command import OutputClosed, client_of, ending, parser, say
+from .command import OutputClosed, analyst_of, ending, parser, say
 from .player import Player, Stopped, in_discs
 
 NAME = "coluwen-nboard"
@@ -200,7 +200,7 @@ def main(words: Sequence[str] | None = None) -> int:
     options = parser(__doc__, NAME, outage=0)
     options.add_argument("--depth", type=int, default=6, choices=range(1, DEEPEST + 1), metavar="1..12", help="how many plies it looks at first (%(default)d)")
     asked = options.parse_args(words)
-    client = client_of(asked, NAME, counts=True)
+    client = analyst_of(asked, NAME, counts=True)
     lock = threading.Lock()
     heard: queue.Queue[str | None] = queue.Queue()
 

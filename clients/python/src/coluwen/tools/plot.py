@@ -56,12 +56,14 @@ def bars(top: int, label: str, counts: list[tuple[str, int]], colour: str) -> li
             f'<text x="{LEFT - 52}" y="{top + HEIGHT / 2:.0f}" text-anchor="middle" transform="rotate(-90 {LEFT - 52} {top + HEIGHT / 2:.0f})">positions</text>']  # fmt: skip
     for count in range(0, most + 1, step):
         y = bottom - count / most * (HEIGHT - 20)
-        text.append(f'<line x1="{LEFT - 4}" y1="{y:.1f}" x2="{LEFT}" y2="{y:.1f}" stroke="black"/><text x="{LEFT - 8}" y="{y + 4:.1f}" text-anchor="end" font-size="10">{count}</text>')
+        text.append(f'<line x1="{LEFT - 4}" y1="{y:.1f}" x2="{LEFT}" y2="{y:.1f}" stroke="black"/>')
+        text.append(f'<text x="{LEFT - 8}" y="{y + 4:.1f}" text-anchor="end" font-size="10">{count}</text>')
     for number, (name, count) in enumerate(counts):
         wide = WIDTH / len(counts)
         left, height = LEFT + number * wide, count / most * (HEIGHT - 20)
         text.append(f'<rect x="{left + 2:.1f}" y="{bottom - height:.1f}" width="{wide - 4:.1f}" height="{height:.1f}" fill="{colour}"/>')
         if count:
             text.append(f'<text x="{left + wide / 2:.1f}" y="{bottom - height - 4:.1f}" text-anchor="middle">{count}</text>')
-        text.append(f'<text x="{left + wide / 2:.1f}" y="{bottom + 16}" text-anchor="end" font-size="10" transform="rotate(-40 {left + wide / 2:.1f} {bottom + 16})">{html.escape(name)}</text>')
+        turned = f'transform="rotate(-40 {left + wide / 2:.1f} {bottom + 16})"'
+        text.append(f'<text x="{left + wide / 2:.1f}" y="{bottom + 16}" text-anchor="end" font-size="10" {turned}>{html.escape(name)}</text>')
     return text

@@ -21,7 +21,7 @@ from ..board import EMPTY, NAMES, PASS, SQUARES, Board, Position
 from ..errors import ColuwenError
 from ..formats import Game, transcript
 from ..score import GREATEST_EVALUATION, Score, loss_of
-from .command import LONG_OUTAGE, NO_VALUE, client_of, ending, parser, say
+from .command import LONG_OUTAGE, NO_VALUE, analyst_of, ending, parser, say
 
 NAME = "coluwen-review"
 
@@ -116,7 +116,7 @@ def main(words: Sequence[str] | None = None) -> int:
     start = Position.parse(asked.start) if asked.start.strip() else None
     game = game_of(asked.file, asked.game) if asked.file else transcript.read(" ".join(asked.moves), start)
     rows: list[Row] = []
-    with client_of(asked, NAME) as client:
+    with analyst_of(asked, NAME) as client:
         say(f"{'':>3} {'player':6} {'move':5}{'value':20}{'best':5}{'its value':20}lost")
         for row in review(client, game.board(), asked.depth):
             rows.append(row)
