@@ -30,7 +30,7 @@ final class Core {
   private static final int UNKNOWN = 21; // INFO: this is no site
   private static final int RATE = 31; // ASK: it may come again in its session
   private static final int RETRY = 100; // before a server is asked again
-  private static final int GRACE = 100; // for so long the answer to a line may still come where a job's time is over
+  private static final int GRACE = 200; // for so long the answer to a line may still come where a job's time is over
   private static final int LOSSES = 4; // a question isn't asked again once so many sessions were lost with it
   private static final double NEVER = Double.POSITIVE_INFINITY;
 
