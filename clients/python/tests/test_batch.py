@@ -18,6 +18,11 @@ def run(*words: object) -> int:
     return batch.main([*map(str, words)])
 
 
+def first(position: str) -> str:
+    """What the server says is best."""
+    return (*Position.parse(position).legal, "-")[0]
+
+
 def test_a_row_that_is_spent(tmp_path: pathlib.Path, capsys: pytest.CaptureFixture[str]) -> None:
     """It is asked again with more; where that doesn't suffice the status is 3, and which grain would do is said."""
     results, positions = tmp_path / "r.csv", tmp_path / "p.obf"
@@ -45,9 +50,9 @@ def test_rows_and_going_on(tmp_path: pathlib.Path, capsys: pytest.CaptureFixture
         assert run(f"--server=127.0.0.1:{server.port}", "--sessions", 3, "--plot", tmp_path / "p.svg", results, positions) == 3
         whole = results.read_bytes()
         rows = batch.rows_of(results)
-        assert [row[:4] for row in rows[:20]] == [[one, "6", str(value_of(one)), "d3"] for one in asked[:20]]
+        assert [row[:4] for row in rows[:20]] == [[one, "6", str(value_of(one)), first(one)] for one in asked[:20]]
         assert [row[1:4] for row in rows[20:22]] == [["13", "ERR 27", ""], ["5", "ERR 24", ""]]
-        assert [row[:4] for row in rows[22:]] == [[one, "3", str(value_of(one)), "d3"] for one in asked[20:]]
+        assert [row[:4] for row in rows[22:]] == [[one, "3", str(value_of(one)), first(one)] for one in asked[20:]]
         assert sum(line.startswith("HELLO") for line in server.heard) <= 3 and (tmp_path / "p.svg").stat().st_size > 1000
         lines = whole.split(b"\n")
         results.write_bytes(b"\n".join(lines[:11]) + b"\n" + lines[11][:40])

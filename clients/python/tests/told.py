@@ -7,6 +7,8 @@ import threading
 import zlib
 from collections.abc import Callable, Iterator
 
+from coluwen import Position
+
 
 class Told:
     def __init__(self, answers: Callable[[], Callable[[str], str | None]]):
@@ -44,6 +46,7 @@ def sound(value: int | None = None, state: Callable[[int, int], str] = lambda de
     def answers() -> Callable[[str], str]:
         jobs: list[str] = []
         values: list[int] = []
+        moves: list[tuple[str, ...]] = []
         nodes = [0]
 
         def answer_of(line: str) -> str:
@@ -54,15 +57,17 @@ def sound(value: int | None = None, state: Callable[[int, int], str] = lambda de
             if word == "ASK":
                 jobs.append(state(int(rest[0]), nodes[0]))
                 values.append(value_of(" ".join(rest[1:])) if value is None else value)
+                moves.append((*Position.parse(" ".join(rest[1:])).legal, "-"))
                 return f"JOB {len(jobs)}\n"
             if word == "CANCEL":
                 jobs[int(rest[0]) - 1] = "CANCELLED"
                 return f"CANCELLED {rest[0]}\n"
             if word in ("GET", "WAIT"):
                 ended = jobs[int(rest[0]) - 1]
-                return f"{ended} {rest[0]} {values[int(rest[0]) - 1]} d3\n" if ended == "DONE" else f"{ended} {rest[0]}\n"
+                return f"{ended} {rest[0]} {values[int(rest[0]) - 1]} {moves[int(rest[0]) - 1][0]}\n" if ended == "DONE" else f"{ended} {rest[0]}\n"
             if word == "TABLE":
-                return f"TABLE {rest[0]} d3={values[int(rest[0]) - 1]} c4<-1\n"
+                one, other, *_ = (*moves[int(rest[0]) - 1], "-", "-")
+                return f"TABLE {rest[0]}" + f" {one}={values[int(rest[0]) - 1]}" * (one != "-") + f" {other}<-1" * (other != "-") + "\n"
             if word == "QUOTA":
                 nodes[0] -= 60
                 return f"QUOTA 1 {nodes[0]} 1\n"

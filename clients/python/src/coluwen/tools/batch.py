@@ -14,6 +14,9 @@ by a customer's budget, it goes on with those that it has; a server that is sile
 is lost meanwhile. Progress and a summary go to standard error: how many are done, spent and at fault, seconds, positions a second, and how
 often the first best move is one that was expected. --plot FILE draws times and values (SVG).
 
+Without a server this computer's own engine searches, by a process for each processor; with --dask the engines of a cluster's workers, each of which
+has this package and the program: what a lost worker had is searched by another.
+
 The status is 0 where all rows are done, 3 where one isn't, 1 where the server can't be reached or was lost for too long, a file can't be read
 (with its line and column) or the rows are others, 130 after Ctrl-C.
 
@@ -42,6 +45,7 @@ from collections.abc import Iterator, Sequence
 from .. import formats
 from ..analyst import Analyst, Outcome, Result
 from ..board import Position
+from ..cluster import Cluster
 from ..errors import ColuwenError, FormatError, Refused, TooDeep
 from .command import LONG_OUTAGE, NO_VALUE, analyst_of, ending, parser, teller
 from .compare import Row, compare, csv_rows
@@ -253,7 +257,7 @@ def answer_all(asked: argparse.Namespace) -> int:
         if first:
             print(f"{first} positions were done earlier", file=sys.stderr)
         progress = Progress(source.total, first)
-        with analyst_of(asked, NAME, sessions=asked.sessions) as client:
+        with Cluster(asked.dask) if asked.dask else analyst_of(asked, NAME, sessions=asked.sessions) as client:
             client.ping()
             try:
                 for one, answer in answered(client, positions):
@@ -273,6 +277,7 @@ def main(words: Sequence[str] | None = None) -> int:
     options.add_argument("--compare", action="store_true", help="tell how RESULTS and OTHERS differ, and ask nothing")
     options.add_argument("--depth", type=int, default=6, help="of the positions that name none (%(default)d)")
     options.add_argument("--sessions", type=int, default=8, metavar="N", help="how many at once (%(default)d); the server has 64 at most")
+    options.add_argument("--dask", metavar="ADDRESS", help="by the engines of a Dask cluster's workers, whose scheduler has this address: tcp://HOST:8786")
     options.add_argument("--format", choices=formats.KINDS, help="of POSITIONS: by its name's end and its beginning where it isn't said")
     options.add_argument("--plot", metavar="FILE", help="draw the times and values of RESULTS, as SVG")
     options.add_argument("results", metavar="RESULTS")

@@ -190,7 +190,7 @@ def main(words: Sequence[str] | None = None) -> int:
     options.add_argument("--depth", type=int, default=6, choices=range(1, DEEPEST + 1), metavar="1..12", help="how many plies it looks (%(default)d)")
     asked = options.parse_args(words)
     with analyst_of(asked, NAME) as client:
-        client.ping()  # a wrong port is said at once
+        client.info()  # a wrong port is said at once, and how deep the server looks is known
         gtp = Gtp(Player(client, asked.depth, teller(NAME)))
         for line in sys.stdin:
             text, more = gtp.heard(line)

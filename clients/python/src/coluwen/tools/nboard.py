@@ -213,7 +213,7 @@ def main(words: Sequence[str] | None = None) -> int:
             heard.put(line)
         heard.put(None)
 
-    client.ping()  # a wrong port is said at once
+    client.info()  # a wrong port is said at once, and how deep the server looks is known
     searcher = Searcher(Player(client, asked.depth, lambda text: tell(f"status {text}")), tell)
     searcher.start()
     threading.Thread(target=hear, daemon=True).start()

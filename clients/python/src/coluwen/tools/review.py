@@ -18,7 +18,7 @@ from collections.abc import Iterator, Sequence
 from .. import formats
 from ..analyst import Analyst, Result
 from ..board import EMPTY, NAMES, PASS, SQUARES, Board, Position
-from ..errors import ColuwenError
+from ..errors import ColuwenError, Late, TooDeep
 from ..formats import Game, transcript
 from ..score import GREATEST_EVALUATION, Score, loss_of
 from .command import LONG_OUTAGE, NO_VALUE, analyst_of, ending, parser, say
@@ -52,13 +52,16 @@ def review(analyst: Analyst, board: Board, depth: int) -> Iterator[Row]:
     answers = (outcome.answer for outcome in analyst.analyse_many(questions))
     for number, ((position, move), at_best, after) in enumerate(zip(made, answers, answers), 1):
         row = Row(number, move, position, position.play(move))
-        faults = [str(one) for one in (at_best, after) if isinstance(one, ColuwenError)]
+        faults = [one for one in (at_best, after) if isinstance(one, ColuwenError)]
+        for fault in faults:
+            if not isinstance(fault, (TooDeep, Late)):
+                raise fault
         if isinstance(at_best, Result) and isinstance(after, Result):
             value = Score(-after.score.value, "=", at_best.score.ends or after.score.ends, position.side)
             known = {entry.move: entry.score for entry in at_best.table} | {move: value}
             yield dataclasses.replace(row, value=value, best_value=at_best.score, best=at_best.best or "", squares=known)
         else:
-            yield dataclasses.replace(row, fault=faults[0])
+            yield dataclasses.replace(row, fault=str(faults[0]))
 
 
 def drawn(position: Position, marks: dict[str, str], colours: bool) -> str:
@@ -117,6 +120,7 @@ def main(words: Sequence[str] | None = None) -> int:
     game = game_of(asked.file, asked.game) if asked.file else transcript.read(" ".join(asked.moves), start)
     rows: list[Row] = []
     with analyst_of(asked, NAME) as client:
+        client.ping()
         say(f"{'':>3} {'player':6} {'move':5}{'value':20}{'best':5}{'its value':20}lost")
         for row in review(client, game.board(), asked.depth):
             rows.append(row)
