@@ -11,8 +11,7 @@ import tempfile
 
 HERE = pathlib.Path(__file__).resolve().parent
 SOURCES = {"javascript": "javascript/src/{}.mjs", "java": "java/src/main/java/coluwen/{}.java"}
-TESTS = {"javascript": (["node", "--test", "test/"], "javascript"), "java": (["./build", "test"], "java")}
-FORMS = {"javascript": ["node", "--check"], "java": None}  # a body that is no program shows nothing: `build test` says so by the status of javac
+TESTS = {"javascript": ["node", "--test", *(f"test/{name}.test.mjs" for name in ("behaviour", "client", "conformance"))], "java": ["./build", "test", "-N", ".*EngineTest"]}
 # What is wrong, and in each language the file, what stands in it once, and what comes in its place.
 BODIES = (
     ("a reservation is never raised",
@@ -84,8 +83,8 @@ def tried(language, change=None):
     """How the tests of a copy end: their status, and what they say."""
     with tempfile.TemporaryDirectory() as folder:
         clients = pathlib.Path(folder, "clients")
-        for name in ("behaviour", language):
-            shutil.copytree(HERE / name, clients / name, ignore=shutil.ignore_patterns("target", "node_modules"))
+        for name in ("behaviour", "page", language):
+            shutil.copytree(HERE / name, clients / name, symlinks=True, ignore=shutil.ignore_patterns("target", "node_modules"))
         shutil.copy(HERE / "conformance.txt", clients)
         if change:
             name, old, new = change
@@ -94,9 +93,8 @@ def tried(language, change=None):
             if text.count(old) != 1:
                 sys.exit(f"{path.name} has {old!r} {text.count(old)} times")
             path.write_text(text.replace(old, new))
-        words, where = TESTS[language]
         try:
-            done = subprocess.run(words, cwd=clients / where, capture_output=True, text=True, check=False, timeout=150)
+            done = subprocess.run(TESTS[language], cwd=clients / language, capture_output=True, text=True, check=False, timeout=150)
         except subprocess.TimeoutExpired:
             return 1, "they don't end"
         said = done.stdout + done.stderr
