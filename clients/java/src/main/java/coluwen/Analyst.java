@@ -31,22 +31,16 @@ public interface Analyst extends AutoCloseable {
   void close();
 
   /** How long a job may take where no call says it; null for no limit. */
-  default Duration timeout() {
-    return null;
-  }
+  default Duration timeout() { return null; }
 
   /** How many questions {@code analyseMany} takes before their answers were taken from it. */
-  default int window() {
-    return 64;
-  }
+  default int window() { return 64; }
 
   default CompletableFuture<Result> analyseAsync(Position position, int depth) {
     return analyseAsync(position, depth, timeout());
   }
 
-  default Result analyse(Position position, int depth) {
-    return analyse(position, depth, timeout());
-  }
+  default Result analyse(Position position, int depth) { return analyse(position, depth, timeout()); }
 
   /** The same by the thread that calls; an interrupt cancels the job, and {@code Stopped} is thrown. */
   default Result analyse(Position position, int depth, Duration timeout) {
@@ -85,27 +79,17 @@ public interface Analyst extends AutoCloseable {
       if (window < 1) throw new IllegalArgumentException("a window has one place at least, and not " + window);
     }
 
-    public Bulk asKnown() {
-      return new Bulk(false, window, timeout, onProgress);
-    }
+    public Bulk asKnown() { return new Bulk(false, window, timeout, onProgress); }
 
-    public Bulk window(int most) {
-      return new Bulk(isOrdered, most, timeout, onProgress);
-    }
+    public Bulk window(int most) { return new Bulk(isOrdered, most, timeout, onProgress); }
 
-    public Bulk timeout(Duration most) {
-      return new Bulk(isOrdered, window, most, onProgress);
-    }
+    public Bulk timeout(Duration most) { return new Bulk(isOrdered, window, most, onProgress); }
 
-    public Bulk onProgress(Consumer<Progress> heard) {
-      return new Bulk(isOrdered, window, timeout, heard);
-    }
+    public Bulk onProgress(Consumer<Progress> heard) { return new Bulk(isOrdered, window, timeout, heard); }
   }
 
   /** Questions in their order, by this analyst's window and timeout. */
-  default Bulk bulk() {
-    return new Bulk(true, window(), timeout(), progress -> {});
-  }
+  default Bulk bulk() { return new Bulk(true, window(), timeout(), progress -> {}); }
 
   default Stream<Outcome<Position>> analyseMany(Iterable<Position> positions, int depth) {
     return analyseMany(positions, Function.identity(), depth, bulk());

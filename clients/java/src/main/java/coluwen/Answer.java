@@ -21,9 +21,7 @@ record Answer(String state, int job, int value, String move, List<Entry> entries
   /** An entry of a table. */
   record Entry(String move, char sign, int value) {
     @Override
-    public String toString() {
-      return move + sign + value;
-    }
+    public String toString() { return move + sign + value; }
   }
 
   private static final String NUMBER = "(?:0|[1-9][0-9]{0,7})";
@@ -41,13 +39,9 @@ record Answer(String state, int job, int value, String move, List<Entry> entries
       form("CANCEL", "(?<state>CANCELLED)" + JOB), form("QUOTA", "(?<state>QUOTA)" + TWO + " (?<c>" + NUMBER + ")"),
       form("LIVE", "(?<state>LIVE)" + TWO), form("INFO", "(?<state>INFO) (?<a>" + NUMBER + ")(?<more>(?: [!-~]+)*)"), form("BYE", "(?<state>BYE)"));
 
-  private static Map.Entry<String, Pattern> form(String word, String text) {
-    return Map.entry(word, Pattern.compile(text));
-  }
+  private static Map.Entry<String, Pattern> form(String word, String text) { return Map.entry(word, Pattern.compile(text)); }
 
-  private static String ended(String states) {
-    return "(?<other>" + states + ") (?<otherJob>" + NUMBER + ")";
-  }
+  private static String ended(String states) { return "(?<other>" + states + ") (?<otherJob>" + NUMBER + ")"; }
 
   /**
    * The answer to a line (both without LF), where so many jobs were asked before. {@code Refused} where it is an ERR, and {@code Broken}

@@ -89,21 +89,11 @@ public final class Client implements Analyst {
       return value;
     }
 
-    public Builder host(String value) {
-      host = value;
-      return this;
-    }
-
-    public Builder port(int value) {
-      port = within("port", 1, value, 65535);
-      return this;
-    }
+    public Builder host(String value) { host = value; return this; }
+    public Builder port(int value) { port = within("port", 1, value, 65535); return this; }
 
     /** TLS, by the authorities of this context; the certificate must be the host's. Null for none. */
-    public Builder tls(SSLContext value) {
-      tls = value;
-      return this;
-    }
+    public Builder tls(SSLContext value) { tls = value; return this; }
 
     /** A customer's of a site. */
     public Builder token(String value) {
@@ -113,61 +103,32 @@ public final class Client implements Analyst {
     }
 
     /** How many sessions are used at once (4). */
-    public Builder sessions(int value) {
-      sessions = within("sessions", 1, value, 64);
-      return this;
-    }
+    public Builder sessions(int value) { sessions = within("sessions", 1, value, 64); return this; }
 
     /** How many questions a session has at once (1). */
-    public Builder ahead(int value) {
-      ahead = within("ahead", 1, value, 256);
-      return this;
-    }
+    public Builder ahead(int value) { ahead = within("ahead", 1, value, 256); return this; }
 
     /** After what time a server that says nothing is given up (1.5 s). */
-    public Builder silence(Duration value) {
-      silence = positive("silence", value);
-      return this;
-    }
+    public Builder silence(Duration value) { silence = positive("silence", value); return this; }
 
     /** For how long a server that was heard before is asked again then, by new sessions (2 min). */
-    public Builder outage(Duration value) {
-      outage = value;
-      return this;
-    }
+    public Builder outage(Duration value) { outage = value; return this; }
 
     /** For how long a server that is full is asked again (30 s). */
-    public Builder patience(Duration value) {
-      patience = value;
-      return this;
-    }
+    public Builder patience(Duration value) { patience = value; return this; }
 
     /** How long a job may take (no limit). */
-    public Builder timeout(Duration value) {
-      timeout = positive("timeout", value);
-      return this;
-    }
+    public Builder timeout(Duration value) { timeout = positive("timeout", value); return this; }
 
     /** What each session reserves, where the client isn't to choose it. */
-    public Builder segments(int value) {
-      segments = within("segments", 1, value, 4096);
-      return this;
-    }
+    public Builder segments(int value) { segments = within("segments", 1, value, 4096); return this; }
 
-    public Builder nodes(int value) {
-      nodes = within("nodes", 1, value, 65536);
-      return this;
-    }
+    public Builder nodes(int value) { nodes = within("nodes", 1, value, 65536); return this; }
 
     /** Who hears what there is to wait for. */
-    public Builder onEvent(Consumer<Event> value) {
-      onEvent = value;
-      return this;
-    }
+    public Builder onEvent(Consumer<Event> value) { onEvent = value; return this; }
 
-    public Client build() {
-      return new Client(this);
-    }
+    public Client build() { return new Client(this); }
 
     private void set(String name, String value) throws IOException, GeneralSecurityException {
       switch (name) {
@@ -185,9 +146,7 @@ public final class Client implements Analyst {
       }
     }
 
-    private static Duration seconds(String value) {
-      return Duration.ofMillis(Math.round(1000 * Double.parseDouble(value)));
-    }
+    private static Duration seconds(String value) { return Duration.ofMillis(Math.round(1000 * Double.parseDouble(value))); }
 
     /** TLS by a file of authorities. */
     private static SSLContext trusting(Path authorities) throws IOException, GeneralSecurityException {
@@ -204,9 +163,7 @@ public final class Client implements Analyst {
     }
   }
 
-  public static Builder builder() {
-    return new Builder();
-  }
+  public static Builder builder() { return new Builder(); }
 
   /** A client of the server that COLUWEN_URL names, or of this host's. */
   public static Client connect() {
@@ -218,9 +175,7 @@ public final class Client implements Analyst {
    * A client of the server that an address names: {@code othello://host:port}, and behind a question mark {@code tls} (1, or a file of authorities), {@code token} (a file
    * that has it), or any other option by its name, times in seconds.
    */
-  public static Client connect(String address) {
-    return at(address).build();
-  }
+  public static Client connect(String address) { return at(address).build(); }
 
   /** The same to be built, with other options. */
   public static Builder at(String address) {
@@ -238,14 +193,10 @@ public final class Client implements Analyst {
   }
 
   @Override
-  public Duration timeout() {
-    return options.timeout;
-  }
+  public Duration timeout() { return options.timeout; }
 
   @Override
-  public int window() {
-    return 64 * options.sessions;
-  }
+  public int window() { return 64 * options.sessions; }
 
   @Override
   public CompletableFuture<Result> analyseAsync(Position position, int depth, Duration timeout) {
@@ -263,9 +214,7 @@ public final class Client implements Analyst {
   }
 
   @Override
-  public Info info() {
-    return joined(asked(new Core.Question(Core.Kind.INFO, "", 0, 0), done -> done.info));
-  }
+  public Info info() { return joined(asked(new Core.Question(Core.Kind.INFO, "", 0, 0), done -> done.info)); }
 
   @Override
   public Duration ping() {
@@ -330,9 +279,7 @@ public final class Client implements Analyst {
     if (!later.isEmpty()) CompletableFuture.runAsync(() -> later.forEach(Runnable::run));
   }
 
-  private double now() {
-    return (System.nanoTime() - origin) / 1e6;
-  }
+  private double now() { return (System.nanoTime() - origin) / 1e6; }
 
   private void perform(Core.Action action, List<Runnable> later) {
     switch (action.what()) {

@@ -58,14 +58,10 @@ final class Core {
     List<Answer.Entry> entries;
     double milliseconds;
     Info info;
-    private int level;
-    private int job;
-    private int losses;
+    private int level, job, losses;
     private boolean isAlone; // it was spent: it is asked once more, as the first job of a session
     private double askedAt;
-    private double pollAt = NEVER;
-    private double until = NEVER; // then it is cancelled
-    private double limit = NEVER; // then nobody waits for the answer any more
+    private double pollAt = NEVER, until = NEVER, limit = NEVER; // when it is looked at, is cancelled, and nobody waits for a line's answer any more
     private double refusedAt = NEVER;
 
     Question(Kind kind, String position, int depth, double timeout) {
@@ -75,28 +71,22 @@ final class Core {
       this.timeout = timeout;
     }
 
-    private void again() {
-      job = 0;
-      until = limit = NEVER;
-    }
+    private void again() { job = 0; until = limit = NEVER; }
   }
 
   /** A session, from its opening to its end. */
   static final class Seat {
     private final Wire wire = new Wire();
     private final List<Question> running = new ArrayList<>(); // whose jobs it has, the oldest first
-    private final double begun;
-    private final double silence;
+    private final double begun, silence;
     private final int level;
     private final Probe probe; // of one that finds out the server's grain
     private String probing;
     private Reservation reserved;
-    private boolean isReady; // it has been welcomed
-    private boolean isRetired; // it takes no more
+    private boolean isReady, isRetired; // it has been welcomed; it takes no more
     private String word; // of the line that isn't answered, and what that is for
     private Question asked;
-    private double deadline; // until then it is to be answered
-    private double freeAt; // before it asks nothing
+    private double deadline, freeAt; // until then it is to be answered; before it asks nothing
 
     private Seat(int level, Reservation reserved, double silence, double now, Probe probe) {
       this.level = level;
@@ -113,13 +103,8 @@ final class Core {
       return found;
     }
 
-    private boolean isIdle() {
-      return isReady && word == null && running.isEmpty();
-    }
-
-    double silence() {
-      return silence;
-    }
+    private boolean isIdle() { return isReady && word == null && running.isEmpty(); }
+    double silence() { return silence; }
   }
 
   enum What { OPEN, SEND, CLOSE, TELL, SETTLED }
@@ -134,21 +119,12 @@ final class Core {
   private final List<Question> deep = new ArrayList<>(); // they wait for what is known of the server's grain
   private List<Action> out = new ArrayList<>();
   private Info info;
-  private boolean isEnded;
-  private boolean wasTold;
-  private double heard = -NEVER; // when the server last said anything
-  private double trouble = NEVER; // since when it can't be reached
-  private double full = NEVER; // since when it is full
-  private double retryAt;
-  private double next = NEVER;
-  private int silences;
-  private int probeLosses;
-  private int most; // how many sessions there may be now
+  private boolean isEnded, wasTold;
+  private double heard = -NEVER, trouble = NEVER, full = NEVER; // when the server last said anything; since when it can't be reached, or is full
+  private double retryAt, next = NEVER;
+  private int silences, probeLosses, most; // how many sessions there may be now
 
-  Core(Limits limits) {
-    this.limits = limits;
-    most = limits.sessions();
-  }
+  Core(Limits limits) { this.limits = limits; most = limits.sessions(); }
 
   List<Action> take() {
     var found = out;
@@ -156,17 +132,9 @@ final class Core {
     return found;
   }
 
-  boolean isEmpty() {
-    return seats.isEmpty();
-  }
-
-  boolean isOpen(Seat seat) {
-    return seats.contains(seat);
-  }
-
-  double next() {
-    return next;
-  }
+  boolean isEmpty() { return seats.isEmpty(); }
+  boolean isOpen(Seat seat) { return seats.contains(seat); }
+  double next() { return next; }
 
   void ask(Question question, double now) {
     if (isEnded) throw new Closed("client");
@@ -176,10 +144,7 @@ final class Core {
   }
 
   /** Nobody wants a question's answer any more: it ends with this fault, and its job is cancelled once a line can be sent. */
-  void drop(Question question, RuntimeException fault, double now) {
-    settle(question, fault);
-    go(now);
-  }
+  void drop(Question question, RuntimeException fault, double now) { settle(question, fault); go(now); }
 
   /** What isn't settled is so by Closed, and nothing more is asked. */
   void end(double now) {
@@ -273,9 +238,7 @@ final class Core {
     go(now);
   }
 
-  private void tell(String name, Object detail) {
-    out.add(new Action(What.TELL, null, name, detail));
-  }
+  private void tell(String name, Object detail) { out.add(new Action(What.TELL, null, name, detail)); }
 
   private void settle(Question question, RuntimeException fault) {
     if (question.isSettled) return;
@@ -296,15 +259,10 @@ final class Core {
     failDeep(faultOf.get());
   }
 
-  private void close(Seat seat) {
-    seats.remove(seat);
-    out.add(new Action(What.CLOSE, seat, null, null));
-  }
+  private void close(Seat seat) { seats.remove(seat); out.add(new Action(What.CLOSE, seat, null, null)); }
 
   /** Whether the server may be waited for: it was heard, and not too long ago. */
-  private boolean isOutage(double now) {
-    return now - heard < limits.outage();
-  }
+  private boolean isOutage(double now) { return now - heard < limits.outage(); }
 
   /** Nobody listens, or says a word before the welcome. It is tried again for a while; where other sessions go on, they do the work. */
   private void notReached(Seat seat, ColuwenException fault, boolean isFinal, double now) {
@@ -488,9 +446,7 @@ final class Core {
     send(seat, "ASK " + question.depth + " " + question.position, question, now);
   }
 
-  private int levelOf(Question question) {
-    return Math.max(question.level, needs.getOrDefault(question.depth, 0));
-  }
+  private int levelOf(Question question) { return Math.max(question.level, needs.getOrDefault(question.depth, 0)); }
 
   private boolean hasEnough(Seat seat, Question question) {
     return seat.reserved.nodes() >= limits.levels().get(levelOf(question)).nodes();
@@ -539,18 +495,12 @@ final class Core {
     }
   }
 
-  private void soon(double now, double... moments) {
-    for (var each : moments) if (each > now) next = Math.min(next, each);
-  }
+  private void soon(double now, double... moments) { for (var each : moments) if (each > now) next = Math.min(next, each); }
 
   /** How long to wait before the next look at a job that was asked so long ago. */
-  static double pauseAfter(double taken) {
-    return Math.min(Math.max(taken / 4, 0.2), 20);
-  }
+  static double pauseAfter(double taken) { return Math.min(Math.max(taken / 4, 0.2), 20); }
 
-  private static Unreachable unreachable(ColuwenException fault) {
-    return new Unreachable(fault.getMessage(), fault);
-  }
+  private static Unreachable unreachable(ColuwenException fault) { return new Unreachable(fault.getMessage(), fault); }
 
   private static Late late(Question question) {
     return new Late("a job of depth " + question.depth + " was cancelled after " + (long) question.timeout + " ms");
