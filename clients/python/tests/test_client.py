@@ -194,6 +194,7 @@ def test_a_client_that_is_closed() -> None:
             with pytest.raises(Closed):
                 call()  # type: ignore[no-untyped-call]
         client.close()
+        time.sleep(0.1)  # what was sent before is heard
         heard = len(server.heard)
         time.sleep(0.2)
         assert len(server.heard) == heard
