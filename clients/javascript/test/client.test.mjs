@@ -1,11 +1,13 @@
 // What the rows don't say: the limits of the core, by moments that the tests choose; bulk questions; and what is checked and told.
 import assert from "node:assert/strict";
+import { execFile } from "node:child_process";
 import fs from "node:fs";
 import net from "node:net";
 import os from "node:os";
 import path from "node:path";
 import readline from "node:readline";
 import test from "node:test";
+import { promisify } from "node:util";
 import { Core } from "../src/core.mjs";
 import { Analyst, Client, Closed, ColuwenError, Entry, Late, Position, Refused, Score, Session, TooDeep, Unreachable, connect } from "../src/index.mjs";
 
@@ -258,6 +260,13 @@ test("all idle sessions of a server that began anew are lost, and a call opens a
     assert.equal((await client.analyse(OPENING, 2)).best, "d3");
   });
 });
+
+test("a program that forgets to close its client ends", () => having(() => sound(), {}, async (_, heard, port) => {
+  const program = `import { connect, Position } from ${JSON.stringify(new URL("../src/index.mjs", import.meta.url).href)};
+    console.log((await connect("othello://127.0.0.1:${port}?silence=20").analyse(Position.opening(), 2)).best);`;
+  const { stdout } = await promisify(execFile)(process.execPath, ["--input-type=module", "-e", program], { timeout: 20_000 });
+  assert.equal(stdout, "d3\n");
+}));
 
 test("a session's lines", () => having(() => sound(), {}, async (_, heard, port) => {
   const session = await Session.open({ host: "127.0.0.1", port, segments: 64, nodes: 4096, silence: 5000 });
