@@ -309,7 +309,7 @@ class BehaviourTest {
       thread.setDaemon(true);
       return thread;
     });
-    var played = rows.stream().map(row -> pool.submit(() -> fault(row, System.getenv("COLUWEN_ONCE") == null ? 2 : 0))).toList();
+    var played = rows.stream().map(row -> pool.submit(() -> fault(row, System.getenv().getOrDefault("COLUWEN_ONCE", "").isEmpty() ? 2 : 0))).toList();
     return IntStream.range(0, rows.size()).mapToObj(at -> DynamicTest.dynamicTest(rows.get(at).name(), () -> {
       var fault = played.get(at).get();
       if (fault != null) throw fault;
