@@ -267,6 +267,7 @@ class Shallow(Analyst):
 
     def info(self) -> object: ...  # type: ignore[override]
     def ping(self) -> float: ...  # type: ignore[empty-body]
+
     def close(self) -> None:
         self.closed = True
 

@@ -5,10 +5,11 @@ use Rattle.othello_board.specs.Words.{cells, bits_of}
 use Rattle.othello_moves.specs.Choices.{legal_squares}
 use Rattle.othello_moves.proofs.AllowedLemmas.{legal_squares_fit}
 use Rattle.othello_moves.proofs.OrderLemmas.{length-in_order}
-use Rattle.othello_eval.specs.Values.{weights, discs_value, IsWithin}
+use Rattle.othello_eval.specs.Values.{weights, discs_value, eval, IsWithin}
 use Rattle.othello_eval.proofs.ValueLemmas.{eval_within}
+use Rattle.othello_eval.proofs.WeighedLemmas.{known_within}
 use Rattle.othello_eval.proofs.CodeLemmas.{small_fits, difference_fits, mobility_fits, eval_fits, eval_is}
-use Rattle.othello_eval.proofs.values.eval_by_mobility.Goals as goal
+use Rattle.othello_eval.proofs.weighed.Weighed.eval.Goals as goal
 
 -- as many bits are set as squares are legal, so at most 64
 counted : (board : List Cell) (word : ℕ) → word ≡ bits_of (filter (is_legal board) squares) → word < 2 ^ 64 → count_ones word ≡ length (legal_squares board)
@@ -38,16 +39,17 @@ overflow_mul-result c =
 pub overflow_add-result : goal.overflow_add-result
 overflow_add-result c =
     let m = c.args.mobility in
-    eval_fits c.discs_value.result (count_ones m.own) (count_ones m.opp) c.discs_value.ensures.within
+    eval_fits c.args.self.discs (count_ones m.own) (count_ones m.opp) (known_within _ (cells c.args.self.board) c.args.self.weighed)
     (few (cells m.board) m.own m.own_legal (omega arith)) (few (exchanged (cells m.board)) m.opp m.opp_legal (omega arith))
 
 pub returns : goal.returns
 returns c =
     let m = c.args.mobility in
     let is =
-    eval_is c.discs_value.result (count_ones m.own) (count_ones m.opp) c.discs_value.ensures.within
+    eval_is c.args.self.discs (count_ones m.own) (count_ones m.opp) (known_within _ (cells c.args.self.board) c.args.self.weighed)
     (few (cells m.board) m.own m.own_legal (omega arith)) (few (exchanged (cells m.board)) m.opp m.opp_legal (omega arith))
-    ∙ ap (λ v. v +ℤ (pos 4 *ℤ (pos (count_ones m.own) -ℤ pos (count_ones m.opp)))) c.discs_value.ensures.value
+    ∙ ap (λ v. v +ℤ (pos 4 *ℤ (pos (count_ones m.own) -ℤ pos (count_ones m.opp)))) (c.args.self.weighed ∙ ap (λ b. discs_value (cells b) weights) (sym c.requires))
     ∙ ap₂ (λ a b. discs_value (cells m.board) weights +ℤ (pos 4 *ℤ (pos a -ℤ pos b)))
-    (counted (cells m.board) m.own m.own_legal (omega arith)) (counted (exchanged (cells m.board)) m.opp m.opp_legal (omega arith)) in
-    record { value = is; within = subst (IsWithin 1184) (sym is) (eval_within (cells m.board)) }
+    (counted (cells m.board) m.own m.own_legal (omega arith)) (counted (exchanged (cells m.board)) m.opp m.opp_legal (omega arith))
+    ∙ ap (λ b. eval (cells b)) c.requires in
+    record { value = is; within = subst (IsWithin 1184) (sym is) (eval_within (cells c.args.self.board)) }
