@@ -11,8 +11,7 @@ import tempfile
 
 HERE = pathlib.Path(__file__).resolve().parent
 SOURCES = {"javascript": "javascript/src/{}.mjs", "java": "java/src/main/java/coluwen/{}.java"}
-TESTS = {"javascript": (["node", "--test", "test/"], "javascript"), "java": (["./build", "test"], "java")}
-FORMS = {"javascript": ["node", "--check"], "java": None}  # a body that is no program shows nothing: `build test` says so by the status of javac
+TESTS = {"javascript": ["node", "--test", *(f"test/{name}.test.mjs" for name in ("behaviour", "client", "conformance"))], "java": ["./build", "test", "-N", ".*EngineTest"]}
 # What is wrong, and in each language the file, what stands in it once, and what comes in its place.
 BODIES = (
     ("a reservation is never raised",
@@ -23,13 +22,13 @@ BODIES = (
      ("Score", "sign == '<' ? '>' : sign == '>' ? '<' : '=', ends, side ==", "sign, ends, side ==")),
     ("Score.flip keeps the side", ("score", "this.ends, OTHER[this.side])", "this.ends, this.side)"), ("Score", "ends, side == 'X' ? 'O' : 'X')", "ends, side)")),
     ("all moves are unsorted",
-     ("analyser", ".sort((one, other) => Score.compare(other.score, one.score))", ""),
-     ("Analyser", ".sorted(Comparator.comparing(Entry::score).reversed())", ".sorted(Comparator.comparing(Entry::move))")),
-    ("all moves begin with the worst", ("analyser", "Score.compare(other.score, one.score)", "Score.compare(one.score, other.score)"), ("Analyser", "Comparator.comparing(Entry::score).reversed()", "Comparator.comparing(Entry::score)")),
-    ("a move's value is the opponent's", ("analyser", "new Score(0 - score.value", "new Score(0 + score.value"), ("Analyser", "new Score(-result.score().value()", "new Score(result.score().value()")),
-    ("a pass takes a ply", ("analyser", "move === PASS ? depth : depth - 1", "depth - 1"), ("Analyser", "move.equals(Position.PASS) ? depth : depth - 1", "depth - 1")),
-    ("TooDeep says the depth that was asked", ("core", "Math.min(this.#depths.sure, question.depth - 1)", "question.depth"), ("Core", "Math.min(depths.sure(), question.depth - 1)", "question.depth")),
-    ("TooDeep says the sure depth alone", ("core", "Math.min(this.#depths.sure, question.depth - 1)", "this.#depths.sure"), ("Core", "Math.min(depths.sure(), question.depth - 1)", "depths.sure()")),
+     ("analyst", ".sort((one, other) => Score.compare(other.score, one.score))", ""),
+     ("Analyst", ".sorted(Comparator.comparing(Entry::score).reversed())", ".sorted(Comparator.comparing(Entry::move))")),
+    ("all moves begin with the worst", ("analyst", "Score.compare(other.score, one.score)", "Score.compare(one.score, other.score)"), ("Analyst", "Comparator.comparing(Entry::score).reversed()", "Comparator.comparing(Entry::score)")),
+    ("a move's value is the opponent's", ("analyst", "new Score(0 - score.value", "new Score(0 + score.value"), ("Analyst", "new Score(-result.score().value()", "new Score(result.score().value()")),
+    ("a pass takes a ply", ("analyst", "move === PASS ? depth : depth - 1", "depth - 1"), ("Analyst", "move.equals(Position.PASS) ? depth : depth - 1", "depth - 1")),
+    ("TooDeep says the depth that was asked", ("core", "Math.min(this.#info.sure, question.depth - 1)", "question.depth"), ("Core", "Math.min(info.sure(), question.depth - 1)", "question.depth")),
+    ("TooDeep says the sure depth alone", ("core", "Math.min(this.#info.sure, question.depth - 1)", "this.#info.sure"), ("Core", "Math.min(info.sure(), question.depth - 1)", "info.sure()")),
     ("the grain is that of the last position", ("core", "if (isOver) this.grain = Math.min(this.grain, this.#depth - 2);", "if (isOver) this.grain = this.#depth - 2;"), ("Core", "if (isOver) grain = Math.min(grain, depth - 2);", "if (isOver) grain = depth - 2;")),
     ("a probe that was spent counts as done", ("core", "!isFirst && (this.#wasSpent || ", "!isFirst && ("), ("Core", "nodes >= 0 && (wasSpent || ", "nodes >= 0 && (")),
     ("there is no limit of sessions",
@@ -47,7 +46,7 @@ BODIES = (
     ("CANCEL that came too late is a fault", ("core", "if (answer) this.#settle(question, { fault: late(question) });", "this.#settle(question, { fault: late(question) });"), ("Core", "if (answer != null) settle(question, late(question));", "settle(question, late(question));")),
     ("time goes on while a question waits for its turn", ("core", "isSettled: false, until: Infinity,", "isSettled: false, until: now + (question.timeout ?? Infinity),"), None),
     ("silence is for ever", ("core", "if (now >= seat.deadline) this", "if (false) this"), ("Core", "if (now >= seat.deadline) lost", "if (now < 0) lost")),
-    ("silence isn't asked again", ("core", "(isSilent && !this.#isOutage(now))", "isSilent"), ("Core", "(isSilent && !isOutage(now)) || one.kind", "isSilent || one.kind")),
+    ("silence isn't asked again", ("core", "(isSilent && !this.#isOutage(now)) || one.kind", "isSilent || one.kind"), ("Core", "(isSilent && !isOutage(now)) || one.kind", "isSilent || one.kind")),
     ("silence isn't doubled", ("core", "this.silence * 2 ** this.#silences", "this.silence"), ("Core", "limits.silence() * Math.pow(2, silences)", "limits.silence()")),
     ("a loss is one for ever", ("core", "if (one.losses >= LOSSES ||", "if ("), ("Core", "if (one.losses >= LOSSES ||", "if (")),
     ("a loss ends the question", ("core", "const LOSSES = 4;", "const LOSSES = 1;"), ("Core", "int LOSSES = 4;", "int LOSSES = 1;")),
@@ -66,13 +65,22 @@ BODIES = (
     ("one direction flips nothing", ("board", "[-1, 0, 1].flatMap((down) => [-1, 0, 1].map(", "[-1, 0, 1].flatMap((down) => [0, 1].map("), ("Position", "for (int right = -1;", "for (int right = 0;")),
     ("nobody passes", ("board", "squares : [PASS];", "squares : [];"), ("Position", "? found : List.of(PASS);", "? found : List.of();")),
     ("black's number is the mover's", ("score", 'this.side === "X" ? this.mover : 0 - this.mover', "this.mover"), ("Score", "return side == 'X' ? mover() : -mover();", "return mover();")),
-    ("a wrong depth is sent", ("analyser", "if (!Number.isInteger(depth) || depth < 0 || depth > DEEPEST) throw", "if (false) throw"), ("Client", 'if (depth < 0 || depth > Core.DEEPEST) throw', 'if (depth < -99) throw')),
-    ("an endless source is taken without end", ("analyser", "&& taken.length < window) coming", ") coming"), ("Many", "taken - given >= how.window()", "taken < 0")),
-    ("many answers come in any order", ("analyser", "const next = ordered ? known.find((one) => one === taken[0]) : known[0];", "const next = known[0];"), ("Many", "if (how.isOrdered()) early.put(outcome.index(), outcome);", "if (taken < 0) early.put(outcome.index(), outcome);")),
-    ("what the caller leaves isn't cancelled", ("analyser", 'stops.end(new ColuwenError("the answers aren\'t wanted any more"));', ""), ("Many", "left.forEach(future -> future.cancel(true));", "")),
+    ("a wrong depth is sent", ("analyst", "if (!Number.isInteger(depth) || depth < 0 || depth > DEEPEST) throw", "if (false) throw"), ("Client", 'if (depth < 0 || depth > Core.DEEPEST) throw', 'if (depth < -99) throw')),
+    ("an endless source is taken without end", ("analyst", "&& taken.length < window) coming", ") coming"), ("Many", "taken - given >= how.window()", "taken < 0")),
+    ("many answers come in any order", ("analyst", 'const next = order === "asked" ? known.find((one) => one === taken[0]) : known[0];', "const next = known[0];"), ("Many", "if (how.isOrdered()) early.put(outcome.index(), outcome);", "if (taken < 0) early.put(outcome.index(), outcome);")),
+    ("what the caller leaves isn't cancelled", ("analyst", 'stops.end(new ColuwenError("the answers aren\'t wanted any more"));', ""), ("Many", "left.forEach(future -> future.cancel(true));", "")),
     ("an aborted question stays", ("client", 'signal?.addEventListener("abort", leave);', ""), ("Client", "if (future.isCancelled()) act(", "if (false) act(")),
     ("a full server isn't told", ("core", '[this.#wasTold] = [true, this.#tell("full", refusal)]', "this.#wasTold = true"), ("Core", 'tell("full", refusal);', "")),
 )  # fmt: skip
+
+
+def changed(language, name, old, new):
+    """A source, and its text with a change."""
+    path = pathlib.Path(SOURCES[language].format(name))
+    text = (HERE / path).read_text()
+    if text.count(old) != 1:
+        sys.exit(f"{path} has {old!r} {text.count(old)} times")
+    return path, text.replace(old, new)
 
 
 def wrong():
@@ -84,19 +92,14 @@ def tried(language, change=None):
     """How the tests of a copy end: their status, and what they say."""
     with tempfile.TemporaryDirectory() as folder:
         clients = pathlib.Path(folder, "clients")
-        for name in ("behaviour", language):
-            shutil.copytree(HERE / name, clients / name, ignore=shutil.ignore_patterns("target", "node_modules"))
+        for name in ("behaviour", "page", language):
+            shutil.copytree(HERE / name, clients / name, symlinks=True, ignore=shutil.ignore_patterns("target", "node_modules"))
         shutil.copy(HERE / "conformance.txt", clients)
         if change:
-            name, old, new = change
-            path = clients / SOURCES[language].format(name)
-            text = path.read_text()
-            if text.count(old) != 1:
-                sys.exit(f"{path.name} has {old!r} {text.count(old)} times")
-            path.write_text(text.replace(old, new))
-        words, where = TESTS[language]
+            path, text = changed(language, *change)
+            (clients / path).write_text(text)
         try:
-            done = subprocess.run(words, cwd=clients / where, capture_output=True, text=True, check=False, timeout=150)
+            done = subprocess.run(TESTS[language], cwd=clients / language, capture_output=True, text=True, check=False, timeout=150)
         except subprocess.TimeoutExpired:
             return 1, "they don't end"
         said = done.stdout + done.stderr
@@ -108,6 +111,8 @@ def tried(language, change=None):
 def main():
     words = [word for word in sys.argv[1:] if word != "--list"]
     chosen = [(number, *one) for number, one in enumerate(wrong(), 1) if not words or any(word in (str(number), one[1]) or (not word.isdigit() and word in one[0]) for word in words)]
+    for _, _, language, change in chosen:
+        changed(language, *change)
     if "--list" in sys.argv:
         print(*(f"{number:>3} {language}: {what}" for number, what, language, _ in chosen), sep="\n")
         return 0

@@ -22,7 +22,7 @@ const FORMS = {
   CANCEL: form(`(?<state>CANCELLED) (?<job>${NUMBER})`),
   QUOTA: form(`QUOTA (?<a>${NUMBER}) (?<b>${NUMBER}) (?<c>${NUMBER})`),
   LIVE: form(`LIVE (?<a>${NUMBER}) (?<b>${NUMBER})`),
-  INFO: form(`INFO (?<a>${NUMBER})(?: [!-~]+)*`),
+  INFO: form(`INFO (?<a>${NUMBER})(?<more>(?: [!-~]+)*)`),
   BYE: form("BYE"),
 };
 
@@ -34,7 +34,7 @@ function wantedOf(word, rest, jobs) {
 }
 
 /**
- * The answer to a line (both without LF), where so many jobs were asked before: { state, job, value, move, entries, numbers }. Throws
+ * The answer to a line (both without LF), where so many jobs were asked before: { state, job, value, move, entries, numbers, more }. Throws
  * Refused where it is an ERR, and Broken where it is none to that line.
  */
 export function parse(line, text, jobs = 0) {
@@ -54,7 +54,7 @@ export function parse(line, text, jobs = 0) {
   const twice = new Set(entries.map(([move]) => move)).size !== entries.length;
   if (!again || twice || values.some((value) => Math.abs(value) > GREATEST)) throw misfit();
   const state = told.state ?? told.other ?? text.split(" ")[0];
-  return { state, job: Number(job ?? 0), value: values[0], move: told.move ?? "", entries, numbers: numbers.map(Number) };
+  return { state, job: Number(job ?? 0), value: values[0], move: told.move ?? "", entries, numbers: numbers.map(Number), more: told.more ?? "" };
 }
 
 /** An answer as it stands in a row of the conformance file. */

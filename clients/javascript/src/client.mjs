@@ -3,10 +3,10 @@
 //   await using client = connect();                               // COLUWEN_URL, or othello://127.0.0.1:4711
 //   const result = await client.analyse(Position.opening(), 6);
 //   console.log(String(result.score), result.best, ...result.table.map(String));     // 0 d3 d3=0 c4<0 f5<0 e6<0
-import { Analyser, checked, resultOf } from "./analyser.mjs";
+import { Analyst, checked, resultOf } from "./analyst.mjs";
 import { Core } from "./core.mjs";
 import { Broken } from "./faults.mjs";
-import { dial } from "./socket.mjs";
+import { dial, textIn } from "./socket.mjs";
 
 export const HOST = "127.0.0.1";
 export const PORT = 4711;
@@ -35,13 +35,13 @@ function checkedOptions(options) {
 
 /**
  * Answers any number of positions. Options: `host`, `port`, `secure` (TLS: true, or what `tls.connect` takes), `token`; `sessions`, how many
- * are used at once (4), and `ahead`, how many questions one has at once (4); in milliseconds `silence`, after which a server that says nothing
- * is given up (1,500), `outage`, for how long a server that was heard before is asked again then (300,000), `patience`, for how long one that
+ * are used at once (4), and `ahead`, how many questions one has at once (1); in milliseconds `silence`, after which a server that says nothing
+ * is given up (1,500), `outage`, for how long a server that was heard before is asked again then (120,000), `patience`, for how long one that
  * is full (30,000), and `timeout`, how long a job may take; `segments` and `nodes`, where the client isn't to choose what it reserves.
  *
  * Events: `opened` ({ segments, nodes }), `full`, `silent` and `lost` (a ColuwenError): where there is something to wait for.
  */
-export class Client extends Analyser {
+export class Client extends Analyst {
   #core; #links = new Map(); #open; #timeout; #sessions; #timer; #closed = [];
 
   constructor(options = {}) {
@@ -62,7 +62,7 @@ export class Client extends Analyser {
     return resultOf(place, depth, found, performance.now() - begun);
   }
 
-  /** How deep the server looks at mid-game positions, found out once: `sure` plies at each, `mostly` at most of them. */
+  /** How deep the server looks at mid-game positions, found out once: `sure` plies at each, `mostly` at most of them; and a site's version. */
   async info() { return this.#answer({ kind: "info" }); }
 
   /** How many milliseconds the server takes to say a word. */
@@ -115,16 +115,25 @@ export class Client extends Analyser {
   _settled(question) { question.settled(); }
 }
 
-/** A client of the server that an address names: `othello://host:port`, with `?tls=1` by TLS. Without one, COLUWEN_URL's or this host's. */
-export function connect(address = globalThis.process?.env.COLUWEN_URL ?? `othello://${HOST}:${PORT}`, options = {}) {
-  let url;
-  try {
-    url = new URL(address);
-  } catch {
-    throw new RangeError(`${address} is no address: othello://host:port`);
+/** The options that an address says: times in seconds there, `tls` (1, or a file of authorities) and `token` (a file that has it). */
+function optionsOf(address) {
+  const url = new URL(address);
+  if (url.protocol !== "othello:" || !url.hostname || url.username || !["", "/"].includes(url.pathname)) throw new RangeError("it isn't of that form");
+  const options = { host: url.hostname.replace(/^\[|\]$/g, ""), ...(url.port && { port: Number(url.port) }) };
+  for (const [name, value] of url.searchParams) {
+    if (name === "tls") options.secure = ["", "0"].includes(value) ? false : value === "1" || { ca: textIn(value) };
+    else if (name === "token") options.token = textIn(value).trim();
+    else options[name] = ["silence", "outage", "patience", "timeout"].includes(name) ? 1000 * value : Number(value);
   }
-  const words = Object.fromEntries(url.searchParams);
-  const { tls = "0", ...more } = words;
-  if (url.protocol !== "othello:" || !url.hostname || !["0", "1"].includes(tls) || Object.keys(more).length || !["", "/"].includes(url.pathname)) throw new RangeError(`${address} is no address: othello://host:port?tls=1`);
-  return new Client({ host: url.hostname.replace(/^\[|\]$/g, ""), port: url.port ? Number(url.port) : PORT, secure: tls === "1", ...options });
+  return options;
+}
+
+/** A client of the server that an address names: `othello://host:port`, and `?tls=1` or any other option by its name. Without one, COLUWEN_URL's
+ * or this host's. */
+export function connect(address = globalThis.process?.env.COLUWEN_URL || `othello://${HOST}:${PORT}`, options = {}) {
+  try {
+    return new Client({ ...optionsOf(address), ...options });
+  } catch (fault) {
+    throw new RangeError(`${address} is no address, othello://host:port?tls=1: ${fault.message}`, { cause: fault });
+  }
 }

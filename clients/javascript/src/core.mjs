@@ -9,7 +9,7 @@ const USED_UP = [10, 11, 13]; // ASK: this session takes no more jobs, and anoth
 const LATER = [14, 19, 31]; // HELLO: it may come again
 const [UNKNOWN, RATE] = [21, 31]; // INFO: this is no site; ASK: it may come again in its session
 const RETRY = 100; // before a server is asked again
-const GRACE = 100; // for so long the answer to a line may still come where a job's time is over
+const GRACE = 200; // for so long the answer to a line may still come where a job's time is over
 const LOSSES = 4; // a question isn't asked again once so many sessions were lost with it
 // What is reserved where nobody says it: by the first session, and at most; between them RESERVE raises.
 const LEVELS = [{ segments: 256, nodes: 8192 }, { segments: 1024, nodes: 65536 }];
@@ -61,7 +61,7 @@ export class Wire {
 
 /** How deep a server looks: by INFO where it knows that, else by how many nodes two positions take from depth to depth. */
 class Probe {
-  grain = 6;
+  grain = 6; version = null; // that a site says last
   #place = 0; #depth = LEAST_PROBE; #nodes = null; #wasSpent = false;
 
   /** The next line, after the answer to the one before; null once the grain is known. */
@@ -70,7 +70,7 @@ class Probe {
     const state = answer?.state ?? (refusal ? "REFUSED" : "BEGIN");
     if (state === "BEGIN") return ["INFO"];
     if (state === "JOB" || state === "PENDING") return ["GET", answer.job];
-    if (state === "INFO") this.grain = answer.numbers[0];
+    if (state === "INFO") [this.grain, this.version] = [answer.numbers[0], answer.more.split(" ").at(-1) || null];
     else if (state !== "QUOTA") this.#wasSpent ||= this.#nodes !== null && state !== "DONE";
     else this.#counted(answer.numbers[1]);
     if (state === "INFO" || this.#place === PROBES.length) return null;
@@ -105,19 +105,19 @@ class Seat {
  * come. What comes out by `take`: ["open", seat], ["send", seat, bytes], ["close", seat], ["tell", name, detail], ["settled", question].
  *
  * A question has a `kind`: of a `job` its `position` (a text), `depth` and `timeout` (from when it is asked); a `ping` and an `info` have no
- * more. Once it is settled it has a `fault`, or `found`: { value, move, entries }, milliseconds, or { grain, sure, mostly }.
+ * more. Once it is settled it has a `fault`, or `found`: { value, move, entries }, milliseconds, or { grain, sure, mostly, version }.
  */
 export class Core {
   next = Infinity; // when `passed` is to be called, if nothing comes before
   #queue = []; // questions that no session has
   #seats = new Set(); #out = []; #isEnded = false;
   #needs = new Map(); // of a depth the level that its last job needed
-  #deep = []; #depths = null; // questions that wait for what is known of the server's grain, and that
+  #deep = []; #info = null; // questions that wait for what is known of the server's grain, and that
   #heard = null; #trouble = null; #full = null; // when the server last said anything; since when it can't be reached, or is full
   #silences = 0; #probeLosses = 0; #wasTold = false; #retryAt = 0;
   #most; // how many sessions there may be now
 
-  constructor({ segments, nodes, token = "", sessions = 4, ahead = 4, patience = 30_000, silence = 1500, outage = 300_000 } = {}) {
+  constructor({ segments, nodes, token = "", sessions = 4, ahead = 1, patience = 30_000, silence = 1500, outage = 120_000 } = {}) {
     Object.assign(this, { token, sessions, ahead, patience, silence, outage });
     this.isFree = segments === undefined && nodes === undefined;
     this.levels = this.isFree ? LEVELS : [{ segments: segments ?? LEVELS[1].segments, nodes: nodes ?? LEVELS[1].nodes }];
@@ -338,9 +338,9 @@ export class Core {
 
   /** What asks for the server's grain, or can't be answered at it. */
   #tooDeep(question) {
-    if (question.kind === "info" ? this.#depths : this.#depths || !this.isFree) {
-      const greatest = this.isFree ? Math.min(this.#depths.sure, question.depth - 1) : 0;
-      this.#settle(question, question.kind === "info" ? { found: this.#depths } : { fault: new TooDeep(question.depth, greatest) });
+    if (question.kind === "info" ? this.#info : this.#info || !this.isFree) {
+      const greatest = this.isFree ? Math.min(this.#info.sure, question.depth - 1) : 0;
+      this.#settle(question, question.kind === "info" ? { found: this.#info } : { fault: new TooDeep(question.depth, greatest) });
     } else {
       this.#deep.push(question);
     }
@@ -355,8 +355,8 @@ export class Core {
       seat.line = null;
     }
     if (seat.line) return;
-    const { grain } = seat.probe;
-    if (this.#deep.length) this.#depths = { grain, sure: Math.min(grain + 4, DEEPEST), mostly: Math.min(grain + 5, DEEPEST) };
+    const { grain, version } = seat.probe;
+    if (this.#deep.length) this.#info = { grain, sure: Math.min(grain + 4, DEEPEST), mostly: Math.min(grain + 5, DEEPEST), version };
     for (const one of this.#deep.splice(0)) this.#tooDeep(one);
   }
 

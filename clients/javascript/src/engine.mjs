@@ -5,7 +5,7 @@
 import { DEEPEST, Rules, fetchModule } from "../engine/module.js";
 import { MODULES } from "../engine/modules.js";
 import { Engine as Pool, workersHere } from "../engine/pool.js";
-import { Analyser, checked, resultOf } from "./analyser.mjs";
+import { Analyst, checked, resultOf } from "./analyst.mjs";
 import { PASS, SQUARES } from "./board.mjs";
 import { Broken, Closed, Late } from "./faults.mjs";
 
@@ -51,7 +51,7 @@ const inOrder = (moves) => [...CORNERS.filter((move) => moves.includes(move)), .
  * Answers any number of positions, in node and browsers, by the same calls as `Client`. Options: `workers`, how many search at once (one for each
  * processor; in a browser up to 8), and `timeout`, how many milliseconds a question may take.
  */
-export class Engine extends Analyser {
+export class Engine extends Analyst {
   #pool; #workers; #timeout; #isClosed = false;
 
   constructor({ workers, timeout, ...others } = {}) {
@@ -76,7 +76,7 @@ export class Engine extends Analyser {
   }
 
   /** Every depth can be had. */
-  async info() { return { grain: DEEPEST, sure: DEEPEST, mostly: DEEPEST }; }
+  async info() { return { grain: DEEPEST, sure: DEEPEST, mostly: DEEPEST, version: null }; }
 
   /** How many milliseconds a question takes that needs no search. */
   async ping() {

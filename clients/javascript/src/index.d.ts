@@ -82,24 +82,26 @@ export interface Result {
 }
 
 /** How deep mid-game positions are looked at: `sure` plies at each, `mostly` at most of them. */
-export interface Depths { readonly grain: number; readonly sure: number; readonly mostly: number; }
+export interface Info { readonly grain: number; readonly sure: number; readonly mostly: number; readonly version: string | null; }
 /** Times are in milliseconds. */
 export interface How { timeout?: number; signal?: AbortSignal; }
-export interface Progress { readonly taken: number; readonly done: number; readonly faults: number; }
-export interface ManyHow extends How { ordered?: boolean; window?: number; onProgress?: (progress: Progress) => void; }
-export type Outcome = { readonly index: number; readonly position: Position; readonly result: Result; readonly fault?: undefined }
-  | { readonly index: number; readonly position: Position | string; readonly fault: Error; readonly result?: undefined };
-export type Positions = Iterable<Position | string> | AsyncIterable<Position | string>;
+/** How many are answered, of these at fault; and how many there are, where the source says it. */
+export interface Progress { readonly done: number; readonly faults: number; readonly total: number | undefined; }
+export interface ManyHow extends How { order?: "asked" | "known"; window?: number; onProgress?: (progress: Progress) => void; }
+export type Question = Position | string | readonly [position: Position | string, depth: number];
+/** Of one of many questions its number from 0, itself as it was given, and its result or its fault. */
+export type Outcome<Asked extends Question = Question> = { readonly index: number; readonly question: Asked; readonly result: Result; readonly fault?: undefined }
+  | { readonly index: number; readonly question: Asked; readonly fault: Error; readonly result?: undefined };
 
 /** What a client of a server and an engine of this host have in common. */
-export declare abstract class Analyser extends EventTarget {
+export declare abstract class Analyst extends EventTarget {
   abstract analyse(position: string | Position, depth: number, how?: How): Promise<Result>;
-  abstract info(): Promise<Depths>;
+  abstract info(): Promise<Info>;
   abstract ping(): Promise<number>;
   abstract close(): Promise<void>;
   readonly window: number;
   analyseAll(position: string | Position, depth: number, how?: How): Promise<Entry[]>;
-  analyseMany(positions: Positions, depth: number, how?: ManyHow): AsyncGenerator<Outcome, void, void>;
+  analyseMany<Asked extends Question>(questions: Iterable<Asked> | AsyncIterable<Asked>, depth?: number, how?: ManyHow): AsyncGenerator<Outcome<Asked>, void, void>;
   [Symbol.asyncDispose](): Promise<void>;
 }
 
@@ -132,10 +134,10 @@ export interface ClientOptions extends PlaceOptions {
 export interface EngineOptions { workers?: number; timeout?: number; }
 
 /** Values without a server: the proved search as WebAssembly, in workers of this process or page. No depth is beyond it. */
-export declare class Engine extends Analyser {
+export declare class Engine extends Analyst {
   constructor(options?: EngineOptions);
   analyse(position: string | Position, depth: number, how?: How): Promise<Result>;
-  info(): Promise<Depths>;
+  info(): Promise<Info>;
   ping(): Promise<number>;
   close(): Promise<void>;
 }
@@ -148,10 +150,10 @@ export interface ClientEvents {
 }
 export declare class ClientEvent<Detail> extends Event { readonly detail: Detail; }
 
-export declare class Client extends Analyser {
+export declare class Client extends Analyst {
   constructor(options?: ClientOptions);
   analyse(position: string | Position, depth: number, how?: How): Promise<Result>;
-  info(): Promise<Depths>;
+  info(): Promise<Info>;
   ping(): Promise<number>;
   close(): Promise<void>;
   addEventListener<Name extends keyof ClientEvents>(name: Name, heard: (event: ClientEvents[Name]) => void, options?: Listened[2]): void;
@@ -160,7 +162,7 @@ export declare class Client extends Analyser {
   removeEventListener(name: string, heard: Listened[1], options?: Parameters<EventTarget["removeEventListener"]>[2]): void;
 }
 
-/** `othello://host:port`, `?tls=1`; without an address COLUWEN_URL's, or this host's. */
+/** `othello://host:port`, and `?tls=1` or any other option by its name, times in seconds; without an address COLUWEN_URL's, or this host's. */
 export declare function connect(address?: string, options?: ClientOptions): Client;
 
 export type State = { readonly state: "DONE"; readonly value: number; readonly move: string } | { readonly state: "PENDING" | "SPENT" | "CANCELLED" };

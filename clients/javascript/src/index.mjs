@@ -1,5 +1,5 @@
 // Values of Othello positions, from a server of `othello serve` or by an engine of this process or page, without packages.
-export { Analyser, Entry } from "./analyser.mjs";
+export { Analyst, Entry } from "./analyst.mjs";
 export { PASS, Position, SQUARES, START } from "./board.mjs";
 export { Client, ClientEvent, HOST, PORT, connect } from "./client.mjs";
 export { Engine } from "./engine.mjs";

@@ -1,6 +1,10 @@
-// Connections of node: the one file that needs its modules.
+// Connections and files of node: the one module that needs node's own.
+import fs from "node:fs";
 import net from "node:net";
 import tls from "node:tls";
+
+/** What a file has, that an address names. */
+export const textIn = (path) => fs.readFileSync(path, "latin1");
 
 const FINAL = /CERT|SIGNED|VERIFY|ENOTFOUND/; // of a fault's code: trying again can't mend it
 

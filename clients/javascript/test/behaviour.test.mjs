@@ -1,4 +1,4 @@
-// The behaviour rows (clients/behaviour) by this client: each row's server and calls, all rows at once.
+// The behaviour rows (clients/behaviour) by this client: each row's server and calls, eight rows at once.
 import assert from "node:assert/strict";
 import fs from "node:fs";
 import net from "node:net";
@@ -136,7 +136,7 @@ async function callOf(client, what) {
   }
   if (words[0] === "ping") return assert.ok((await client.ping()) >= 0), ["done"];
   if (words[0] === "close") return await client.close(), ["done"];
-  if (words[0] === "info") return [`info ${Object.entries(await client.info()).map((each) => each.join("=")).join(" ")}`];
+  if (words[0] === "info") return [`info ${Object.entries(await client.info()).filter(([name]) => name !== "version").map((each) => each.join("=")).join(" ")}`];
   if (words[0] === "analyse") return [resultText(await client.analyse(text, Number(words[1]), options))];
   if (words[0] === "analyse_all") return [["moves", ...(await client.analyseAll(text, Number(words[1]), options))].join(" ")];
   return manyOf(client, Number(words[1]), text, how);
@@ -152,7 +152,7 @@ async function manyOf(client, depth, text, how) {
       } while (isEndless);
     }
   };
-  for await (const { index, result, fault } of client.analyseMany(source(), depth, { ordered: how.order !== "known" })) {
+  for await (const { index, result, fault } of client.analyseMany(source(), depth, { order: how.order ?? "asked" })) {
     found.push([index, `item ${index} ${result ? resultText(result) : `fault ${nameOf(fault)}${fault.number ? ` number=${fault.number}` : ""}`}`]);
     if (found.length === Number(how.take)) break;
   }
@@ -196,6 +196,16 @@ async function play(row) {
   }
 }
 
+/** Plays a row, and where it fails, as on a busy host it may, twice more: a wrong body fails each time. */
+async function played(row, more = 2) {
+  try {
+    await play(row);
+  } catch (fault) {
+    if (!more) throw fault;
+    await played(row, more - 1);
+  }
+}
+
 async function playCalls(row, client, server) {
   const started = new Map();
   for (let at = 0; at < row.calls.length; at += 1) {
@@ -221,8 +231,8 @@ async function playCalls(row, client, server) {
   if (row.scripts.every((script) => Array.isArray(script))) assert.equal(server.at, row.scripts.length, "a connection didn't come");
 }
 
-describe("behaviour rows", { concurrency: 50, timeout: 60_000 }, () => {
+describe("behaviour rows", { concurrency: 8, timeout: 60_000 }, () => {
   for (const file of fs.readdirSync(FOLDER).filter((name) => name.endsWith(".txt")).sort()) {
-    for (const row of rowsOf(fs.readFileSync(new URL(file, FOLDER), "utf8"))) it(`${file.replace(".txt", "")}: ${row.name}`, () => play(row));
+    for (const row of rowsOf(fs.readFileSync(new URL(file, FOLDER), "utf8"))) it(`${file.replace(".txt", "")}: ${row.name}`, () => played(row));
   }
 });

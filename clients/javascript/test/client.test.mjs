@@ -1,10 +1,13 @@
 // What the rows don't say: the limits of the core, by moments that the tests choose; bulk questions; and what is checked and told.
 import assert from "node:assert/strict";
+import fs from "node:fs";
 import net from "node:net";
+import os from "node:os";
+import path from "node:path";
 import readline from "node:readline";
 import test from "node:test";
 import { Core } from "../src/core.mjs";
-import { Analyser, Client, Closed, ColuwenError, Entry, Late, Position, Refused, Score, Session, TooDeep, Unreachable, connect } from "../src/index.mjs";
+import { Analyst, Client, Closed, ColuwenError, Entry, Late, Position, Refused, Score, Session, TooDeep, Unreachable, connect } from "../src/index.mjs";
 
 const OPENING = Position.opening();
 
@@ -106,7 +109,7 @@ function sound(ended = () => "DONE") {
     if (word === "ASK") return `JOB ${jobs.push(ended(Number(rest[0]), rest.slice(1).join(" ")))}\n`;
     if (word === "CANCEL") return (jobs[rest[0] - 1] = "CANCELLED"), `CANCELLED ${rest[0]}\n`;
     if (word === "GET") return `${jobs[rest[0] - 1]} ${rest[0]}${jobs[rest[0] - 1] === "DONE" ? " 5 d3" : ""}\n`;
-    return { TABLE: `TABLE ${rest[0]} d3=5 c4<-1\n`, QUOTA: "QUOTA 256 8000 9000\n", LIVE: "LIVE 0 0\n", INFO: "INFO 2\n", BYE: "BYE\n" }[word];
+    return { TABLE: `TABLE ${rest[0]} d3=5 c4<-1\n`, QUOTA: "QUOTA 256 8000 9000\n", LIVE: "LIVE 0 0\n", INFO: "INFO 2 1024 65536 0 0 1.2.3\n", BYE: "BYE\n" }[word];
   };
 }
 
@@ -134,11 +137,11 @@ async function having(answers, options, trial) {
 }
 
 test("results are typed and frozen", () => having(() => sound(), {}, async (client) => {
-  assert.ok(client instanceof Analyser && client instanceof EventTarget);
+  assert.ok(client instanceof Analyst && client instanceof EventTarget);
   const found = await client.analyse(String(OPENING), 6);
   assert.deepEqual([found.score.value, found.best, found.table.map(String), found.position.equals(OPENING)], [5, "d3", ["d3=5", "c4<-1"], true]);
   assert.ok(found.table[1] instanceof Entry && Object.isFrozen(found) && Object.isFrozen(found.table) && found.milliseconds >= 0);
-  assert.deepEqual(await client.info(), { grain: 2, sure: 6, mostly: 7 });
+  assert.deepEqual(await client.info(), { grain: 2, sure: 6, mostly: 7, version: "1.2.3" });
   assert.deepEqual(Object.keys(client), []);
   assert.ok((await client.ping()) < 5000);
   await client[Symbol.asyncDispose ?? Symbol.for("Symbol.asyncDispose")]();
@@ -164,7 +167,7 @@ test("what can't be is told before anything is sent", () => having(() => sound()
 }));
 
 test("an address", async () => {
-  for (const address of ["http://127.0.0.1", "othello:", "othello://h:1?tls=3", "othello://h/x", "othello://h?speed=1", "h:1", ""]) assert.throws(() => connect(address), RangeError);
+  for (const address of ["http://127.0.0.1", "othello:", "othello://h:1?tls=/nowhere", "othello://h?sessions=x", "othello://me@h", "othello://h/x", "othello://h?speed=1", "h:1", ""]) assert.throws(() => connect(address), RangeError);
   const places = [];
   const dial = (place) => { places.push(place); return { send() {}, close() {} }; };
   for (const address of ["othello://[::1]:4712?tls=1", "othello://board.example"]) {
@@ -174,11 +177,13 @@ test("an address", async () => {
   }
   assert.deepEqual(places, [{ host: "::1", port: 4712, secure: true }, { host: "board.example", port: 4711, secure: false }]);
   await having(() => sound(), {}, async (_, heard, port) => {
-    process.env.COLUWEN_URL = `othello://127.0.0.1:${port}`;
+    const token = path.join(fs.mkdtempSync(path.join(os.tmpdir(), "token")), "token");
+    fs.writeFileSync(token, "secret\n");
+    process.env.COLUWEN_URL = `othello://127.0.0.1:${port}?tls=0&silence=5&nodes=4096&token=${token}`;
     const client = connect();
     assert.equal((await client.analyse(OPENING, 1)).best, "d3");
     await client.close();
-    assert.ok(heard.includes("BYE"));
+    assert.deepEqual([heard[0], heard.at(-1)], ["HELLO 1024 4096 secret", "BYE"]);
   });
 });
 
@@ -215,13 +220,23 @@ test("answers come before the next question does; what is left is cancelled", ()
       ends.isOver = true;
     }
   }
-  const found = client.analyseMany(source(), 3, { ordered: false, onProgress: (progress) => told_.push(progress) });
+  const found = client.analyseMany(source(), 3, { order: "known", onProgress: (progress) => told_.push(progress) });
   assert.equal((await found.next()).value.result.best, "d3");
   told_.resolve();
   assert.equal((await found.next()).value.index, 2);
   await found.return();
-  assert.deepEqual(told_.slice(), [{ taken: 1, done: 1, faults: 0 }, { taken: 3, done: 2, faults: 0 }]);
+  assert.deepEqual(told_.slice(), [{ done: 1, faults: 0, total: undefined }, { done: 2, faults: 0, total: undefined }]);
   while (!heard.includes("CANCEL 2") && !heard.includes("CANCEL 1")) await new Promise((resolve) => { setTimeout(resolve, 5); });
+}));
+
+test("questions have depths of their own, and a source that says how many there are", () => having(() => sound(), {}, async (client) => {
+  const told_ = [];
+  const found = client.analyseMany([[OPENING, 1], [OPENING, 2], "x", [OPENING, 99]], undefined, { onProgress: (progress) => told_.push(progress) });
+  const outcomes = [];
+  for await (const outcome of found) outcomes.push(outcome);
+  assert.deepEqual(outcomes.map(({ result, fault }) => result?.depth ?? fault.constructor.name), [1, 2, "RangeError", "RangeError"]);
+  assert.deepEqual(told_.at(-1), { done: 4, faults: 2, total: 4 });
+  await assert.rejects(client.analyseMany([], 1, { order: "x" }).next(), RangeError);
 }));
 
 test("a fault of the source is the caller's, and a signal ends it all", () => having(() => sound(() => "PENDING"), {}, async (client) => {

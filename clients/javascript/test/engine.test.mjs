@@ -6,7 +6,7 @@ import { tmpdir } from "node:os";
 import { join } from "node:path";
 import test from "node:test";
 import { Worker } from "node:worker_threads";
-import { Analyser, Closed, Engine, Late, Position } from "../src/index.mjs";
+import { Analyst, Closed, Engine, Late, Position } from "../src/index.mjs";
 import { Rules } from "../engine/module.js";
 import { Engine as Pool } from "../engine/pool.js";
 
@@ -62,7 +62,7 @@ test("the rules are those of this package, through whole games", async () => {
 });
 
 test("it is an analyser", () => withEngine({ workers: 2 }, async (engine) => {
-  assert.ok(engine instanceof Analyser);
+  assert.ok(engine instanceof Analyst);
   const result = await engine.analyse(OPENING, 2);
   assert.deepEqual([result.score.value, result.best, result.table.map(String)], [-4, "d3", ["d3=-4", "c4<-4", "f5<-4", "e6<-4"]]);
   assert.equal((await engine.analyse(OPENING.text, 0)).best, null);

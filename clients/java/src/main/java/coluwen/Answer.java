@@ -13,17 +13,15 @@ import java.util.stream.Stream;
 
 /**
  * An answer of the server that fits its line, by the one grammar of answers (answers.py of the Python package states it in words;
- * clients/conformance.txt has the rows that the clients of all languages are tried by). {@code numbers}: of WELCOME, RESERVED, QUOTA, LIVE.
+ * clients/conformance.txt has the rows that the clients of all languages are tried by). {@code numbers}: of WELCOME, RESERVED, QUOTA, LIVE; {@code more}: what is behind the first of INFO.
  */
-record Answer(String state, int job, int value, String move, List<Entry> entries, List<Integer> numbers) {
+record Answer(String state, int job, int value, String move, List<Entry> entries, List<Integer> numbers, String more) {
   static final int LONGEST = 1115; // bytes of an answer, with its LF
 
   /** An entry of a table. */
   record Entry(String move, char sign, int value) {
     @Override
-    public String toString() {
-      return move + sign + value;
-    }
+    public String toString() { return move + sign + value; }
   }
 
   private static final String NUMBER = "(?:0|[1-9][0-9]{0,7})";
@@ -39,15 +37,11 @@ record Answer(String state, int job, int value, String move, List<Entry> entries
       form("GET", DONE + "|" + ended("PENDING|SPENT|CANCELLED")), form("WAIT", DONE + "|" + ended("SPENT|CANCELLED")),
       form("TABLE", "(?<state>TABLE)" + JOB + "(?<entries>(?: (?:" + PLACE + ")[=<>]" + VALUE + ")*)|" + ended("PENDING|SPENT|CANCELLED")),
       form("CANCEL", "(?<state>CANCELLED)" + JOB), form("QUOTA", "(?<state>QUOTA)" + TWO + " (?<c>" + NUMBER + ")"),
-      form("LIVE", "(?<state>LIVE)" + TWO), form("INFO", "(?<state>INFO) (?<a>" + NUMBER + ")(?: [!-~]+)*"), form("BYE", "(?<state>BYE)"));
+      form("LIVE", "(?<state>LIVE)" + TWO), form("INFO", "(?<state>INFO) (?<a>" + NUMBER + ")(?<more>(?: [!-~]+)*)"), form("BYE", "(?<state>BYE)"));
 
-  private static Map.Entry<String, Pattern> form(String word, String text) {
-    return Map.entry(word, Pattern.compile(text));
-  }
+  private static Map.Entry<String, Pattern> form(String word, String text) { return Map.entry(word, Pattern.compile(text)); }
 
-  private static String ended(String states) {
-    return "(?<other>" + states + ") (?<otherJob>" + NUMBER + ")";
-  }
+  private static String ended(String states) { return "(?<other>" + states + ") (?<otherJob>" + NUMBER + ")"; }
 
   /**
    * The answer to a line (both without LF), where so many jobs were asked before. {@code Refused} where it is an ERR, and {@code Broken}
@@ -72,7 +66,7 @@ record Answer(String state, int job, int value, String move, List<Entry> entries
     if ((again != null && !again.equals(given)) || moves.size() != entries.size() || tooGreat) throw misfit(line, text);
     var state = group(found, "state") != null ? group(found, "state") : group(found, "other");
     var move = group(found, "move") == null ? "" : group(found, "move");
-    return new Answer(state, job == null ? 0 : Integer.parseInt(job), value, move, entries, numbers.stream().map(Integer::valueOf).toList());
+    return new Answer(state, job == null ? 0 : Integer.parseInt(job), value, move, entries, numbers.stream().map(Integer::valueOf).toList(), group(found, "more"));
   }
 
   /** The words that must stand again in the answer: of ASK the next job's number; null where none must. */

@@ -6,6 +6,11 @@ import java.net.Socket;
 import java.net.URI;
 import java.net.UnknownHostException;
 import java.nio.charset.StandardCharsets;
+import java.nio.file.Files;
+import java.nio.file.Path;
+import java.security.GeneralSecurityException;
+import java.security.KeyStore;
+import java.security.cert.CertificateFactory;
 import java.time.Duration;
 import java.util.ArrayList;
 import java.util.HashMap;
@@ -19,6 +24,7 @@ import java.util.function.Consumer;
 import java.util.function.DoubleConsumer;
 import javax.net.ssl.SSLContext;
 import javax.net.ssl.SSLException;
+import javax.net.ssl.TrustManagerFactory;
 
 /**
  * Values of positions from a server, by as many sessions as they need.
@@ -32,7 +38,7 @@ import javax.net.ssl.SSLException;
  *
  * What there is to wait for it tells to the logger {@code coluwen} (and {@code onEvent}).
  */
-public final class Client implements Analyser {
+public final class Client implements Analyst {
   private static final System.Logger LOGGER = System.getLogger("coluwen");
 
   /** Something that is told: {@code opened}, {@code full}, {@code silent} or {@code lost}. */
@@ -62,9 +68,9 @@ public final class Client implements Analyser {
     private SSLContext tls;
     private String token;
     private int sessions = 4;
-    private int ahead = 4;
+    private int ahead = 1;
     private Duration silence = Duration.ofMillis(1500);
-    private Duration outage = Duration.ofMinutes(5);
+    private Duration outage = Duration.ofMinutes(2);
     private Duration patience = Duration.ofSeconds(30);
     private Duration timeout;
     private int segments;
@@ -83,21 +89,11 @@ public final class Client implements Analyser {
       return value;
     }
 
-    public Builder host(String value) {
-      host = value;
-      return this;
-    }
-
-    public Builder port(int value) {
-      port = within("port", 1, value, 65535);
-      return this;
-    }
+    public Builder host(String value) { host = value; return this; }
+    public Builder port(int value) { port = within("port", 1, value, 65535); return this; }
 
     /** TLS, by the authorities of this context; the certificate must be the host's. Null for none. */
-    public Builder tls(SSLContext value) {
-      tls = value;
-      return this;
-    }
+    public Builder tls(SSLContext value) { tls = value; return this; }
 
     /** A customer's of a site. */
     public Builder token(String value) {
@@ -107,104 +103,100 @@ public final class Client implements Analyser {
     }
 
     /** How many sessions are used at once (4). */
-    public Builder sessions(int value) {
-      sessions = within("sessions", 1, value, 64);
-      return this;
-    }
+    public Builder sessions(int value) { sessions = within("sessions", 1, value, 64); return this; }
 
-    /** How many questions a session has at once (4). */
-    public Builder ahead(int value) {
-      ahead = within("ahead", 1, value, 256);
-      return this;
-    }
+    /** How many questions a session has at once (1). */
+    public Builder ahead(int value) { ahead = within("ahead", 1, value, 256); return this; }
 
     /** After what time a server that says nothing is given up (1.5 s). */
-    public Builder silence(Duration value) {
-      silence = positive("silence", value);
-      return this;
-    }
+    public Builder silence(Duration value) { silence = positive("silence", value); return this; }
 
-    /** For how long a server that was heard before is asked again then, by new sessions (5 min). */
-    public Builder outage(Duration value) {
-      outage = value;
-      return this;
-    }
+    /** For how long a server that was heard before is asked again then, by new sessions (2 min). */
+    public Builder outage(Duration value) { outage = value; return this; }
 
     /** For how long a server that is full is asked again (30 s). */
-    public Builder patience(Duration value) {
-      patience = value;
-      return this;
-    }
+    public Builder patience(Duration value) { patience = value; return this; }
 
     /** How long a job may take (no limit). */
-    public Builder timeout(Duration value) {
-      timeout = positive("timeout", value);
-      return this;
-    }
+    public Builder timeout(Duration value) { timeout = positive("timeout", value); return this; }
 
     /** What each session reserves, where the client isn't to choose it. */
-    public Builder segments(int value) {
-      segments = within("segments", 1, value, 4096);
-      return this;
-    }
+    public Builder segments(int value) { segments = within("segments", 1, value, 4096); return this; }
 
-    public Builder nodes(int value) {
-      nodes = within("nodes", 1, value, 65536);
-      return this;
-    }
+    public Builder nodes(int value) { nodes = within("nodes", 1, value, 65536); return this; }
 
     /** Who hears what there is to wait for. */
-    public Builder onEvent(Consumer<Event> value) {
-      onEvent = value;
-      return this;
+    public Builder onEvent(Consumer<Event> value) { onEvent = value; return this; }
+
+    public Client build() { return new Client(this); }
+
+    private void set(String name, String value) throws IOException, GeneralSecurityException {
+      switch (name) {
+        case "tls" -> tls(value.isEmpty() || value.equals("0") ? null : value.equals("1") ? SSLContext.getDefault() : trusting(Path.of(value)));
+        case "token" -> token(Files.readString(Path.of(value)).strip());
+        case "sessions" -> sessions(Integer.parseInt(value));
+        case "ahead" -> ahead(Integer.parseInt(value));
+        case "segments" -> segments(Integer.parseInt(value));
+        case "nodes" -> nodes(Integer.parseInt(value));
+        case "silence" -> silence(seconds(value));
+        case "outage" -> outage(seconds(value));
+        case "patience" -> patience(seconds(value));
+        case "timeout" -> timeout(seconds(value));
+        default -> throw new IllegalArgumentException("there is no option " + name);
+      }
     }
 
-    public Client build() {
-      return new Client(this);
+    private static Duration seconds(String value) { return Duration.ofMillis(Math.round(1000 * Double.parseDouble(value))); }
+
+    /** TLS by a file of authorities. */
+    private static SSLContext trusting(Path authorities) throws IOException, GeneralSecurityException {
+      var store = KeyStore.getInstance(KeyStore.getDefaultType());
+      store.load(null, null);
+      try (var file = Files.newInputStream(authorities)) {
+        for (var each : CertificateFactory.getInstance("X.509").generateCertificates(file)) store.setCertificateEntry("authority " + store.size(), each);
+      }
+      var trust = TrustManagerFactory.getInstance(TrustManagerFactory.getDefaultAlgorithm());
+      trust.init(store);
+      var found = SSLContext.getInstance("TLS");
+      found.init(null, trust.getTrustManagers(), null);
+      return found;
     }
   }
 
-  public static Builder builder() {
-    return new Builder();
-  }
+  public static Builder builder() { return new Builder(); }
 
   /** A client of the server that COLUWEN_URL names, or of this host's. */
   public static Client connect() {
     var address = System.getenv("COLUWEN_URL");
-    return address == null ? builder().build() : connect(address);
+    return address == null || address.isEmpty() ? builder().build() : connect(address);
   }
 
-  /** A client of the server that an address names: {@code othello://host:port}, with {@code ?tls=1} by TLS. */
-  public static Client connect(String address) {
-    return at(address).build();
-  }
+  /**
+   * A client of the server that an address names: {@code othello://host:port}, and behind a question mark {@code tls} (1, or a file of authorities), {@code token} (a file
+   * that has it), or any other option by its name, times in seconds.
+   */
+  public static Client connect(String address) { return at(address).build(); }
 
   /** The same to be built, with other options. */
   public static Builder at(String address) {
     try {
       var uri = URI.create(address);
-      var tls = uri.getQuery() == null ? "tls=0" : uri.getQuery();
       var isBare = uri.getPath().isEmpty() || uri.getPath().equals("/");
-      if (!"othello".equals(uri.getScheme()) || uri.getHost() == null || !isBare || uri.getUserInfo() != null || !tls.matches("tls=[01]")) throw new IllegalArgumentException();
+      if (!"othello".equals(uri.getScheme()) || uri.getHost() == null || !isBare || uri.getUserInfo() != null) throw new IllegalArgumentException("it isn't of that form");
       var found = builder().host(uri.getHost().replaceAll("^\\[|\\]$", ""));
       if (uri.getPort() >= 0) found.port(uri.getPort());
-      return tls.equals("tls=1") ? found.tls(SSLContext.getDefault()) : found;
-    } catch (IllegalArgumentException | NullPointerException fault) {
-      throw new IllegalArgumentException(address + " is no address: othello://host:port?tls=1");
-    } catch (java.security.NoSuchAlgorithmException fault) {
-      throw new IllegalStateException(fault);
+      for (var word : uri.getQuery() == null ? new String[0] : uri.getQuery().split("&")) found.set(word.replaceAll("=.*", ""), word.substring(word.indexOf('=') + 1));
+      return found;
+    } catch (IllegalArgumentException | NullPointerException | IOException | GeneralSecurityException fault) {
+      throw new IllegalArgumentException(address + " is no address, othello://host:port?tls=1: " + fault.getMessage(), fault);
     }
   }
 
   @Override
-  public Duration timeout() {
-    return options.timeout;
-  }
+  public Duration timeout() { return options.timeout; }
 
   @Override
-  public int window() {
-    return 64 * options.sessions;
-  }
+  public int window() { return 64 * options.sessions; }
 
   @Override
   public CompletableFuture<Result> analyseAsync(Position position, int depth, Duration timeout) {
@@ -222,9 +214,7 @@ public final class Client implements Analyser {
   }
 
   @Override
-  public Depths info() {
-    return joined(asked(new Core.Question(Core.Kind.INFO, "", 0, 0), done -> done.depths));
-  }
+  public Info info() { return joined(asked(new Core.Question(Core.Kind.INFO, "", 0, 0), done -> done.info)); }
 
   @Override
   public Duration ping() {
@@ -289,9 +279,7 @@ public final class Client implements Analyser {
     if (!later.isEmpty()) CompletableFuture.runAsync(() -> later.forEach(Runnable::run));
   }
 
-  private double now() {
-    return (System.nanoTime() - origin) / 1e6;
-  }
+  private double now() { return (System.nanoTime() - origin) / 1e6; }
 
   private void perform(Core.Action action, List<Runnable> later) {
     switch (action.what()) {

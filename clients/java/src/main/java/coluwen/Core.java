@@ -14,6 +14,7 @@ import java.util.LinkedHashSet;
 import java.util.LinkedList;
 import java.util.List;
 import java.util.Map;
+import java.util.Optional;
 import java.util.function.Supplier;
 
 /**
@@ -29,7 +30,7 @@ final class Core {
   private static final int UNKNOWN = 21; // INFO: this is no site
   private static final int RATE = 31; // ASK: it may come again in its session
   private static final int RETRY = 100; // before a server is asked again
-  private static final int GRACE = 100; // for so long the answer to a line may still come where a job's time is over
+  private static final int GRACE = 200; // for so long the answer to a line may still come where a job's time is over
   private static final int LOSSES = 4; // a question isn't asked again once so many sessions were lost with it
   private static final double NEVER = Double.POSITIVE_INFINITY;
 
@@ -45,7 +46,7 @@ final class Core {
 
   enum Kind { JOB, PING, INFO }
 
-  /** What is asked. Once it is settled it has a fault, or what was found: {@code state} and {@code entries} of a job, milliseconds of a ping, depths. */
+  /** What is asked. Once it is settled it has a fault, or what was found: {@code state} and {@code entries} of a job, milliseconds of a ping, what is known of the server. */
   static final class Question {
     final Kind kind;
     final String position;
@@ -56,15 +57,11 @@ final class Core {
     Answer done;
     List<Answer.Entry> entries;
     double milliseconds;
-    Depths depths;
-    private int level;
-    private int job;
-    private int losses;
+    Info info;
+    private int level, job, losses;
     private boolean isAlone; // it was spent: it is asked once more, as the first job of a session
     private double askedAt;
-    private double pollAt = NEVER;
-    private double until = NEVER; // then it is cancelled
-    private double limit = NEVER; // then nobody waits for the answer any more
+    private double pollAt = NEVER, until = NEVER, limit = NEVER; // when it is looked at, is cancelled, and nobody waits for a line's answer any more
     private double refusedAt = NEVER;
 
     Question(Kind kind, String position, int depth, double timeout) {
@@ -74,28 +71,22 @@ final class Core {
       this.timeout = timeout;
     }
 
-    private void again() {
-      job = 0;
-      until = limit = NEVER;
-    }
+    private void again() { job = 0; until = limit = NEVER; }
   }
 
   /** A session, from its opening to its end. */
   static final class Seat {
     private final Wire wire = new Wire();
     private final List<Question> running = new ArrayList<>(); // whose jobs it has, the oldest first
-    private final double begun;
-    private final double silence;
+    private final double begun, silence;
     private final int level;
     private final Probe probe; // of one that finds out the server's grain
     private String probing;
     private Reservation reserved;
-    private boolean isReady; // it has been welcomed
-    private boolean isRetired; // it takes no more
+    private boolean isReady, isRetired; // it has been welcomed; it takes no more
     private String word; // of the line that isn't answered, and what that is for
     private Question asked;
-    private double deadline; // until then it is to be answered
-    private double freeAt; // before it asks nothing
+    private double deadline, freeAt; // until then it is to be answered; before it asks nothing
 
     private Seat(int level, Reservation reserved, double silence, double now, Probe probe) {
       this.level = level;
@@ -112,13 +103,8 @@ final class Core {
       return found;
     }
 
-    private boolean isIdle() {
-      return isReady && word == null && running.isEmpty();
-    }
-
-    double silence() {
-      return silence;
-    }
+    private boolean isIdle() { return isReady && word == null && running.isEmpty(); }
+    double silence() { return silence; }
   }
 
   enum What { OPEN, SEND, CLOSE, TELL, SETTLED }
@@ -132,22 +118,13 @@ final class Core {
   private final Map<Integer, Integer> needs = new HashMap<>(); // of a depth the level that its last job needed
   private final List<Question> deep = new ArrayList<>(); // they wait for what is known of the server's grain
   private List<Action> out = new ArrayList<>();
-  private Depths depths;
-  private boolean isEnded;
-  private boolean wasTold;
-  private double heard = -NEVER; // when the server last said anything
-  private double trouble = NEVER; // since when it can't be reached
-  private double full = NEVER; // since when it is full
-  private double retryAt;
-  private double next = NEVER;
-  private int silences;
-  private int probeLosses;
-  private int most; // how many sessions there may be now
+  private Info info;
+  private boolean isEnded, wasTold;
+  private double heard = -NEVER, trouble = NEVER, full = NEVER; // when the server last said anything; since when it can't be reached, or is full
+  private double retryAt, next = NEVER;
+  private int silences, probeLosses, most; // how many sessions there may be now
 
-  Core(Limits limits) {
-    this.limits = limits;
-    most = limits.sessions();
-  }
+  Core(Limits limits) { this.limits = limits; most = limits.sessions(); }
 
   List<Action> take() {
     var found = out;
@@ -155,17 +132,9 @@ final class Core {
     return found;
   }
 
-  boolean isEmpty() {
-    return seats.isEmpty();
-  }
-
-  boolean isOpen(Seat seat) {
-    return seats.contains(seat);
-  }
-
-  double next() {
-    return next;
-  }
+  boolean isEmpty() { return seats.isEmpty(); }
+  boolean isOpen(Seat seat) { return seats.contains(seat); }
+  double next() { return next; }
 
   void ask(Question question, double now) {
     if (isEnded) throw new Closed("client");
@@ -175,10 +144,7 @@ final class Core {
   }
 
   /** Nobody wants a question's answer any more: it ends with this fault, and its job is cancelled once a line can be sent. */
-  void drop(Question question, RuntimeException fault, double now) {
-    settle(question, fault);
-    go(now);
-  }
+  void drop(Question question, RuntimeException fault, double now) { settle(question, fault); go(now); }
 
   /** What isn't settled is so by Closed, and nothing more is asked. */
   void end(double now) {
@@ -272,9 +238,7 @@ final class Core {
     go(now);
   }
 
-  private void tell(String name, Object detail) {
-    out.add(new Action(What.TELL, null, name, detail));
-  }
+  private void tell(String name, Object detail) { out.add(new Action(What.TELL, null, name, detail)); }
 
   private void settle(Question question, RuntimeException fault) {
     if (question.isSettled) return;
@@ -295,15 +259,10 @@ final class Core {
     failDeep(faultOf.get());
   }
 
-  private void close(Seat seat) {
-    seats.remove(seat);
-    out.add(new Action(What.CLOSE, seat, null, null));
-  }
+  private void close(Seat seat) { seats.remove(seat); out.add(new Action(What.CLOSE, seat, null, null)); }
 
   /** Whether the server may be waited for: it was heard, and not too long ago. */
-  private boolean isOutage(double now) {
-    return now - heard < limits.outage();
-  }
+  private boolean isOutage(double now) { return now - heard < limits.outage(); }
 
   /** Nobody listens, or says a word before the welcome. It is tried again for a while; where other sessions go on, they do the work. */
   private void notReached(Seat seat, ColuwenException fault, boolean isFinal, double now) {
@@ -422,12 +381,12 @@ final class Core {
   /** What asks for the server's grain, or can't be answered at it. */
   private void tooDeep(Question question) {
     var isInfo = question.kind == Kind.INFO;
-    if (depths == null && (isInfo || limits.isFree())) {
+    if (info == null && (isInfo || limits.isFree())) {
       deep.add(question);
       return;
     }
-    question.depths = depths;
-    settle(question, isInfo ? null : new TooDeep(question.depth, limits.isFree() ? Math.min(depths.sure(), question.depth - 1) : 0));
+    question.info = info;
+    settle(question, isInfo ? null : new TooDeep(question.depth, limits.isFree() ? Math.min(info.sure(), question.depth - 1) : 0));
   }
 
   private void probed(Seat seat, Wire.Reply reply, double now) {
@@ -439,7 +398,7 @@ final class Core {
       failDeep(fault);
     }
     if (seat.probing != null || deep.isEmpty()) return;
-    depths = new Depths(seat.probe.grain, Math.min(seat.probe.grain + 4, DEEPEST), Math.min(seat.probe.grain + 5, DEEPEST));
+    info = new Info(seat.probe.grain, Math.min(seat.probe.grain + 4, DEEPEST), Math.min(seat.probe.grain + 5, DEEPEST), seat.probe.version);
     var known = List.copyOf(deep);
     deep.clear();
     known.forEach(this::tooDeep);
@@ -487,9 +446,7 @@ final class Core {
     send(seat, "ASK " + question.depth + " " + question.position, question, now);
   }
 
-  private int levelOf(Question question) {
-    return Math.max(question.level, needs.getOrDefault(question.depth, 0));
-  }
+  private int levelOf(Question question) { return Math.max(question.level, needs.getOrDefault(question.depth, 0)); }
 
   private boolean hasEnough(Seat seat, Question question) {
     return seat.reserved.nodes() >= limits.levels().get(levelOf(question)).nodes();
@@ -538,18 +495,12 @@ final class Core {
     }
   }
 
-  private void soon(double now, double... moments) {
-    for (var each : moments) if (each > now) next = Math.min(next, each);
-  }
+  private void soon(double now, double... moments) { for (var each : moments) if (each > now) next = Math.min(next, each); }
 
   /** How long to wait before the next look at a job that was asked so long ago. */
-  static double pauseAfter(double taken) {
-    return Math.min(Math.max(taken / 4, 0.2), 20);
-  }
+  static double pauseAfter(double taken) { return Math.min(Math.max(taken / 4, 0.2), 20); }
 
-  private static Unreachable unreachable(ColuwenException fault) {
-    return new Unreachable(fault.getMessage(), fault);
-  }
+  private static Unreachable unreachable(ColuwenException fault) { return new Unreachable(fault.getMessage(), fault); }
 
   private static Late late(Question question) {
     return new Late("a job of depth " + question.depth + " was cancelled after " + (long) question.timeout + " ms");
@@ -563,6 +514,7 @@ final class Core {
     private static final int LEAST = 2;
     private static final int LAST = 8;
     private int grain = 6;
+    private Optional<String> version = Optional.empty(); // of a site, which says it last
     private int place;
     private int depth = LEAST;
     private int nodes = -1; // that were left before a job
@@ -577,6 +529,7 @@ final class Core {
           return "INFO";
         case "INFO":
           grain = answer.numbers().get(0);
+          version = Optional.of(answer.more()).filter(more -> !more.isEmpty()).map(more -> more.substring(more.lastIndexOf(' ') + 1));
           return null;
         case "JOB", "PENDING":
           return "GET " + answer.job();

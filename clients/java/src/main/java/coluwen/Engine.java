@@ -37,7 +37,7 @@ import java.util.stream.Stream;
  * }
  * }</pre>
  */
-public final class Engine implements Analyser {
+public final class Engine implements Analyst {
   private static final List<String> OPTIONS = List.of("solve", "--visited"); // one search for each line
   private static final List<String> CORNERS = List.of("a1", "h1", "a8", "h8");
   private static final int TRIES = 3; // of a question whose processes end
@@ -331,8 +331,8 @@ public final class Engine implements Analyser {
 
   /** Every depth can be had. */
   @Override
-  public Depths info() {
-    return new Depths(Core.DEEPEST, Core.DEEPEST, Core.DEEPEST);
+  public Info info() {
+    return new Info(Core.DEEPEST, Core.DEEPEST, Core.DEEPEST, Optional.empty());
   }
 
   /** How long a question takes that needs no search. */

@@ -1,6 +1,7 @@
 package coluwen;
 
 import java.util.ArrayDeque;
+import java.util.Collection;
 import java.util.HashMap;
 import java.util.Iterator;
 import java.util.LinkedHashMap;
@@ -14,13 +15,13 @@ import java.util.function.Function;
 import java.util.stream.Stream;
 import java.util.stream.StreamSupport;
 
-/** Many questions and their outcomes: {@code Analyser.analyseMany}. */
+/** Many questions and their outcomes: {@code Analyst.analyseMany}. */
 final class Many<T> implements Iterator<Outcome<T>> {
-  private final Analyser analyser;
+  private final Analyst analyst;
   private final Iterable<T> questions;
   private final Function<? super T, Position> positionOf;
   private final int depth;
-  private final Analyser.Bulk how;
+  private final Analyst.Bulk how;
   private final Map<Integer, CompletableFuture<Result>> asked = new LinkedHashMap<>(); // what isn't known yet
   private final ArrayDeque<Outcome<T>> known = new ArrayDeque<>();
   private final Map<Integer, Outcome<T>> early = new HashMap<>(); // what is known before those that come first
@@ -32,8 +33,8 @@ final class Many<T> implements Iterator<Outcome<T>> {
   private int done;
   private int faults;
 
-  Many(Analyser analyser, Iterable<T> questions, Function<? super T, Position> positionOf, int depth, Analyser.Bulk how) {
-    this.analyser = analyser;
+  Many(Analyst analyst, Iterable<T> questions, Function<? super T, Position> positionOf, int depth, Analyst.Bulk how) {
+    this.analyst = analyst;
     this.questions = questions;
     this.positionOf = positionOf;
     this.depth = depth;
@@ -75,7 +76,7 @@ final class Many<T> implements Iterator<Outcome<T>> {
   private void begin(int index, T question) {
     CompletableFuture<Result> future;
     try {
-      future = analyser.analyseAsync(positionOf.apply(question), depth, how.timeout());
+      future = analyst.analyseAsync(positionOf.apply(question), depth, how.timeout());
     } catch (RuntimeException fault) {
       future = CompletableFuture.failedFuture(fault);
     }
@@ -86,12 +87,12 @@ final class Many<T> implements Iterator<Outcome<T>> {
   }
 
   private void settled(Outcome<T> outcome) {
-    Analyser.Progress progress;
+    Analyst.Progress progress;
     synchronized (this) {
       if (asked.remove(outcome.index()) == null) return; // nobody wants it any more
-      if (outcome.fault() == null) done++;
-      else faults++;
-      progress = new Analyser.Progress(taken, done, faults);
+      done++;
+      if (outcome.fault() != null) faults++;
+      progress = new Analyst.Progress(done, faults, questions instanceof Collection<?> all ? all.size() : -1);
       if (how.isOrdered()) early.put(outcome.index(), outcome);
       else known.add(outcome);
       for (var next = given + known.size(); how.isOrdered() && early.containsKey(next); next++) known.add(early.remove(next));

@@ -18,42 +18,25 @@ public record Score(int value, char sign, boolean ends, char side) implements Co
   public enum Unit { POINTS, DISCS }
 
   /** What {@code mover}, {@code black} and {@code white} count. */
-  public Unit unit() {
-    return ends ? Unit.DISCS : Unit.POINTS;
-  }
+  public Unit unit() { return ends ? Unit.DISCS : Unit.POINTS; }
 
   /** How many of them the side is ahead. */
-  public int mover() {
-    return ends ? value / A_DISC : value;
-  }
+  public int mover() { return ends ? value / A_DISC : value; }
 
   /** How many of them black is ahead. */
-  public int black() {
-    return side == 'X' ? mover() : -mover();
-  }
+  public int black() { return side == 'X' ? mover() : -mover(); }
 
   /** How many of them white is ahead. */
-  public int white() {
-    return -black();
-  }
+  public int white() { return -black(); }
 
-  public boolean isExact() {
-    return sign == '=';
-  }
-
-  public boolean isDraw() {
-    return ends && value == 0 && isExact();
-  }
+  public boolean isExact() { return sign == '='; }
+  public boolean isDraw() { return ends && value == 0 && isExact(); }
 
   /** The same, seen by the opponent. */
-  public Score flip() {
-    return new Score(-value, sign == '<' ? '>' : sign == '>' ? '<' : '=', ends, side == 'X' ? 'O' : 'X');
-  }
+  public Score flip() { return new Score(-value, sign == '<' ? '>' : sign == '>' ? '<' : '=', ends, side == 'X' ? 'O' : 'X'); }
 
   @Override
-  public int compareTo(Score other) {
-    return Integer.compare(value, other.value);
-  }
+  public int compareTo(Score other) { return Integer.compare(value, other.value); }
 
   /** {@code -3}, {@code +12 discs}, {@code draw}, {@code at most -4}: as the side sees it. */
   @Override

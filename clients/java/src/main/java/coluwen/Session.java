@@ -100,18 +100,12 @@ public final class Session implements AutoCloseable {
     return call("ASK " + depth + " " + position.text(), null).job();
   }
 
-  public State get(int job) throws IOException {
-    return state(call("GET " + job, null));
-  }
+  public State get(int job) throws IOException { return state(call("GET " + job, null)); }
 
   /** How a job ended. The server reads no other line of this session until then, so nobody can cancel the job. */
-  public State await(int job) throws IOException {
-    return state(call("WAIT " + job, null));
-  }
+  public State await(int job) throws IOException { return state(call("WAIT " + job, null)); }
 
-  private static State state(Answer answer) {
-    return new State(Outcome.valueOf(answer.state()), answer.value(), answer.move());
-  }
+  private static State state(Answer answer) { return new State(Outcome.valueOf(answer.state()), answer.value(), answer.move()); }
 
   /** What is known of each choice of a job that is done, {@code ends} where the search reached the end of the game; null where it isn't done. */
   public List<Entry> table(int job, char side, boolean ends) throws IOException {
@@ -121,14 +115,10 @@ public final class Session implements AutoCloseable {
   }
 
   /** Ends a job that hasn't ended. */
-  public void cancel(int job) throws IOException {
-    call("CANCEL " + job, null);
-  }
+  public void cancel(int job) throws IOException { call("CANCEL " + job, null); }
 
   /** Reserves so many segments and nodes in all: no fewer of either than before, and more of one. */
-  public void reserve(int segments, int nodes) throws IOException {
-    call("RESERVE " + segments + " " + nodes, null);
-  }
+  public void reserve(int segments, int nodes) throws IOException { call("RESERVE " + segments + " " + nodes, null); }
 
   public Quota quota() throws IOException {
     var numbers = call("QUOTA", null).numbers();

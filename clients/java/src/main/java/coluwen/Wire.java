@@ -15,9 +15,7 @@ final class Wire {
   private final StringBuilder rest = new StringBuilder(); // what came behind the last LF
   private int jobs; // that were asked
 
-  int jobs() {
-    return jobs;
-  }
+  int jobs() { return jobs; }
 
   /** The bytes of a line. A token is its last word, and stands in no fault. */
   String line(String line, String token) {

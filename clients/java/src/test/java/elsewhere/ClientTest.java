@@ -5,10 +5,10 @@ import static org.junit.jupiter.api.Assertions.assertFalse;
 import static org.junit.jupiter.api.Assertions.assertThrows;
 import static org.junit.jupiter.api.Assertions.assertTrue;
 
-import coluwen.Analyser;
+import coluwen.Analyst;
 import coluwen.Client;
 import coluwen.ColuwenException;
-import coluwen.Depths;
+import coluwen.Info;
 import coluwen.Position;
 import coluwen.Score;
 import coluwen.Session;
@@ -71,10 +71,10 @@ class ClientTest {
 
   @Test
   void resultsAreRecords() throws IOException {
-    try (var server = Told.answering(sound((depth, text) -> true)); Analyser client = at(server).build()) {
+    try (var server = Told.answering(sound((depth, text) -> true)); Analyst client = at(server).build()) {
       var found = client.analyse(OPENING, 6);
       assertEquals("+5 d3 [d3=5, c4<-1]", found.score() + " " + found.best().orElseThrow() + " " + found.table());
-      assertEquals(new Depths(2, 6, 7), client.info());
+      assertEquals(new Info(2, 6, 7, java.util.Optional.empty()), client.info());
       assertFalse(client.ping().isNegative());
       assertTrue(client.window() == 256 && client.ping().compareTo(Duration.ofSeconds(5)) < 0);
     }
@@ -108,8 +108,12 @@ class ClientTest {
 
   @Test
   void anAddressNamesTheServer() throws IOException {
-    try (var server = Told.answering(sound((depth, text) -> true)); var client = Client.connect("othello://127.0.0.1:" + server.port() + "?tls=0")) {
+    var token = java.nio.file.Files.createTempFile("token", "");
+    java.nio.file.Files.writeString(token, "secret\n");
+    try (var server = Told.answering(sound((depth, text) -> true));
+        var client = Client.connect("othello://127.0.0.1:" + server.port() + "?tls=0&silence=5&nodes=4096&token=" + token)) {
       assertEquals(5, client.analyse(OPENING, 1).score().value());
+      assertEquals("HELLO 1024 4096 secret", server.heard.get(0));
     }
   }
 
@@ -181,7 +185,7 @@ class ClientTest {
   @Test
   void answersComeBeforeTheNextQuestionDoes() throws Exception {
     var goOn = new CountDownLatch(1);
-    var progress = Collections.synchronizedList(new ArrayList<Analyser.Progress>());
+    var progress = Collections.synchronizedList(new ArrayList<Analyst.Progress>());
     Iterable<Position> source = () -> new Iterator<>() {
       private int at;
 
@@ -209,7 +213,7 @@ class ClientTest {
         assertEquals(2, iterator.next().index());
       }
       while (server.heard.stream().noneMatch(line -> line.startsWith("CANCEL"))) TimeUnit.MILLISECONDS.sleep(5);
-      assertEquals(List.of(new Analyser.Progress(1, 1, 0), new Analyser.Progress(3, 2, 0)), progress);
+      assertEquals(List.of(new Analyst.Progress(1, 0, -1), new Analyst.Progress(2, 0, -1)), progress);
     }
   }
 

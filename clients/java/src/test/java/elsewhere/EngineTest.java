@@ -5,7 +5,7 @@ import static org.junit.jupiter.api.Assertions.assertInstanceOf;
 import static org.junit.jupiter.api.Assertions.assertThrows;
 import static org.junit.jupiter.api.Assertions.assertTrue;
 
-import coluwen.Analyser;
+import coluwen.Analyst;
 import coluwen.ColuwenException.Broken;
 import coluwen.ColuwenException.Closed;
 import coluwen.ColuwenException.Late;
@@ -81,8 +81,8 @@ class EngineTest {
   }
 
   @Test
-  void itIsAnAnalyser() {
-    assertInstanceOf(Analyser.class, engine);
+  void itIsAnAnalyst() {
+    assertInstanceOf(Analyst.class, engine);
     var result = engine.analyse(OPENING, 3);
     assertEquals(List.of("d3=30", "c4<30", "f5<30", "e6<30"), result.table().stream().map(Object::toString).toList());
     assertEquals(Optional.of("d3"), result.best());

@@ -55,7 +55,7 @@ class Stops {
 }
 
 /** Has `analyse(position, depth, { timeout, signal })`, `info()`, `ping()` and `close()` of its own class. */
-export class Analyser extends EventTarget {
+export class Analyst extends EventTarget {
   /** How many questions `analyseMany` takes before their answers were taken from it. */
   get window() { return 64; }
 
@@ -79,27 +79,28 @@ export class Analyser extends EventTarget {
   }
 
   /**
-   * Of each position of an iterable, asynchronous or not, { index, position, result } or { index, position, fault }: as they are known, or in
-   * their order where `ordered` is set. No more than `window` are taken ahead of what the caller has taken. `onProgress` is called with
-   * { taken, done, faults } after each. A fault of one is its own; where the caller leaves, what isn't answered is cancelled.
+   * Of each question of an iterable, asynchronous or not (a position, or [position, depth]), { index, question, result } or { index, question,
+   * fault }: in the order in which they are "asked", or as they are "known". No more than `window` are taken ahead of what the caller has taken.
+   * `onProgress` is called with { done, faults, total } after each. A fault of one is its own; where the caller leaves, what isn't answered is cancelled.
    */
-  async* analyseMany(positions, depth, { ordered = true, window = this.window, onProgress = () => {}, signal, timeout } = {}) {
-    checked(Position.opening(), depth);
-    const source = (positions[Symbol.asyncIterator] ?? positions[Symbol.iterator]).call(positions);
+  async* analyseMany(questions, depth, { order = "asked", window = this.window, onProgress = () => {}, signal, timeout } = {}) {
+    if (depth !== undefined) checked(Position.opening(), depth);
+    if (!["asked", "known"].includes(order) || !(window >= 1)) throw new RangeError(`answers come in the order "asked" or "known", by a window of 1 at least, and not ${order}, ${window}`);
+    const source = (questions[Symbol.asyncIterator] ?? questions[Symbol.iterator]).call(questions);
     const [stops, taken, known] = [new Stops(signal), [], []]; // what isn't given yet, in order, and what of it is known
-    const told = { taken: 0, done: 0, faults: 0 };
-    let [wake, coming, isOver, fault] = [() => {}, null, false, null];
+    const told = { done: 0, faults: 0, total: questions.length ?? questions.size };
+    let [wake, coming, isOver, fault, count] = [() => {}, null, false, null, 0];
     const settled = (one, outcome) => {
       known.push(Object.assign(one, outcome));
-      told[outcome.fault ? "faults" : "done"] += 1;
+      [told.done, told.faults] = [told.done + 1, told.faults + ("fault" in outcome ? 1 : 0)];
       onProgress({ ...told });
       wake();
     };
     const came = ({ done, value }) => {
       [coming, isOver] = [null, isOver || !!done];
       if (!done) {
-        const one = { index: told.taken, position: value };
-        told.taken += 1;
+        const one = { index: count, question: value };
+        count += 1;
         taken.push(one);
         stops.around((each) => this.#begin(one, depth, { timeout, signal: each })).then((result) => settled(one, { result }), (reason) => settled(one, { fault: reason }));
       }
@@ -110,7 +111,7 @@ export class Analyser extends EventTarget {
         signal?.throwIfAborted();
         if (fault) throw fault;
         if (!coming && !isOver && taken.length < window) coming = Promise.resolve(source.next()).then(came, (reason) => { fault = reason; wake(); });
-        const next = ordered ? known.find((one) => one === taken[0]) : known[0];
+        const next = order === "asked" ? known.find((one) => one === taken[0]) : known[0];
         if (next) {
           known.splice(known.indexOf(next), 1);
           taken.splice(taken.indexOf(next), 1);
@@ -127,9 +128,8 @@ export class Analyser extends EventTarget {
     }
   }
 
-  async #begin(one, depth, how) {
-    one.position = checked(one.position, depth);
-    return this.analyse(one.position, depth, how);
+  async #begin({ question }, depth, how) {
+    return Array.isArray(question) ? this.analyse(...question, how) : this.analyse(question, depth, how);
   }
 
   [Symbol.asyncDispose ?? Symbol.for("Symbol.asyncDispose")]() { return this.close(); }

@@ -13,7 +13,7 @@ import java.util.function.Function;
 import java.util.stream.Stream;
 
 /** What a client of a server and an engine of this host have in common. Threads may share it. */
-public interface Analyser extends AutoCloseable {
+public interface Analyst extends AutoCloseable {
   /**
    * The score of a position so many plies deep (0 to 12), its best move and its table. The future fails by {@code TooDeep} where the depth
    * can't be had, and by {@code Late} once the job has taken this long (null: no limit). Where it is cancelled, so is the job.
@@ -21,7 +21,7 @@ public interface Analyser extends AutoCloseable {
   CompletableFuture<Result> analyseAsync(Position position, int depth, Duration timeout);
 
   /** How deep it looks at mid-game positions, found out once. */
-  Depths info();
+  Info info();
 
   /** How long it takes to say a word. */
   Duration ping();
@@ -31,22 +31,16 @@ public interface Analyser extends AutoCloseable {
   void close();
 
   /** How long a job may take where no call says it; null for no limit. */
-  default Duration timeout() {
-    return null;
-  }
+  default Duration timeout() { return null; }
 
   /** How many questions {@code analyseMany} takes before their answers were taken from it. */
-  default int window() {
-    return 64;
-  }
+  default int window() { return 64; }
 
   default CompletableFuture<Result> analyseAsync(Position position, int depth) {
     return analyseAsync(position, depth, timeout());
   }
 
-  default Result analyse(Position position, int depth) {
-    return analyse(position, depth, timeout());
-  }
+  default Result analyse(Position position, int depth) { return analyse(position, depth, timeout()); }
 
   /** The same by the thread that calls; an interrupt cancels the job, and {@code Stopped} is thrown. */
   default Result analyse(Position position, int depth, Duration timeout) {
@@ -70,14 +64,14 @@ public interface Analyser extends AutoCloseable {
       }));
     }
     try {
-      return futures.stream().map(Analyser::joined).sorted(Comparator.comparing(Entry::score).reversed()).toList();
+      return futures.stream().map(Analyst::joined).sorted(Comparator.comparing(Entry::score).reversed()).toList();
     } finally {
       questions.forEach(question -> question.cancel(true));
     }
   }
 
-  /** How many questions were taken, and are done, and at fault. */
-  record Progress(int taken, int done, int faults) {}
+  /** How many questions are answered, of these at fault; and how many there are, where the source is a collection, else -1. */
+  record Progress(int done, int faults, int total) {}
 
   /** How many questions are asked: {@code isOrdered}, by their order or as they are known; {@code window}; {@code timeout} of each (null: no limit); {@code onProgress}, called after each. */
   record Bulk(boolean isOrdered, int window, Duration timeout, Consumer<Progress> onProgress) {
@@ -85,27 +79,17 @@ public interface Analyser extends AutoCloseable {
       if (window < 1) throw new IllegalArgumentException("a window has one place at least, and not " + window);
     }
 
-    public Bulk asKnown() {
-      return new Bulk(false, window, timeout, onProgress);
-    }
+    public Bulk asKnown() { return new Bulk(false, window, timeout, onProgress); }
 
-    public Bulk window(int most) {
-      return new Bulk(isOrdered, most, timeout, onProgress);
-    }
+    public Bulk window(int most) { return new Bulk(isOrdered, most, timeout, onProgress); }
 
-    public Bulk timeout(Duration most) {
-      return new Bulk(isOrdered, window, most, onProgress);
-    }
+    public Bulk timeout(Duration most) { return new Bulk(isOrdered, window, most, onProgress); }
 
-    public Bulk onProgress(Consumer<Progress> heard) {
-      return new Bulk(isOrdered, window, timeout, heard);
-    }
+    public Bulk onProgress(Consumer<Progress> heard) { return new Bulk(isOrdered, window, timeout, heard); }
   }
 
-  /** Questions in their order, by this analyser's window and timeout. */
-  default Bulk bulk() {
-    return new Bulk(true, window(), timeout(), progress -> {});
-  }
+  /** Questions in their order, by this analyst's window and timeout. */
+  default Bulk bulk() { return new Bulk(true, window(), timeout(), progress -> {}); }
 
   default Stream<Outcome<Position>> analyseMany(Iterable<Position> positions, int depth) {
     return analyseMany(positions, Function.identity(), depth, bulk());
