@@ -1,4 +1,4 @@
-use Rattle.thread_tests.proofs.tests.servers.is_well.Given as goal
+use Rattle.server_tests.proofs.tests.servers.is_well.Given as goal
 
 abbrev pub ghosts-is_well_at-L-Ledger : goal.ghosts-is_well_at-L-Ledger
 ghosts-is_well_at-L-Ledger g a = record { name = a.blank.name; parts = a.blank.parts }
