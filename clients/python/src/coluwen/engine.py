@@ -186,7 +186,8 @@ class Seat:
                 return None
             if not self.process:
                 try:  # in a process group of its own: Ctrl-C at the terminal is this program's matter
-                    self.process = subprocess.Popen([self.pool.program, *OPTIONS], bufsize=0, stdin=subprocess.PIPE, stdout=subprocess.PIPE, stderr=subprocess.DEVNULL, process_group=0)
+                    pipe = subprocess.PIPE
+                    self.process = subprocess.Popen([self.pool.program, *OPTIONS], bufsize=0, stdin=pipe, stdout=pipe, stderr=subprocess.DEVNULL, process_group=0)
                 except OSError as fault:
                     raise Unreachable(f"{self.pool.program}: {fault.strerror or fault}") from fault
             return self.process
