@@ -200,10 +200,11 @@ test("a full server is told, and asked again", () => {
 test("a signal gives up what waits, and its place is free again", () => having(() => sound(() => "PENDING"), { sessions: 1, ahead: 1 }, async (client, heard) => {
   const stop = new AbortController();
   const first = client.analyse(OPENING, 6, { signal: stop.signal });
+  while (!heard.some((line) => line.startsWith("ASK 6"))) await new Promise((done) => setTimeout(done, 5));
   await assert.rejects(client.analyse(OPENING, 4, { signal: AbortSignal.timeout(50) }), { name: "TimeoutError" });
   stop.abort();
   await assert.rejects(first, { name: "AbortError" });
-  await assert.rejects(client.analyse(OPENING, 3, { timeout: 50 }), Late);
+  await assert.rejects(client.analyse(OPENING, 3, { timeout: 1000 }), Late);
   await assert.rejects(client.analyse(OPENING, 2, { signal: AbortSignal.abort() }), { name: "AbortError" });
   assert.deepEqual(heard.filter((line) => /^(ASK|CANCEL)/.test(line)).map((line) => line.split(" ").slice(0, 2).join(" ")), ["ASK 6", "CANCEL 1", "ASK 3", "CANCEL 2"]);
 }));

@@ -13,7 +13,7 @@ import time
 
 import pytest
 
-from coluwen import Broken, Closed, Engine, FormatError, Info, Late, Position, Result, TooDeep, Unreachable
+from coluwen import Broken, Closed, Engine, FormatError, Late, Position, Result, TooDeep, Unreachable
 from coluwen.analyst import Analyst
 from coluwen.engine import Fallback, program_of
 
@@ -265,11 +265,8 @@ class Shallow(Analyst):
             future.set_exception(TooDeep(depth, 3))
         return future
 
-    def info(self) -> Info:
-        return Info(0)
-
-    def ping(self) -> float:
-        return 0.0
+    def info(self) -> object: ...  # type: ignore[override]
+    def ping(self) -> float: ...  # type: ignore[empty-body]
 
     def close(self) -> None:
         self.closed = True

@@ -20,7 +20,8 @@ from .session import Cancelled, Done, Live, Pending, Quota, Session, Spent
 
 __version__ = "1.0.0"
 __all__ = [
-    "BLACK", "FAULTS", "PASS", "SQUARES", "START", "WHITE", "Analyst", "AsyncClient", "AsyncEngine", "Board", "Broken", "Cancelled", "Client", "Closed", "ColuwenError",
-    "Done", "Engine", "Entry", "Fallback", "FormatError", "IllegalMove", "Info", "Late", "Live", "Outcome", "Pending", "Position", "Progress", "Quota", "Refused",
-    "Reservation", "Result", "Score", "Session", "Silent", "Spent", "TooDeep", "Unreachable", "connect", "tls_context", "token_in",
+    "BLACK", "FAULTS", "PASS", "SQUARES", "START", "WHITE", "Analyst", "AsyncClient", "AsyncEngine", "Board", "Broken", "Cancelled", "Client",
+    "Closed", "ColuwenError", "Done", "Engine", "Entry",
+    "Fallback", "FormatError", "IllegalMove", "Info", "Late", "Live", "Outcome", "Pending", "Position", "Progress", "Quota", "Refused", "Reservation", "Result", "Score", "Session",
+    "Silent", "Spent", "TooDeep", "Unreachable", "connect", "tls_context", "token_in",
 ]  # fmt: skip

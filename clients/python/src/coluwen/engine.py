@@ -61,7 +61,7 @@ def programs_here() -> list[str]:
     """Where the program may be, the first to be tried first."""
     own, crates = HERE.parent / "program", HERE.parents[min(4, len(HERE.parents) - 1)] / "crates"
     fast = [own / "othello-avx2"] if has_avx2() else []
-    built = [crates / name / "out" / name for name in ("othello_server", "othello_solve")]
+    built = [crates / "othello_server/out/othello_server", crates / "othello_server/out/unproved/othello"]
     there = [str(path) for path in (*fast, own / "othello", *built) if os.access(path, os.X_OK)]
     return [found, *there] if (found := shutil.which("othello")) else there
 
@@ -186,8 +186,8 @@ class Seat:
                 return None
             if not self.process:
                 try:  # in a process group of its own: Ctrl-C at the terminal is this program's matter
-                    pipe = subprocess.PIPE
-                    self.process = subprocess.Popen([self.pool.program, *OPTIONS], bufsize=0, stdin=pipe, stdout=pipe, stderr=subprocess.DEVNULL, process_group=0)
+                    self.process = subprocess.Popen([self.pool.program, *OPTIONS], bufsize=0, process_group=0,
+                                                    stdin=subprocess.PIPE, stdout=subprocess.PIPE, stderr=subprocess.DEVNULL)
                 except OSError as fault:
                     raise Unreachable(f"{self.pool.program}: {fault.strerror or fault}") from fault
             return self.process
