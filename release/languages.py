@@ -48,7 +48,8 @@ def make(tree, out, epoch):
     pack_npm(tree, out / f"{about['name']}-{about['version']}.tgz", about["files"], epoch)
     if f"  <version>{about['version']}</version>" not in (tree / "clients/java/pom.xml").read_text() or about["version"] != (tree / "VERSION").read_text().strip():
         fail("VERSION, package.json and pom.xml have other versions")
-    subprocess.run([tree / "clients/java/build", "jars", out], check=True, env=dict(os.environ, SOURCE_DATE_EPOCH=str(epoch)))
+    program = [tree / "othello"] if (tree / "othello").read_bytes()[:4] == b"\x7fELF" else []  # a checkout has a script there
+    subprocess.run([tree / "clients/java/build", "jars", out, *program], check=True, env=dict(os.environ, SOURCE_DATE_EPOCH=str(epoch)))
 
 
 def pack_npm(tree, target, names, epoch):
