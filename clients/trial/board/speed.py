@@ -30,7 +30,7 @@ def try_clicks(name, address):
         shown.open(f"{address}#moves={whole_game(3)}&at=0&depth=4")
         shown.known()
         best = {}
-        for _ in range(4):  # on a busy machine some of them have to wait
+        for _ in range(7):  # on a busy machine some of them have to wait
             for selector in ("#last", "#back", "#first", "#forward", "[data-square].legal", "#undo", "#last", "#moves .pair:nth-child(20) .move", "#tab-mistakes", "#tab-moves"):
                 taken = shown.driver.execute_script(f"return {CLICK}", selector)
                 best[selector] = min(best.get(selector, taken), taken)
