@@ -39,6 +39,10 @@ kept = []  # a lock for each port that this trial was given
 class Session(coluwen.Session):
     """A session whose answers are those of `solve` below: ("DONE", value, move), ("SPENT",), ("CANCELLED",) or ("PENDING",)."""
 
+    @property
+    def socket(self):
+        return self._socket
+
     def get(self, job):
         return words_of(super().get(job))
 
@@ -163,7 +167,7 @@ class From(Session):
         self.address = address
         super().__init__(*words, **more)
 
-    def connect(self, host, port, timeout):
+    def _connect(self, host, port, timeout):
         return socket.create_connection((host, port), timeout, (self.address, 0))
 
 

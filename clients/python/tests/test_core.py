@@ -25,6 +25,7 @@ class Model:
         self.away: list[tuple[float, float]] = []  # from when to when nobody is there
         self.mute: list[tuple[float, float]] = []  # when lines aren't answered, and never will be
         self.full = 14
+        self.too_fast: list[tuple[float, float]] = []  # when each line but HELLO is refused, as too many came
 
     def is_away(self, now: float) -> bool:
         return any(begin <= now < end for begin, end in self.away)
@@ -130,6 +131,8 @@ class Stage:
             self.core.received(key, b"", self.now)
             return
         told = self.peers[key].answer(line, self.now, sum(peer.is_in for peer in self.peers.values()))
+        if any(begin <= self.now < end for begin, end in self.model.too_fast) and not line.startswith(("HELLO", "BYE")):
+            told = "ERR 31"
         for part in (told[: len(told) // 2].encode(), told[len(told) // 2 :].encode() + b"\n"):  # in two pieces, as TCP may
             if key in self.open:
                 self.core.received(key, part, self.now)
@@ -310,6 +313,32 @@ def test_late_and_given_up() -> None:
     assert given.ended and waits.ended
     stage.run(5)
     assert stage.lines("CANCEL") == ["CANCEL 1", "CANCEL 3"] and len(stage.lines("ASK")) == 3 and len(stage.lines("HELLO")) == 1
+
+
+def test_lines_that_come_too_fast() -> None:
+    """What a site refuses for coming too fast is said again a little later, and not at once; whichever line it is."""
+    for begin in (0.0, 0.003, 0.02, 0.056, 0.057, 0.058, 0.059):
+        model = Model(job=0.05)
+        model.too_fast = [(begin, begin + 1.5)]
+        stage = Stage(model, sessions=1)
+        stage.ask(work := Question(3, OPENING), other := Question(3, POSITIONS[5]))
+        stage.run(10)
+        assert results([work, other]) == [value_of(OPENING), value_of(POSITIONS[5])]
+        assert len([line for at, _, line in stage.sent if begin + 0.01 <= at < begin + 1.4]) <= 16
+    model.too_fast = [(0.0, 1e9)]
+    stage = Stage(model, sessions=1, patience=3)
+    stage.ask(work := Question(3, OPENING))
+    stage.run(20)
+    assert isinstance(work.fault, Refused) and work.fault.number == 31 and 3 <= stage.ended[-1][0] < 4
+    model.too_fast = [(1.0, 2.0)]
+    stage = Stage(model, sessions=1)
+    stage.ask(ping_work := Errand(ping))
+    stage.run(1.0)
+    assert ping_work.ended
+    model.job = 60
+    stage.ask(late := Question(3, OPENING, timeout=0.5), asked := Errand(ping))
+    stage.run(10)
+    assert isinstance(late.fault, Late) and asked.ended and not asked.fault and len(stage.lines("CANCEL")) <= 11
 
 
 def test_close() -> None:

@@ -485,8 +485,6 @@ class Core:
 
     def _advance(self, now: float) -> None:
         """Has each session send what is next, and opens those that are wanted."""
-        if self.closed:
-            return
         self._pause = self._pause if now < self._pause else 0.0
         for session in list(self._sessions.values()):
             if session.is_ready and not session.is_ending and session.wire.line is None and now >= session.not_before:
@@ -495,12 +493,12 @@ class Core:
 
     def _open(self, now: float) -> None:
         """Opens sessions for those who wait and whom none of those that are being opened is for."""
-        if len(self._sessions) >= self.options.sessions or now < self._pause or not self._waiting:
+        if self._is_full or now < self._pause or not self._waiting:
             return
         coming = [session for session in self._sessions.values() if not session.is_ready]
         wanted = sorted(itertools.chain(*(itertools.islice(waiting, self.options.sessions) for waiting in self._waiting.values())), key=lambda work: work.sequence)
         for work in wanted:
-            if work.ended or len(self._sessions) >= self.options.sessions:
+            if work.ended or self._is_full:
                 continue
             one = next((session for session in coming if session.suits(work, self.levels)), None)
             if one:
@@ -512,6 +510,11 @@ class Core:
             session = _Session(next(self._keys), self.levels[work.level], silence, now + left)
             self._sessions[session.key] = session
             self._events.append(Open(session.key))
+
+    @property
+    def _is_full(self) -> bool:
+        """Whether as many sessions are there as may be."""
+        return len(self._sessions) >= self.options.sessions
 
     @property
     def _endures(self) -> bool:
@@ -654,7 +657,7 @@ class Core:
             coming = sum(not other.is_ready for other in self._sessions.values())
             if len(session.flights) >= self.options.ahead or session.flights[0].question.alone:
                 return None
-            if len(self._sessions) < self.options.sessions and not self._pause or coming and coming >= sum(1 for _ in self._all_waiting()):
+            if not self._is_full and not self._pause or coming and coming >= sum(1 for _ in self._all_waiting()):
                 return None
         for work in self._oldest():
             if session.suits(work, self.levels):
@@ -739,14 +742,16 @@ class Core:
             self._wait(question)
             return
         self._needs[question.depth] = level
-        if not self.options.is_free:
-            self._end(question, fault=TooDeep(question.depth))
-        elif self.info:
-            self._end(question, fault=TooDeep(question.depth, min(question.depth - 1, self.info.sure)))
+        if self.info or not self.options.is_free:
+            self._end(question, fault=self._beyond(question.depth))
         else:
             self._too_deep.append(question)
             if not self._learning:
                 self.ask(self.learning(), now)
+
+    def _beyond(self, depth: int) -> TooDeep:
+        """That a depth can't be had, and which surely can, if that is known."""
+        return TooDeep(depth, min(depth - 1, self.info.sure) if self.info and self.options.is_free else 0)
 
     def _tabled(self, flight: _Flight, session: _Session, found: Answer | Refused, now: float) -> None:
         if isinstance(found, Refused) and found.number == TOO_FAST:
@@ -816,10 +821,7 @@ class Core:
         waiting, self._too_deep = self._too_deep, []
         self.info = errand.found if errand and errand.found else self.info
         for question in waiting:
-            if self.info:
-                self._end(question, fault=TooDeep(question.depth, min(question.depth - 1, self.info.sure)))
-            else:
-                self._end(question, fault=errand.fault if errand and errand.fault else TooDeep(question.depth))
+            self._end(question, fault=errand.fault if errand and errand.fault and not self.info else self._beyond(question.depth))
 
 
 def _grain() -> Generator[Any, Any, Info]:

@@ -78,7 +78,7 @@ class Session:
         self._lock, self._wire = threading.Lock(), Wire()
         self._timeout, self._silence = timeout, silence
         self.reserved = Reservation(segments, nodes)
-        self._socket = socket.create_connection((host, port), silence)
+        self._socket = self._connect(host, port, silence)
         try:
             self._socket.setsockopt(socket.IPPROTO_TCP, socket.TCP_NODELAY, 1)
             if tls:
@@ -87,6 +87,9 @@ class Session:
         except BaseException:
             self._socket.close()
             raise
+
+    def _connect(self, host: str, port: int, timeout: float | None) -> socket.socket:
+        return socket.create_connection((host, port), timeout)
 
     @property
     def jobs(self) -> int:

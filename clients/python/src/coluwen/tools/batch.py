@@ -106,15 +106,14 @@ class Source:
 
     def parts(self, data: bytes, name: str) -> Iterator[Asked]:
         kind = self.kind or formats.kind_of(name, data)
-        if kind != "lines":
-            for one in formats.problems_of(data, name, kind):
-                if isinstance(one, FormatError):
-                    self.faults.append(one)
-                else:
-                    yield self.of(one)
-            return
-        for number, line in enumerate(formats.lines_of(data), 1):
-            yield from self.line(line, formats.Place(name, number))
+        lines = formats.lines_of(data) if kind == "lines" else []
+        for one in formats.problems_of(data, name, kind):
+            if isinstance(one, FormatError):
+                self.faults.append(one)
+                if lines:
+                    yield unread(lines[one.line - 1], self.depth)
+            else:
+                yield self.of(one)
 
     def line(self, line: str, place: formats.Place) -> Iterator[Asked]:
         for one in formats.read_line(line, place):

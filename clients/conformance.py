@@ -1,18 +1,18 @@
 #!/usr/bin/env python3
 """Writes conformance.txt: the rows by which the clients of all languages are tried. What each row says stands here by hand, but for the
-positions of random games, whose moves `clients/try` compares with a server's tables.
+positions of random games, whose moves clients/trial compares with the tables of a server.
 
-usage: clients/trial/conformance.py > clients/conformance.txt
+usage: clients/conformance.py > clients/conformance.txt
 """
 import pathlib
 import random
 import sys
 
-sys.path.insert(0, str(pathlib.Path(__file__).resolve().parent.parent / "python" / "src"))
+sys.path.insert(0, str(pathlib.Path(__file__).resolve().parent / "python" / "src"))
 from coluwen import Position, Score  # noqa: E402
 
-HEAD = """# Lines, answers and results that the clients of all languages are tried by (answers.py of the Python package has the grammar).
-# Made by trial/conformance.py. Fields are parted by tabs; \\n, \\r, \\t, \\\\ and \\xNN stand for bytes.
+HEAD = """# Lines, answers and results that the clients of all languages are tried by (_answers.py of the Python package has the grammar).
+# Made by conformance.py beside it. Fields are parted by tabs; \\n, \\r, \\t, \\\\ and \\xNN stand for bytes.
 #   answer  jobs asked before  line  answer  result: its words, REFUSED number, or BROKEN
 #   legal   position           its moves
 #   play    position           move  position after it, or ILLEGAL
