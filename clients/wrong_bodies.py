@@ -3,7 +3,9 @@
 
 usage: clients/wrong_bodies.py [--list] [WORD..]      (numbers, languages, or words of what is wrong; all where none is named)
 """
+import os
 import pathlib
+import re
 import shutil
 import subprocess
 import sys
@@ -11,7 +13,7 @@ import tempfile
 
 HERE = pathlib.Path(__file__).resolve().parent
 SOURCES = {"javascript": "javascript/src/{}.mjs", "java": "java/src/main/java/coluwen/{}.java"}
-TESTS = {"javascript": ["node", "--test", *(f"test/{name}.test.mjs" for name in ("behaviour", "client", "conformance"))], "java": ["./build", "test", "-N", ".*EngineTest"]}
+TESTS = {"javascript": ["node", "--test", *(f"test/{name}.test.mjs" for name in ("behaviour", "client", "conformance", "core"))], "java": ["./build", "test", "-N", ".*EngineTest"]}
 # What is wrong, and in each language the file, what stands in it once, and what comes in its place.
 BODIES = (
     ("a reservation is never raised",
@@ -99,7 +101,7 @@ def tried(language, change=None):
             path, text = changed(language, *change)
             (clients / path).write_text(text)
         try:
-            done = subprocess.run(TESTS[language], cwd=clients / language, capture_output=True, text=True, check=False, timeout=150)
+            done = subprocess.run(TESTS[language], cwd=clients / language, capture_output=True, text=True, check=False, timeout=300, env=dict(os.environ, COLUWEN_ONCE="1" if change else ""))
         except subprocess.TimeoutExpired:
             return 1, "they don't end"
         said = done.stdout + done.stderr
@@ -122,8 +124,9 @@ def main():
             sys.exit(f"{language}: the tests fail where nothing is wrong:\n" + "\n".join(line for line in said.splitlines() if "not ok" in line or "rror" in line or "=>" in line))
     missed = []
     for number, what, language, change in chosen:
-        status, _ = tried(language, change)
-        print(f"{number:>3} {language}: {what}: {'told' if status else 'PASSES'}", flush=True)
+        status, said = tried(language, change)
+        tests = [name for name in re.findall(r"not ok \d+ - (.*)|JUnit Jupiter:(?:\w+:)?(.*)", said) if name != ("behaviour rows", "")]
+        print(f"{number:>3} {language}: {what}: {'told by ' + ', '.join(''.join(name) for name in tests[:3]) if status else 'PASSES'}", flush=True)
         if not status:
             missed.append(number)
     print(f"of {len(chosen)} wrong bodies {len(chosen) - len(missed)} are told" + (f"; not {missed}" if missed else ""))

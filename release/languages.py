@@ -48,18 +48,23 @@ def make(tree, out, epoch):
     pack_npm(tree, out / f"{about['name']}-{about['version']}.tgz", about["files"], epoch)
     if f"  <version>{about['version']}</version>" not in (tree / "clients/java/pom.xml").read_text() or about["version"] != (tree / "VERSION").read_text().strip():
         fail("VERSION, package.json and pom.xml have other versions")
-    subprocess.run([tree / "clients/java/build", "jars", out], check=True, env=dict(os.environ, SOURCE_DATE_EPOCH=str(epoch)))
+    program = [tree / "othello"] if (tree / "othello").read_bytes()[:4] == b"\x7fELF" else []  # a checkout has a script there
+    subprocess.run([tree / "clients/java/build", "jars", out, *program], check=True, env=dict(os.environ, SOURCE_DATE_EPOCH=str(epoch)))
 
 
 def pack_npm(tree, target, names, epoch):
     """A tgz as npm packs one: what package.json lists, below `package`, with the licence."""
-    here, data = tree / "clients/javascript", io.BytesIO()
-    files = sorted({here / "package.json", *(path for name in names for path in (here / name, *(here / name).rglob("*")) if path.is_file()), tree / "LICENSE"})
+    here, engine, data = tree / "clients/javascript", tree / "clients/page/engine", io.BytesIO()
+    files = {str(path.relative_to(here)): path for name in ("package.json", *names) for path in (here / name, *(here / name).rglob("*")) if path.is_file()}
+    files |= {f"engine/{path.relative_to(engine)}": path for path in engine.rglob("*") if path.is_file()} | {"LICENSE": tree / "LICENSE"}
     with tarfile.open(fileobj=data, mode="w", format=tarfile.USTAR_FORMAT) as archive:
-        for path in files:
-            entry = tarfile.TarInfo(f"package/{path.name if path.name == 'LICENSE' else path.relative_to(here)}")
-            entry.size, entry.mtime, entry.mode = path.stat().st_size, epoch, 0o644
-            archive.addfile(entry, io.BytesIO(path.read_bytes()))
+        for name, path in sorted(files.items()):
+            text = path.read_bytes()
+            if name == "src/engine.mjs":  # (in a checkout the engine lies beside the page)
+                text = text.replace(b"../../page/engine/", b"../engine/")
+            entry = tarfile.TarInfo(f"package/{name}")
+            entry.size, entry.mtime, entry.mode = len(text), epoch, 0o644
+            archive.addfile(entry, io.BytesIO(text))
     target.write_bytes(gzip.compress(data.getvalue(), 9, mtime=0))
 
 

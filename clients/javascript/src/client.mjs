@@ -42,7 +42,7 @@ function checkedOptions(options) {
  * Events: `opened` ({ segments, nodes }), `full`, `silent` and `lost` (a ColuwenError): where there is something to wait for.
  */
 export class Client extends Analyst {
-  #core; #links = new Map(); #open; #timeout; #sessions; #timer; #closed = [];
+  #core; #links = new Map(); #open; #timeout; #sessions; #timer; #waiting = 0; #closed = []; // calls that wait, and those of `close`
 
   constructor(options = {}) {
     super();
@@ -81,12 +81,18 @@ export class Client extends Analyst {
       signal?.throwIfAborted();
       const leave = () => this.#act((now) => this.#core.drop(question, signal.reason, now));
       signal?.addEventListener("abort", leave);
+      this.#waiting += 1;
       question.settled = () => {
+        this.#waiting -= 1;
         signal?.removeEventListener("abort", leave);
         if ("fault" in question) reject(question.fault);
         else resolve(question.found);
       };
-      this.#act((now) => this.#core.ask(question, now));
+      try {
+        this.#act((now) => this.#core.ask(question, now));
+      } catch (fault) {
+        Object.assign(question, { fault }).settled();
+      }
     });
   }
 
@@ -97,6 +103,8 @@ export class Client extends Analyst {
     clearTimeout(this.#timer);
     if (this.#core.next < Infinity) this.#timer = setTimeout(() => this.#act((now) => this.#core.passed(now)), Math.max(this.#core.next - performance.now(), 0));
     if (this.#core.isEmpty) for (const resolve of this.#closed.splice(0)) resolve();
+    const isHeld = this.#waiting > 0 || this.#closed.length > 0; // a program that leaves idle sessions open ends all the same
+    for (const link of this.#links.values()) link.hold?.(isHeld);
   }
 
   _open(seat) {

@@ -2,14 +2,14 @@
 //
 //   await using engine = new Engine();
 //   const result = await engine.analyse(Position.opening(), 6);
-import { DEEPEST, Rules, fetchModule } from "../engine/module.js";
-import { MODULES } from "../engine/modules.js";
-import { Engine as Pool, workersHere } from "../engine/pool.js";
+import { DEEPEST, Rules, fetchModule } from "../../page/engine/module.js";
+import { MODULES } from "../../page/engine/modules.js";
+import { Engine as Pool, workersHere } from "../../page/engine/pool.js";
 import { Analyst, checked, resultOf } from "./analyst.mjs";
 import { PASS, SQUARES } from "./board.mjs";
 import { Broken, Closed, Late } from "./faults.mjs";
 
-const FOLDER = new URL("../engine/", import.meta.url);
+const FOLDER = new URL("../../page/engine/", import.meta.url);
 const CORNERS = ["a1", "h1", "a8", "h8"];
 const isNode = globalThis.process?.versions?.node !== undefined && globalThis.document === undefined;
 

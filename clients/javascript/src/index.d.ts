@@ -106,7 +106,7 @@ export declare abstract class Analyst extends EventTarget {
 }
 
 /** A connection, and what it calls: `received` with each block as a string of its bytes. */
-export interface Link { send(bytes: string): void; close(): void; }
+export interface Link { send(bytes: string): void; close(): void; hold?(isHeld: boolean): void; }
 export interface Heard { opened(): void; received(bytes: string): void; lost(why: string, isFinal: boolean): void; }
 export type Dial = (place: { host: string; port: number; secure: boolean | ConnectionOptions }, heard: Heard) => Link;
 

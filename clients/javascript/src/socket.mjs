@@ -10,7 +10,7 @@ const FINAL = /CERT|SIGNED|VERIFY|ENOTFOUND/; // of a fault's code: trying again
 
 /**
  * A connection. `secure`: TLS, by true or by what `tls.connect` takes. Calls `opened`, `received` with each block as a string of its bytes,
- * and `lost` once, with what was wrong and whether trying again can't mend it.
+ * and `lost` once, with what was wrong and whether trying again can't mend it. `hold`: whether the process waits for it.
  */
 export function dial({ host, port, secure }, { opened, received, lost }) {
   const servername = net.isIP(host) ? undefined : host;
@@ -18,5 +18,5 @@ export function dial({ host, port, secure }, { opened, received, lost }) {
   socket.setNoDelay(true).setEncoding("latin1");
   socket.on(secure ? "secureConnect" : "connect", opened).on("data", received);
   socket.on("error", (fault) => lost(fault.message || fault.code, FINAL.test(fault.code))).on("close", () => lost("the server ended the session", false));
-  return { send: (bytes) => socket.write(bytes, "latin1"), close: () => socket.destroy() };
+  return { send: (bytes) => socket.write(bytes, "latin1"), close: () => socket.destroy(), hold: (isHeld) => (isHeld ? socket.ref() : socket.unref()) };
 }

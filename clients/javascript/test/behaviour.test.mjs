@@ -196,8 +196,8 @@ async function play(row) {
   }
 }
 
-/** Plays a row, and where it fails, as on a busy host it may, twice more: a wrong body fails each time. */
-async function played(row, more = 2) {
+/** Plays a row, and where it fails, as on a busy host it may, twice more: a wrong body fails each time (COLUWEN_ONCE: once is enough). */
+async function played(row, more = process.env.COLUWEN_ONCE ? 0 : 2) {
   try {
     await play(row);
   } catch (fault) {

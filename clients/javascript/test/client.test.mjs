@@ -1,11 +1,13 @@
 // What the rows don't say: the limits of the core, by moments that the tests choose; bulk questions; and what is checked and told.
 import assert from "node:assert/strict";
+import { execFile } from "node:child_process";
 import fs from "node:fs";
 import net from "node:net";
 import os from "node:os";
 import path from "node:path";
 import readline from "node:readline";
 import test from "node:test";
+import { promisify } from "node:util";
 import { Core } from "../src/core.mjs";
 import { Analyst, Client, Closed, ColuwenError, Entry, Late, Position, Refused, Score, Session, TooDeep, Unreachable, connect } from "../src/index.mjs";
 
@@ -188,9 +190,8 @@ test("an address", async () => {
 });
 
 test("a full server is told, and asked again", () => {
-  const begun = performance.now();
-  return having(() => { const right = sound(); return (line) => (line.startsWith("HELLO") && performance.now() - begun < 1300 ? "ERR 14\n" : right(line)); }, {}, async (client) => {
-    const events = [];
+  const events = [];
+  return having(() => { const right = sound(); return (line) => (line.startsWith("HELLO") && !events.length ? "ERR 14\n" : right(line)); }, {}, async (client) => {
     for (const name of ["full", "opened"]) client.addEventListener(name, ({ detail }) => events.push([name, detail.number ?? detail.nodes]));
     assert.equal((await client.analyse(OPENING, 1)).best, "d3");
     assert.deepEqual(events, [["full", 14], ["opened", 8192]]);
@@ -200,7 +201,7 @@ test("a full server is told, and asked again", () => {
 test("a signal gives up what waits, and its place is free again", () => having(() => sound(() => "PENDING"), { sessions: 1, ahead: 1 }, async (client, heard) => {
   const stop = new AbortController();
   const first = client.analyse(OPENING, 6, { signal: stop.signal });
-  while (!heard.some((line) => line.startsWith("ASK 6"))) await new Promise((done) => setTimeout(done, 5));
+  while (!heard.includes("GET 1")) await new Promise((resolve) => { setTimeout(resolve, 5); });
   await assert.rejects(client.analyse(OPENING, 4, { signal: AbortSignal.timeout(50) }), { name: "TimeoutError" });
   stop.abort();
   await assert.rejects(first, { name: "AbortError" });
@@ -259,6 +260,13 @@ test("all idle sessions of a server that began anew are lost, and a call opens a
     assert.equal((await client.analyse(OPENING, 2)).best, "d3");
   });
 });
+
+test("a program that forgets to close its client ends", () => having(() => sound(), {}, async (_, heard, port) => {
+  const program = `import { connect, Position } from ${JSON.stringify(new URL("../src/index.mjs", import.meta.url).href)};
+    console.log((await connect("othello://127.0.0.1:${port}?silence=20").analyse(Position.opening(), 2)).best);`;
+  const { stdout } = await promisify(execFile)(process.execPath, ["--input-type=module", "-e", program], { timeout: 20_000 });
+  assert.equal(stdout, "d3\n");
+}));
 
 test("a session's lines", () => having(() => sound(), {}, async (_, heard, port) => {
   const session = await Session.open({ host: "127.0.0.1", port, segments: 64, nodes: 4096, silence: 5000 });

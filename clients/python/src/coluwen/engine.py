@@ -61,7 +61,7 @@ def programs_here() -> list[str]:
     """Where the program may be, the first to be tried first."""
     own, crates = HERE.parent / "program", HERE.parents[min(4, len(HERE.parents) - 1)] / "crates"
     fast = [own / "othello-avx2"] if has_avx2() else []
-    built = [crates / name / "out" / name for name in ("othello_server", "othello_solve")]
+    built = [crates / "othello_server/out/othello_server", crates / "othello_server/out/unproved/othello"]
     there = [str(path) for path in (*fast, own / "othello", *built) if os.access(path, os.X_OK)]
     return [found, *there] if (found := shutil.which("othello")) else there
 

@@ -436,5 +436,5 @@ fn one_node_more_takes_one_node(rt: HostRuntime) {
     let node = (16 * PLACE + LONG_PLACE) as usize;
     let raise = (PLACE + LONG_PLACE) as usize;
     let bytes = bytes_of_a_node(&rt, &heap, &heap);
-    holds(&rt, bytes >= node + raise && bytes < 1024);
+    holds(&rt, bytes >= node + raise && bytes < 512);
 }

@@ -81,7 +81,7 @@ class EngineTest {
   }
 
   @Test
-  void itIsAnAnalyser() {
+  void itIsAnAnalyst() {
     assertInstanceOf(Analyst.class, engine);
     var result = engine.analyse(OPENING, 3);
     assertEquals(List.of("d3=30", "c4<30", "f5<30", "e6<30"), result.table().stream().map(Object::toString).toList());
