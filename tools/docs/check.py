@@ -28,7 +28,7 @@ BY_HAND = [PROMISES / "HOW-TO-READ.md", PROMISES / "WHAT-IS-ASSUMED.md"]
 MADE = [["tools/docs/promises.py"], ["docs/pictures/draw.py"]]
 # Names of the toolchain, its library, the system and other tools, which the tree need not say.
 FOREIGN = set("""A B N T P Q S D K k n s t d r w x y z f g j rt sh check try lib gate test doc fmt lemma tidy must plant fail core
-    callgrind valgrind perf strace nice syscall nc logic rattle13b rattle13f
+    callgrind valgrind perf compare_exchange venv site packages strace nice syscall nc logic rattle13b rattle13f
     dac8208d650f15bf systemd analyze verify security rand popcnt as_mut_slice get_flag low_File File time
     Prop structure inductive datatype predicate forall exists fun function Nat Int ofNat negSucc proj old
     omega grind simp search refl ghost requires ensures record abbrev unfoldable data module nat pattern vVERSION coluwen_1 VERSION86_64 xHH drawn_ irreducible_def trivial opaque axioms baxiom holes trusted""".split())
@@ -119,7 +119,7 @@ def crate_table():
         if line.startswith("# ") and not line.startswith("# The crates, lowest first"):
             rows.append(f"| **{said.pop(line[2:], line[2:])}** | |")
         elif line and not line.startswith("#"):
-            name = line.split(":")[0]
+            name = line.split(":")[0].split()[0]
             root = next(path for path in (TOP / "crates" / name / "src/lib.rt", TOP / "crates" / name / "src/main.rt") if path.exists())
             head = " ".join(re.match(r"(?://! .*\n)+", root.read_text())[0].replace("//! ", "").split())
             first = re.split(r"(?<=[.]) ", head)[0].removeprefix(f"`{name}`: ")

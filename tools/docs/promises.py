@@ -345,16 +345,16 @@ class Pages:
         return "\n".join([*out, *self.definitions_text(own, [])])
 
     def faults(self):
-        """The clauses of the laws on pages that no use cites, and the clauses that uses cite and that aren't there."""
+        """The clauses on pages that no use cites, and the clauses that uses cite and that aren't there."""
         there = {(name, clause) for _, name, _ in self.promises for _, clause, _, _ in self.call(name).promised}
         for name, clause in sorted({*self.uses} - there):
             yield f"promise_uses cites {name}#{clause}, which no page has"
         for name, clause in sorted(there - {*self.uses}):
-            if name.split("::")[0] in LAWS:
+            if name.split("::")[0] not in REPLACED:
                 yield f"no use in promise_uses cites {name}#{clause}"
 
 
-LAWS = {"promises"}
+REPLACED = {"customer_book"}  # its laws get their uses with the book that takes its place
 
 
 def differing(pages):

@@ -7,8 +7,7 @@ import re
 
 import coluwen
 import pytest
-from coluwen import Position
-from coluwen.client import Result
+from coluwen import Position, Result
 from coluwen.errors import TooDeep, Unreachable
 from coluwen.page import library as page_library
 from coluwen.page.files import names_of
@@ -225,7 +224,7 @@ def test_each_fault_has_a_german_sentence():
     found = set(sentences())
     assert len(found) > 30
     # names of players are read by the package alone, and the last one hands on an IllegalMove
-    others = {"names are in .jou and .trn files", "its head counts 7 names of 7 bytes, and the file has 7 bytes", "move 7, 7", "7"}
+    others = {"names are in .jou and .trn files", "its head counts 7 names of 7 bytes, and the file has 7 bytes", "move 7, 7", "7", "7: white can't play there", "7: black can't play there", "7 games stand there, and not one"}
     assert {text for text in found - others if not any(form.fullmatch(text) for form in forms)} == set()
     for form, text in zip(forms, english, strict=True):
         assert any(form.fullmatch(one) for one in found) or text == "game {number}: {text}", text

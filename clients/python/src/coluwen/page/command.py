@@ -1,6 +1,6 @@
 """The analysis board for browsers on this host, or for a class: http://127.0.0.1:8047/
 
-HOST and PORT are those of a server of `othello serve`; with --tls it is spoken to over TLS. For a class, `--address 0.0.0.0` lets other
+Values come from the server of --server, with --tls over TLS, or where none is named from this computer's own engine. For a class, `--address 0.0.0.0` lets other
 hosts of the network in, and `--certificate FILE` (certificate and key) has their browsers speak https. They name this host by its address,
 by its own name, or by one that --name gives; any other name is refused, so that no foreign page reads this one.
 
@@ -19,10 +19,11 @@ import socket
 import ssl
 from collections.abc import Sequence
 
-from .. import command as commands
-from ..client import Depths
+from .._core import DEEPEST, Info
+from ..aio import AsyncClient
+from ..engine import AsyncEngine
 from ..errors import ColuwenError
-from .engine import Engine
+from ..tools import command as commands
 from .files import Site, names_of
 from .library import Library
 from .service import Service
@@ -30,22 +31,23 @@ from .web import Limits, Web
 
 NAME = "coluwen-page"
 LEAST = 4  # plies, of the first step
+WITHOUT_SERVER = 8  # plies that are offered where this computer's own engine searches
 
 
-def offered(depths: Depths, most: int) -> list[int]:
+def offered(info: Info, most: int) -> list[int]:
     """The depths that a page offers: those that the server's grain surely lets through."""
-    sure = max(min(depths.sure, most), 1)
+    sure = max(min(info.sure, most), 1)
     return [*range(LEAST, sure, 2), sure] if sure > LEAST else [sure]
 
 
 def options() -> argparse.ArgumentParser:
-    words = commands.parser(__doc__, NAME)
-    words.add_argument("--port", dest="page", type=int, default=8047, help="where browsers come in (8047)")
+    words = commands.parser(__doc__, NAME, outage=0)
+    words.add_argument("--port", type=int, default=8047, help="where browsers come in (8047)")
     words.add_argument("--address", default="127.0.0.1", help="of which address; 0.0.0.0 for browsers of other hosts (127.0.0.1)")
     words.add_argument("--name", action="append", default=[], help="a name that browsers have for this host")
     words.add_argument("--certificate", metavar="FILE", help="certificate and key, by which browsers speak https")
-    words.add_argument("--most-depth", type=int, default=99, help="offer no more plies (as many as the server's grain lets through)")
-    words.add_argument("--sessions", "--at-once", type=int, default=4, help="how many sessions of the server are used at once; others wait (4)")
+    words.add_argument("--most-depth", type=int, help=f"offer no more plies (as many as the server's grain lets through; without a server {WITHOUT_SERVER})")
+    words.add_argument("--sessions", type=int, default=4, help="how many sessions of the server are used at once; others wait (4)")
     words.add_argument("--connections", type=int, default=Limits.connections, help="of browsers at once (%(default)s)")
     words.add_argument("--per-address", type=int, default=Limits.per_address, help="of these for one address (%(default)s)")
     return words
@@ -57,18 +59,18 @@ async def serve(asked: argparse.Namespace) -> None:
     if asked.certificate:
         context = ssl.create_default_context(ssl.Purpose.CLIENT_AUTH)
         context.load_cert_chain(asked.certificate)
-    engine = Engine(asked.host, asked.port, sessions=max(asked.sessions, 1), **{**commands.server_options(asked), "patience": 0})
-    async with engine:
-        await engine.reach()
-        service = Service(Library(engine, engine.at_once), [LEAST])
+    analyst = commands.analyst_of(asked, NAME, patience=0, sessions=max(asked.sessions, 1))
+    async with AsyncEngine(analyst=analyst) as client:
+        await client.ping()
+        service = Service(Library(client, client.parallel), [LEAST])
         names = {"localhost", socket.gethostname(), *asked.name}
         site = Site(service, functools.partial(names_of, names=names))
         web = Web(site.answer, service.most, Limits(connections=asked.connections, per_address=asked.per_address))
-        server = await web.start(asked.address, asked.page, context)
+        server = await web.start(asked.address, asked.port, context)
         port = server.sockets[0].getsockname()[1]
         site.port = port
         print(f"http{'s' * bool(context)}://{asked.address}:{port}/", flush=True)
-        learning = asyncio.ensure_future(learn(service, engine, asked.most_depth))
+        learning = asyncio.ensure_future(learn(service, client, asked.most_depth or (DEEPEST if commands.names_server(asked) else WITHOUT_SERVER)))
         stop = asyncio.Event()
         for number in (signal.SIGINT, signal.SIGTERM):
             asyncio.get_running_loop().add_signal_handler(number, stop.set)
@@ -78,11 +80,11 @@ async def serve(asked: argparse.Namespace) -> None:
         await web.end()
 
 
-async def learn(service: Service, engine: Engine, most: int) -> None:
+async def learn(service: Service, client: AsyncClient, most: int) -> None:
     """Finds out how deep the server looks, and offers so much."""
     while True:
         with contextlib.suppress(ColuwenError, OSError):
-            service.depths, service.settled = offered(await engine.depths(), most), True
+            service.depths, service.settled = offered(await client.info(), most), True
             return
         await asyncio.sleep(2)
 

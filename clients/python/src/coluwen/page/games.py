@@ -15,7 +15,7 @@ from typing import Any
 from .. import formats
 from ..board import Position
 from ..errors import FormatError
-from ..formats import Game, Place, ggf, transcript
+from ..formats import Game, Place, Problem, ggf, position, transcript
 
 SHORT = 16384  # bytes that are read at once, without a process of its own
 SECONDS = 60  # that the process has
@@ -54,20 +54,24 @@ def read_games(data: bytes, name: str) -> Found:
 def parts_of(data: bytes, name: str) -> Iterator[Game | FormatError]:
     kind = formats.kind_of(name, data)
     if kind == "lines":
-        yield from lines_read(data.decode("latin-1").replace("\r\n", "\n"), name)
-        return
-    try:
-        if kind == "obf":
-            yield from (Game(problem.position, event=problem.comment, place=problem.place) for problem in formats.problems_of(data, name, kind))
-        else:
-            yield from formats.games_of(data, name, kind)
-    except FormatError as fault:
-        yield fault
+        yield from lines_read(formats.text_of(data).replace("\r\n", "\n"), name)
+    elif kind == "obf":
+        yield from map(as_game, formats.problems_of(data, name, kind))
+    else:
+        yield from formats.games_of(data, name, kind)
+
+
+def as_game(one: Problem | FormatError) -> Game | FormatError:
+    """A position as a game without moves."""
+    return one if isinstance(one, FormatError) else Game(one.position, event=one.comment, place=one.place)
 
 
 def lines_read(text: str, name: str) -> Iterator[Game | FormatError]:
     """The games of lines: all of them as one game, from a start in the first where it has one; else each line by itself."""
     lines = text.split("\n")
+    if any(position.read_board(lines, at) for at in range(len(lines))):
+        yield from map(as_game, formats.problems_of(text.encode(), name, "lines"))
+        return
     filled = [number for number, line in enumerate(lines) if line.strip() and line.strip()[0] not in "#%"]
     if not filled:
         return
@@ -83,7 +87,7 @@ def lines_read(text: str, name: str) -> Iterator[Game | FormatError]:
     if PLACED.match(lines[first]):
         yield from (one for number in filled for one in line_read(lines[number], Place(name, number + 1)))
         return
-    whole = list(moves_read("\n".join(lines[first:]), Place(name, first + 1), start))
+    whole = list(transcript.parts("\n".join(lines[first:]), start, Place(name, first + 1)))
     single = [one for number in filled for one in line_read(lines[number], Place(name, number + 1))] if len(whole) > 1 else whole
     yield from min(whole, single, key=worth)
 
@@ -94,35 +98,12 @@ def worth(found: list[Game | FormatError]) -> tuple[int, int]:
 
 
 def line_read(line: str, place: Place) -> Iterator[Game | FormatError]:
-    try:
-        problems = list(formats.read_line(line, place))
-    except FormatError as fault:
-        if re.match(r"\s*(?:\d+[.)]\s*)?[a-hA-H][1-8]", line):
-            yield from moves_read(line, place, None)
-        else:
-            yield fault
-        return
-    games = [problem for problem in problems if problem.comment.startswith("move ")]
-    if games:  # a transcript, or a GGF game: read as the game that it is
-        yield from (ggf.read(line, place.file) if line.strip().startswith("(;") else moves_read(line, place, None))
+    if line.strip().startswith("(;"):
+        yield from ggf.read(line, place.file)
+    elif re.match(r"\s*(?:\d+[.)]\s*)?[a-hA-H][1-8]", transcript.narrow(line)):
+        yield from transcript.parts(line, None, place)
     else:
-        yield from (Game(problem.position, event=problem.comment, place=problem.place) for problem in problems)
-
-
-def moves_read(text: str, place: Place, start: Position | None) -> Iterator[Game | FormatError]:
-    """A transcript; where it has a fault, what stands before that, and the fault."""
-    try:
-        yield transcript.read(text, start, place)
-    except FormatError as fault:
-        lines = text.split("\n")
-        line = fault.line - place.line
-        if fault.column and 0 <= line < len(lines):
-            before = "\n".join([*lines[:line], lines[line][: fault.column - 1]])
-            try:
-                yield transcript.read(before, start, place)
-            except FormatError:
-                pass
-        yield fault
+        yield from map(as_game, formats.read_line(line, place))
 
 
 async def read(data: bytes, name: str) -> Found:
@@ -130,7 +111,8 @@ async def read(data: bytes, name: str) -> Found:
     if len(data) <= SHORT:
         return await asyncio.to_thread(read_games, data, name)
     pipe = asyncio.subprocess.PIPE
-    process = await asyncio.create_subprocess_exec(sys.executable, "-P", "-m", "coluwen.page.games", name, stdin=pipe, stdout=pipe, stderr=asyncio.subprocess.DEVNULL, env=environment())
+    words = (sys.executable, "-P", "-m", "coluwen.page.games", name)
+    process = await asyncio.create_subprocess_exec(*words, stdin=pipe, stdout=pipe, stderr=asyncio.subprocess.DEVNULL, env=environment())
     try:
         told, _ = await asyncio.wait_for(process.communicate(data), SECONDS)
         found: Found = json.loads(told) if process.returncode == 0 else {"games": [], "faults": [fault_said(FormatError("it couldn't be read", name))]}
@@ -152,8 +134,8 @@ def write_game(form: str, start: str, moves: str) -> str:
     """A game in a format: `ggf`."""
     if form != "ggf":
         raise ValueError("games are written as ggf")
-    position = Position.parse(start)
-    game = transcript.read(moves, position) if moves.strip() else Game(position)
+    begun = Position.parse(start)
+    game = transcript.read(moves, begun) if moves.strip() else Game(begun)
     return ggf.write([game])
 
 

@@ -19,8 +19,8 @@ import re
 from collections.abc import AsyncGenerator, Iterable
 from typing import Any
 
+from .._core import DEEPEST
 from ..board import PASS, Position
-from ..client import DEEPEST
 from ..errors import ColuwenError, FormatError, Refused, TooDeep
 from ..score import EXACT, Score
 from . import games
@@ -38,7 +38,7 @@ def score_of(score: Score, empty: int | None = None) -> dict[str, Any]:
     """A score as the page takes it."""
     if not score.ends:
         return {"sign": score.sign, "points": score.value}
-    discs = score.number
+    discs = score.mover
     if empty is None:
         return {"sign": score.sign, "discs": discs}
     return {"sign": score.sign, "discs": discs + empty * ((discs > 0) - (discs < 0)), "empty": empty}
@@ -48,9 +48,9 @@ def step_of(found: Found) -> dict[str, Any]:
     """What a step tells: the score, the best move, the line, and what is known of each move. The best one's is the position's."""
     result = found.result
     table = {entry.move: score_of(entry.score, found.empty if entry.move == result.best else None) for entry in result.table}
-    line = found.line or ((result.best,) if result.best not in ("", "-") else ())
+    line = found.line or ((result.best,) if result.best else ())
     ends = result.score.ends
-    return {"kind": "step", "depth": result.depth, "ends": ends, "score": score_of(result.score, found.empty), "best": result.best, "table": table, "line": line}
+    return {"kind": "step", "depth": result.depth, "ends": ends, "score": score_of(result.score, found.empty), "best": result.best or "-", "table": table, "line": line}
 
 
 def telling(events: Events, **more: object) -> Told:
@@ -188,7 +188,7 @@ class Service:
                 behind = await self.library.find(result.position.play(move), left, telling(events, depth=result.depth, exact=True))
             except TooDeep:
                 continue
-            worth = Score(-behind.result.score.value, EXACT, result.score.ends and result.depth >= result.position.empties or behind.result.score.ends)
+            worth = Score(-behind.result.score.value, EXACT, result.score.ends and result.depth >= result.position.empties or behind.result.score.ends, result.position.side)
             events.put_nowait({"kind": "exact", "depth": result.depth, "move": move, "score": score_of(worth, behind.empty)})
 
     # /write, /class
