@@ -285,6 +285,16 @@ def test_what_is_spent() -> None:
     assert [line for _, _, line in stage.sent[before:] if line.startswith("HELLO")] == ["HELLO 1024 65536"]
 
 
+@pytest.mark.parametrize("grain, found", [(0, 0), (3, 3), (5, 5), (6, 6), (9, 6)])
+def test_the_grain_by_probes(grain: int, found: int) -> None:
+    stage = Stage(Model(grain=grain, job=0.01), sessions=1)
+    stage.ask(errand := stage.core.learning())
+    stage.run(30)
+    assert errand.found.grain == found and stage.core.info == errand.found and stage.lines("BYE") == ["BYE"]
+    asked = [int(line.split()[1]) for line in stage.lines("ASK")]
+    assert asked == [*range(2, min(grain + 2, 8) + 1)] * 2 and len(stage.lines("QUOTA")) == len(asked) + 1
+
+
 def test_an_older_question_isn_t_passed_over() -> None:
     """One that needs more than the open sessions have gets a session, though younger ones keep coming."""
     stage = Stage(Model(spent=lambda depth, nodes, jobs: depth == 9 and nodes < 20000), sessions=1)

@@ -361,10 +361,9 @@ def test_what_is_written_is_read(seed: int, length: int, form: str) -> None:
 
 
 def test_a_great_database() -> None:
-    """100,000 games of a .wtb are a matter of seconds: here a tenth of them, by the processor's time."""
+    """Games are given one after another, and not when all are read."""
     data = wthor.write([random_game(seed) for seed in range(50)], 2020)
     many = data[:4] + (10_000).to_bytes(4, "little") + data[8:16] + data[16:] * 200
-    list(wthor.read(data))
-    begun = time.process_time()
-    assert sum(isinstance(one, formats.Game) for one in wthor.read(many)) == 10_000
-    assert time.process_time() - begun < 5
+    found = wthor.read(many)
+    assert isinstance(first := next(found), formats.Game) and first.place.column == 17
+    assert sum(isinstance(one, formats.Game) for one in found) == 9_999
