@@ -341,6 +341,43 @@ def test_lines_that_come_too_fast() -> None:
     assert isinstance(late.fault, Late) and asked.ended and not asked.fault and len(stage.lines("CANCEL")) <= 11
 
 
+def test_each_has_a_session_of_its_own_before_any_has_two() -> None:
+    stage = Stage(Model(job=1), sessions=3, ahead=4)
+    stage.ask(Errand(ping))
+    stage.run(1)
+    stage.ask(*(Question(3, POSITIONS[at]) for at in range(3)))
+    stage.run(0.5)
+    asked = [key for _, key, line in stage.sent if line.startswith("ASK")]
+    assert len(asked) == len(set(asked)) == 3
+    stage.ask(*(Question(3, POSITIONS[at]) for at in range(3, 12)))
+    stage.run(0.2)
+    asked = [key for _, key, line in stage.sent if line.startswith("ASK")]
+    assert sorted(asked.count(key) for key in set(asked)) == [4, 4, 4] and stage.most_open == 3
+
+
+def test_silence_is_twice_as_long_each_time() -> None:
+    model = Model(job=100)
+    stage = Stage(model, sessions=1, silence=0.5, outage=20)
+    stage.ask(work := Question(5, OPENING))
+    stage.run(0.2)
+    answer = stage.answer
+    stage.answer = lambda key, line: answer(key, line) if line.startswith("HELLO") else None  # type: ignore[method-assign, assignment]
+    stage.run(60)
+    begun = [at for at, _, line in stage.sent if line.startswith("HELLO")]
+    assert [round(after - before, 1) for before, after in zip(begun[1:], begun[2:])] == [1.0, 2.0, 4.0, 8.0] and isinstance(work.fault, Unreachable)
+    assert "no answer to ASK in 16 s" in str(work.fault)
+
+
+def test_a_job_that_somebody_else_cancelled() -> None:
+    stage = Stage(Model(job=1), sessions=1)
+    stage.ask(work := Question(3, OPENING))
+    stage.run(0.5)
+    peer = next(iter(stage.peers.values()))
+    peer.jobs[0] = (0.0, "CANCELLED", 0)
+    stage.run(1)
+    assert isinstance(work.fault, Broken) and "cancelled by nobody here" in str(work.fault)
+
+
 def test_close() -> None:
     stage = Stage(Model(job=5), sessions=2)
     works = [Question(6, OPENING), Question(6, POSITIONS[1]), Question(6, POSITIONS[2])]
@@ -420,4 +457,4 @@ def test_a_wire() -> None:
     wire = Wire()
     wire.send("BYE")
     with pytest.raises(Broken, match="more than 1115 bytes"):
-        wire.receive(b"y" * 1200)
+        wire.receive(b"y" * 1115)
