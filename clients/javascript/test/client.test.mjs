@@ -48,6 +48,24 @@ test("a question's session is kept for the next, and one that lacks nodes is end
   assert.equal(seats.length, 2);
 });
 
+test("a session is asked 256 times at most, and no more once it says that it has had enough", () => {
+  for (const most of [3, 256]) {
+    const { step, seats } = told({ sessions: 1 });
+    const questions = Array.from({ length: most + 1 }, () => job());
+    for (const one of questions) step("ask", 0, one);
+    step("opened", 1, seats[0]);
+    let lines = step("received", 1, seats[0], "WELCOME 256 8192\n");
+    for (let each = 1; each <= most; each += 1) {
+      assert.deepEqual(lines.at(-1), ["send", 0, LINE]);
+      for (const bytes of [`JOB ${each}`, `DONE ${each} 5 d3`, `TABLE ${each} d3=5`]) lines = step("received", 2, seats[0], `${bytes}\n`);
+    }
+    if (most < 256) lines = step("received", 3, seats[0], "ERR 13\n");
+    assert.deepEqual(lines.at(-1), ["send", 0, "BYE"]);
+    assert.deepEqual(step("received", 4, seats[0], "BYE\n").at(-1), ["open", 1, undefined]);
+    assert.ok(!questions.at(-1).isSettled);
+  }
+});
+
 test("who is given up leaves the others alone", () => {
   const { step, seats } = told({ sessions: 1, ahead: 3 });
   const [first, second, third] = [job(), job(), job()];

@@ -128,6 +128,24 @@ class ClientTest {
     }
   }
 
+  /** A session is asked 256 times at most, and no more once it says that it has had enough. */
+  @Test
+  void aSessionHasItsJobs() throws Exception {
+    for (var most : List.of(3, 256)) {
+      var counts = Collections.synchronizedList(new ArrayList<int[]>());
+      var right = sound((depth, text) -> true);
+      try (var server = Told.answering(() -> {
+        var count = new int[1];
+        counts.add(count);
+        var answers = right.get();
+        return line -> line.startsWith("ASK") && ++count[0] > most && most < 256 ? "ERR 13\n" : answers.apply(line);
+      }); var client = at(server).sessions(1).build()) {
+        assertEquals(most + 1, client.analyseMany(Collections.nCopies(most + 1, OPENING), 2).filter(one -> one.fault() == null).count());
+        assertEquals(List.of(most < 256 ? most + 1 : most, 1), counts.stream().map(count -> count[0]).toList());
+      }
+    }
+  }
+
   @Test
   void whereThereIsRoomForFewerThoseDoTheWork() throws IOException {
     var isFirst = new AtomicBoolean(true);
