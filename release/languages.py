@@ -1,11 +1,11 @@
 #!/usr/bin/env python3
-"""The packages of other languages' own kinds: an npm tgz and jars with their pom.
+"""The packages of the clients' languages, each of its own kind: wheels and an sdist, an npm tgz, jars with their pom.
 
 usage: release/languages.py make TREE OUT    (of the tree of a release's archive, or a checkout; times by SOURCE_DATE_EPOCH)
        release/languages.py try OUT          (OUT: a release; what isn't installed here is skipped and named)
 
-`try` installs each from OUT alone, by `npm install ./..tgz` and by Maven without a registry (Debian's packages), and runs the first program
-of its README with a server of the archive.
+Where TREE/othello is a program, and no script, a wheel and the jar have it in themselves. `try` installs each from OUT alone, by `pip install`, by
+`npm install ./..tgz` and by Maven without a registry (Debian's packages), and runs the first program of its README with a server of the archive.
 """
 import contextlib
 import gzip
@@ -22,6 +22,8 @@ import tarfile
 import tempfile
 import time
 
+HERE = pathlib.Path(__file__).resolve().parent
+PYTHON = "/usr/bin/python3"  # Debian's, with python3-setuptools, python3-wheel and python3-pip
 MAVEN = pathlib.Path("/usr/share/maven-repo")  # of Debian's packages
 PLUGINS = ("install", "compiler", "resources")
 SETTINGS = f"""<settings xmlns="http://maven.apache.org/SETTINGS/1.0.0"><mirrors><mirror><id>debian</id><mirrorOf>*</mirrorOf><url>file://{MAVEN}</url></mirror></mirrors></settings>"""
@@ -35,7 +37,7 @@ PROJECT = """<project xmlns="http://maven.apache.org/POM/4.0.0">
   </plugins></build>
 </project>
 """
-SAID = "0 d3\n"  # what a first program says first: the opening at depth 6
+SAID = r"0 d3\b"  # what a first program says first: the opening at depth 6
 
 
 def fail(text):
@@ -49,7 +51,11 @@ def make(tree, out, epoch):
     if f"  <version>{about['version']}</version>" not in (tree / "clients/java/pom.xml").read_text() or about["version"] != (tree / "VERSION").read_text().strip():
         fail("VERSION, package.json and pom.xml have other versions")
     program = [tree / "othello"] if (tree / "othello").read_bytes()[:4] == b"\x7fELF" else []  # a checkout has a script there
-    subprocess.run([tree / "clients/java/build", "jars", out, *program], check=True, env=dict(os.environ, SOURCE_DATE_EPOCH=str(epoch)))
+    around = dict(os.environ, SOURCE_DATE_EPOCH=str(epoch))
+    subprocess.run([tree / "clients/java/build", "jars", out, *program], check=True, env=around)
+    subprocess.run([PYTHON, tree / "clients/python/build", "packages", out], check=True, env=around, stdout=subprocess.DEVNULL)
+    if program:
+        subprocess.run([PYTHON, HERE / "wheel.py", "make", tree, out, *program], check=True, env=around, stdout=subprocess.DEVNULL)
 
 
 def pack_npm(tree, target, names, epoch):
@@ -98,8 +104,18 @@ def first_program(readme, language):
 
 
 def check_said(what, text):
-    if not text.startswith(SAID):
+    if not re.match(SAID, text):
         fail(f"the first program of {what} says {text!r}")
+
+
+def try_pip(out, folder, address):
+    """`pip install` of the wheel without an index; the first program of the README in the archive."""
+    wheel = min(out.glob("coluwen-*.whl"), key=lambda path: "none-any" not in path.name)
+    run(PYTHON, "-m", "pip", "install", "--quiet", "--no-index", "--no-deps", "--target", folder / "site", wheel, where=folder)
+    with tarfile.open(next(out.glob("*-x86_64.tar.gz"))) as archive:
+        readme = next(archive.extractfile(entry).read().decode() for entry in archive if entry.name.endswith("clients/python/README.md"))
+    (folder / "first.py").write_text(first_program(readme, "python"))
+    check_said("Python's wheel", run(PYTHON, "first.py", where=folder, COLUWEN_URL=address, PYTHONPATH=str(folder / "site")))
 
 
 def try_npm(out, folder, address):
@@ -136,7 +152,8 @@ def try_maven(out, folder, address):
 
 def try_all(out):
     """What was tried, and what wasn't."""
-    trials = {"npm": (try_npm, shutil.which("npm")), "maven": (try_maven, shutil.which("mvn") and all((MAVEN / f"org/apache/maven/plugins/maven-{name}-plugin").exists() for name in PLUGINS))}
+    has_pip = pathlib.Path(PYTHON).exists() and subprocess.run([PYTHON, "-m", "pip", "--version"], capture_output=True, check=False).returncode == 0
+    trials = {"pip": (try_pip, has_pip), "npm": (try_npm, shutil.which("npm")), "maven": (try_maven, shutil.which("mvn") and all((MAVEN / f"org/apache/maven/plugins/maven-{name}-plugin").exists() for name in PLUGINS))}
     with tempfile.TemporaryDirectory() as tree, server(out, tree) as address:
         for name, (trial, is_here) in trials.items():
             if not is_here:

@@ -17,7 +17,10 @@ QUERY = "!$&'()*+,;=:@/?%-._~"  # the signs of a query that stay as they are
 
 def texts() -> dict[str, tuple[str, bytes]]:
     """The page's files by their paths, with their kinds."""
-    top = (pathlib.Path(__file__).parent / "static").resolve()  # in a checkout clients/page
+    here = pathlib.Path(__file__).resolve()
+    top = here.parent / "static"
+    if not top.is_dir():
+        top = here.parents[4] / "page"  # of a checkout
     found = sorted(one for one in top.rglob("*") if one.suffix[1:] in KINDS and one.name != "about.json")
     kinds = {suffix: kind if suffix == "wasm" else f"{kind}; charset=utf-8" for suffix, kind in KINDS.items()}
     return {f"/{one.relative_to(top).as_posix()}": (kinds[one.suffix[1:]], one.read_bytes()) for one in found}
