@@ -4,7 +4,6 @@ from __future__ import annotations
 import pathlib
 import random
 import re
-import time
 
 import coluwen
 import hypothesis
