@@ -1,0 +1,10 @@
+mod NameLemmas
+mod AmountLemmas
+mod GrantLemmas
+mod BudgetLemmas
+mod Totals
+mod Keepings
+mod Views
+mod Isolation
+mod RunLemmas
+mod BookLemmas
