@@ -1,12 +1,13 @@
 -- What a book's calls leave in its fields.
 use Rattle.std.proofs.Common.{◌≡◌, ℕ, ◌+◌, ◌-◌, ◌<◌, ◌≤◌, Bool, true, false, cond, List, [], ◌∷◌, ◌++◌, length, get_or, set, Option, Some, None, Result, Ok, is_ok, refl, ap, sym, ◌∙◌, subst, inl, inr, arith}
-use Rattle.std.specs.Prelude.{if◌then◌else◌}
+use Rattle.std.specs.Prelude.{if◌then◌else◌, IfNone}
 use Rattle.std.proofs.lemmas.Bool.{cases_lt}
 use Rattle.std.specs.List.{remove}
 use Rattle.tenant_quota.specs.Quota.{Quota}
 use Rattle.site_book.specs.declared.amount.Amount.{Amount}
 use Rattle.site_book.specs.declared.held.Held.{Held}
 use Rattle.site_book.specs.declared.held.Part.{Part}
+use Rattle.site_book.specs.declared.held.Part.TheVariants.{All}
 use Rattle.site_book.specs.declared.refusal.Refusal.{Refusal}
 use Rattle.site_book.specs.declared.refusal.Refusal.TheVariants.{Gone, Lower}
 use Rattle.site_book.specs.declared.who.Who.{Who}
@@ -17,6 +18,8 @@ use Rattle.site_book.specs.Books.{BookOf, why_over, why_no_raise, why_not_replan
 use Rattle.site_book.specs.Keeping.{IsKept}
 use Rattle.site_book.proofs.GrantLemmas.{place-is, place-none, without-none, used-removed}
 use Rattle.site_book.proofs.Keepings.{kept-open, kept-raise, kept-replan}
+use Rattle.site_book.proofs.RunLemmas.{room-open, room-raise}
+use Rattle.site_book.proofs.Totals.{few-sessions}
 
 -- a session that is there has its place
 pub place-there : (who : Who) (session : ℕ) (gs : List Held) → (grant_of who session gs ≡ None → ⊥) → place_of who session gs < length gs
@@ -103,3 +106,18 @@ raise-is plan who session ask gs held lower is low = sym (ap (why_no_raise plan 
 
 pub gone-why : (plan : PlanOf) (who : Who) (session i : ℕ) (ask : Quota) (gs : List Held) → i ≡ place_of who session gs → length gs ≤ i → Some Gone ≡ why_no_raise plan who session ask gs (grant_of who session gs)
 gone-why plan who session i ask gs place past = sym (ap (why_no_raise plan who session ask gs) (place-none who session gs (subst (λ k. length gs ≤ k) place past)))
+
+-- the hall has room for what isn't refused
+
+pub opens-room : (plan : PlanOf) (gs : List Held) (book : BookOf) (who : Who) (ask : Quota) (why : Option Refusal) → viewed plan gs ≡ book → IsKept plan gs → why ≡ why_over book.plan who ask book.grants → IfNone why (IsWithin (plus (of_one ask) (used All book.grants)) book.plan.totals)
+opens-room plan gs book who ask None view kept is =
+    subst (λ (b : BookOf). IsWithin (plus (of_one ask) (used All b.grants)) b.plan.totals) view (room-open plan gs who ask kept (subst (λ (b : BookOf). why_over b.plan who ask b.grants ≡ None) (sym view) (sym is)))
+opens-room plan gs book who ask (Some refusal) view kept is = tt
+
+pub raises-room : (plan : PlanOf) (gs : List Held) (book : BookOf) (who : Who) (session : ℕ) (ask : Quota) (why : Option Refusal) → viewed plan gs ≡ book → IsKept plan gs → why ≡ why_no_raise book.plan who session ask book.grants (grant_of who session book.grants) → IfNone why (IsWithin (plus (of_one ask) (used All (without who session book.grants))) book.plan.totals)
+raises-room plan gs book who session ask None view kept is =
+    subst (λ (b : BookOf). IsWithin (plus (of_one ask) (used All (without who session b.grants))) b.plan.totals) view (room-raise plan gs who session ask (grant_of who session gs) kept refl (subst (λ (b : BookOf). why_no_raise b.plan who session ask b.grants (grant_of who session b.grants) ≡ None) (sym view) (sym is)))
+raises-room plan gs book who session ask (Some refusal) view kept is = tt
+
+pub few-seats : (plan : PlanOf) (gs : List Held) (book : BookOf) → viewed plan gs ≡ book → IsKept plan gs → book.plan.totals.sessions ≤ 64
+few-seats plan gs book view kept = subst (λ (b : BookOf). b.plan.totals.sessions ≤ 64) view (few-sessions plan kept.fit)

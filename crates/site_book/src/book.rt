@@ -1,6 +1,7 @@
-ghost use Rattle.std.specs.Prelude.{◌≡◌, [], ◌≤◌, None, length, IfOk};
-ghost use Rattle.site_book.specs.Amounts.{IsWithin};
-ghost use Rattle.site_book.specs.Grants.{used, grant_of};
+ghost use Rattle.std.specs.Prelude.{◌≡◌, [], ◌≤◌, None, length, IfOk, IfNone};
+ghost use Rattle.site_book.specs.declared.held.Part.TheVariants.{All};
+ghost use Rattle.site_book.specs.Amounts.{IsWithin, of_one, plus};
+ghost use Rattle.site_book.specs.Grants.{used, grant_of, without};
 ghost use Rattle.site_book.specs.Books.{new_book, is_beyond, why_beyond, why_over, why_no_raise, is_over, part_over, overrun_of, are_within, why_not_replan, taken, Opens, Raises, Closes, Replans};
 
 use crate::amount::Amount;
@@ -64,9 +65,12 @@ impl Book {
         used_in(&self.grants, part)
     }
 
-    /// Why no session that reserves so much is opened for a customer now; None where nothing forbids it.
+    /// Why no session that reserves so much is opened for a customer now; None where nothing forbids it: then all sessions are
+    /// within the hall's totals together with it.
     pub fn why_not_open(&self, who: Who, ask: Reserve) -> Option<Refusal>
-        ensures { result ≡ why_over self.now.plan who ask self.now.grants }
+        ensures why { result ≡ why_over self.now.plan who ask self.now.grants }
+        ensures room { IfNone result (IsWithin (plus (of_one ask) (used All self.now.grants)) self.now.plan.totals) }
+        ensures few { self.now.plan.totals.sessions ≤ 64 }
     {
         let own = used_in(&self.grants, Part::Own(who));
         let network = used_in(&self.grants, Part::Network(who.network()));
@@ -82,9 +86,11 @@ impl Book {
         self.grants.push(Held { who, session, ask }).unwrap();
     }
 
-    /// Why a customer's session of this number isn't raised to this now; None where nothing forbids it.
+    /// Why a customer's session of this number isn't raised to this now; None where nothing forbids it: then all sessions are
+    /// within the hall's totals together with what it has then.
     pub fn why_not_raise(&self, who: Who, session: u64, ask: Reserve) -> Option<Refusal>
-        ensures { result ≡ why_no_raise self.now.plan who session ask self.now.grants (grant_of who session self.now.grants) }
+        ensures why { result ≡ why_no_raise self.now.plan who session ask self.now.grants (grant_of who session self.now.grants) }
+        ensures room { IfNone result (IsWithin (plus (of_one ask) (used All (without who session self.now.grants))) self.now.plan.totals) }
     {
         why_no_raise(&self.plan, &self.grants, who, session, ask)
     }
