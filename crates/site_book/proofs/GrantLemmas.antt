@@ -1,6 +1,8 @@
 -- What a new grant, a raise and an end leave of what some grants have together.
-use Rattle.std.proofs.Common.{◌≡◌, ℕ, zero, suc, ◌<◌, ◌≤◌, Bool, true, false, ◌&&◌, ◌||◌, cond, List, [], ◌∷◌, ◌++◌, length, get_or, set, Some, None, refl, ap, sym, ◌∙◌, inl, inr, arith}
+use Rattle.std.proofs.Common.{◌≡◌, ℕ, zero, suc, ◌<◌, ◌≤◌, Bool, true, false, ◌&&◌, ◌||◌, cond, List, [], ◌∷◌, ◌++◌, length, get_or, set, ltb, Some, None, refl, ap, sym, ◌∙◌, inl, inr, arith}
 use Rattle.std.proofs.lemmas.Bool.{cases_Bool}
+use Rattle.std.proofs.lemmas.Bool.Decides.{nat_tests}
+use Rattle.std.specs.Option.{is_some}
 use Rattle.std.specs.List.{remove}
 use Rattle.tenant_quota.specs.Quota.{Quota}
 use Rattle.site_book.specs.declared.amount.Amount.{Amount}
@@ -110,3 +112,8 @@ pub used-removed : (test : Who → Bool) (gs : List Held) (i : ℕ) (held : Held
 used-removed test [] i held less at = absurd (omega arith)
 used-removed test (g ∷ gs) zero held less at = ap (λ (x : Held). cond (test x.who) (plus (of_one x.ask) (used_by test gs)) (used_by test gs)) (sym at)
 used-removed test (g ∷ gs) (suc i) held less at = grind (arith, used-removed test gs i held, plus_swap)
+
+-- a session is there exactly where its place is one of a grant
+pub there-is : (who : Who) (session : ℕ) (gs : List Held) → ltb (place_of who session gs) (length gs) ≡ is_some (grant_of who session gs)
+there-is who session [] = refl
+there-is who session (g ∷ gs) = grind (arith, there-is who session gs, nat_tests)

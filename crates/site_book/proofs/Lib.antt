@@ -1,9 +1,9 @@
 mod NameLemmas
-mod AmountLemmas
+pub mod AmountLemmas
 mod GrantLemmas
 mod BudgetLemmas
 mod Totals
-mod Keepings
+pub mod Keepings
 mod Views
 mod Isolation
 mod RunLemmas

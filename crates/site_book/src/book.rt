@@ -1,4 +1,4 @@
-ghost use Rattle.std.specs.Prelude.{◌≡◌, [], ◌≤◌, None, length, IfOk, IfNone};
+ghost use Rattle.std.specs.Prelude.{◌≡◌, [], ◌≤◌, None, length, is_some, IfOk, IfNone};
 ghost use Rattle.site_book.specs.declared.held.Part.TheVariants.{All};
 ghost use Rattle.site_book.specs.Amounts.{IsWithin, of_one, plus};
 ghost use Rattle.site_book.specs.Grants.{used, grant_of, without};
@@ -63,6 +63,14 @@ impl Book {
         ensures { result ≡ used part self.now.grants }
     {
         used_in(&self.grants, part)
+    }
+
+    /// Whether a customer's session of this number is there.
+    pub fn has(&self, who: Who, session: u64) -> bool
+        ensures { result ≡ is_some (grant_of who session self.now.grants) }
+    {
+        let grants = self.grants.as_slice();
+        place_of(grants, who, session) < grants.len()
     }
 
     /// Why no session that reserves so much is opened for a customer now; None where nothing forbids it: then all sessions are
