@@ -21,9 +21,11 @@ import time
 
 HERE = pathlib.Path(__file__).resolve().parent
 TOP = HERE.parent
-sys.path[:0] = [str(TOP / "clients" / "python"), str(TOP / "clients" / "teacher")]
-from othello import Refused, Session  # noqa: E402, F401
-from review import OTHER, SQUARES, START, can_move, flips, played  # noqa: E402
+sys.path.insert(0, str(TOP / "clients" / "python" / "src"))
+import coluwen  # noqa: E402
+from coluwen import SQUARES, START, Refused  # noqa: E402, F401
+from coluwen.board import BIT, OTHER, cells_of, changes, discs_of  # noqa: E402, F401
+from coluwen.board import can_move as discs_can_move  # noqa: E402
 
 OPENING = START + " X"
 NAMES = ("one", "two", "three")  # of the servers
@@ -32,6 +34,48 @@ GATE = 4720  # where the gate listens for HAProxy
 OPERATOR = 4719  # and for its operator
 PEERS = 4723  # HAProxy's port for its reloads
 kept = []  # a lock for each port that this trial was given
+
+
+class Session(coluwen.Session):
+    """A session whose answers are those of `solve` below: ("DONE", value, move), ("SPENT",), ("CANCELLED",) or ("PENDING",)."""
+
+    @property
+    def socket(self):
+        return self._socket
+
+    def get(self, job):
+        return words_of(super().get(job))
+
+    def wait(self, job):
+        return words_of(super().wait(job))
+
+    def quota(self):
+        left = super().quota()
+        return left.segments, left.nodes, left.steps
+
+    def live(self):
+        open_now = super().live()
+        return open_now.frames, open_now.words
+
+
+def words_of(state):
+    return ("DONE", state.value, state.move) if isinstance(state, coluwen.Done) else (type(state).__name__.upper(),)
+
+
+def flips(cells, side, square):
+    """The squares (0 to 63) whose discs a move flips."""
+    changed = changes(discs_of(cells), side, square)
+    return [at for at in range(64) if changed >> at & 1]
+
+
+def can_move(cells, side):
+    return discs_can_move(discs_of(cells), side)
+
+
+def played(cells, side, square):
+    """The cells after a move."""
+    discs = discs_of(cells)
+    return cells_of(discs ^ changes(discs, side, square) | BIT[side][square])
 
 
 def fail(text):
@@ -123,7 +167,7 @@ class From(Session):
         self.address = address
         super().__init__(*words, **more)
 
-    def connect(self, host, port, timeout):
+    def _connect(self, host, port, timeout):
         return socket.create_connection((host, port), timeout, (self.address, 0))
 
 

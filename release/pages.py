@@ -3,10 +3,11 @@
 
 usage: release/pages.py FOLDER      (then: man -l FOLDER/man/othello.1)
 
-One source says each thing: what `othello` says of itself stands in release/texts, as the program writes it, its faults in
+One source says each thing: what `othello` says of itself the program is asked for, its faults stand in
 docs/PROTOCOL.md, its exit statuses in docs/SOLVE.md, and what a script of deploy/ or clients/ says at its head.
 """
 import ast
+import functools
 import gzip
 import os
 import pathlib
@@ -15,15 +16,11 @@ import subprocess
 import sys
 
 TOP = pathlib.Path(__file__).resolve().parent.parent
-TEXTS = TOP / "release" / "texts"
+PROGRAM = TOP / "othello"  # `make` takes that of its folder, where there is one
+SAYS = {"help": ["--help"], "solve-help": ["solve", "--help"], "serve-help": ["serve", "--help"]}
 COMMANDS = {
     "othello-start": "deploy/start",
-    "othello-ask": "clients/python/othello.py",
-    "othello-batch": "clients/batch",
-    "othello-gtp": "clients/gtp/bridge.py",
-    "othello-nboard": "clients/nboard/bridge.py",
-    "othello-page": "clients/teacher/page.py",
-    "othello-review": "clients/teacher/review.py",
+    **{name: f"clients/bin/{name}" for name in ("coluwen", "coluwen-batch", "coluwen-gtp", "coluwen-match", "coluwen-nboard", "coluwen-page", "coluwen-review")},
 }
 SERVICES = {"othello-drain": "deploy/drain", "othello-guard": "deploy/guard", "othello-ready": "deploy/ready", "othello-reload": "deploy/reload", "othello-supervise": "deploy/supervise"}
 WITH_PAGES = {"othello-start": 1, "othello-guard": 8, "othello-supervise": 8}
@@ -32,10 +29,16 @@ othello answers, for an Othello position and a depth, the minimax value and the 
 is proved to be so: the program was built from sources each of whose functions is proved to meet its contract.
 
 For one answer use solve. For many users, or many answers at once, run a server, by serve or by othello-start(1), and ask
-it by othello-ask, othello-batch, othello-review, othello-page, othello-nboard or othello-gtp; each says at --help what it
-is for.
+it by coluwen, coluwen-batch, coluwen-match, coluwen-review, coluwen-page, coluwen-nboard or coluwen-gtp; each says at --help
+what it is for.
 """
 EXAMPLE = "1 ---------------------------OX------XO--------------------------- X"
+
+
+@functools.cache
+def said(name):
+    """What the program says of itself."""
+    return subprocess.run(["othello", *SAYS[name]], executable=PROGRAM, check=True, capture_output=True, text=True).stdout.strip() + "\n"
 
 
 def head_of(path):
@@ -102,15 +105,15 @@ def options_of(text):
 
 def command_section(name):
     """A command of `othello`, by its help."""
-    text = (TEXTS / f"{name}-help").read_text()
+    text = said(f"{name}-help")
     usage = re.search(r"^Usage: (.*)", text, re.M)[1]
     after = text.split("Options:\n")[1].split("\n\n", 1)[1]
     return section(name.upper(), f".B {plain(usage)}\n.PP", filled(text.splitlines()[0]), listed(options_of(text)), ".PP", kept(after))
 
 
 def othello(date, version):
-    about, statuses = (TEXTS / "help").read_text().splitlines()[0].removeprefix("Othello analysis: "), table_of(TOP / "docs/SOLVE.md", "Output, errors and the exit status")
-    usages = [re.search(r"^Usage: (.*)", (TEXTS / f"{name}-help").read_text(), re.M)[1] for name in ("solve", "serve")]
+    about, statuses = said("help").splitlines()[0].removeprefix("Othello analysis: "), table_of(TOP / "docs/SOLVE.md", "Output, errors and the exit status")
+    usages = [re.search(r"^Usage: (.*)", said(f"{name}-help"), re.M)[1] for name in ("solve", "serve")]
     faults = [(number, f"{fault} (lines: {lines})") for number, lines, fault in table_of(TOP / "docs/PROTOCOL.md", "Faults")]
     return page(
         "othello", 1, date, version, about,
@@ -119,7 +122,7 @@ def othello(date, version):
         command_section("solve"), command_section("serve"),
         section("FAULTS", filled("A faulty line is answered by ERR and the number of its first fault."), listed(faults)),
         section("EXIT STATUS", listed([(status, f"{when}. Standard error: {told}") for status, when, told in statuses if status != "125"])),
-        section("EXAMPLES", kept(f"$ printf '{EXAMPLE}\\n' | othello solve\n-3 d3\n$ othello-start\n$ printf '{EXAMPLE}\\n' | othello-ask")),
+        section("EXAMPLES", kept(f"$ printf '{EXAMPLE}\\n' | othello solve\n-3 d3\n$ othello-start\n$ printf '{EXAMPLE}\\n' | coluwen")),
         section("SEE ALSO", filled("othello-start(1), othello-supervise(8), othello-guard(8), /usr/share/doc/coluwen/README.md")),
     )  # fmt: skip
 
@@ -148,7 +151,7 @@ def options_named(name):
 
 def words_of_commands():
     """`othello`'s commands, and the options of each."""
-    own = {name: [option for option, _ in options_of((TEXTS / f"{name}-help").read_text())] for name in ("solve", "serve")}
+    own = {name: [option for option, _ in options_of(said(f"{name}-help"))] for name in ("solve", "serve")}
     return {name: [word for option in options for word in option.replace(",", "").split() if word.startswith("-")] for name, options in own.items()}
 
 
@@ -177,7 +180,7 @@ def zsh_completion():
     arms = []
     for name in ("solve", "serve"):
         rows = []
-        for option, told in options_of((TEXTS / f"{name}-help").read_text()):
+        for option, told in options_of(said(f"{name}-help")):
             word = re.search(r"--\w+", option)[0]
             rows.append(f"        '{word}[{quoted(told)}]" + (f":{option[-2]}:'" if option.endswith(">") else "'"))
         arms.append(f"      {name})\n        _arguments \\\n" + " \\\n".join(rows) + " ;;")
@@ -209,6 +212,8 @@ _othello "$@"
 
 def make(folder, date, version):
     """Writes all pages and completions into a folder; gives the pages' files."""
+    global PROGRAM
+    PROGRAM = folder / "othello" if (folder / "othello").is_file() else PROGRAM
     (folder / "man").mkdir(parents=True)
     (folder / "completions").mkdir()
     pages = {"othello.1": othello(date, version)}

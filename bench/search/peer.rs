@@ -1,10 +1,12 @@
-//! Serial window search of Othello positions by three engines: the proved crate `leaf_search`, linked as
-//! a static library; plain bit boards, below; and bit boards in vectors (`vectors.rs`). All take the choices
+//! Serial window search of Othello positions by these engines: the proved crate `leaf_search`, linked as a static library
+//! for x86-64-v2 and one for x86-64-v3; plain bit boards, below; and bit boards in vectors of 128 bits (`vectors.rs`) and
+//! in lanes of AVX2 (`avx2.rs`). Those for x86-64-v3 are left out where the processor lacks it. All take the choices
 //! in one order (legal corners a1, h1, a8, h8, then the other squares by rising index) with the same
 //! windows, so values, moves and counts must agree. They take turns at each position, by the thread's
 //! processor time; the best round of each counts.
 //!
-//! usage: search_peer DEPTH ROUNDS, or DEPTH ENGINE for one round of one engine (proved, plain, vectors)
+//! usage: search_peer DEPTH ROUNDS, or DEPTH ENGINE for one round of one engine (proved, proved_v3, plain, vectors, avx2)
+mod avx2;
 mod positions;
 mod vectors;
 
@@ -18,6 +20,7 @@ struct Found {
 
 unsafe extern "C" {
     fn kernel_search(own: u64, opp: u64, depth: u8, found: *mut Found);
+    fn kernel_search_v3(own: u64, opp: u64, depth: u8, found: *mut Found);
     fn clock_gettime(clock: i32, now: *mut Timespec) -> i32;
 }
 
@@ -150,6 +153,12 @@ fn proved(own: u64, opp: u64, depth: u8) -> Found {
     found
 }
 
+fn proved_v3(own: u64, opp: u64, depth: u8) -> Found {
+    let mut found = Found { score: 0, choice: NONE, visited: 0 };
+    unsafe { kernel_search_v3(own, opp, depth, &mut found) };
+    found
+}
+
 fn plain(own: u64, opp: u64, depth: u8) -> Found {
     search(own, opp, depth, -INF, INF)
 }
@@ -160,9 +169,26 @@ fn by_vectors(own: u64, opp: u64, depth: u8) -> Found {
     Found { score, choice: choice as u8, visited }
 }
 
+fn by_avx2(own: u64, opp: u64, depth: u8) -> Found {
+    let mut visited = 0;
+    let (score, choice) = unsafe { avx2::search(own, opp, u32::from(depth), -INF, INF, &mut visited) };
+    Found { score, choice: choice as u8, visited }
+}
+
 type Engine = fn(u64, u64, u8) -> Found;
 
-const ENGINES: [(&str, Engine); 3] = [("proved", proved), ("plain", plain), ("vectors", by_vectors)];
+const ENGINES: [(&str, Engine); 5] =
+    [("proved", proved), ("proved_v3", proved_v3), ("plain", plain), ("vectors", by_vectors), ("avx2", by_avx2)];
+
+/// Whether the processor runs what is built for x86-64-v3.
+fn has_v3() -> bool {
+    is_x86_feature_detected!("avx2")
+        && is_x86_feature_detected!("bmi1")
+        && is_x86_feature_detected!("bmi2")
+        && is_x86_feature_detected!("fma")
+        && is_x86_feature_detected!("lzcnt")
+        && is_x86_feature_detected!("movbe")
+}
 
 /// The processor seconds that this thread has used: on a busy machine they say more than the clock.
 fn processor_seconds() -> f64 {
@@ -196,21 +222,23 @@ fn main() {
     let words: Vec<String> = std::env::args().collect();
     let depth: u8 = words[1].parse().expect("a depth");
     let positions = positions::positions(POSITIONS);
-    if let Some(one) = ENGINES.iter().find(|(name, _)| *name == words[2]) {
+    let engines: Vec<(&str, Engine)> =
+        ENGINES.into_iter().filter(|(name, _)| has_v3() || !matches!(*name, "proved_v3" | "avx2")).collect();
+    if let Some(one) = engines.iter().find(|(name, _)| *name == words[2]) {
         println!("{}", visited_of(&timed(&positions, depth, &[*one])[0].0));
         return;
     }
     let rounds: u32 = words[2].parse().expect("a number of rounds, or an engine");
-    let mut best = [0.0f64; ENGINES.len()];
+    let mut best = vec![0.0f64; engines.len()];
     for round in 1..=rounds {
-        let results = timed(&positions, depth, &ENGINES);
+        let results = timed(&positions, depth, &engines);
         for (result, fastest) in results.iter().zip(&mut best) {
             assert_eq!(result.0, results[0].0, "value, move or count differs");
             *fastest = fastest.max(result.1);
         }
         println!("round {round}: {} positions", visited_of(&results[0].0));
     }
-    for ((name, _), speed) in ENGINES.iter().zip(best) {
+    for ((name, _), speed) in engines.iter().zip(&best) {
         println!("depth {depth}, {POSITIONS} positions: {name} {speed:.0}/s, proved to {name} {:.3}", best[0] / speed);
     }
 }

@@ -22,6 +22,7 @@ const FORMS = {
   CANCEL: form(`(?<state>CANCELLED) (?<job>${NUMBER})`),
   QUOTA: form(`QUOTA (?<a>${NUMBER}) (?<b>${NUMBER}) (?<c>${NUMBER})`),
   LIVE: form(`LIVE (?<a>${NUMBER}) (?<b>${NUMBER})`),
+  INFO: form(`INFO (?<a>${NUMBER})(?<more>(?: [!-~]+)*)`),
   BYE: form("BYE"),
 };
 
@@ -29,11 +30,11 @@ const FORMS = {
 function wantedOf(word, rest, jobs) {
   if (word === "HELLO") return rest.slice(0, 2);
   if (word === "ASK") return [String(jobs + 1)];
-  return ["QUOTA", "LIVE", "BYE"].includes(word) ? null : rest;
+  return ["QUOTA", "LIVE", "INFO", "BYE"].includes(word) ? null : rest;
 }
 
 /**
- * The answer to a line (both without LF), where so many jobs were asked before: { state, job, value, move, entries, numbers }. Throws
+ * The answer to a line (both without LF), where so many jobs were asked before: { state, job, value, move, entries, numbers, more }. Throws
  * Refused where it is an ERR, and Broken where it is none to that line.
  */
 export function parse(line, text, jobs = 0) {
@@ -53,7 +54,7 @@ export function parse(line, text, jobs = 0) {
   const twice = new Set(entries.map(([move]) => move)).size !== entries.length;
   if (!again || twice || values.some((value) => Math.abs(value) > GREATEST)) throw misfit();
   const state = told.state ?? told.other ?? text.split(" ")[0];
-  return { state, job: Number(job ?? 0), value: values[0], move: told.move ?? "", entries, numbers: numbers.map(Number) };
+  return { state, job: Number(job ?? 0), value: values[0], move: told.move ?? "", entries, numbers: numbers.map(Number), more: told.more ?? "" };
 }
 
 /** An answer as it stands in a row of the conformance file. */

@@ -27,7 +27,7 @@ const squaresOf = (cells, side) => SQUARES.filter((_, at) => cells[at] === "-" &
 /** 64 cells and the side to move. It can't be changed: `play` gives another. */
 export class Position {
   constructor(cells = START, side = "X") {
-    if (!/^[XO-]{64}$/.test(cells) || !(side in OTHER)) throw new IllegalMove(`${cells} and ${side} are no position`);
+    if (!/^[XO-]{64}$/.test(cells) || !(side in OTHER)) throw new RangeError(`${cells} and ${side} are no position`);
     this.cells = cells;
     this.side = side;
     Object.freeze(this);
@@ -38,7 +38,7 @@ export class Position {
   /** The position of a text of 66 letters: X, x or * is black, O or o white, - or . empty. */
   static parse(text) {
     const found = [...text.replaceAll(/\s/g, "")].map((letter) => CELLS[letter] ?? "?").join("");
-    if (!/^[XO-]{64}[XO]$/.test(found)) throw new IllegalMove(`${text} is no position: 64 cells, a space, and the side to move`);
+    if (!/^[XO-]{64}[XO]$/.test(found)) throw new RangeError(`${text} is no position: 64 cells, a space, and the side to move`);
     return new Position(found.slice(0, 64), found[64]);
   }
 
@@ -63,6 +63,8 @@ export class Position {
     const turned = new Set([square, ...flipsOf(this.cells, this.side, square)]);
     return new Position([...this.cells].map((cell, at) => (turned.has(at) ? this.side : cell)).join(""), OTHER[this.side]);
   }
+
+  equals(other) { return other instanceof Position && other.text === this.text; }
 
   /** The same with the colours exchanged. */
   flip() {

@@ -5,14 +5,15 @@ export const FAULTS = Object.freeze({
   14: "64 tenants are there, or what is asked for isn't left", 19: "there was no memory", 22: "the line is too long",
   21: "an unknown word, or another number of words", 23: "not a number, or outside the limits", 28: "no HELLO yet",
   24: "the position hasn't 66 bytes", 25: "a byte of the position spells no cell", 27: "the depth is over 12",
-  26: "no space and side follow the cells", 20: "fewer segments or nodes than are reserved, or no more of either" });
+  26: "no space and side follow the cells", 20: "fewer segments or nodes than are reserved, or no more of either",
+  30: "nobody has this token", 31: "too many lines in a time" });
 
 /** Whatever this package throws of its own. */
 export class ColuwenError extends Error {
   get name() { return this.constructor.name; }
 }
 
-/** The server answered `ERR number`. The session goes on. */
+/** The server answered `ERR number`. */
 export class Refused extends ColuwenError {
   constructor(number) {
     super(`ERR ${number}: ${FAULTS[number] ?? "a fault that this client does not know"}`);
@@ -29,13 +30,18 @@ export class Broken extends ColuwenError {}
 /** The server didn't answer in time what it answers at once: a new session is needed. */
 export class Silent extends ColuwenError {}
 
-/** A job took longer than it was given, and was cancelled. The session goes on. */
+/** A job took longer than it was given, and was cancelled. */
 export class Late extends ColuwenError {}
 
-/** A position can't be searched so deep at the server's grain; `greatest` is the greatest depth that can be had of it. */
+/** The client or the session was closed: nothing more is sent. */
+export class Closed extends ColuwenError {
+  constructor(what) { super(`this ${what} is closed`); }
+}
+
+/** A position can't be searched so deep at the server's grain; `greatest` is a depth that can be had of each position. */
 export class TooDeep extends ColuwenError {
   constructor(depth, greatest) {
-    super(`depth ${depth} can't be had at this server's grain; the greatest that can is ${greatest}`);
+    super(`depth ${depth} can't be had at this server's grain; depth ${greatest} can`);
     [this.depth, this.greatest] = [depth, greatest];
   }
 }

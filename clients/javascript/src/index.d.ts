@@ -1,6 +1,11 @@
-import { EventEmitter } from "node:events";
 import type { ConnectionOptions } from "node:tls";
 
+declare global {
+  interface SymbolConstructor { readonly asyncDispose: unique symbol; } // as the language's own types have it from version 5.2 on
+}
+type Listened = Parameters<EventTarget["addEventListener"]>;
+
+/** What the numbers of `ERR` say. */
 export declare const FAULTS: Readonly<Record<number, string>>;
 export declare const START: string;
 export declare const SQUARES: readonly string[];
@@ -8,6 +13,7 @@ export declare const PASS: "pass";
 export declare const HOST: string;
 export declare const PORT: number;
 
+/** Whatever this package throws of its own. Where an argument is none, it throws RangeError or TypeError before anything is sent. */
 export declare class ColuwenError extends Error {}
 /** The server answered `ERR number`. */
 export declare class Refused extends ColuwenError { readonly number: number; }
@@ -15,7 +21,9 @@ export declare class Unreachable extends ColuwenError {}
 export declare class Broken extends ColuwenError {}
 export declare class Silent extends ColuwenError {}
 export declare class Late extends ColuwenError {}
+export declare class Closed extends ColuwenError {}
 export declare class IllegalMove extends ColuwenError {}
+/** `greatest` is a depth that can be had of each position; 0 where nothing is known of less. */
 export declare class TooDeep extends ColuwenError { readonly depth: number; readonly greatest: number; }
 
 export type Side = "X" | "O";
@@ -34,19 +42,27 @@ export declare class Position {
   legalMoves(): string[];
   play(move: string): Position;
   flip(): Position;
+  equals(other: unknown): boolean;
   drawn(marks?: Map<string, string>): string;
 }
 
+/** As the player `side` sees it. Scores of one side are ordered by `<`. */
 export declare class Score {
-  constructor(value: number, sign?: Sign, ends?: boolean);
+  constructor(value: number, sign?: Sign, ends?: boolean, side?: Side);
+  static compare(one: Score, other: Score): number;
   readonly value: number;
   readonly sign: Sign;
   readonly ends: boolean;
+  readonly side: Side;
   readonly unit: "points" | "discs";
-  readonly number: number;
+  /** How many points or discs the side is ahead, and black, and white. */
+  readonly mover: number;
+  readonly black: number;
+  readonly white: number;
   readonly isExact: boolean;
   readonly isDraw: boolean;
   flip(): Score;
+  valueOf(): number;
 }
 
 export declare class Entry {
@@ -59,58 +75,108 @@ export interface Result {
   readonly position: Position;
   readonly depth: number;
   readonly score: Score;
-  readonly best: string;
+  /** The first best move; null at depth 0 and in a finished game. */
+  readonly best: string | null;
   readonly table: readonly Entry[];
-  readonly seconds: number;
+  readonly milliseconds: number;
 }
 
-export type State = ["DONE", number, string] | ["PENDING"] | ["SPENT"] | ["CANCELLED"];
-export type Answer = Exclude<State, ["PENDING"]> | ["ERR", number, string];
-export type TableEntry = [move: string, sign: Sign, value: number];
-/** Times are in seconds. */
+/** How deep mid-game positions are looked at: `sure` plies at each, `mostly` at most of them. */
+export interface Info { readonly grain: number; readonly sure: number; readonly mostly: number; readonly version: string | null; }
+/** Times are in milliseconds. */
 export interface How { timeout?: number; signal?: AbortSignal; }
+/** How many are answered, of these at fault; and how many there are, where the source says it. */
+export interface Progress { readonly done: number; readonly faults: number; readonly total: number | undefined; }
+export interface ManyHow extends How { order?: "asked" | "known"; window?: number; onProgress?: (progress: Progress) => void; }
+export type Question = Position | string | readonly [position: Position | string, depth: number];
+/** Of one of many questions its number from 0, itself as it was given, and its result or its fault. */
+export type Outcome<Asked extends Question = Question> = { readonly index: number; readonly question: Asked; readonly result: Result; readonly fault?: undefined }
+  | { readonly index: number; readonly question: Asked; readonly fault: Error; readonly result?: undefined };
 
-export interface ClientOptions {
+/** What a client of a server and an engine of this host have in common. */
+export declare abstract class Analyst extends EventTarget {
+  abstract analyse(position: string | Position, depth: number, how?: How): Promise<Result>;
+  abstract info(): Promise<Info>;
+  abstract ping(): Promise<number>;
+  abstract close(): Promise<void>;
+  readonly window: number;
+  analyseAll(position: string | Position, depth: number, how?: How): Promise<Entry[]>;
+  analyseMany<Asked extends Question>(questions: Iterable<Asked> | AsyncIterable<Asked>, depth?: number, how?: ManyHow): AsyncGenerator<Outcome<Asked>, void, void>;
+  [Symbol.asyncDispose](): Promise<void>;
+}
+
+/** A connection, and what it calls: `received` with each block as a string of its bytes. */
+export interface Link { send(bytes: string): void; close(): void; hold?(isHeld: boolean): void; }
+export interface Heard { opened(): void; received(bytes: string): void; lost(why: string, isFinal: boolean): void; }
+export type Dial = (place: { host: string; port: number; secure: boolean | ConnectionOptions }, heard: Heard) => Link;
+
+export interface PlaceOptions {
   host?: string;
   port?: number;
-  segments?: number;
-  nodes?: number;
+  /** TLS: true, or what `tls.connect` takes. */
   secure?: boolean | ConnectionOptions;
   token?: string;
+  /** What connects, where it isn't node's own sockets. */
+  dial?: Dial;
+}
+
+export interface ClientOptions extends PlaceOptions {
   sessions?: number;
   ahead?: number;
-  patience?: number;
   silence?: number;
+  outage?: number;
+  patience?: number;
   timeout?: number;
+  segments?: number;
+  nodes?: number;
 }
 
-export declare class Client extends EventEmitter {
+export interface EngineOptions { workers?: number; timeout?: number; }
+
+/** Values without a server: the proved search as WebAssembly, in workers of this process or page. No depth is beyond it. */
+export declare class Engine extends Analyst {
+  constructor(options?: EngineOptions);
+  analyse(position: string | Position, depth: number, how?: How): Promise<Result>;
+  info(): Promise<Info>;
+  ping(): Promise<number>;
+  close(): Promise<void>;
+}
+
+export interface ClientEvents {
+  opened: ClientEvent<{ segments: number; nodes: number }>;
+  full: ClientEvent<Refused>;
+  silent: ClientEvent<Silent>;
+  lost: ClientEvent<ColuwenError>;
+}
+export declare class ClientEvent<Detail> extends Event { readonly detail: Detail; }
+
+export declare class Client extends Analyst {
   constructor(options?: ClientOptions);
   analyse(position: string | Position, depth: number, how?: How): Promise<Result>;
-  analyseAll(position: string | Position, depth: number, how?: How): Promise<Entry[]>;
-  greatest(position: string | Position, depth: number, how?: How): Promise<number>;
-  depths(): Promise<{ grain: number; sure: number; mostly: number }>;
-  answers(lines: AsyncIterable<string> | Iterable<string>): AsyncGenerator<Answer>;
-  answered(lines: AsyncIterable<string> | Iterable<string>, how?: { tabled?: boolean }): AsyncGenerator<{ line: string; answer: Answer; table?: TableEntry[] }>;
-  open(level?: number, signal?: AbortSignal): Promise<Session>;
+  info(): Promise<Info>;
+  ping(): Promise<number>;
   close(): Promise<void>;
+  addEventListener<Name extends keyof ClientEvents>(name: Name, heard: (event: ClientEvents[Name]) => void, options?: Listened[2]): void;
+  addEventListener(name: string, heard: Listened[1], options?: Listened[2]): void;
+  removeEventListener<Name extends keyof ClientEvents>(name: Name, heard: (event: ClientEvents[Name]) => void, options?: Parameters<EventTarget["removeEventListener"]>[2]): void;
+  removeEventListener(name: string, heard: Listened[1], options?: Parameters<EventTarget["removeEventListener"]>[2]): void;
 }
+
+/** `othello://host:port`, and `?tls=1` or any other option by its name, times in seconds; without an address COLUWEN_URL's, or this host's. */
+export declare function connect(address?: string, options?: ClientOptions): Client;
+
+export type State = { readonly state: "DONE"; readonly value: number; readonly move: string } | { readonly state: "PENDING" | "SPENT" | "CANCELLED" };
 
 export declare class Session {
-  static open(options: { host: string; port: number; segments: number; nodes: number; secure?: boolean | ConnectionOptions; silence?: number; token?: string }): Promise<Session>;
-  readonly jobs: number;
+  static open(options: PlaceOptions & { host: string; port: number; segments: number; nodes: number; silence?: number }): Promise<Session>;
   ask(depth: number, position: string | Position): Promise<number>;
-  askLine(line: string): Promise<number>;
   get(job: number): Promise<State>;
   wait(job: number): Promise<State>;
-  poll(job: number, how?: How): Promise<State>;
-  table(job: number): Promise<TableEntry[] | null>;
+  poll(job: number, how?: { timeout?: number }): Promise<State>;
+  table(job: number): Promise<{ readonly move: string; readonly sign: Sign; readonly value: number }[] | null>;
   cancel(job: number): Promise<void>;
-  stopped(job: number): Promise<State>;
   reserve(segments: number, nodes: number): Promise<void>;
-  quota(): Promise<number[]>;
-  live(): Promise<number[]>;
+  quota(): Promise<{ readonly segments: number; readonly nodes: number; readonly steps: number }>;
+  live(): Promise<{ readonly frames: number; readonly words: number }>;
   close(): Promise<void>;
 }
-
-export declare function grainFor(depth: number): string;

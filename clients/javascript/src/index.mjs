@@ -1,6 +1,8 @@
-// Values of Othello positions from a server of `othello serve`, for node, without packages.
+// Values of Othello positions, from a server of `othello serve` or by an engine of this process or page, without packages.
+export { Analyst, Entry } from "./analyst.mjs";
 export { PASS, Position, SQUARES, START } from "./board.mjs";
-export { Client, Entry, HOST, PORT, grainFor } from "./client.mjs";
-export { Broken, ColuwenError, FAULTS, IllegalMove, Late, Refused, Silent, TooDeep, Unreachable } from "./faults.mjs";
+export { Client, ClientEvent, HOST, PORT, connect } from "./client.mjs";
+export { Engine } from "./engine.mjs";
+export { Broken, Closed, ColuwenError, FAULTS, IllegalMove, Late, Refused, Silent, TooDeep, Unreachable } from "./faults.mjs";
 export { Score } from "./score.mjs";
 export { Session } from "./session.mjs";

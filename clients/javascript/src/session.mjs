@@ -1,149 +1,108 @@
-// One session of a server: its lines and their answers, over a connection of its own. Most callers want `Client`.
-import net from "node:net";
-import { setTimeout as sleep } from "node:timers/promises";
-import tls from "node:tls";
-import { LONGEST, parse } from "./answers.mjs";
-import { Broken, Late, Refused, Silent } from "./faults.mjs";
+// One session of a server, with a method for each line of the protocol. Most callers want `Client`.
+import { Wire, pauseAfter } from "./core.mjs";
+import { Broken, Closed, Late, Refused, Silent } from "./faults.mjs";
+import { dial } from "./socket.mjs";
 
-export const pauseAfter = (taken) => Math.min(Math.max(taken / 4, 0.001), 0.02); // seconds before the next look at a job
-export const seconds = () => performance.now() / 1000;
+const pause = (milliseconds) => new Promise((resolve) => { setTimeout(resolve, milliseconds); });
 
 /** A tenant of the server. Calls may be made before others are answered: they are sent at once and answered in order. */
 export class Session {
-  waiting = []; // what was sent and isn't answered: its line and its promise
-  jobs = 0; // how many were asked
-  broken = null; // why the session can't be used any more
-  #rest = ""; // what came behind the last LF
-  #clock;
+  #wire = new Wire(); #asked = []; #link; #silence; #clock; #fault = null; // of each line that isn't answered its promise; why the session is over
 
-  /**
-   * `silence`: the seconds that the server may take to what it answers at once, which is all but WAIT; no limit if 0. `secure`: speak
-   * TLS, true or what `tls.connect` takes. `token`: a customer's of a site's gate.
-   */
-  static async open({ host, port, segments, nodes, secure = false, silence = 0, token = "" }) {
+  /** A new connection and its HELLO. Options: those of `Client` that say where the server is, `silence`, `segments` and `nodes`. */
+  static open({ host, port, segments, nodes, secure = false, silence = 0, token = "", dial: dialled = dial }) {
     const session = new Session();
-    session.silence = silence;
-    session.reserved = { segments: Number(segments), nodes: Number(nodes) };
-    const servername = net.isIP(host) ? undefined : host;
-    session.socket = secure ? tls.connect({ host, port, servername, ...(secure === true ? {} : secure) }) : net.connect({ host, port });
-    session.socket.setNoDelay(true).on("error", (error) => session.drop(error)).on("close", () => session.drop());
-    session.socket.on("data", (block) => session.#read(block.toString("latin1")));
-    await session.call(["HELLO", segments, nodes], token).catch((fault) => {
-      session.drop(fault);
-      throw session.broken;
-    });
-    return session;
-  }
-
-  /** Sends one line, and gives its answer (`parse`). A token is its last word, and stands in no fault. */
-  async call(words, token = "") {
-    const line = words.join(" ");
-    if (this.broken) throw this.broken;
-    if (`${line}${token}`.includes("\n")) throw new RangeError("a line has one LF, at its end");
-    this.socket.write(token ? `${line} ${token}\n` : `${line}\n`, "latin1");
+    session.#silence = silence;
     return new Promise((resolve, reject) => {
-      this.waiting.push({ line, resolve, reject });
-      if (this.waiting.length === 1) this.#listen();
+      const lost = (why) => reject(session.#drop(new Broken(why)));
+      session.#link = dialled({ host, port, secure }, { received: (bytes) => session.#received(bytes), lost,
+        opened: () => session.#call(["HELLO", segments, nodes], token).then(() => resolve(session), (fault) => reject(session.#drop(fault))) });
+      session.#listen("connection");
     });
   }
 
-  /** The time begins in which the first of what was sent is to be answered. */
-  #listen() {
-    clearTimeout(this.#clock);
-    const [asked] = this.waiting;
-    if (!this.silence || !asked || asked.line.startsWith("WAIT ")) return;
-    const word = asked.line.split(" ")[0];
-    this.#clock = setTimeout(() => this.drop(new Silent(`no answer to ${word} in ${this.silence.toPrecision(2)} s`)), 1000 * this.silence);
-  }
+  /** Asks for a position; gives the job's number. */
+  async ask(depth, position) { return (await this.#call(["ASK", depth, position])).job; }
+  /** How a job stands: { state: "DONE", value, move }, or a state alone: PENDING, SPENT or CANCELLED. */
+  get(job) { return this.#state("GET", job); }
+  /** The same once it has ended. The server reads no other line of this session until then, so nobody can cancel the job. */
+  wait(job) { return this.#state("WAIT", job); }
 
-  /** Takes lines apart: only what an LF ends is one. */
-  #read(block) {
-    this.#rest += block;
-    for (let end = this.#rest.indexOf("\n"); end >= 0 && !this.broken; end = this.#rest.indexOf("\n")) {
-      const line = this.#rest.slice(0, end);
-      this.#rest = this.#rest.slice(end + 1);
-      this.#answered(line);
-    }
-    if (this.#rest.length >= LONGEST) this.drop(new Broken(`an answer has more than ${LONGEST} bytes`));
-  }
-
-  #answered(text) {
-    const [asked] = this.waiting;
-    if (!asked) return this.drop(new Broken(`the server said ${JSON.stringify(text.slice(0, 60))}, which wasn't asked`));
-    try {
-      const found = parse(asked.line, text, this.jobs);
-      if (found.state === "JOB") this.jobs += 1;
-      this.waiting.shift();
-      asked.resolve(found);
-    } catch (fault) {
-      if (!(fault instanceof Refused)) return this.drop(fault);
-      this.waiting.shift();
-      asked.reject(fault);
-    }
-    return this.#listen();
-  }
-
-  ask = async (depth, position) => this.askLine(`${depth} ${position}`);
-  /** Asks for a line `depth position`; gives the job's number. */
-  askLine = async (line) => (await this.call(["ASK", line])).job;
-
-  /** How a job stands: [ 'DONE', value, move ], [ 'PENDING' ], [ 'SPENT' ] or [ 'CANCELLED' ]. */
-  get = async (job, word = "GET") => {
-    const { state, value, move } = await this.call([word, job]);
-    return state === "DONE" ? [state, value, move] : [state];
-  };
-
-  /** How a job ended, by the line WAIT: the server reads no other of this session until then, so nobody can cancel the job, and
-   * a server that is lost without a word isn't found out. `poll` is for both. */
-  wait = (job) => this.get(job, "WAIT");
-
-  /** How a job ended, by GET with pauses of up to 20 ms, between which it may be cancelled. After `timeout` seconds it is
-   * cancelled and Late thrown; where the signal is aborted, the same and its reason. */
-  poll = async (job, { timeout = Infinity, signal } = {}) => {
-    for (const begun = seconds(); ; await sleep(1000 * pauseAfter(seconds() - begun))) {
+  /** The same by GET with pauses. After `timeout` milliseconds it is cancelled, and Late thrown. */
+  async poll(job, { timeout = Infinity } = {}) {
+    for (const begun = performance.now(); ; await pause(pauseAfter(performance.now() - begun))) {
       const found = await this.get(job);
-      if (found[0] !== "PENDING") return found;
-      if (signal?.aborted || seconds() - begun > timeout) {
-        const stopped = await this.stopped(job);
-        if (stopped[0] !== "CANCELLED") return stopped;
-        throw signal?.aborted ? signal.reason : new Late(`job ${job} was cancelled after ${timeout} s`);
-      }
+      if (found.state !== "PENDING") return found;
+      if (performance.now() - begun > timeout && await this.cancel(job).then(() => true, (fault) => { if (fault instanceof Refused) return false; throw fault; })) throw new Late(`job ${job} was cancelled after ${timeout} ms`);
     }
-  };
+  }
 
-  /** What is known of each choice of a job that is done: move, sign (= just, < at most, > at least) and number, in the order of
-   * the choices; none at depth 0. Null where the job isn't done. */
-  table = async (job) => {
-    const { state, entries } = await this.call(["TABLE", job]);
-    return state === "TABLE" ? entries : null;
-  };
+  /** What is known of each choice of a job that is done, in their order: { move, sign, value }; null where it isn't done. */
+  async table(job) {
+    const { state, entries } = await this.#call(["TABLE", job]);
+    return state === "TABLE" ? entries.map(([move, sign, value]) => ({ move, sign, value })) : null;
+  }
 
-  cancel = async (job) => { await this.call(["CANCEL", job]); };
+  async cancel(job) { await this.#call(["CANCEL", job]); }
+  async reserve(segments, nodes) { await this.#call(["RESERVE", segments, nodes]); }
 
-  /** Cancels a job, if it hasn't ended meanwhile; how it ended. */
-  stopped = async (job) => {
-    await this.cancel(job).catch((fault) => { if (!(fault instanceof Refused)) throw fault; });
-    return this.get(job);
-  };
+  /** What is left: { segments, nodes, steps }. */
+  async quota() {
+    const [segments, nodes, steps] = (await this.#call(["QUOTA"])).numbers;
+    return { segments, nodes, steps };
+  }
 
-  reserve = async (segments, nodes) => {
-    await this.call(["RESERVE", segments, nodes]);
-    this.reserved = { segments, nodes };
-  };
-
-  quota = async () => (await this.call(["QUOTA"])).numbers;
-  live = async () => (await this.call(["LIVE"])).numbers;
+  /** What is open: { frames, words }. */
+  async live() {
+    const [frames, words] = (await this.#call(["LIVE"])).numbers;
+    return { frames, words };
+  }
 
   /** Ends the session, without BYE where that would wait behind other answers. */
-  close = async () => {
-    if (!this.waiting.length && !this.broken) await this.call(["BYE"]).catch(() => {});
-    this.drop();
-  };
+  async close() {
+    if (!this.#asked.length && !this.#fault) await this.#call(["BYE"]).catch(() => {});
+    this.#drop(new Closed("session"));
+  }
 
-  drop(error) {
-    this.broken ??= error ?? new Broken("the server ended the session");
+  async #state(word, job) {
+    const { state, value, move } = await this.#call([word, job]);
+    return state === "DONE" ? { state, value, move } : { state };
+  }
+
+  #call(words, token) {
+    return new Promise((resolve, reject) => {
+      if (this.#fault) throw this.#fault;
+      const bytes = this.#wire.line(words, token);
+      this.#link.send(bytes);
+      this.#asked.push({ word: words[0], resolve, reject });
+      if (this.#asked.length === 1) this.#listen(words[0]);
+    });
+  }
+
+  /** The time begins in which the server is to say something. */
+  #listen(word) {
     clearTimeout(this.#clock);
-    for (const asked of this.waiting.splice(0)) asked.reject(this.broken);
-    this.socket.destroy();
+    if (this.#silence && word && word !== "WAIT") this.#clock = setTimeout(() => this.#drop(new Silent(`no ${word === "connection" ? word : `answer to ${word}`} in ${this.#silence} ms`)), this.#silence);
+  }
+
+  #received(bytes) {
+    try {
+      for (const { answer, refusal } of this.#wire.answers(bytes)) {
+        const { resolve, reject } = this.#asked.shift();
+        if (answer) resolve(answer);
+        else reject(refusal);
+        this.#listen(this.#asked[0]?.word);
+      }
+    } catch (fault) {
+      this.#drop(fault);
+    }
+  }
+
+  #drop(fault) {
+    this.#fault ??= fault;
+    clearTimeout(this.#clock);
+    for (const { reject } of this.#asked.splice(0)) reject(this.#fault);
+    this.#link.close();
+    return this.#fault;
   }
 }

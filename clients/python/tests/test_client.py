@@ -1,86 +1,293 @@
-"""Client, AsyncClient and Session against servers that answer as they are told, and, where COLUWEN_PORT names one, a real one."""
+"""Client, AsyncClient and Session against servers that answer as they are told; what callers see of results, faults and options."""
 from __future__ import annotations
 
 import asyncio
-import os
+import concurrent.futures
+import copy
+import logging
+import pickle
+import socket
 import threading
 import time
 
+import coluwen
 import pytest
-from coluwen import Broken, Client, Late, Position, Refused, Session, Silent, Stopped, TooDeep, Unreachable
-from coluwen.aio import AsyncClient, AsyncSession
-from told import Told, sound, told
+from coluwen import AsyncClient, Broken, Client, Closed, ColuwenError, Entry, Late, Outcome, Position, Progress, Refused, Result, Score, Session, Silent, TooDeep, Unreachable
+from coluwen._place import url_of
+from told import sound, told, value_of
 
 OPENING = Position.opening()
+LINE = []  # positions of a game
+for _ in range(12):
+    LINE.append((LINE[-1] if LINE else OPENING).play((LINE[-1] if LINE else OPENING).legal[0]))
 
 
 def test_result() -> None:
     with told(sound()) as server, Client("127.0.0.1", server.port) as client:
         found = client.analyse(OPENING, 6)
-        assert (found.score.value, found.best, [str(entry) for entry in found.table]) == (5, "d3", ["d3=5", "c4<-1"])
-        assert client.analyse(OPENING.text, 3).depth == 3
-        assert server.heard[:3] == ["HELLO 256 8192", f"ASK 6 {OPENING}", "GET 1"]
-        assert sum(line.startswith("HELLO") for line in server.heard) == 1  # the session is kept
+        value = value_of(OPENING.text)
+        assert (found.score, found.best, found.table) == (Score(value), "d3", (Entry("d3", Score(value)), Entry("c4", Score(-1, "<"))))
+        assert client.analyse(OPENING.text, 3).depth == 3 and found.seconds > 0 and found.nodes is None
+        white = client.analyse(LINE[0], 6)
+        assert white.score.side == "O" and white.score.mover == value_of(LINE[0].text) and white.score.black == -white.score.mover == -white.score.white
+    with told(sound()) as server, Client("127.0.0.1", server.port, counts=True) as client:
+        assert client.analyse(OPENING, 6).nodes == 60 and client.analyse(OPENING, 6).nodes == 60
 
 
-def test_each_move_is_exact() -> None:
+def test_each_move_in_the_order_of_its_value() -> None:
     with told(sound()) as server, Client("127.0.0.1", server.port) as client:
         entries = client.analyse_all(OPENING, 4)
-        assert [entry.move for entry in entries] == OPENING.legal_moves()
-        assert all(entry.score.is_exact and entry.score.value == -5 for entry in entries)
-        asked = sorted(line for line in server.heard if line.startswith("ASK"))
-        assert asked == sorted(f"ASK 3 {OPENING.play(move)}" for move in OPENING.legal_moves())
-        passing = Position.parse("XO" + "-" * 62 + "O")
-        assert [entry.move for entry in client.analyse_all(passing, 2)] == ["pass"]
-        assert client.analyse_all(Position.parse("X" * 64 + "O"), 2) == []
+        wanted = {move: -value_of(OPENING.play(move).text) for move in OPENING.legal}
+        assert {entry.move: entry.score.value for entry in entries} == wanted and len(set(wanted.values())) == 4
+        assert [entry.score.value for entry in entries] == sorted(wanted.values(), reverse=True) != list(wanted.values())
+        assert all(entry.score.is_exact and entry.score.side == "X" for entry in entries)
 
 
-def test_what_is_spent_is_asked_with_more() -> None:
-    with told(sound(state=lambda depth, nodes: "SPENT" if depth > 5 or (depth == 5 and nodes < 65536) else "DONE")) as server:
-        with Client("127.0.0.1", server.port) as client:
-            assert client.analyse(OPENING, 5).best == "d3"
-            with pytest.raises(TooDeep) as fault:
-                client.analyse(OPENING, 8)
-            assert (fault.value.depth, fault.value.greatest) == (8, 5)
-        with Client("127.0.0.1", server.port, segments=64, nodes=100) as client, pytest.raises(TooDeep):
-            client.analyse(OPENING, 5)
+def test_many_stream() -> None:
+    """The first is there while the last isn't asked; each has its own; progress is told; the question is what was given."""
+    taken: list[int] = []
+
+    def source():  # type: ignore[no-untyped-def]
+        for at in range(500):
+            taken.append(at)
+            yield (LINE[at % 12], 3) if at % 3 else LINE[at % 12].text
+
+    told_of: list[Progress] = []
+    with told(sound()) as server, Client("127.0.0.1", server.port, sessions=2) as client:
+        answers = client.analyse_many(source(), 4, window=10, on_progress=told_of.append)
+        first = next(answers)
+        assert len(taken) <= 10 and first.number == 0 and first.question == LINE[0].text
+        outcomes = [first, *answers]
+        assert [one.number for one in outcomes] == list(range(500))
+        for one in outcomes:
+            question, answer = one
+            assert isinstance(answer, Result) and answer.score.value == value_of(LINE[one.number % 12].text) and answer.depth == (3 if one.number % 3 else 4)
+            assert question == ((LINE[one.number % 12], 3) if one.number % 3 else LINE[one.number % 12].text)
+        assert [one.done for one in told_of] == list(range(1, 501)) and told_of[-1] == Progress(500, 0)
+        assert sum(line.startswith("HELLO") for line in server.heard) <= 4
+        known = list(client.analyse_many(LINE, 2, order="known", on_progress=told_of.append))
+        assert sorted(one.number for one in known) == list(range(12)) and told_of[-1] == Progress(12, 0, 12)
+        for wrong in ({"order": "any"}, {"window": 0}):
+            with pytest.raises(ValueError):
+                next(client.analyse_many(LINE, 2, **wrong))  # type: ignore[arg-type]
 
 
-def test_late_and_stopped() -> None:
-    with told(sound(state=lambda depth, nodes: "PENDING")) as server, Client("127.0.0.1", server.port) as client:
-        with pytest.raises(Late):
-            client.analyse(OPENING, 6, timeout=0.1)
-        stop = threading.Event()
-        threading.Timer(0.1, stop.set).start()
-        with pytest.raises(Stopped):
-            client.analyse(OPENING, 6, stop=stop)
-        assert [line for line in server.heard if line.startswith("CANCEL")] == ["CANCEL 1", "CANCEL 2"]
+def test_a_fault_of_one_is_its_own() -> None:
+    state = lambda depth, nodes: "SPENT" if depth > 8 else "DONE"
+    with told(sound(state=state)) as server, Client("127.0.0.1", server.port) as client:
+        asked = [(OPENING, 3), (OPENING, 9), ("no position", 3), (OPENING, 13), (OPENING, 3.0), OPENING, (LINE[0], 2)]
+        outcomes = list(client.analyse_many(asked))  # type: ignore[arg-type]
+        assert [type(one.answer).__name__ for one in outcomes] == ["Result", "TooDeep", "Unfit", "Unfit", "Unfit", "Unfit", "Result"]
+        assert "a depth is a whole number from 0 to 12, and not 3.0" in str(outcomes[4].answer) and all(isinstance(one.answer, (Result, ColuwenError)) for one in outcomes)
+
+    async def trial(port: int) -> list[Outcome]:
+        async with AsyncClient("127.0.0.1", port) as client:
+            return [one async for one in client.analyse_many(asked)]  # type: ignore[arg-type]
+
+    with told(sound(state=state)) as server:
+        assert [type(one.answer).__name__ for one in asyncio.run(asyncio.wait_for(trial(server.port), 20))] == [type(one.answer).__name__ for one in outcomes]
 
 
-def test_what_waits_is_stopped() -> None:
-    """For a session that another call has, and for a server that is full."""
-    first, second = threading.Event(), threading.Event()
-    with told(sound(state=lambda depth, nodes: "PENDING")) as server, Client("127.0.0.1", server.port, sessions=1) as client:
-        other = threading.Thread(target=lambda: pytest.raises(Stopped, client.analyse, OPENING, 6, stop=first))
-        other.start()
-        while not any(line.startswith("ASK 6") for line in server.heard):
+def test_what_the_source_raises_is_raised() -> None:
+    def source():  # type: ignore[no-untyped-def]
+        yield OPENING
+        raise KeyError("mine")
+
+    with told(sound()) as server, Client("127.0.0.1", server.port) as client, pytest.raises(KeyError, match="mine"):
+        list(client.analyse_many(source(), 2))
+
+
+@pytest.mark.parametrize("depth", [6.0, "6", True, None, -1, 13])
+def test_a_depth_is_tested_before_anything_is_sent(depth: object) -> None:
+    with told(sound()) as server, Client("127.0.0.1", server.port) as client:
+        for call in (client.analyse, client.analyse_all, client.submit):
+            with pytest.raises((ValueError, TypeError), match="a depth is a whole number"):
+                call(OPENING, depth)  # type: ignore[operator]
+        with pytest.raises(TypeError):
+            client.analyse(7, 3)  # type: ignore[arg-type]
+        assert not server.heard
+        with pytest.raises(TypeError):
+            Client("127.0.0.1", 4711, None)  # type: ignore[misc]
+
+
+@pytest.mark.parametrize("fault", [Refused(14), TooDeep(9, 7), TooDeep(5), Late(0.5), Unreachable("here: nobody"), Silent("no answer"), Broken("x"), Closed("y"), coluwen.IllegalMove("a1"),
+                                   coluwen.FormatError("no", "a.obf", 3, 4)])  # fmt: skip
+def test_faults_can_be_pickled(fault: ColuwenError) -> None:
+    for again in (pickle.loads(pickle.dumps(fault)), copy.copy(fault), copy.deepcopy(fault)):
+        assert type(again) is type(fault) and str(again) == str(fault) and vars(again) == vars(fault) and isinstance(again, ColuwenError)
+
+
+def too_deep(number: int) -> Result:
+    raise TooDeep(number, number - 2)
+
+
+def test_faults_of_a_process_pool() -> None:
+    with concurrent.futures.ProcessPoolExecutor(1) as pool, pytest.raises(TooDeep) as fault:
+        pool.submit(too_deep, 9).result()
+    assert (fault.value.depth, fault.value.greatest) == (9, 7)
+    result = Result(OPENING, 3, Score(-4), "d3", (Entry("d3", Score(-4)),))
+    assert pickle.loads(pickle.dumps(result)) == result
+
+
+def test_scores() -> None:
+    low, exact, high = Score(-4, "<"), Score(-4), Score(-4, ">")
+    assert low < exact < high < Score(5) and max([Score(-9), Score(12), Score(3)]) == Score(12) and sorted([high, exact, low]) == [low, exact, high]
+    assert low.flip() == Score(4, ">", False, "O") and -Score(6000) == Score(-6000, side="O") and exact.flip().flip() == exact
+    won = Score(24000, side="O")
+    assert (won.mover, won.white, won.black, won.unit, won.ends, won.discs) == (12, 12, -12, "discs", True, 12.0)
+    assert (exact.mover, exact.black, exact.white, exact.unit, exact.discs) == (-4, -4, 4, "points", -0.04)
+    assert Score(-6000).mover == -3 and Score(0, ends=True).is_draw and not Score(0).is_draw and not Score(0, "<", True).is_draw
+    assert Score.of(0, Position("X" * 60 + "O" * 2 + "--"), 2).ends and not Score.of(0, Position("X" * 60 + "O" * 2 + "--"), 1).ends
+    for wrong in ((128001,), (0, "~"), (0, "=", False, "B")):
+        with pytest.raises(ValueError):
+            Score(*wrong)  # type: ignore[arg-type]
+
+
+def test_addresses(monkeypatch: pytest.MonkeyPatch, tmp_path) -> None:  # type: ignore[no-untyped-def]
+    token = tmp_path / "token"
+    token.write_text("secret\n")
+    assert url_of("othello://there:9") == {"host": "there", "port": 9} and url_of("there") == {"host": "there", "port": 4711} == url_of("othello://there/")
+    assert url_of(f"othello://[::1]:7?sessions=3&silence=2.5&token={token}") == {"host": "::1", "port": 7, "sessions": 3, "silence": 2.5, "token": "secret"}
+    assert url_of("there:8?tls=1")["tls"] is True and url_of("othellos://there")["tls"] is True and url_of("othello://there?tls=0")["tls"] is False
+    for wrong in ("http://there", "othello://there:port", "othello://there?colour=red", "othello://there/path", "othello://a@b"):
+        with pytest.raises(ValueError):
+            url_of(wrong)
+    with told(sound()) as server:
+        with coluwen.connect(f"othello://127.0.0.1:{server.port}?sessions=2", silence=3) as client:
+            assert client.address == f"127.0.0.1:{server.port}" and client.parallel == 2 and client.analyse(OPENING, 1).best == "d3"
+        monkeypatch.setenv("COLUWEN_URL", f"othello://127.0.0.1:{server.port}")
+        for one in (Client(), coluwen.connect()):
+            with one as client:
+                assert 0 <= client.ping() < 1
+        assert Client("there").address == "there:4711"
+    monkeypatch.delenv("COLUWEN_URL")
+    assert Client().address == "127.0.0.1:4711"
+    for wrong_one in ({"sessions": 0}, {"ahead": 1.5}, {"silence": -1}, {"token": "two words"}, {"nodes": True}):
+        with pytest.raises(ValueError):
+            Client(**wrong_one)  # type: ignore[arg-type]
+
+
+def test_what_happens_is_logged(caplog: pytest.LogCaptureFixture) -> None:
+    ended = [False]
+
+    def answers():  # type: ignore[no-untyped-def]
+        answer_of, is_old = sound()(), not ended[0]
+        return lambda line: None if is_old and ended[0] else answer_of(line)
+
+    with told(answers) as server, Client("127.0.0.1", server.port, sessions=1) as client, caplog.at_level(logging.WARNING, "coluwen"):
+        client.ping()
+        ended[0] = True
+        assert client.analyse(OPENING, 2).best == "d3"
+    assert [one.name for one in caplog.records] == ["coluwen"] and "asked again" in caplog.text and str(server.port) in caplog.text
+
+
+def test_a_client_that_is_closed() -> None:
+    with told(sound(state=lambda depth, nodes: "PENDING")) as server:
+        client = Client("127.0.0.1", server.port)
+        future = client.submit(OPENING, 6)
+        while not any(line.startswith("GET") for line in server.heard):
             time.sleep(0.01)
-        threading.Timer(0.1, second.set).start()
-        with pytest.raises(Stopped):
-            client.analyse(OPENING, 4, stop=second)
-        first.set()
-        other.join(10)
-        assert not any(line.startswith("ASK 4") for line in server.heard)
+        client.close()
+        with pytest.raises(Closed):
+            future.result(5)
+        for call in (lambda: client.analyse(OPENING, 1), lambda: client.submit(OPENING, 1), client.info, client.ping, lambda: list(client.analyse_many([OPENING], 1))):
+            with pytest.raises(Closed):
+                call()  # type: ignore[no-untyped-call]
+        client.close()
+        time.sleep(0.1)  # what was sent before is heard
+        heard = len(server.heard)
+        time.sleep(0.2)
+        assert len(server.heard) == heard
+
+    async def trial(port: int) -> None:
+        async with AsyncClient("127.0.0.1", port) as client:
+            await client.ping()
+        for call in (client.ping, client.info, lambda: client.analyse(OPENING, 1)):
+            with pytest.raises(Closed):
+                await call()  # type: ignore[no-untyped-call]
+
+    with told(sound()) as server:
+        asyncio.run(asyncio.wait_for(trial(server.port), 20))
+        heard = list(server.heard)
+        time.sleep(0.2)
+        assert server.heard == heard and heard[-1] == "BYE"
+
+
+def test_info_is_found_out_once() -> None:
+    """By whoever asks first, and for all who ask meanwhile; what is cancelled isn't the others'."""
+    async def trial(port: int) -> None:
+        async with AsyncClient("127.0.0.1", port) as client:
+            first = asyncio.ensure_future(client.info())
+            await asyncio.sleep(0)
+            first.cancel()
+            found = await asyncio.gather(*(client.info() for _ in range(5)), client.info())
+            assert len(set(found)) == 1 and found[0].grain == 0 and (found[0].sure, found[0].mostly, found[0].version) == (4, 5, "")
+
+    with told(sound()) as server:
+        asyncio.run(asyncio.wait_for(trial(server.port), 20))
+        assert server.heard.count("INFO") == 1
+    right = sound()
+
+    def answers():  # type: ignore[no-untyped-def]
+        answer_of = right()
+        return lambda line: "INFO 6 1024 65536 256 8192 1.2.3\n" if line == "INFO" else answer_of(line)
+
+    with told(answers) as server, Client("127.0.0.1", server.port) as client:
+        info = client.info()
+        assert (info.grain, info.sure, info.mostly, info.version) == (6, 10, 11, "1.2.3") and client.info() is info and server.heard.count("INFO") == 1
+
+
+def test_threads_share_a_client() -> None:
+    with told(sound()) as server, Client("127.0.0.1", server.port, sessions=3) as client:
+        with concurrent.futures.ThreadPoolExecutor(16) as pool:
+            found = list(pool.map(lambda at: client.analyse(LINE[at % 12], at % 5), range(200)))
+        assert [one.score.value for one in found] == [value_of(LINE[at % 12].text) for at in range(200)]
+        assert sum(line.startswith("HELLO") for line in server.heard) <= 3
+
+
+def test_asyncio_cancels() -> None:
+    async def trial(port: int) -> None:
+        async with AsyncClient("127.0.0.1", port, sessions=1) as client:
+            for _ in range(3):
+                with pytest.raises(TimeoutError):
+                    async with asyncio.timeout(0.1):
+                        await client.analyse(OPENING, 4)
+            with pytest.raises(Late):
+                await client.analyse(OPENING, 4, timeout=0.1)
+            with pytest.raises(TimeoutError):
+                async with asyncio.timeout(0.1):
+                    await client.analyse_all(OPENING, 4)
+
+    with told(sound(state=lambda depth, nodes: "PENDING")) as server:
+        asyncio.run(asyncio.wait_for(trial(server.port), 20))
+        assert sum(line.startswith("CANCEL") for line in server.heard) >= 4 and sum(line.startswith("HELLO") for line in server.heard) == 1
+
+
+def test_session() -> None:
+    with told(sound()) as server, Session("127.0.0.1", server.port, 8, 800) as session:
+        job = session.ask(3, OPENING)
+        value = value_of(OPENING.text)
+        assert session.get(job) == session.wait(job) == session.poll(job) == coluwen.Done(value, "d3")
+        assert session.table(job) == (Entry("d3", Score(value)), Entry("c4", Score(-1, "<")))
+        assert session.quota() == coluwen.Quota(1, 740, 1) and session.jobs == 1
+        session.reserve(9, 900)
+        assert session.reserved == coluwen.Reservation(9, 900)
+        with pytest.raises(ValueError):
+            session.ask_line("two\nlines")
+    with pytest.raises(Broken, match="closed"):
+        session.quota()
+    with told(sound(state=lambda depth, nodes: "PENDING")) as server, Session("127.0.0.1", server.port, 8, 8) as session:
         with pytest.raises(Late):
-            client.analyse(OPENING, 3, timeout=0.1)  # its place is free again
-    begun, third = time.monotonic(), threading.Event()
-    threading.Timer(0.1, third.set).start()
-    with told(lambda: lambda line: "ERR 14\n") as server, pytest.raises(Stopped):
-        Client("127.0.0.1", server.port).analyse(OPENING, 1, stop=third)
-    assert time.monotonic() - begun < 5
+            session.poll(session.ask(3, OPENING), 0.05)
+        assert session.get(1) == coluwen.Cancelled()
+        threading.Timer(0.1, session.drop).start()
+        with pytest.raises(Broken):
+            session.poll(session.ask(3, OPENING))
+    with told(lambda: lambda line: time.sleep(1)) as server, pytest.raises(Silent):  # type: ignore[arg-type, return-value]
+        Session("127.0.0.1", server.port, 8, 8, silence=0.1)
 
 
-@pytest.mark.parametrize("cut", ["DONE 1 5 d3", "DONE 1 5 d", "DONE 1 5 z9\n", "DONE 1 x d3\n", "JOB 1\n", "y" * 5000, ""])
+@pytest.mark.parametrize("cut", ["DONE 1 5 d3", "DONE 1 5 d", "DONE 1 5 z9\n", "DONE 1 x d3\n", "DONE 2 5 d3\n", "JOB 1\n", "y" * 5000, ""])
 def test_what_is_no_answer(cut: str) -> None:
     right = sound()
 
@@ -89,146 +296,31 @@ def test_what_is_no_answer(cut: str) -> None:
         return lambda line: cut if line.startswith("GET") else answer_of(line)
 
     with told(answers) as server:
-        with pytest.raises(Unreachable):
-            Client("127.0.0.1", server.port).analyse(OPENING, 6)
+        with Client("127.0.0.1", server.port) as client, pytest.raises(Unreachable, match=str(server.port)):
+            client.analyse(OPENING, 6)
         with Session("127.0.0.1", server.port, 8, 8) as session:
             job = session.ask(1, OPENING)
-            with pytest.raises(Broken):
-                session.get(job)
-            with pytest.raises(Broken):
-                session.get(job)
+            for _ in range(2):
+                with pytest.raises(Broken):
+                    session.get(job)
 
 
-def test_what_was_not_asked() -> None:
-    right = sound()
-
-    def answers():  # type: ignore[no-untyped-def]
-        answer_of = right()
-        return lambda line: answer_of(line) + ("DONE 1 7 d3\n" if line.startswith("ASK") else "")
-
-    with told(answers) as server, Session("127.0.0.1", server.port, 8, 8) as session:
-        job = session.ask(1, OPENING)
-        with pytest.raises(Broken):
-            session.get(job)
-
-    async def trial(port: int) -> None:
-        session = await AsyncSession.open("127.0.0.1", port, 8, 8)
-        job = await session.ask(1, OPENING)
-        with pytest.raises(Broken):
-            await session.get(job)
-        async with AsyncClient("127.0.0.1", port) as client:
-            with pytest.raises(Unreachable):
-                await client.analyse(OPENING, 1)
-
-    with told(answers) as server:
-        asyncio.run(asyncio.wait_for(trial(server.port), 20))
+def test_a_port_where_nobody_is() -> None:
+    with socket.create_server(("127.0.0.1", 0)) as listener:
+        port = listener.getsockname()[1]
+    begun = time.monotonic()
+    with Client("127.0.0.1", port, silence=0.5) as client, pytest.raises(Unreachable, match=f"127.0.0.1:{port}: "):
+        client.ping()
+    assert 0.3 < time.monotonic() - begun < 1.5
+    with Client("no-such-host.invalid", 1) as client, pytest.raises(Unreachable):
+        client.analyse(OPENING, 1)
 
 
-def test_a_server_that_is_lost_while_its_grain_is_found_out() -> None:
-    right = sound()
-
-    def answers():  # type: ignore[no-untyped-def]
-        answer_of = right()
-        return lambda line: None if line.startswith("QUOTA") else answer_of(line)
-
-    with told(answers) as server, pytest.raises(Unreachable, match=str(server.port)):
-        Client("127.0.0.1", server.port).depths()
-
-
-def test_a_server_that_began_anew() -> None:
-    """All sessions that were kept are lost; a call opens another one."""
-    ended = [False]
-
-    def answers():  # type: ignore[no-untyped-def]
-        answer_of, is_old = sound()(), not ended[0]
-        return lambda line: None if is_old and ended[0] else answer_of(line)
-
-    async def trial(port: int) -> None:
-        async with AsyncClient("127.0.0.1", port, sessions=6) as client:
-            await asyncio.gather(*(client.analyse(OPENING, depth) for depth in range(6)))
-            ended[0] = True
-            assert len(client.idle) > 4 and (await client.analyse(OPENING, 2)).best == "d3"
-
-    with told(answers) as server, Client("127.0.0.1", server.port, sessions=6) as client:
-        client.idle = [client.open() for _ in range(6)]
-        ended[0] = True
-        assert client.analyse(OPENING, 2).best == "d3" and client.lost == 1
-    ended[0] = False
-    with told(answers) as server:
-        asyncio.run(asyncio.wait_for(trial(server.port), 20))
-
-
-def test_depths() -> None:
-    nodes = [1000]
-
-    def answers():  # type: ignore[no-untyped-def]
-        answer_of, depth = sound()(), [0]
-
-        def told_of(line: str) -> str | None:
-            if line.startswith("ASK"):
-                depth[0] = int(line.split()[1])
-                nodes[0] -= 30 if depth[0] <= 5 else 200  # a server of grain 4
-            return f"QUOTA 1 {nodes[0]} 1\n" if line == "QUOTA" else answer_of(line)
-
-        return told_of
-
-    with told(answers) as server:
-        found = Client("127.0.0.1", server.port).depths()
-        assert (found.grain, found.sure, found.mostly) == (4, 8, 9)
-
-
-def test_silence_and_patience() -> None:
-    with told(lambda: lambda line: time.sleep(3)) as server, pytest.raises(Silent):  # type: ignore[arg-type, return-value]
-        Session("127.0.0.1", server.port, 8, 8, silence=0.2)
-    with told(lambda: lambda line: "ERR 14\n") as server, pytest.raises(Refused) as fault:
-        Client("127.0.0.1", server.port, patience=0.5).analyse(OPENING, 1)
-    assert fault.value.number == 14
-    begun, right = time.monotonic(), sound()
-
-    def answers():  # type: ignore[no-untyped-def]
-        answer_of = right()
-        return lambda line: "ERR 14\n" if time.monotonic() - begun < 1.2 and line.startswith("HELLO") else (time.sleep(0.2), answer_of(line))[1]
-
-    with told(answers) as server:  # after more than `silence` of ERR 14 each try has all of it again
-        assert Client("127.0.0.1", server.port, silence=0.8, patience=20).analyse(OPENING, 1).best == "d3"
-
-
-def test_asyncio() -> None:
-    async def trial(port: int) -> None:
-        async with AsyncClient("127.0.0.1", port) as client:
-            assert (await client.analyse(OPENING, 4)).best == "d3"
-            assert len(await client.analyse_all(OPENING, 4)) == 4
-            assert [found.depth async for found in client.analyse_many([(OPENING, depth) for depth in range(5)])] == [0, 1, 2, 3, 4]
-            with pytest.raises(TooDeep) as fault:
-                await client.analyse(OPENING, 7)
-            assert fault.value.greatest == 5
-
-    async def cancelled(server: Told) -> None:
-        async with AsyncClient("127.0.0.1", server.port) as client:
-            for _ in range(3):
-                with pytest.raises(TimeoutError):
-                    async with asyncio.timeout(0.15):
-                        await client.analyse(OPENING, 4)
-            assert any(line.startswith("CANCEL") for line in server.heard)
-            with pytest.raises(Late):
-                await client.analyse(OPENING, 4, timeout=0.1)
-
-    with told(sound(state=lambda depth, nodes: "SPENT" if depth > 5 else "DONE")) as server:
-        asyncio.run(asyncio.wait_for(trial(server.port), 20))
-    with told(sound(state=lambda depth, nodes: "PENDING")) as server:
-        asyncio.run(asyncio.wait_for(cancelled(server), 20))
-
-
-@pytest.mark.skipif("COLUWEN_PORT" not in os.environ, reason="COLUWEN_PORT names no server")
-def test_server() -> None:
-    with Client("127.0.0.1", int(os.environ["COLUWEN_PORT"]), silence=20) as client:
-        found = client.analyse(OPENING, 4)
-        assert (found.score.value, found.best) == (-4, "d3")
-        assert [entry.move for entry in found.table] == OPENING.legal_moves()
-        exact = client.analyse_all(OPENING, 4)
-        assert {entry.move: entry.score.value for entry in exact} == dict.fromkeys(OPENING.legal_moves(), -4)
-        with pytest.raises(Refused) as fault:
-            client.analyse(OPENING, 13)
-        assert fault.value.number == 27
-        passing = Position.parse("XO" + "-" * 62 + "O")
-        assert (client.analyse(passing, 1).score.value, str(client.analyse(passing, 1).score)) == (-6000, "-3 discs")
+def test_what_is_public_is_documented() -> None:
+    for name in coluwen.__all__:
+        one = getattr(coluwen, name)
+        assert isinstance(one, (str, list, dict)) or one.__doc__ and len(one.__doc__) > 20, name
+        for part, value in vars(one).items() if isinstance(one, type) else ():
+            if not part.startswith("_") and callable(value) and part not in ("conjugate",):
+                assert any(getattr(getattr(base, part, None), "__doc__", None) for base in one.__mro__), f"{name}.{part}"
+    assert not [name for name in vars(Client("127.0.0.1", 1)) if not name.startswith("_") and name not in ("parallel",)]

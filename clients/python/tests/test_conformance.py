@@ -4,7 +4,7 @@ import re
 
 import pytest
 from coluwen import Broken, IllegalMove, Position, Refused, Score
-from coluwen.answers import parse
+from coluwen._answers import parse
 
 FILE = pathlib.Path(__file__).resolve().parents[2] / "conformance.txt"
 

@@ -4,7 +4,10 @@ from __future__ import annotations
 import contextlib
 import socket
 import threading
+import zlib
 from collections.abc import Callable, Iterator
+
+from coluwen import Position
 
 
 class Told:
@@ -32,11 +35,18 @@ class Told:
                     return
 
 
-def sound(value: int = 5, state: Callable[[int, int], str] = lambda depth, nodes: "DONE") -> Callable[[], Callable[[str], str]]:
-    """A server that is right in its form; `state` says of a depth and the session's nodes how a job ends."""
+def value_of(position: str) -> int:
+    """A value of its own for each position."""
+    return zlib.crc32(position.encode()) % 2001 - 1000
+
+
+def sound(value: int | None = None, state: Callable[[int, int], str] = lambda depth, nodes: "DONE") -> Callable[[], Callable[[str], str]]:
+    """A server that is right in its form, each position having a value of its own; `state` says of a depth and the session's nodes how a job ends."""
 
     def answers() -> Callable[[str], str]:
         jobs: list[str] = []
+        values: list[int] = []
+        moves: list[tuple[str, ...]] = []
         nodes = [0]
 
         def answer_of(line: str) -> str:
@@ -46,14 +56,22 @@ def sound(value: int = 5, state: Callable[[int, int], str] = lambda depth, nodes
                 return f"{'WELCOME' if word == 'HELLO' else 'RESERVED'} {rest[0]} {rest[1]}\n"
             if word == "ASK":
                 jobs.append(state(int(rest[0]), nodes[0]))
+                values.append(value_of(" ".join(rest[1:])) if value is None else value)
+                moves.append((*Position.parse(" ".join(rest[1:])).legal, "-"))
                 return f"JOB {len(jobs)}\n"
             if word == "CANCEL":
                 jobs[int(rest[0]) - 1] = "CANCELLED"
                 return f"CANCELLED {rest[0]}\n"
             if word in ("GET", "WAIT"):
                 ended = jobs[int(rest[0]) - 1]
-                return f"{ended} {rest[0]} {value} d3\n" if ended == "DONE" else f"{ended} {rest[0]}\n"
-            return {"TABLE": f"TABLE {rest[0] if rest else 0} d3={value} c4<-1\n", "QUOTA": f"QUOTA 1 {nodes[0]} 1\n"}.get(word, "BYE\n")
+                return f"{ended} {rest[0]} {values[int(rest[0]) - 1]} {moves[int(rest[0]) - 1][0]}\n" if ended == "DONE" else f"{ended} {rest[0]}\n"
+            if word == "TABLE":
+                one, other, *_ = (*moves[int(rest[0]) - 1], "-", "-")
+                return f"TABLE {rest[0]}" + f" {one}={values[int(rest[0]) - 1]}" * (one != "-") + f" {other}<-1" * (other != "-") + "\n"
+            if word == "QUOTA":
+                nodes[0] -= 60
+                return f"QUOTA 1 {nodes[0]} 1\n"
+            return "ERR 21\n" if word == "INFO" else "BYE\n"
 
         return answer_of
 

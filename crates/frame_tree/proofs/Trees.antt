@@ -47,54 +47,47 @@ pub leaf_slots : {T : Type 0} (xs : List (Slot T)) (serial : ℕ) → IsLinked [
 leaf_slots xs serial l none = none_of_length (child_slots serial xs) (sym (children_of-length xs serial l) ∙ ap length none)
 
 -- an abort at the slot that was read
-pub cut_linked : {T : Type 0} (xs : List (Slot T)) (ready i n : ℕ) (slot : Slot T) → AreSoundSlots xs ready → i < length xs → slice_index (serials_of xs) i ≡ n → slot ≡ get_or xs i slot → IsLinked [] (set xs i (childless slot))
-cut_linked {T} xs ready i n slot s lt at is =
-    let P : List (Slot T) → Type 0 = λ ys. IsLinked [] ys in
-    subst P (sym (with_slot-set xs i n childless slot (linked_rises [] xs s.linked) lt at is)) (cleared-linked n xs s.linked)
+module _ {T : Type 0} (xs : List (Slot T)) (ready i n : ℕ) (slot : Slot T) (s : AreSoundSlots xs ready) (lt : i < length xs) (at : slice_index (serials_of xs) i ≡ n) (is : slot ≡ get_or xs i slot) where
+  changed : set xs i (childless slot) ≡ with_slot n childless xs
+  changed = with_slot-set xs i n childless slot (linked_rises [] xs s.linked) lt at is
 
-pub cut_sound : {T : Type 0} (xs : List (Slot T)) (ready now i n : ℕ) (slot : Slot T) (zs : List (Slot T)) → AreSoundSlots xs ready → i < length xs → slice_index (serials_of xs) i ≡ n → slot ≡ get_or xs i slot → zs ≡ kept_slots n (set xs i (childless slot)) → now ≡ length (ready_slots zs) → AreSoundSlots zs now
-cut_sound {T} xs ready now i n slot zs s lt at is kept count =
-    let P : List (Slot T) → Type 0 = λ ws. AreSoundSlots ws now in
-    subst P (sym kept) (sound_cut n xs (set xs i (childless slot)) ready now s (with_slot-set xs i n childless slot (linked_rises [] xs s.linked) lt at is) (count ∙ ap (λ ws. length (ready_slots ws)) kept))
+  pub cut_linked : IsLinked [] (set xs i (childless slot))
+  cut_linked = let P : List (Slot T) → Type 0 = λ ys. IsLinked [] ys in subst P (sym changed) (cleared-linked n xs s.linked)
 
-pub cut_frames : {T : Type 0} (xs : List (Slot T)) (ready i n : ℕ) (slot : Slot T) (zs : List (Slot T)) → AreSoundSlots xs ready → i < length xs → slice_index (serials_of xs) i ≡ n → slot ≡ get_or xs i slot → zs ≡ kept_slots n (set xs i (childless slot)) → frames_from [] zs ≡ aborted n (frames_from [] xs)
-cut_frames xs ready i n slot zs s lt at is kept =
-    let changed = with_slot-set xs i n childless slot (linked_rises [] xs s.linked) lt at is in
-    rw (kept, changed) (kept_slots-frames n (with_slot n childless xs) (cleared-linked n xs s.linked) ∙ ap (λ fs. aborted n fs) (cleared-frames n xs))
+  pub cut_sound : (now : ℕ) (zs : List (Slot T)) → zs ≡ kept_slots n (set xs i (childless slot)) → now ≡ length (ready_slots zs) → AreSoundSlots zs now
+  cut_sound now zs kept count =
+      let P : List (Slot T) → Type 0 = λ ws. AreSoundSlots ws now in
+      subst P (sym kept) (sound_cut n xs (set xs i (childless slot)) ready now s changed (count ∙ ap (λ ws. length (ready_slots ws)) kept))
 
-pub cut_values : {T : Type 0} (xs : List (Slot T)) (ready i n : ℕ) (slot : Slot T) → AreSoundSlots xs ready → i < length xs → slice_index (serials_of xs) i ≡ n → slot ≡ get_or xs i slot → gone_values n (set xs i (childless slot)) ≡ values_of (frames_under n (frames_from [] xs))
-cut_values xs ready i n slot s lt at is =
-    let changed = with_slot-set xs i n childless slot (linked_rises [] xs s.linked) lt at is in
-    rw changed (gone_values-frames n (with_slot n childless xs) (cleared-linked n xs s.linked) ∙ ap (λ fs. values_of (frames_under n fs)) (cleared-frames n xs))
+  pub cut_frames : (zs : List (Slot T)) → zs ≡ kept_slots n (set xs i (childless slot)) → frames_from [] zs ≡ aborted n (frames_from [] xs)
+  cut_frames zs kept = rw (kept, changed) (kept_slots-frames n (with_slot n childless xs) (cleared-linked n xs s.linked) ∙ ap (λ fs. aborted n fs) (cleared-frames n xs))
+
+  pub cut_values : gone_values n (set xs i (childless slot)) ≡ values_of (frames_under n (frames_from [] xs))
+  cut_values = rw changed (gone_values-frames n (with_slot n childless xs) (cleared-linked n xs s.linked) ∙ ap (λ fs. values_of (frames_under n fs)) (cleared-frames n xs))
 
 pub cut_length : {T : Type 0} (n : ℕ) (xs : List (Slot T)) (i : ℕ) (slot : Slot T) (zs : List (Slot T)) → zs ≡ kept_slots n (set xs i (childless slot)) → length zs ≤ length xs
 cut_length n xs i slot zs kept = grind (arith, length-filter-le, length-set)
 
--- a leaf that was removed
-pub lost : {T : Type 0} (xs : List (Slot T)) (ready i n : ℕ) (slot : Slot T) → AreSoundSlots xs ready → i < length xs → slice_index (serials_of xs) i ≡ n → slot ≡ get_or xs i slot → children_of (frames_from [] xs) n ≡ [] → HasLost xs (remove xs i) slot
-lost xs ready i n slot s lt at is leaf =
-    let e = sym (serial_read xs i slot lt is) ∙ at in
-    has_lost xs ready i slot s lt is (serial_read xs i slot lt is) (rw e (leaf_slots xs n s.linked leaf))
+-- a leaf that was removed, and what it leaves
+module _ {T : Type 0} (xs : List (Slot T)) (ready i n : ℕ) (slot : Slot T) (s : AreSoundSlots xs ready) (lt : i < length xs) (at : slice_index (serials_of xs) i ≡ n) (is : slot ≡ get_or xs i slot) (leaf : children_of (frames_from [] xs) n ≡ []) where
+  own : slot.serial ≡ n
+  own = sym (serial_read xs i slot lt is) ∙ at
 
--- what it leaves
-pub lost_sound : {T : Type 0} (xs ys zs : List (Slot T)) (ready i n : ℕ) (slot : Slot T) → AreSoundSlots xs ready → i < length xs → slice_index (serials_of xs) i ≡ n → slot ≡ get_or xs i slot → children_of (frames_from [] xs) n ≡ [] → ys ≡ remove xs i → zs ≡ without_child slot.parent ys → AreSoundSlots zs (length (ready_slots ys))
-lost_sound {T} xs ys zs ready i n slot s lt at is leaf gone fewer =
-    let P : List (Slot T) → Type 0 = λ ws. HasLost xs ws slot in
-    let h : HasLost xs ys slot = subst P (sym gone) (lost xs ready i n slot s lt at is leaf) in
-    sound_lost xs ys zs ready (length (ready_slots ys)) slot h fewer refl
+  pub lost : HasLost xs (remove xs i) slot
+  lost = has_lost xs ready i slot s lt is (serial_read xs i slot lt is) (rw own (leaf_slots xs n s.linked leaf))
 
-pub lost_frames : {T : Type 0} (xs ys zs : List (Slot T)) (ready i n : ℕ) (slot : Slot T) → AreSoundSlots xs ready → i < length xs → slice_index (serials_of xs) i ≡ n → slot ≡ get_or xs i slot → children_of (frames_from [] xs) n ≡ [] → ys ≡ remove xs i → zs ≡ without_child slot.parent ys → frames_from [] zs ≡ frames_without n (frames_from [] xs)
-lost_frames {T} xs ys zs ready i n slot s lt at is leaf gone fewer =
-    let P : List (Slot T) → Type 0 = λ ws. HasLost xs ws slot in
-    let h : HasLost xs ys slot = subst P (sym gone) (lost xs ready i n slot s lt at is leaf) in
-    frames_lost xs ys zs slot h fewer ∙ ap (λ m. frames_without m (frames_from [] xs)) (sym (serial_read xs i slot lt is) ∙ at)
+  pub lost_sound : AreSoundSlots (without_child slot.parent (remove xs i)) (length (ready_slots (remove xs i)))
+  lost_sound = sound_lost xs (remove xs i) (without_child slot.parent (remove xs i)) ready (length (ready_slots (remove xs i))) slot lost refl refl
+
+  pub lost_frames : frames_from [] (without_child slot.parent (remove xs i)) ≡ frames_without n (frames_from [] xs)
+  lost_frames = frames_lost xs (remove xs i) (without_child slot.parent (remove xs i)) slot lost refl ∙ ap (λ m. frames_without m (frames_from [] xs)) own
 
 -- no child, by the count that is kept
 pub counted_leaf : {T : Type 0} (xs : List (Slot T)) (ready i serial : ℕ) (slot : Slot T) → AreSoundSlots xs ready → i < length xs → slice_index (serials_of xs) i ≡ serial → slot ≡ get_or xs i slot → nat_lt 0 slot.children ≡ false → children_of (frames_from [] xs) serial ≡ []
 counted_leaf xs ready i serial slot s lt at is none = grind (arith, counted_at, children_of-length, none_of_length)
 
-pub no_counted_leaf : {T : Type 0} (xs : List (Slot T)) (ready serial : ℕ) → AreSoundSlots xs ready → has_slot xs serial ≡ false → false ≡ false → children_of (frames_from [] xs) serial ≡ []
-no_counted_leaf xs ready serial s none e =
+pub no_counted_leaf : {T : Type 0} (xs : List (Slot T)) (ready serial : ℕ) → AreSoundSlots xs ready → has_slot xs serial ≡ false → children_of (frames_from [] xs) serial ≡ []
+no_counted_leaf xs ready serial s none =
     none_of_length (children_of (frames_from [] xs) serial) (children_of-length xs serial s.linked ∙ ap length (no_children [] xs serial refl none s.linked))
 
 -- a serial above the last slot's is above all

@@ -33,13 +33,14 @@ use Rattle.jamboree_core.specs.Searching.{TenantSearches, ServesSearches, origin
 use Rattle.jamboree_core.specs.Outcomes.{IsOutcomeIn, AnswersTo}
 use Rattle.jamboree_core.specs.Journals.{IsJournalOf}
 use Rattle.jamboree_core.proofs.JournalLemmas.{journal-searches, journal-goes-on, journal-begins, others-stay}
-use Rattle.hall.specs.Entries.{serial_in}
+use Rattle.hall.specs.Entries.{serial_in, is_long_step, long_steps}
 use Rattle.number_index.specs.Places.{AreRising}
 use Rattle.number_index.proofs.Edits.{all-push, all-with, all-without, said-lacks, said-with_other, said-without_own, said-without_other, rising-with, rising-without, length-with, length-without}
-use Rattle.hall.specs.Journals.{JournalOf, journal_in, places_in, owner_of_journal, has_journal, with_step, without_journal, total_length, places_for, places_with, raise_in, raise_count, reserved_in, admitted_journal, journals_after, gone_by, is_appended, longer, AreUpTo, IsBegun, AreBegun}
+use Rattle.hall.specs.Journals.{JournalOf, journal_in, places_in, longs_in, owner_of_journal, has_journal, with_step, without_journal, total_length, places_for, places_with, longs_for, longs_with, raise_in, raise_count, reserved_in, admitted_journal, journals_after, gone_by, is_appended, longer, AreUpTo, IsBegun, AreBegun}
 use Rattle.hall.specs.Halls.{HallOf, empty_hall, hall_after, Explains, IsExplained, IsHall, lets_go, KeepsEndedJobs}
-use Rattle.hall.proofs.Lists.{IsAllowed, Brings, steps_of, longer-places, step-own, step-total, step-begun, without-total, push-own, push-other, push-total, push-rising, push-upto, total-within, IsAt, found-at}
+use Rattle.hall.proofs.Lists.{IsAllowed, Brings, steps_of, longer-places, longer-longs, step-own, step-total, step-begun, without-total, push-own, push-other, push-total, push-rising, push-upto, total-within, IsAt, found-at}
 use Rattle.hall.proofs.Using.{step-used, step-brings, serial-given, told-by}
+use Rattle.hall.proofs.Longs.{journal-longs}
 
 abbrev pub Step : Type 0
 Step = StepOf LeafAnswer
@@ -91,6 +92,23 @@ has-place grain journals number step next at goes is =
     let count = ap (λ (js : List Step). raise_count (js ++ step ∷ [])) at.steps in
     omega (arith, short, one, places, nodes, count)
 
+-- one long step more
+longs-more : (steps : List Step) (step : Step) → is_long_step step ≡ true → long_steps (steps ++ step ∷ []) ≡ long_steps steps + 1
+longs-more [] step long = rw long refl
+longs-more (first ∷ steps) step long = (let rest = longs-more steps step long in omega (arith, rest))
+
+-- and a place for each of them that is long
+has-long-place : (grain : ℕ) (journals : List JournalOf) (number : ℕ) (step : Step) (next : Tenant) → IsAt number journals → is_appended step ≡ true → is_long_step step ≡ true →
+    IsJournalOf (jamboree grain) (journal_in journals number ++ step ∷ []) next → AreSearches (journal_in journals number ++ step ∷ []) → long_steps (journal_in journals number) < longs_in (with_step number step journals) number
+has-long-place grain journals number step next at goes long is searches =
+    let told = told-by (jamboree grain) (journal_in journals number ++ step ∷ []) next is in
+    let few = journal-longs grain (journal_in journals number ++ step ∷ []) next is searches in
+    let one = longs-more (journal_in journals number) step long in
+    let places = at.long_after step ∙ longer-longs step at.journal goes at.begun.longs in
+    let nodes = ap (λ (q : Quota). q.nodes) told.reserve ∙ ap (λ (js : List Step). (reserved_in (js ++ step ∷ [])).nodes) at.steps in
+    let count = ap (λ (js : List Step). raise_count (js ++ step ∷ [])) at.steps in
+    omega (arith, few, one, places, nodes, count)
+
 -- a tenant that was there, and what it came to by a step
 record WentOn (grain : ℕ) (before after : CoreState) (step : Step) : Type 0 where
   tenant : Tenant
@@ -112,6 +130,7 @@ pub record IsReady (hall : HallOf) (number : ℕ) (quota : Quota) : Type 0 where
   pub has : has_journal number hall.journals ≡ true
   pub few : raise_count (journal_in hall.journals number) ≤ 69632
   pub place : length (journal_in hall.journals number) < places_for quota + (raise_count (journal_in hall.journals number) + 1)
+  pub long : long_steps (journal_in hall.journals number) < longs_for quota + (raise_count (journal_in hall.journals number) + 1)
 
 -- it was asked of a tenant that is there, and is more than that reserves
 asked : {I : Type 0} (beyond : Bool) (functions : Functions I LeafAnswer) (own : Option Tenant) (number : ℕ) (quota : Quota) → refusal_in (unless_beyond beyond (lone functions own (AdmitMore number quota))) ≡ None →
@@ -135,9 +154,10 @@ is-ready hall latest count number quota keeps none =
     let told = told-by (jamboree hall.grain) (journal_in hall.journals number) tenant own in
     let short = told.short in
     let raises = ap (λ (js : List Step). raise_count js) at.steps in
+    let longs = journal-longs hall.grain (journal_in hall.journals number) tenant own (keeps.explained.searches number) in
     let begun = at.begun in
     let segments = begun.segments in let nodes = begun.nodes in let raised = begun.raised in let more = found.2 in
-    record { has = has; few = omega (arith, raises, segments, nodes, raised); place = omega (arith, short, more) }
+    record { has = has; few = omega (arith, raises, segments, nodes, raised); place = omega (arith, short, more); long = omega (arith, longs, more) }
 
 went-on : (hall : HallOf) (after : CoreState) (step : Step) (did : DidOf Leaf) → IsExplained hall → IsOneStep (jamboree hall.grain) hall.shared step (Ok did) after → is_appended step ≡ true → WentOn hall.grain hall.shared after step
 went-on hall after step did explained one goes =
@@ -212,6 +232,7 @@ changed hall before count latest step did after journals gone keeps one known is
 pub record GoesOn (hall : HallOf) (latest count : ℕ) (step : Step) (after : CoreState) : Type 0 where
   pub has : has_journal (tenant_of step) hall.journals ≡ true
   pub place : raise_in step ≡ None → length (journal_in hall.journals (tenant_of step)) < places_in hall.journals (tenant_of step)
+  pub long : raise_in step ≡ None → is_long_step step ≡ true → long_steps (journal_in hall.journals (tenant_of step)) < longs_in hall.journals (tenant_of step)
   pub serial : serial_in step < 2 ^ 32
   pub left : hall_after hall step after ≡ record hall { shared = after; journals = with_step (tenant_of step) step hall.journals }
   pub keeps : IsHall (record hall { shared = after; journals = with_step (tenant_of step) step hall.journals }) latest (count + 1)
@@ -229,6 +250,7 @@ goes-on hall latest count step did after keeps one goes allowed search known =
     let told = told-by (jamboree hall.grain) (journal_in hall.journals n) went.tenant own in
     let on = journal-goes-on (jamboree hall.grain) hall.shared step did after (journal_in hall.journals n) went.tenant went.next explained.known one went.was went.is own in
     let place = has-place hall.grain hall.journals n step went.next at goes on in
+    let searches = searches-push (journal_in hall.journals n) step (explained.searches n) search in
     let journals = with_step n step hall.journals in
     let given = serial-given (jamboree hall.grain) went.tenant step (Some went.next, went.told) went.taken told.shape in
     let opened = told.shape.opened in
@@ -242,11 +264,13 @@ goes-on hall latest count step did after keeps one goes allowed search known =
     record {
       has = has;
       place = λ none. (let same = at.after step ∙ ap (λ (r : Option Quota). places_with r at.journal) none ∙ sym at.places in omega (arith, place, same));
+      long = λ none is. (let same = at.long_after step ∙ ap (λ (r : Option Quota). longs_with r at.journal) none ∙ sym at.longs in
+          let long_place = has-long-place hall.grain hall.journals n step went.next at goes is on searches in omega (arith, long_place, same));
       serial = omega (arith, given, opened, nodes, few);
       left = grind arith;
       keeps = changed hall latest count latest step did after journals hall.gone keeps one known (record {
         own = some-explained hall.grain _ went.next _ went.is (rw more on);
-        searches = rw more (searches-push (journal_in hall.journals n) step (explained.searches n) search);
+        searches = rw more searches;
         others = λ m ne. said-with_other owner_of_journal steps_of [] m n (longer step) hall.journals ne (λ j mine. mine);
         rising = rising-with owner_of_journal n (longer step) hall.journals (λ j mine. mine) keeps.rising;
         upto = all-with (λ (j : JournalOf). j.tenant ≤ latest) owner_of_journal n (longer step) hall.journals keeps.upto (λ j le found. le);

@@ -1,4 +1,5 @@
 pub mod Using
+pub mod Longs
 pub mod Lists
 pub mod Halls
 pub mod Entries

@@ -8,7 +8,7 @@ use Rattle.tenant_quota.specs.Quota.{Quota, IsWithinLimits}
 use Rattle.sched_rules.specs.declared.step.StepOf.TheVariants.{Admit}
 use Rattle.number_index.specs.Places.{count_below, find_by_number, AreRising, IsAt as IsPlace}
 use Rattle.number_index.proofs.Edits.{all-map, all-of, all-push, all-with, thing-there, thing-with, said-found, said-with_own, rising-push, place-found, at-said, at-removed}
-use Rattle.hall.specs.Journals.{reserve_in, raise_in, newer, reserved_after, reserved_in, one_for, raise_count, places_for, places_with, longer, is_appended, JournalOf, journal_in, places_in, owner_of_journal, has_journal, with_step, without_journal, total_length, AreUpTo, IsBegun, AreBegun}
+use Rattle.hall.specs.Journals.{reserve_in, raise_in, newer, reserved_after, reserved_in, one_for, raise_count, places_for, places_with, longs_for, longs_with, longs_in, longer, is_appended, JournalOf, journal_in, places_in, owner_of_journal, has_journal, with_step, without_journal, total_length, AreUpTo, IsBegun, AreBegun}
 
 abbrev Js : Type 0
 Js = List JournalOf
@@ -22,7 +22,7 @@ further step journal = record journal { steps = journal.steps ++ step ∷ [] }
 
 -- where the step raises nothing
 pub further-longer : (step : Step) (j : JournalOf) → raise_in step ≡ None → further step j ≡ longer step j
-further-longer step j none = ap (λ (r : Option Quota). record { tenant = j.tenant; places = places_with r j; steps = j.steps ++ step ∷ [] }) (sym none)
+further-longer step j none = ap (λ (r : Option Quota). record { tenant = j.tenant; places = places_with r j; longs = longs_with r j; steps = j.steps ++ step ∷ [] }) (sym none)
 
 -- what is reserved after one more step, and how many raises there are
 pub reserved-more : {A : Type 0} (now : Quota) (steps : List (StepOf A)) (step : StepOf A) → reserved_after now (steps ++ step ∷ []) ≡ newer (reserved_after now steps) (reserve_in step)
@@ -54,6 +54,9 @@ steps_of journal = journal.steps
 abbrev pub places_of : JournalOf → ℕ
 places_of journal = journal.places
 
+abbrev pub longs_of : JournalOf → ℕ
+longs_of journal = journal.longs
+
 -- one more step
 pub step-own : (n : ℕ) (step : Step) (js : Js) → has_journal n js ≡ true → journal_in (with_step n step js) n ≡ journal_in js n ++ step ∷ []
 step-own n step js has = said-with_own owner_of_journal steps_of [] (λ steps. steps ++ step ∷ []) n (longer step) js (λ j own. own) (λ j. refl) (λ lacks. absurd (false≢true (sym lacks ∙ has)))
@@ -81,6 +84,14 @@ pub longer-places : (step : Step) (j : JournalOf) → is_appended step ≡ true 
     places_with (raise_in step) j ≡ places_for (reserved_in (j.steps ++ step ∷ [])) + raise_count (j.steps ++ step ∷ [])
 longer-places step j goes places = grind (arith, places-with, raised-after, raise-more)
 
+longs-with : (r : Option Quota) (j : JournalOf) (now : Quota) → j.longs ≡ longs_for now + raise_count j.steps → longs_with r j ≡ longs_for (newer now r) + (raise_count j.steps + one_for r)
+longs-with None j now longs = omega (arith, longs)
+longs-with (Some quota) j now longs = refl
+
+pub longer-longs : (step : Step) (j : JournalOf) → is_appended step ≡ true → j.longs ≡ longs_for (reserved_in j.steps) + raise_count j.steps →
+    longs_with (raise_in step) j ≡ longs_for (reserved_in (j.steps ++ step ∷ [])) + raise_count (j.steps ++ step ∷ [])
+longer-longs step j goes longs = grind (arith, longs-with, raised-after, raise-more)
+
 -- what is reserved stays within the limits, and above the count of raises
 limits-with : (r : Option Quota) (now : Quota) (count : ℕ) → IsAllowed r → Brings r now → now.segments ≤ 4096 → now.nodes ≤ 65536 → count ≤ now.segments + now.nodes →
     ((newer now r).segments ≤ 4096) × ((newer now r).nodes ≤ 65536) × (count + one_for r ≤ (newer now r).segments + (newer now r).nodes)
@@ -100,6 +111,7 @@ longer-begun step j goes allowed brings place is =
       later = is.later ++ step ∷ [];
       begins = ap (λ (steps : List Step). steps ++ step ∷ []) is.begins;
       places = longer-places step j goes is.places;
+      longs = longer-longs step j goes is.longs;
       segments = omega (arith, segments, limits.0);
       nodes = omega (arith, nodes, limits.1);
       raised = omega (arith, segments, nodes, count, limits.2);
@@ -111,7 +123,9 @@ pub record IsAt (n : ℕ) (js : Js) : Type 0 where
   pub journal : JournalOf
   pub steps : journal_in js n ≡ journal.steps
   pub places : places_in js n ≡ journal.places
+  pub longs : longs_in js n ≡ journal.longs
   pub after : (step : Step) → places_in (with_step n step js) n ≡ places_with (raise_in step) journal
+  pub long_after : (step : Step) → longs_in (with_step n step js) n ≡ longs_with (raise_in step) journal
   pub begun : IsBegun journal
 
 found : (n : ℕ) (js : Js) (j : JournalOf) → find_by_number owner_of_journal n js ≡ Some j → AreBegun js → IsAt n js
@@ -119,7 +133,9 @@ found n js j is begun = record {
   journal = j;
   steps = said-found owner_of_journal steps_of [] n js j is;
   places = said-found owner_of_journal places_of 0 n js j is;
+  longs = said-found owner_of_journal longs_of 0 n js j is;
   after = λ step. said-found owner_of_journal places_of 0 n (with_step n step js) (longer step j) (thing-with owner_of_journal n (longer step) js j (λ i own. own) is);
+  long_after = λ step. said-found owner_of_journal longs_of 0 n (with_step n step js) (longer step j) (thing-with owner_of_journal n (longer step) js j (λ i own. own) is);
   begun = all-of IsBegun owner_of_journal n j js is begun;
 }
 

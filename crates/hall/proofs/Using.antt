@@ -50,7 +50,7 @@ end-counts : (end : Job) (jobs : List Job) → HasEnded end → ended_count (end
 end-counts (Live root) jobs has = absurd has
 end-counts _ jobs has = refl
 
-ended-more : (root : ℕ) (end : Job) (jobs : List Job) → HasEnded end → ended_count (with_ended root end jobs) ≡ ended_count jobs + live_count root jobs
+pub ended-more : (root : ℕ) (end : Job) (jobs : List Job) → HasEnded end → ended_count (with_ended root end jobs) ≡ ended_count jobs + live_count root jobs
 ended-more root end [] has = omega arith
 ended-more root end (Live s ∷ jobs) has =
     let rest = ended-more root end jobs has in
@@ -69,10 +69,10 @@ one-lives jobs (x ∷ xs) root roots at = elim (cases_Bool (eqb x.serial root)) 
 ]
 
 -- a tenant whose job under a root ended
-job-ended : (root : ℕ) (end : Job) (tenant : Tenant) → HasEnded end → IsShaped tenant → path_in tenant.frames root ≡ root ∷ [] → HasUsed true None tenant (Some (ended root end tenant))
+pub job-ended : (root : ℕ) (end : Job) (tenant : Tenant) → HasEnded end → IsShaped tenant → path_in tenant.frames root ≡ root ∷ [] → HasUsed true None tenant (Some (ended root end tenant))
 job-ended root end tenant has shape at = grind (arith, one-lives, ended-more, length-with_ended)
 
-submit-used : (tenant : Tenant) (root : ℕ) → length tenant.jobs + 1 + ended_count tenant.jobs ≤ length (tenant.jobs ++ Live root ∷ []) + ended_count (tenant.jobs ++ Live root ∷ [])
+pub submit-used : (tenant : Tenant) (root : ℕ) → length tenant.jobs + 1 + ended_count tenant.jobs ≤ length (tenant.jobs ++ Live root ∷ []) + ended_count (tenant.jobs ++ Live root ∷ [])
 submit-used tenant root =
     let one = length-append tenant.jobs (Live root ∷ []) in let same = ended-append root tenant.jobs in omega (arith, one, same)
 
@@ -120,7 +120,7 @@ serial-given functions tenant (Spend name) outcome is shape = frame-given tenant
 serial-given functions tenant _ outcome is shape = omega arith
 
 -- no more jobs have ended than there are
-ended-few : (jobs : List Job) → ended_count jobs ≤ length jobs
+pub ended-few : (jobs : List Job) → ended_count jobs ≤ length jobs
 ended-few [] = omega arith
 ended-few (Live root ∷ jobs) = (let rest = ended-few jobs in omega (arith, rest))
 ended-few (_ ∷ jobs) = (let rest = ended-few jobs in omega (arith, rest))

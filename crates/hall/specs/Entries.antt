@@ -28,6 +28,11 @@ is_long_step (Answer worker name answer) = true
 is_long_step (Cancel number job) = true
 is_long_step _ = false
 
+-- how many of these steps are kept in a long entry
+abbrev pub long_steps : {A : Type 0} → List (StepOf A) → ℕ
+long_steps [] = 0
+long_steps (step ∷ steps) = (if is_long_step step then 1 else 0) + long_steps steps
+
 -- the tenant's step that a short entry stands for, alone in a list; none where the entry marks a long one
 abbrev pub short_steps : ℕ → JournalEntry → List (StepOf LeafAnswer)
 short_steps number (Taken worker serial) = Take worker (named number serial) ∷ []

@@ -8,12 +8,14 @@ use Rattle.sched_rules.specs.declared.step.StepOf.TheVariants.{Admit, AdmitMore,
 use Rattle.sched_rules.specs.Runs.{tenant_of}
 use Rattle.jamboree_core.specs.jamboree_rules.declared.leaf.LeafAnswer.{LeafAnswer}
 use Rattle.jamboree_core.specs.Replies.{IsSearch}
-use Rattle.hall.specs.Entries.{serial_in}
+use Rattle.hall.specs.Entries.{serial_in, is_long_step, long_steps}
 
--- a tenant's number, how many steps its journal has places for, and the steps
+-- a tenant's number, how many steps its journal has places for, and how many of them it has places for in long
+-- entries, and the steps
 pub record JournalOf : Type 0 where
   pub tenant : ℕ
   pub places : ℕ
+  pub longs : ℕ
   pub steps : List (StepOf LeafAnswer)
 
 -- the number of the tenant whose journal it is
@@ -27,6 +29,10 @@ journal_in journals number = read_by_number owner_of_journal (λ journal. journa
 -- how many places a tenant's journal has; 0 where it has no journal
 abbrev pub places_in : List JournalOf → ℕ → ℕ
 places_in journals number = read_by_number owner_of_journal (λ journal. journal.places) 0 number journals
+
+-- how many long entries a tenant's journal has places for; 0 where it has no journal
+abbrev pub longs_in : List JournalOf → ℕ → ℕ
+longs_in journals number = read_by_number owner_of_journal (λ journal. journal.longs) 0 number journals
 
 -- whether a tenant has a journal
 abbrev pub has_journal : ℕ → List JournalOf → Bool
@@ -74,15 +80,25 @@ raise_count (step ∷ steps) = one_for (raise_in step) + raise_count steps
 abbrev pub places_for : Quota → ℕ
 places_for quota = 16 * quota.nodes + 770
 
+-- how many places a journal has for long entries for such a reservation, beside one for each raise: one for each
+-- node, as a frame is given at most one Answer; one for the Admit; and 256 each for the Submits and the Cancels
+abbrev pub longs_for : Quota → ℕ
+longs_for quota = quota.nodes + 513
+
 -- how many places a journal has after a step: an AdmitMore makes those of the new reservation, and one for each
 -- raise so far, this one included
 abbrev pub places_with : Option Quota → JournalOf → ℕ
 places_with None journal = journal.places
 places_with (Some quota) journal = places_for quota + (raise_count journal.steps + 1)
 
+-- the same for long entries
+abbrev pub longs_with : Option Quota → JournalOf → ℕ
+longs_with None journal = journal.longs
+longs_with (Some quota) journal = longs_for quota + (raise_count journal.steps + 1)
+
 -- the journal with one more step
 abbrev pub longer : StepOf LeafAnswer → JournalOf → JournalOf
-longer step journal = record { tenant = journal.tenant; places = places_with (raise_in step) journal; steps = journal.steps ++ step ∷ [] }
+longer step journal = record { tenant = journal.tenant; places = places_with (raise_in step) journal; longs = longs_with (raise_in step) journal; steps = journal.steps ++ step ∷ [] }
 
 -- the journals, with one step added to a tenant's
 abbrev pub with_step : ℕ → StepOf LeafAnswer → List JournalOf → List JournalOf
@@ -99,7 +115,7 @@ total_length (journal ∷ journals) = length journal.steps + total_length journa
 
 -- the journal of a tenant that was just admitted
 abbrev pub admitted_journal : ℕ → Quota → JournalOf
-admitted_journal number quota = record { tenant = number; places = places_for quota; steps = Admit number quota ∷ [] }
+admitted_journal number quota = record { tenant = number; places = places_for quota; longs = longs_for quota; steps = Admit number quota ∷ [] }
 
 -- the journals after a taken step: an Admit begins one, a Leave ends one, and any other step is added to its tenant's
 abbrev pub journals_after : StepOf LeafAnswer → List JournalOf → List JournalOf
@@ -139,6 +155,7 @@ pub record IsBegun (journal : JournalOf) : Type 0 where
   pub later : List (StepOf LeafAnswer)
   pub begins : journal.steps ≡ Admit journal.tenant quota ∷ later
   pub places : journal.places ≡ places_for (reserved_in journal.steps) + raise_count journal.steps
+  pub longs : journal.longs ≡ longs_for (reserved_in journal.steps) + raise_count journal.steps
   pub segments : (reserved_in journal.steps).segments ≤ 4096
   pub nodes : (reserved_in journal.steps).nodes ≤ 65536
   pub raised : raise_count journal.steps ≤ (reserved_in journal.steps).segments + (reserved_in journal.steps).nodes
@@ -149,11 +166,13 @@ abbrev pub AreBegun : List JournalOf → Type 0
 AreBegun journals = AllByRecursion IsBegun journals
 
 -- a step may be written in a journal without taking memory: it is its tenant's; it is neither an Admit, an
--- AdmitMore nor a Leave; a Submit asks for a search; a frame's serial has 32 bits; and there is a free place
+-- AdmitMore nor a Leave; a Submit asks for a search; a frame's serial has 32 bits; and there is a free place, also a long
+-- one where the step needs it
 pub record IsWritable (step : StepOf LeafAnswer) (journal : JournalOf) : Type 0 where
   pub own : tenant_of step ≡ journal.tenant
   pub serial : serial_in step < 2 ^ 32
   pub place : length journal.steps < journal.places
+  pub long : is_long_step step ≡ true → long_steps journal.steps < journal.longs
   pub going : is_appended step ≡ true
   pub search : IsSearch step
   pub raises_not : raise_in step ≡ None

@@ -7,8 +7,8 @@ ghost use Rattle.jamboree_core.specs.Replies.{IsSearch};
 ghost use Rattle.sched_rules.specs.Cores.{shared_refusal};
 ghost use Rattle.sched_rules.specs.Runs.{tenant_of};
 ghost use Rattle.number_index.specs.Places.{AreRising};
-ghost use Rattle.hall.specs.Entries.{is_long_step, serial_in};
-ghost use Rattle.hall.specs.Journals.{IsWritable, admitted_journal, is_appended, has_journal, journal_in, longer, owner_of_journal, places_for, places_in, raise_count, raise_in, with_step};
+ghost use Rattle.hall.specs.Entries.{is_long_step, long_steps, serial_in};
+ghost use Rattle.hall.specs.Journals.{IsWritable, admitted_journal, is_appended, has_journal, journal_in, longer, longs_for, longs_in, owner_of_journal, places_for, places_in, raise_count, raise_in, with_step};
 
 use crate::entry::{JournalEntry, LongEntry};
 use jamboree_core::jamboree::Jamboree;
@@ -24,18 +24,23 @@ use tenant_quota::Reserve;
 /// stay free: the Leave isn't written, as the journal goes with it, and a job is spent or cancelled but once.
 const BESIDE_NODES: usize = 770;
 
+/// How many long entries a journal has places for beside one for each node, as a frame is given at most one Answer,
+/// and one for each AdmitMore: one for the Admit, and 256 each for the Submits and the Cancels of its tenant's jobs.
+const LONGS_BESIDE_NODES: usize = 513;
+
 /// The taken steps of one tenant, in order. All places for what it reserves are made beforehand. `longs` has the
 /// steps that `entries` only mark as long, in their order; `raises` counts the AdmitMores.
 #[derive(Drop)]
 pub(crate) struct Journal<A: Allocator = Global> {
     tenant: u64,
     places: usize,
+    long_places: usize,
     raises: usize,
     entries: Vec<JournalEntry, A>,
     longs: Vec<LongEntry, A>,
 }
 
-// Clauses see the tenant's number, the number of places, and the steps.
+// Clauses see the tenant's number, the numbers of places, and the steps.
 impl<A: Allocator> Model for Journal<A> {
     ghost use Rattle.std.specs.Prelude.{◌≡◌, ◌≤◌, length, vec_capacity};
     ghost use Rattle.hall.specs.Entries.{steps_in, long_count};
@@ -43,9 +48,9 @@ impl<A: Allocator> Model for Journal<A> {
 
     ghost Value = { JournalOf };
 
-    ghost view = { λ j. record { tenant = j.tenant; places = j.places; steps = steps_in j.tenant j.entries.items j.longs.items } };
+    ghost view = { λ j. record { tenant = j.tenant; places = j.places; longs = j.long_places; steps = steps_in j.tenant j.entries.items j.longs.items } };
 
-    ghost invariant = { λ j. (j.places ≤ vec_capacity j.entries) × (j.places ≤ vec_capacity j.longs) × (long_count j.entries.items ≡ length j.longs.items) × (j.raises ≡ raise_count (steps_in j.tenant j.entries.items j.longs.items)) };
+    ghost invariant = { λ j. (j.places ≤ vec_capacity j.entries) × (j.long_places ≤ vec_capacity j.longs) × (long_count j.entries.items ≡ length j.longs.items) × (j.raises ≡ raise_count (steps_in j.tenant j.entries.items j.longs.items)) };
 }
 
 impl<A: Allocator> Journal<A> {
@@ -59,12 +64,14 @@ impl<A: Allocator> Journal<A> {
     {
         let places = 16 * reserve.nodes() as usize + BESIDE_NODES;
         let mut entries = Vec::with_capacity(alloc.clone()?, places)?;
-        let mut longs = Vec::with_capacity(alloc, places)?;
+        let long_places = reserve.nodes() as usize + LONGS_BESIDE_NODES;
+        let mut longs = Vec::with_capacity(alloc, long_places)?;
         entries.push_reserved(JournalEntry::Long);
         longs.push_reserved(LongEntry::Admitted(reserve));
         Ok(Journal {
             tenant,
             places,
+            long_places,
             raises: 0,
             entries,
             longs,
@@ -112,6 +119,7 @@ impl<A: Allocator> Journal<A> {
         A: Clone,
         requires few { raise_count self.old.steps ≤ 69632 }
         requires place { length self.old.steps < places_for reserve + (raise_count self.old.steps + 1) }
+        requires long { long_steps self.old.steps < longs_for reserve + (raise_count self.old.steps + 1) }
         requires taken { shared_refusal (jamboree core.old.procedure.grain) core.old.shared (StepOf.AdmitMore self.old.tenant reserve) ≡ None }
         ensures one { IsOneStep (jamboree core.old.procedure.grain) core.old.shared (StepOf.AdmitMore self.old.tenant reserve) result core.new.shared }
         ensures written { OnOk result (self.new ≡ longer (StepOf.AdmitMore self.old.tenant reserve) self.old) }
@@ -127,14 +135,16 @@ impl<A: Allocator> Journal<A> {
         if self.entries.reserve_exact(places - entries).is_err() {
             return Err(Refusal::OutOfMemory);
         }
+        let long_places = reserve.nodes() as usize + LONGS_BESIDE_NODES + raises;
         let longs = self.longs.len();
-        if self.longs.reserve_exact(places - longs).is_err() {
+        if self.longs.reserve_exact(long_places - longs).is_err() {
             return Err(Refusal::OutOfMemory);
         }
         let did = core.step(&StepOf::AdmitMore(self.tenant, reserve))?;
         self.entries.push_reserved(JournalEntry::Long);
         self.longs.push_reserved(LongEntry::Raised(reserve));
         self.places = places;
+        self.long_places = long_places;
         self.raises = raises;
         Ok(did)
     }
@@ -165,6 +175,7 @@ pub(crate) fn write<A: Allocator>(
     requires serial { serial_in step.now < 2 ^ 32 }
     requires there { has_journal tenant journals.old.items ≡ true }
     requires place { length (journal_in journals.old.items tenant) < places_in journals.old.items tenant }
+    requires long { is_long_step step.now ≡ true → long_steps (journal_in journals.old.items tenant) < longs_in journals.old.items tenant }
     requires is_appended { is_appended step.now ≡ true }
     requires search { IsSearch step.now }
     requires raises_not { raise_in step.now ≡ None }
@@ -188,6 +199,7 @@ pub(crate) fn raise<A: Allocator + Clone>(
     requires there { has_journal tenant journals.old.items ≡ true }
     requires few { raise_count (journal_in journals.old.items tenant) ≤ 69632 }
     requires place { length (journal_in journals.old.items tenant) < places_for reserve + (raise_count (journal_in journals.old.items tenant) + 1) }
+    requires long { long_steps (journal_in journals.old.items tenant) < longs_for reserve + (raise_count (journal_in journals.old.items tenant) + 1) }
     requires taken { shared_refusal (jamboree core.old.procedure.grain) core.old.shared (StepOf.AdmitMore tenant reserve) ≡ None }
     ensures one { IsOneStep (jamboree core.old.procedure.grain) core.old.shared (StepOf.AdmitMore tenant reserve) result core.new.shared }
     ensures written { OnOk result (journals.new.items ≡ with_step tenant (StepOf.AdmitMore tenant reserve) journals.old.items) }

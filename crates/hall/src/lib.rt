@@ -28,9 +28,10 @@
 //! - `Hall::offer` takes its step by reference: a refused one is offered again, and the journal's entry is made
 //!   of it. A journal keeps a Submit as board and depth, since `offer` requires a search. Long steps have a
 //!   list of their own (`LongEntry`, 48 bytes), so that others take 8.
-//! - A journal grows by exactly what an AdmitMore adds: doubling would take 117 MB instead of 58 for 65,536
-//!   nodes. There are at most 69,632 AdmitMores, as each adds a segment or a node, so no journal is longer than
-//!   1,118,978 steps.
+//! - Long entries have a place for each node, since a frame is given at most one Answer, and for the steps of the
+//!   tenant's own that need one. So a journal takes 176 bytes for each node, and 11.6 MB for 65,536 nodes.
+//! - A journal grows by exactly what an AdmitMore adds: doubling could take twice as much. There are at most 69,632
+//!   AdmitMores, as each adds a segment or a node, so no journal is longer than 1,118,978 steps.
 //!
 //! ```text
 //! let mut hall = Hall::new(alloc, config, 2)?;

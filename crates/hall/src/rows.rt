@@ -7,13 +7,14 @@ ghost use Rattle.jamboree_core.specs.jamboree_rules.declared.leaf.LeafAnswer.{Le
 ghost use Rattle.hall.specs.declared.entry.JournalEntry.TheVariants.{Taken, Advanced, Spent as SpentEntry, Long};
 ghost use Rattle.hall.specs.declared.entry.LongEntry.TheVariants.{Admitted, Raised, Cancelled};
 ghost use Rattle.hall.specs.Entries.{steps_in, long_count};
-ghost use Rattle.hall.specs.Journals.{journals_after, gone_by, total_length, admitted_journal, journal_in, places_in, reserved_in};
+ghost use Rattle.hall.specs.Journals.{journals_after, gone_by, total_length, admitted_journal, journal_in, longs_in, places_in, reserved_in};
 ghost use Rattle.hall.specs.Uses.{uses};
 
 /// Two tenants are admitted, the first takes a step, and leaves.
 pub fn journals_of_two_tenants()
     ensures begun { (quota : Quota) → journals_after (Admit 2 quota) (admitted_journal 1 quota ∷ []) ≡ admitted_journal 1 quota ∷ admitted_journal 2 quota ∷ [] }
     ensures places { (admitted_journal 1 (record { segments = 4; nodes = 8 })).places ≡ 898 }
+    ensures longs { (admitted_journal 1 (record { segments = 4; nodes = 8 })).longs ≡ 521 }
     ensures written { (quota : Quota) → journal_in (journals_after (Cancel 1 3) (admitted_journal 1 quota ∷ admitted_journal 2 quota ∷ [])) 1 ≡ Admit 1 quota ∷ Cancel 1 3 ∷ [] }
     ensures other { (quota : Quota) → journal_in (journals_after (Cancel 1 3) (admitted_journal 1 quota ∷ admitted_journal 2 quota ∷ [])) 2 ≡ Admit 2 quota ∷ [] }
     ensures ended { (quota : Quota) → journals_after (Leave 1) (journals_after (Cancel 1 3) (admitted_journal 1 quota ∷ admitted_journal 2 quota ∷ [])) ≡ admitted_journal 2 quota ∷ [] }
@@ -34,6 +35,7 @@ pub fn entries_of_a_journal()
 /// beside those of the nodes.
 pub fn a_raise_makes_places()
     ensures nodes { places_in (journals_after (AdmitMore 1 (record { segments = 4; nodes = 10 })) (admitted_journal 1 (record { segments = 4; nodes = 8 }) ∷ [])) 1 ≡ 931 }
+    ensures longs { longs_in (journals_after (AdmitMore 1 (record { segments = 4; nodes = 10 })) (admitted_journal 1 (record { segments = 4; nodes = 8 }) ∷ [])) 1 ≡ 524 }
     ensures segments { places_in (journals_after (AdmitMore 1 (record { segments = 5; nodes = 10 })) (journals_after (AdmitMore 1 (record { segments = 4; nodes = 10 })) (admitted_journal 1 (record { segments = 4; nodes = 8 }) ∷ []))) 1 ≡ 932 }
     ensures newest { (first second : Quota) → reserved_in {A = LeafAnswer} (Admit 1 first ∷ AdmitMore 1 second ∷ Cancel 1 3 ∷ []) ≡ second }
     ensures kept { (quota : Quota) → steps_in 7 (Long ∷ []) (Raised quota ∷ []) ≡ AdmitMore 7 quota ∷ [] }

@@ -10,3 +10,4 @@ pub mod Possible
 pub mod Serving
 pub mod JournalLemmas
 pub mod OutcomeLemmas
+pub mod Answering

@@ -9,8 +9,8 @@ ghost use Rattle.leaf_search.specs.Bounds.{IsBound};
 use super::scored::Scored;
 use super::window::{INF, Window};
 use othello_board::Board;
-use othello_eval::othello_moves::{Choices, Mobility, after, plies};
-use othello_eval::{eval_by_mobility, final_value};
+use othello_eval::othello_moves::{Choices, Mobility, plies};
+use othello_eval::{Weighed, final_value};
 
 /// Searches a board to a depth of 0 to 12 plies through a window (fail-soft alpha-beta: Fishburn 1983).
 ///
@@ -30,7 +30,7 @@ pub fn search(board: Board, depth: u8, alpha: i32, beta: i32) -> Scored
     ensures within { IsWithin 128000 result.score }
     ensures chosen { IfSome result.choice (Contains (choices (cells board))) }
 {
-    search_below(board, depth, Window { alpha, beta })
+    search_below(Weighed::of(board), depth, Window { alpha, beta })
 }
 
 /// Searches a board to a depth of 0 to 12 plies through the full window, in which every value lies: the
@@ -45,40 +45,42 @@ pub fn search_full(board: Board, depth: u8) -> Scored
     search(board, depth, -INF, INF)
 }
 
-/// Searches one position, and what has to be entered below it.
+/// Searches one position, and what has to be entered below it. Within `best_of` it is no call: most positions are
+/// leaves, which have none below them.
 #[cycle(search)]
-fn search_below(board: Board, depth: u8, window: Window) -> Scored
-    ensures bound { IsBound window.alpha window.beta result.score (minimax depth (cells board)) }
-    ensures choice { window.alpha <ℤ result.score → result.score <ℤ window.beta → result.choice ≡ best_choice depth (cells board) }
+#[inline(always)]
+fn search_below(weighed: Weighed, depth: u8, window: Window) -> Scored
+    ensures bound { IsBound window.alpha window.beta result.score (minimax depth (cells weighed.board)) }
+    ensures choice { window.alpha <ℤ result.score → result.score <ℤ window.beta → result.choice ≡ best_choice depth (cells weighed.board) }
     ensures within { IsWithin 128000 result.score }
-    ensures chosen { IfSome result.choice (Contains (choices (cells board))) }
+    ensures chosen { IfSome result.choice (Contains (choices (cells weighed.board))) }
 {
-    let mobility = Mobility::of(board);
+    let mobility = Mobility::of(weighed.board);
     if mobility.is_over() {
-        return Scored::entered(final_value(board));
+        return Scored::entered(final_value(weighed.board));
     }
     if depth == 0 {
-        return Scored::entered(eval_by_mobility(mobility));
+        return Scored::entered(weighed.eval(mobility));
     }
-    best_of(board, Choices::of(mobility), depth, window)
+    best_of(weighed, Choices::of(mobility), depth, window)
 }
 
 /// Searches the positions after the choices of a board in order, to a depth of 1 or more, until one has
 /// a score of at least beta.
 #[cycle(search)]
-fn best_of(board: Board, mut left: Choices, depth: u8, window: Window) -> Scored
-    requires choices { left ≡ choices (cells board) }
+fn best_of(weighed: Weighed, mut left: Choices, depth: u8, window: Window) -> Scored
+    requires choices { left ≡ choices (cells weighed.board) }
     requires some { 0 < length left }
     requires deep { 0 < depth }
-    ensures bound { IsBound window.alpha window.beta result.score (minimax depth (cells board)) }
-    ensures choice { window.alpha <ℤ result.score → result.score <ℤ window.beta → result.choice ≡ best_choice depth (cells board) }
+    ensures bound { IsBound window.alpha window.beta result.score (minimax depth (cells weighed.board)) }
+    ensures choice { window.alpha <ℤ result.score → result.score <ℤ window.beta → result.choice ≡ best_choice depth (cells weighed.board) }
     ensures within { IsWithin 128000 result.score }
-    ensures chosen { IfSome result.choice (Contains (choices (cells board))) }
+    ensures chosen { IfSome result.choice (Contains (choices (cells weighed.board))) }
 {
     let mut best = Scored::entered(-INF);
     while let Some(choice) = left.pop_first() {
         let below = depth - plies(choice) as u8;
-        let child = search_below(after(board, choice), below, window.of_child(&best));
+        let child = search_below(weighed.after(choice), below, window.of_child(&best));
         best.take_in(choice, child);
         if best.score >= window.beta {
             return best;

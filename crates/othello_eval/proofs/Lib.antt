@@ -8,3 +8,5 @@ pub mod PlainLemmas
 pub mod MaskLemmas
 pub mod TableLemmas
 pub mod TableProps
+pub mod WeighedLemmas
+pub mod RowLemmas

@@ -30,9 +30,12 @@ pub use othello_moves;
 mod bound;
 pub mod laws;
 mod recursion;
+mod row_values;
 pub mod rows;
 mod values;
+mod weighed;
 
 pub use bound::{Bound, BoundKind};
 pub use recursion::{Valued, plain};
-pub use values::{eval, eval_by_mobility, final_value};
+pub use values::{eval, final_value};
+pub use weighed::Weighed;

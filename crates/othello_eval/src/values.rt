@@ -4,6 +4,7 @@ ghost use Rattle.othello_board.specs.Words.{cells};
 ghost use Rattle.othello_eval.specs.Values.{weights, discs_value, eval, final_value, IsWithin};
 ghost use Rattle.othello_eval.specs.Masks.{disc_difference};
 
+use super::weighed::Weighed;
 use othello_board::Board;
 use othello_moves::Mobility;
 
@@ -36,7 +37,8 @@ fn weighed(board: Board, weight: i32, squares: u64) -> i32
 }
 
 /// The weights of the mover's discs, less those of the opponent's.
-fn discs_value(board: Board) -> i32
+#[inline(always)]
+pub(crate) fn discs_value(board: Board) -> i32
     ensures value { result ≡ discs_value (cells board) weights }
     ensures within { IsWithin 928 result }
 {
@@ -52,17 +54,7 @@ pub fn eval(board: Board) -> i32
     ensures value { result ≡ eval (cells board) }
     ensures within { IsWithin 1184 result }
 {
-    eval_by_mobility(Mobility::of(board))
-}
-
-/// The evaluation of a board whose legal squares are known.
-#[inline(always)]
-pub fn eval_by_mobility(mobility: Mobility) -> i32
-    ensures value { result ≡ eval (cells mobility.board) }
-    ensures within { IsWithin 1184 result }
-{
-    let difference = mobility.own.count_ones() as i32 - mobility.opp.count_ones() as i32;
-    discs_value(mobility.board) + 4 * difference
+    Weighed::of(board).eval(Mobility::of(board))
 }
 
 /// The value of a finished game, from -128,000 to 128,000: 2000 for each disc that the mover has more

@@ -201,7 +201,7 @@ pub inner_all : (d : Direction) → (d ≡ North) ⊎ (d ≡ South) → (t : ℕ
 inner_all d (inl north) t below = bit_at_ones 64 t below ∙ ap (λ e. bit_of (is_inner e t)) (sym north)
 inner_all d (inr south) t below = bit_at_ones 64 t below ∙ ap (λ e. bit_of (is_inner e t)) (sym south)
 
-middle_bit : (t : ℕ) → t < 64 → bit_at 0x7e7e_7e7e_7e7e_7e7e t ≡ bit_of (has_both_sides t)
+pub middle_bit : (t : ℕ) → t < 64 → bit_at 0x7e7e_7e7e_7e7e_7e7e t ≡ bit_of (has_both_sides t)
 middle_bit t below = eqb-true (bit_at 0x7e7e_7e7e_7e7e_7e7e t) (bit_of (has_both_sides t)) (holds_below 64 (λ s. eqb (bit_at 0x7e7e_7e7e_7e7e_7e7e s) (bit_of (has_both_sides s))) refl t below)
 
 pub inner_middle : (d : Direction) → (d ≡ North → ⊥) → (d ≡ South → ⊥) → (t : ℕ) → t < 64 → bit_at 0x7e7e_7e7e_7e7e_7e7e t ≡ bit_of (is_inner d t)

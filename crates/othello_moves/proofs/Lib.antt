@@ -5,3 +5,4 @@ pub mod SequenceLemmas
 pub mod AllowedLemmas
 pub mod LeadLemmas
 pub mod DescentLemmas
+pub mod LaneLemmas

@@ -9,7 +9,7 @@ ghost use Rattle.othello_moves.specs.Inner.{bit_of, is_inner};
 use othello_board::{Board, Direction};
 
 /// The squares of columns b to g.
-const INNER_COLUMNS: u64 = 0x7e7e_7e7e_7e7e_7e7e;
+pub(crate) const INNER_COLUMNS: u64 = 0x7e7e_7e7e_7e7e_7e7e;
 
 /// The squares on which an opposing disc may be inside a run in this direction or in its opposite, as bits: all for
 /// north and south, else columns b to g, so that no shift leads around the left or the right edge.

@@ -10,7 +10,8 @@
 //!
 //! The word of legal squares spreads, for each direction, over opposing discs by runs of 1, 2, 4 and 6
 //! (`proofs/LeadLemmas.antt`), within the squares that may stand inside a run, so that no ray wraps around
-//! the board (`specs/Inner.antt`).
+//! the board (`specs/Inner.antt`). For both players at once it does so in lanes of one vector, two directions for each
+//! player at a time; a lane is the same word (`proofs/LaneLemmas.antt`).
 //!
 //! Why it is so:
 //!
@@ -30,6 +31,7 @@
 
 mod choices;
 mod game;
+mod lanes;
 pub mod laws;
 mod legal;
 mod mobility;

@@ -4,7 +4,7 @@ ghost use Rattle.othello_board.specs.Rules.{squares, exchanged, is_legal};
 ghost use Rattle.othello_board.specs.Words.{cells, bits_of};
 ghost use Rattle.othello_moves.specs.Choices.{choices};
 
-use super::legal::moves;
+use super::lanes::both_moves;
 use othello_board::Board;
 
 /// A board with the legal squares of the mover and of the opponent, each as one word.
@@ -26,11 +26,8 @@ impl Mobility {
     pub fn of(board: Board) -> Mobility
         ensures { result.board ≡ board }
     {
-        Mobility {
-            board,
-            own: moves(board),
-            opp: moves(board.swap()),
-        }
+        let (own, opp) = both_moves(board);
+        Mobility { board, own, opp }
     }
 
     /// Whether the game is over: neither side can move.

@@ -1,7 +1,6 @@
 -- What the definitions of `promises` come to, part by part, and what holds of a value that there is.
-use Rattle.std.proofs.Common.{◌≡◌, ◌≢◌, ◌⊎◌, ℕ, List, [], ◌∷◌, Bool, true, false, if◌then◌else◌, sym, Option, Some, None, Result, Ok, Err, refl, inl, inr, ap, ◌∙◌, subst}
+use Rattle.std.proofs.Common.{◌≡◌, ◌≢◌, ◌⊎◌, ℕ, List, true, Option, Some, None, Result, Ok, Err, refl, inl, inr, ap, ◌∙◌, subst}
 use Rattle.std.specs.Prelude.{IfOk, IfSome}
-use Rattle.frame_tree.specs.declared.names.FrameId.{FrameId}
 use Rattle.sched_rules.specs.declared.refusal.Refusal.{Refusal}
 use Rattle.sched_rules.specs.declared.refusal.Refusal.TheVariants.{Busy}
 use Rattle.sched_rules.specs.declared.step.StepOf.TheVariants.{Steal, Spend}

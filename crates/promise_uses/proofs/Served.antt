@@ -1,5 +1,5 @@
 -- What `TrueBytes` comes to, part by part.
-use Rattle.std.proofs.Common.{◌≡◌, ℕ, ◌≤◌, ◌≤ℤ◌, List, [], ◌∷◌, ◌++◌, map, codes, decimal, true, false, Some, Result, Ok, Err, refl, subst}
+use Rattle.std.proofs.Common.{◌≡◌, ℕ, ◌≤◌, ◌≤ℤ◌, List, [], ◌∷◌, ◌++◌, map, codes, decimal, true, false, Some, Result, Ok, Err, subst}
 use Rattle.std.specs.Prelude.{nat_eq, slice_get}
 use Rattle.std.specs.List.{concat, starts_with}
 use Rattle.std.specs.Str.{byte}

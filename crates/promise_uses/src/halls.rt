@@ -1,24 +1,31 @@
 //! What a hall tells of tenants 7 and 9 and of their jobs 3 and 5.
-ghost use Rattle.std.specs.Prelude.{◌≡◌, ℕ, ◌≤◌, ◌≤ℤ◌, Some, None, IfSome, slice_get};
+ghost use Rattle.std.specs.Prelude.{◌≡◌, ◌≢◌, ◌+◌, ℕ, ◌≤◌, ◌≤ℤ◌, Some, None, Err, IfSome, OnOk, OnErr, slice_get};
 ghost use Rattle.othello_board.specs.Words.{cells_of};
 ghost use Rattle.othello_eval.specs.declared.bound.BoundKind.TheVariants.{Low, High, Exact};
 ghost use Rattle.othello_eval.specs.Minimax.{minimax, best_choice, choice_value};
 ghost use Rattle.othello_eval.specs.Tables.{entered};
+ghost use Rattle.sched_rules.specs.declared.refusal.Refusal.TheVariants.{BadAct, OutOfMemory};
+ghost use Rattle.sched_rules.specs.declared.step.StepOf.TheVariants.{Cancel};
+ghost use Rattle.sched_rules.specs.Headline.{after_answer, IsAnswerTo};
 ghost use Rattle.sched_rules.specs.Trees.{Tenant, left};
 ghost use Rattle.sched_rules.specs.Cores.{tenant_in};
 ghost use Rattle.sched_laws.specs.Fitted.{origins_of};
 ghost use Rattle.jamboree_rules.specs.Places.{root_words};
 ghost use Rattle.jamboree_core.specs.Searching.{origin_at};
+ghost use Rattle.jamboree_rules.specs.Procedure.{jamboree};
 ghost use Rattle.hall.specs.Journals.{journal_in};
+ghost use Rattle.hall.specs.Halls.{IsExplained, KeepsEndedJobs, count_of, hall_after};
 
-use hall::Hall;
+use hall::{Hall, StepAnswer};
 use othello_eval::{Bound, Valued};
 use promises::{entry_in, same_journals, value_in};
+use sched_rules::StepOf;
 use std::alloc::Allocator;
 
 /// Tenants 7 and 9 of two halls of the same grain, where the journals of each are the same in both: whoever is there
 /// in the one is there in the other, with the same jobs, frames and reservation and as much left; and who isn't
 /// there in the one isn't in the other.
+/// Uses `promises::same_journals`.
 pub fn seven_and_nine<A: Allocator, B: Allocator>(one: &Hall<A>, other: &Hall<B>)
     ensures seven { one.now.grain ≡ other.now.grain → journal_in one.now.journals 7 ≡ journal_in other.now.journals 7 →
         (tenant : Tenant) → tenant_in one.now.shared.tenants 7 ≡ Some tenant →
@@ -34,6 +41,7 @@ pub fn seven_and_nine<A: Allocator, B: Allocator>(one: &Hall<A>, other: &Hall<B>
 
 /// The value and the choice of tenant 7's job 3, where a hall tells them: of some board (by its two words) and a
 /// depth of at most 12, which the third Submit in the tenant's journal asked for.
+/// Uses `promises::value_in`.
 pub fn value_of_seven<A: Allocator>(hall: &Hall<A>) -> Option<Valued>
     ensures { IfSome result (λ told. (own : ℕ) × (opp : ℕ) × (depth : ℕ) × (depth ≤ 12)
         × (origin_at (origins_of (journal_in hall.now.journals 7)) 3 ≡ Some (root_words own opp depth))
@@ -43,6 +51,7 @@ pub fn value_of_seven<A: Allocator>(hall: &Hall<A>) -> Option<Valued>
 }
 
 /// The same of tenant 9's job 5.
+/// Uses `promises::value_in`.
 pub fn value_of_nine<A: Allocator>(hall: &Hall<A>) -> Option<Valued>
     ensures { IfSome result (λ told. (own : ℕ) × (opp : ℕ) × (depth : ℕ) × (depth ≤ 12)
         × (origin_at (origins_of (journal_in hall.now.journals 9)) 5 ≡ Some (root_words own opp depth))
@@ -52,6 +61,7 @@ pub fn value_of_nine<A: Allocator>(hall: &Hall<A>) -> Option<Valued>
 }
 
 /// The third entry of the table of tenant 9's job 5: that of the third choice, and true of it.
+/// Uses `promises::entry_in`.
 pub fn entry_of_nine<A: Allocator>(hall: &Hall<A>) -> Option<Bound>
     ensures { IfSome result (λ entry. (own : ℕ) × (opp : ℕ) × (depth : ℕ) × (depth ≤ 12)
         × (origin_at (origins_of (journal_in hall.now.journals 9)) 5 ≡ Some (root_words own opp depth))
@@ -62,4 +72,23 @@ pub fn entry_of_nine<A: Allocator>(hall: &Hall<A>) -> Option<Bound>
         × (best_choice depth (cells_of own opp) ≡ Some entry.choice → entry.kind ≡ Exact)) }
 {
     entry_in(hall, 9, 5, 2)
+}
+
+/// Tenant 7 cancels its job 3: the answer is the one that the core as it was asks for, and the core is then as that answer says; where
+/// it is taken, just this step is noted and counted, and where it is refused nothing changes; it isn't refused for memory, and jobs that
+/// have ended stay. Uses `hall::Hall::offer` (`one`, `taken`, `refused`, `memory`, `bad_act`, `count`, `newest`, `explained`, `ended`).
+pub fn seven_cancels<A: Allocator + Clone>(hall: &mut Hall<A>) -> StepAnswer
+    ensures answered { IsAnswerTo (jamboree hall.old.grain) hall.old.shared (Cancel 7 3) result }
+    ensures left { hall.new.shared ≡ after_answer (jamboree hall.old.grain) hall.old.shared (Cancel 7 3) result }
+    ensures noted { OnOk result (hall.new ≡ hall_after hall.old (Cancel 7 3) hall.new.shared) }
+    ensures unchanged { OnErr result (hall.new ≡ hall.old) }
+    ensures counted { OnOk result (count_of hall.new ≡ count_of hall.old + 1) }
+    ensures newest { OnOk result (hall.new.shared.newest ≡ hall.old.shared.newest) }
+    ensures no_memory { result ≢ Err OutOfMemory }
+    ensures no_act { result ≢ Err BadAct }
+    ensures explained { IsExplained hall.new }
+    ensures kept { KeepsEndedJobs hall.old.shared (Cancel 7 3) hall.new.shared }
+{
+    let step = StepOf::Cancel(7, 3);
+    hall.offer(&step)
 }

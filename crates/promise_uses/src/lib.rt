@@ -1,6 +1,8 @@
 //! Each law of `promises` at work: on tenants 7 and 9, their jobs 3 and 5, worker 5, the third entry of a table, the
 //! second line, a failed write.
 //!
+//! Each function's comment says which clause it uses; the check of the documents refuses a clause of a page that none uses.
+//!
 //! Nothing else stands on `promises`, so nothing else would notice where one of its laws came to say less. Each
 //! function here calls one law and says in lower terms, without the words of `promises`, what it gives of such a
 //! case: a law that is narrowed to some tenant, job, grain or list, or a definition of it that lost a part, no longer
@@ -14,10 +16,11 @@ mod runs;
 mod sessions;
 mod solving;
 
-pub use halls::{entry_of_nine, seven_and_nine, value_of_nine, value_of_seven};
+pub use halls::{entry_of_nine, seven_and_nine, seven_cancels, value_of_nine, value_of_seven};
 pub use isolation::seven_in_a_running_core;
 pub use runs::{
-    nine_is_undisturbed, refusals, seven_alone, table_of_nine, three_answers, words_of_seven,
+    nine_by_its_own_steps, nine_is_undisturbed, refusals, seven_alone, seven_in_both,
+    table_of_nine, three_answers, words_of_seven,
 };
 pub use sessions::third_answer;
 pub use solving::three_lines;

@@ -11,16 +11,17 @@ ghost use Rattle.sched_rules.specs.declared.refusal.Refusal.{Refusal};
 ghost use Rattle.sched_rules.specs.declared.refusal.Refusal.TheVariants.{Busy};
 ghost use Rattle.sched_rules.specs.declared.step.StepOf.TheVariants.{Steal, Spend};
 ghost use Rattle.sched_rules.specs.Trees.{Tenant, job_at, left, is_busy_in};
-ghost use Rattle.sched_rules.specs.Cores.{tenant_in};
+ghost use Rattle.sched_rules.specs.Cores.{shared_by_nobody, tenant_in};
 ghost use Rattle.sched_rules.specs.Lone.{lone_refusal};
-ghost use Rattle.sched_rules.specs.Runs.{alone};
-ghost use Rattle.sched_rules.specs.Headline.{own_answers};
+ghost use Rattle.sched_rules.specs.Runs.{alone, answers_from};
+ghost use Rattle.sched_rules.specs.Headline.{after_answer, after_answers, IsAnswerTo, own_answers};
 ghost use Rattle.sched_laws.specs.Fitted.{origins_of};
 ghost use Rattle.jamboree_rules.specs.Entries.{bounds_of};
 ghost use Rattle.jamboree_rules.specs.Frames.{coded};
 ghost use Rattle.jamboree_rules.specs.Places.{frame_of, root_words, score_of};
 ghost use Rattle.jamboree_rules.specs.Procedure.{jamboree};
-ghost use Rattle.jamboree_core.specs.Replies.{AreSearches};
+ghost use Rattle.jamboree_core.specs.NewRuns.{submitted_by};
+ghost use Rattle.jamboree_core.specs.Replies.{AreAllSound, AreReplies, AreSearches};
 ghost use Rattle.jamboree_core.specs.Searching.{origin_at};
 ghost use Rattle.promises.specs.Tenants.{SearchAnswer, SearchStep, own_steps, AreAdmissionsTaken};
 
@@ -31,6 +32,7 @@ use std::alloc::{AllocError, Allocator};
 
 /// After any list: tenant 7's job 3, where it is done, has in its words the board (two words) and the depth that the
 /// tenant's third Submit asked for, their minimax value and their best choice.
+/// Uses `promises::run` (`replies`).
 pub fn words_of_seven<A: Allocator + Clone>(
     alloc: A,
     procedure: Jamboree,
@@ -51,6 +53,7 @@ pub fn words_of_seven<A: Allocator + Clone>(
 
 /// After any list: tenant 9's job 5, where it is done, has in its words a table of what was asked: an entry for each
 /// choice, each true of it.
+/// Uses `promises::run` (`replies`).
 pub fn table_of_nine<A: Allocator + Clone>(
     alloc: A,
     procedure: Jamboree,
@@ -74,6 +77,7 @@ pub fn table_of_nine<A: Allocator + Clone>(
 }
 
 /// A list of three steps has three answers, and one of some length has as many.
+/// Uses `promises::run` (`answered`).
 pub fn three_answers<A: Allocator + Clone>(
     alloc: A,
     procedure: Jamboree,
@@ -89,6 +93,7 @@ pub fn three_answers<A: Allocator + Clone>(
 /// Worker 5's Steal for tenant 7, somewhere in any list, is refused as tenant 7 alone would refuse it, where it has
 /// taken its own steps before; or with Busy, and then there is another tenant for which worker 5 runs or computes a
 /// frame. A Spend of tenant 9 is refused as tenant 9 alone would refuse it.
+/// Uses `promises::run` (`refused`).
 pub fn refusals<A: Allocator + Clone>(
     alloc: A,
     procedure: Jamboree,
@@ -109,6 +114,7 @@ pub fn refusals<A: Allocator + Clone>(
 
 /// Tenant 9 after two lists in which its own taken steps are the same: it is there after both, with the same jobs,
 /// frames and reservation and as much left, or after neither; and it was told the same.
+/// Uses `promises::run_two` (`undisturbed`).
 pub fn nine_is_undisturbed<A: Allocator + Clone>(
     alloc: A,
     procedure: Jamboree,
@@ -132,6 +138,7 @@ pub fn nine_is_undisturbed<A: Allocator + Clone>(
 
 /// Tenant 7 after a list, and after its own taken steps of it alone, where its admissions are taken there: it is
 /// there after both, in the same state, or after neither; and it was told there what it was told among the others.
+/// Uses `promises::run_two` (`alone`).
 pub fn seven_alone<A: Allocator + Clone>(
     alloc: A,
     procedure: Jamboree,
@@ -148,4 +155,45 @@ pub fn seven_alone<A: Allocator + Clone>(
         own_answers 7 steps.now runs.0.answers.items ≡ runs.1.answers.items) }
 {
     run_two(alloc, procedure, config, steps, config, own)
+}
+
+/// After any list tenant 9 is what its own taken steps make of it alone, and was told what they give; the second step is answered as the
+/// core after the first asks for; the core is the one that all answers lead to; and tenant 9's jobs and frames are as its Submits asked.
+/// Uses `promises::run` (`headline`).
+pub fn nine_by_its_own_steps<A: Allocator + Clone>(
+    alloc: A,
+    procedure: Jamboree,
+    config: Config,
+    steps: &[Step<Jamboree>],
+) -> Result<After<A>, AllocError>
+    requires { AreSearches steps.now }
+    ensures state { IfOk result (λ run. tenant_in run.core.shared.tenants 9 ≡ alone (jamboree procedure.grain) (own_steps 9 steps.now run.answers.items)) }
+    ensures told { IfOk result (λ run. own_answers 9 steps.now run.answers.items ≡ answers_from (jamboree procedure.grain) None (own_steps 9 steps.now run.answers.items)) }
+    ensures second { IfOk result (λ run. (first second : SearchStep) (later : List SearchStep) (one two : SearchAnswer) (more : List SearchAnswer) →
+        steps.now ≡ first ∷ second ∷ later → run.answers.items ≡ one ∷ two ∷ more →
+        IsAnswerTo (jamboree procedure.grain) (after_answer (jamboree procedure.grain) (shared_by_nobody config) first one) second two) }
+    ensures left { IfOk result (λ run. run.core.shared ≡ after_answers (jamboree procedure.grain) (shared_by_nobody config) steps.now run.answers.items) }
+    ensures jobs { IfOk result (λ run. (tenant : Tenant) → tenant_in run.core.shared.tenants 9 ≡ Some tenant → AreReplies (submitted_by steps.now run.answers.items 9) tenant.jobs) }
+    ensures frames { IfOk result (λ run. (tenant : Tenant) → tenant_in run.core.shared.tenants 9 ≡ Some tenant → AreAllSound tenant.frames tenant.frames) }
+{
+    run(alloc, procedure, config, steps)
+}
+
+/// Tenant 7 is after each of two lists what its own taken steps of that list make of it alone, and was told what they give.
+/// Uses `promises::run_two` (`headline`).
+pub fn seven_in_both<A: Allocator + Clone>(
+    alloc: A,
+    procedure: Jamboree,
+    config: Config,
+    steps: &[Step<Jamboree>],
+    other_config: Config,
+    other_steps: &[Step<Jamboree>],
+) -> Result<(After<A>, After<A>), AllocError>
+    requires searches { AreSearches steps.now }
+    requires other_searches { AreSearches other_steps.now }
+    ensures one { IfOk result (λ runs. tenant_in runs.0.core.shared.tenants 7 ≡ alone (jamboree procedure.grain) (own_steps 7 steps.now runs.0.answers.items)) }
+    ensures other { IfOk result (λ runs. tenant_in runs.1.core.shared.tenants 7 ≡ alone (jamboree procedure.grain) (own_steps 7 other_steps.now runs.1.answers.items)) }
+    ensures told { IfOk result (λ runs. own_answers 7 other_steps.now runs.1.answers.items ≡ answers_from (jamboree procedure.grain) None (own_steps 7 other_steps.now runs.1.answers.items)) }
+{
+    run_two(alloc, procedure, config, steps, other_config, other_steps)
 }

@@ -32,6 +32,7 @@ use std::sync::Wait;
 /// last answer is left. Where the third answer begins with `DONE`, it is `DONE k value move`, an earlier line `ASK`
 /// was answered by `JOB k`, value and move are those of what that line asks for, and if that was the first line, the
 /// second answer isn't `WELCOME`; where it begins with `TABLE`, each entry is true of what that line asks for.
+/// Uses `promises::serve`.
 pub fn third_answer<S, K, L, R, A>(
     rt: &R,
     source: &mut S,

@@ -24,6 +24,7 @@ use std::alloc::Allocator;
 /// each with LF; after a failed read the read failed; after a failed write something is left of the answers. The
 /// second answer is an `ERR` line, or the value and the choice of what the second line asks for; and where the third
 /// line asks for a position and a depth, the third answer is its value and choice, or `ERR 19`.
+/// Uses `promises::solve`.
 pub fn three_lines<A, S, K>(
     alloc: A,
     source: &mut S,

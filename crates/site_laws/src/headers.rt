@@ -14,25 +14,6 @@ ghost use Rattle.proxy_header.specs.declared.headers.Origin.TheVariants.{Local, 
 
 use proxy_header::{Header, HeaderFault as Fault, field_of, read_header};
 
-/// Of `proxy_header`, Texts: what `IsTold4`, `IsTold6`, `IsTold`, `IsSaid`, `IsReadingBy` and `IsReading` give.
-pub fn texts()
-    ensures is_told4_ok { (source target : List ℕ) (port used : ℕ) (header : HeaderOf) → IsTold4 source target port used (Ok header) → (a b : Ipv4Addr) × IsIpv4Text source a × IsIpv4Text target b × (header ≡ record { origin = V4 (ipv4_octets a) port; fields = []; used = used }) }
-    ensures is_told4_err { (source target : List ℕ) (port used : ℕ) (fault : HeaderFault) → IsTold4 source target port used (Err fault) → (fault ≡ WrongText) × ((a b : Ipv4Addr) → IsIpv4Text source a → IsIpv4Text target b → ⊥) }
-    ensures is_told6_ok { (source target : List ℕ) (port used : ℕ) (header : HeaderOf) → IsTold6 source target port used (Ok header) → (a b : Ipv6Addr) × IsIpv6Text source a × IsIpv6Text target b × (header ≡ record { origin = V6 (ipv6_octets a) port; fields = []; used = used }) }
-    ensures is_told6_err { (source target : List ℕ) (port used : ℕ) (fault : HeaderFault) → IsTold6 source target port used (Err fault) → (fault ≡ WrongText) × ((a b : Ipv6Addr) → IsIpv6Text source a → IsIpv6Text target b → ⊥) }
-    ensures is_told_true { (source target : List ℕ) (port used : ℕ) (told : Result HeaderOf HeaderFault) → IsTold true source target port used told → IsTold4 source target port used told }
-    ensures is_told_false { (source target : List ℕ) (port used : ℕ) (told : Result HeaderOf HeaderFault) → IsTold false source target port used told → IsTold6 source target port used told }
-    ensures is_said_waiting { (r : Result (Option HeaderOf) HeaderFault) → IsSaid Waiting r → r ≡ Ok None }
-    ensures is_said_foreign { (r : Result (Option HeaderOf) HeaderFault) → IsSaid Foreign r → r ≡ Err NoHeader }
-    ensures is_said_wrong { (r : Result (Option HeaderOf) HeaderFault) → IsSaid Wrong r → r ≡ Err WrongText }
-    ensures is_said_unknown { (used : ℕ) (r : Result (Option HeaderOf) HeaderFault) → IsSaid (Unknown used) r → r ≡ Ok (Some (record { origin = Local; fields = []; used = used })) }
-    ensures is_said_told { (four : Bool) (source target : List ℕ) (port used : ℕ) (r : Result (Option HeaderOf) HeaderFault) → IsSaid (Told four source target port used) r → (told : Result HeaderOf HeaderFault) × IsTold four source target port used told × (r ≡ whole told) }
-    ensures is_reading_by_true { (bytes : List ℕ) (r : Result (Option HeaderOf) HeaderFault) → IsReadingBy true bytes r → IsSaid (text_reading bytes) r }
-    ensures is_reading_by_false { (bytes : List ℕ) (r : Result (Option HeaderOf) HeaderFault) → IsReadingBy false bytes r → r ≡ reading bytes }
-    ensures is_reading_none { (r : Result (Option HeaderOf) HeaderFault) → IsReading [] r → r ≡ Ok None }
-    ensures is_reading_more { (b : ℕ) (bs : List ℕ) (r : Result (Option HeaderOf) HeaderFault) → IsReading (b ∷ bs) r → IsReadingBy (b == 80) (b ∷ bs) r }
-{}
-
 /// What is read of the bytes with which a connection begins: a header of version 1 where they begin with `P`, else one of version 2;
 /// bytes that begin with neither's first byte are no header, whatever follows. A header of TCP over IPv4 tells the source's address
 /// and the source's port, and the connection's own bytes behind it aren't counted to it.

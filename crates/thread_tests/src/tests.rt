@@ -4,7 +4,6 @@ mod calls;
 mod deques;
 mod desks;
 mod pools;
-mod servers;
 mod signs;
 
 use std::alloc::Global;

@@ -21,15 +21,19 @@ fn names<R: Files + AllocGlobal + Clone + Drop>(rt: &R) -> io::Result<Vec<String
     Ok(names)
 }
 
-/// Plays all files here that have scenes. Returns how many these are.
+/// Plays all files here that have scenes: those whose names begin with `false_` into `lies`, all others into `tally`. Returns how many
+/// these others are.
 pub fn play_all<R: Files + AllocGlobal + Wait + Clone + Drop>(
     rt: &R,
     tally: &mut Tally,
+    lies: &mut Tally,
 ) -> io::Result<u64> {
     let names = names(rt)?;
     let mut count = 0u64;
     for name in names.iter() {
-        if play_file(rt, name.as_str(), tally)? {
+        if name.as_str().starts_with("false_") {
+            play_file(rt, name.as_str(), lies)?;
+        } else if play_file(rt, name.as_str(), tally)? {
             count = count.saturating_add(1);
         }
     }
@@ -123,15 +127,19 @@ fn play_scene<R: Wait>(
     }
 }
 
-/// Prints what disagrees and how many rows agree. The exit status is 1 where some don't.
-pub fn report(rt: &impl Print, count: u64, tally: &Tally) -> io::Result<ExitCode> {
+/// Prints what disagrees, how many rows agree, and how many false rows were told. The exit status is 1 where a row doesn't agree, or
+/// where no text was there.
+pub fn report(rt: &impl Print, count: u64, tally: &Tally, lies: &Tally) -> io::Result<ExitCode> {
     let agreed = tally.agreed;
     let missed = tally.missed;
+    let told = lies.missed;
+    let believed = lies.agreed;
     rt.print(tally.told.as_str())?;
-    if missed == 0 {
-        println!(rt; "{agreed} rows of {count} texts agree")?;
+    println!(rt;
+        "{agreed} rows of {count} texts agree, {missed} do not; of false rows {told} do not, {believed} do"
+    )?;
+    if missed == 0 && count > 0 {
         return Ok(ExitCode::from(0));
     }
-    println!(rt; "{agreed} rows of {count} texts agree, {missed} do not")?;
     Ok(ExitCode::from(1))
 }

@@ -11,7 +11,9 @@
 //!
 //! A session or a solve is what a client would meet but for the sockets and the threads: lines go through `solve_bytes`,
 //! `solve_visited` and `serve_lines` with a `DeskOffice`. Printed are the first rows that disagree, and last how many rows of
-//! how many files agree; the exit status is 1 where some don't.
+//! how many files agree; the exit status is 1 where some don't, or where there is no text. Rows of a file whose name begins with
+//! `false_` are wrong, each in one place: how many of them disagree is printed beside, so that a player that is blind to some kind of
+//! row is seen.
 //!
 //! ```text
 //! = solve grain 0 2 6
@@ -35,6 +37,7 @@ use text_rows::Tally;
 
 fn main(rt: HostRuntime) -> io::Result<ExitCode> {
     let mut tally = Tally::new(rt.alloc());
-    let count = files::play_all(&rt, &mut tally)?;
-    files::report(&rt, count, &tally)
+    let mut lies = Tally::new(rt.alloc());
+    let count = files::play_all(&rt, &mut tally, &mut lies)?;
+    files::report(&rt, count, &tally, &lies)
 }

@@ -1,4 +1,5 @@
 """`python -m coluwen`: the command `coluwen`."""
-from .lines import command
+from .tools.lines import command
 
-command()
+if __name__ == "__main__":
+    command()

@@ -10,6 +10,7 @@ cell), a space, and the side to move. A move is a square, `d3`, or `pass`.
 from __future__ import annotations
 
 import dataclasses
+import functools
 from collections.abc import Iterator
 
 from .errors import FormatError, IllegalMove
@@ -24,47 +25,83 @@ START = "-" * 27 + "OX" + "-" * 6 + "XO" + "-" * 27
 CELLS = {"X": BLACK, "x": BLACK, "*": BLACK, "O": WHITE, "o": WHITE, "-": EMPTY, ".": EMPTY}
 LENGTH = 66  # letters of a position's text
 
-
-def _rays(square: int) -> list[list[int]]:
-    """The squares from a square to the edge, in each of the eight directions that have at least two."""
-    found = []
-    for down in (-1, 0, 1):
-        for right in (-1, 0, 1):
-            row, column, ray = square // 8 + down, square % 8 + right, []
-            while (down or right) and 0 <= row < 8 and 0 <= column < 8:
-                ray.append(8 * row + column)
-                row, column = row + down, column + right
-            if len(ray) > 1:
-                found.append(ray)
-    return found
+# The discs of a board as one number: bit n for a black disc on square n (0 to 63), bit 64 + n for a white one.
+BLACK_BIT, WHITE_BIT = [1 << at for at in range(64)], [1 << at + 64 for at in range(64)]
+ALL = (1 << 64) - 1
 
 
-_RAYS = [_rays(square) for square in range(64)]
+class _Line(dict[int, int]):
+    """A line of the board through an empty square: of what stands on it (the other squares' bits of both colours) what changes if the side
+    puts a disc there: the bits of both colours of what is flipped; 0 where nothing is. It is worked out when it is first wanted."""
 
+    def __init__(self, square: int, side: str, rays: list[list[int]]):
+        super().__init__()
+        self.rays = rays
+        self.own, self.other = (BLACK_BIT, WHITE_BIT) if side == BLACK else (WHITE_BIT, BLACK_BIT)
+        self.mask = sum(BLACK_BIT[at] | WHITE_BIT[at] for ray in rays for at in ray)
 
-def flips(cells: str, side: str, square: int) -> list[int]:
-    """The squares (0 to 63) whose discs a move of the side flips; whether the square is empty isn't asked."""
-    found: list[int] = []
-    other = OTHER[side]
-    for ray in _RAYS[square]:
-        if cells[ray[0]] == other:
-            for length, at in enumerate(ray):
-                if cells[at] != other:
-                    if cells[at] == side:
-                        found += ray[:length]
+    def __missing__(self, discs: int) -> int:
+        changes = 0
+        for ray in self.rays:
+            flipped = 0
+            for at in ray:
+                if not discs & self.other[at]:
+                    if discs & self.own[at]:
+                        changes |= flipped
                     break
+                flipped |= self.own[at] | self.other[at]
+        self[discs] = changes
+        return changes
+
+
+def _lines(square: int, side: str) -> list[tuple[int, _Line]]:
+    """The lines through a square on which anything could be flipped, each with its mask."""
+    found = []
+    for down, right in ((0, 1), (1, 0), (1, 1), (1, -1)):
+        rays = []
+        for way in (1, -1):
+            row, column, ray = square // 8 + way * down, square % 8 + way * right, []
+            while 0 <= row < 8 and 0 <= column < 8:
+                ray.append(8 * row + column)
+                row, column = row + way * down, column + way * right
+            if len(ray) > 1:
+                rays.append(ray)
+        if rays:
+            line = _Line(square, side, rays)
+            found.append((line.mask, line))
     return found
 
 
-def can_move(cells: str, side: str) -> bool:
+LINES = {side: [_lines(square, side) for square in range(64)] for side in (BLACK, WHITE)}
+BIT = {BLACK: BLACK_BIT, WHITE: WHITE_BIT}
+
+
+def changes(discs: int, side: str, square: int) -> int:
+    """What a move of the side on a square flips, in the bits of both colours; whether the square is empty isn't asked."""
+    found = 0
+    for mask, line in LINES[side][square]:
+        found |= line[discs & mask]
+    return found
+
+
+def can_move(discs: int, side: str) -> bool:
     """Whether the side has a legal move."""
-    return any(cells[square] == EMPTY and flips(cells, side, square) for square in range(64))
+    taken = discs | discs >> 64
+    return any(not taken >> at & 1 and changes(discs, side, at) for at in range(64))
 
 
-def played(cells: str, side: str, square: int) -> str:
-    """The cells after a move."""
-    turned = {square, *flips(cells, side, square)}
-    return "".join(side if at in turned else cell for at, cell in enumerate(cells))
+def discs_of(cells: str) -> int:
+    """64 cells as a number."""
+    backwards = cells[::-1]
+    return int(backwards.translate(_BLACKS), 2) | int(backwards.translate(_WHITES), 2) << 64
+
+
+def cells_of(discs: int) -> str:
+    """The number as 64 cells."""
+    return "".join(BLACK if discs & BLACK_BIT[at] else WHITE if discs & WHITE_BIT[at] else EMPTY for at in range(64))
+
+
+_BLACKS, _WHITES = str.maketrans("XO-", "100"), str.maketrans("XO-", "010")
 
 
 @dataclasses.dataclass(frozen=True)
@@ -110,36 +147,52 @@ class Position:
     def __str__(self) -> str:
         return self.text
 
+    @functools.cached_property
+    def _discs(self) -> int:
+        return discs_of(self.cells)
+
     @property
     def empties(self) -> int:
+        """How many squares are empty."""
         return self.cells.count(EMPTY)
 
     def discs(self, side: str) -> int:
+        """How many discs a side has."""
         return self.cells.count(side)
 
     def squares(self) -> list[str]:
         """The squares on which the side to move may put a disc, from a1 to h8."""
-        cells, side = self.cells, self.side
-        return [SQUARES[at] for at in range(64) if cells[at] == EMPTY and flips(cells, side, at)]
+        return [SQUARES[at] for at in range(64) if self.cells[at] == EMPTY and changes(self._discs, self.side, at)]
 
     def legal_moves(self) -> list[str]:
         """The same; `pass` alone where only the opponent can move; none where the game is over."""
-        return self.squares() or ([PASS] if can_move(self.cells, OTHER[self.side]) else [])
+        return self.squares() or ([PASS] if can_move(self._discs, OTHER[self.side]) else [])
+
+    @property
+    def legal(self) -> tuple[str, ...]:
+        """`legal_moves`, to ask `move in position.legal`."""
+        return tuple(self.legal_moves())
 
     @property
     def must_pass(self) -> bool:
-        return not can_move(self.cells, self.side) and can_move(self.cells, OTHER[self.side])
+        """Whether only the opponent can move."""
+        return not can_move(self._discs, self.side) and can_move(self._discs, OTHER[self.side])
 
     @property
     def is_over(self) -> bool:
-        return not can_move(self.cells, self.side) and not can_move(self.cells, OTHER[self.side])
+        """Whether neither player can move."""
+        return not can_move(self._discs, self.side) and not can_move(self._discs, OTHER[self.side])
 
     def flips(self, square: str) -> list[str]:
         """The squares whose discs a move there flips: none where it isn't legal."""
         at = INDEX.get(square.lower(), -1)
-        return [SQUARES[one] for one in flips(self.cells, self.side, at)] if at >= 0 and self.cells[at] == EMPTY else []
+        if at < 0 or self.cells[at] != EMPTY:
+            return []
+        flipped = changes(self._discs, self.side, at)
+        return [SQUARES[one] for one in range(64) if flipped >> one & 1]
 
     def is_legal(self, move: str) -> bool:
+        """Whether the player to move may make this move."""
         return bool(self.flips(move)) if move.lower() != PASS else self.must_pass
 
     def play(self, move: str) -> Position:
@@ -149,9 +202,11 @@ class Position:
             if not self.must_pass:
                 raise IllegalMove(f"a pass, and {'the game is over' if self.is_over else NAMES[self.side] + ' can move'}")
             return Position(self.cells, OTHER[self.side])
-        if not self.flips(word):
+        at = INDEX.get(word, -1)
+        flipped = changes(self._discs, self.side, at) if at >= 0 and self.cells[at] == EMPTY else 0
+        if not flipped:
             raise IllegalMove(f"{move}: {NAMES[self.side]} can't play there")
-        return Position(played(self.cells, self.side, INDEX[word]), OTHER[self.side])
+        return Position(cells_of(self._discs ^ flipped | BIT[self.side][at]), OTHER[self.side])
 
     def flip(self) -> Position:
         """The same with the colours exchanged, discs and side to move alike: its value is the same."""
@@ -168,9 +223,11 @@ class Position:
                 found.append(self.cells[8 * r + c])
         return Position("".join(found), self.side)
 
-    def final_discs(self) -> int:
-        """How many discs the side to move has more than its opponent."""
-        return self.discs(self.side) - self.discs(OTHER[self.side])
+    def final_discs(self, side: str | None = None) -> int:
+        """How many discs a side (the one to move) has more than its opponent, an empty square being the winner's."""
+        side = side or self.side
+        more = self.discs(side) - self.discs(OTHER[side])
+        return more + self.empties * ((more > 0) - (more < 0))
 
     def drawn(self, marks: dict[str, str] | None = None) -> str:
         """The board for a terminal, with what stands in `marks` for the empty squares that it names; a pass stands below it."""
@@ -183,29 +240,56 @@ class Position:
             lines.append(f"{row + 1} " + "".join(word.rjust(width) for word in words))
         return "\n".join([*lines, *(f"{PASS} {marks[PASS]}" for _ in [0] if PASS in marks)])
 
+    def _repr_svg_(self) -> str:
+        """The board as a notebook shows it; a dot on each legal square, in the colour of the player to move."""
+        colour = {BLACK: "#111", WHITE: "#fff"}
+        text = ['<svg xmlns="http://www.w3.org/2000/svg" viewBox="0 0 340 340" width="340" height="340" font-family="sans-serif" font-size="12">',
+                '<rect x="20" y="20" width="320" height="320" fill="#2a7a4b"/>']  # fmt: skip
+        for at in range(8):
+            text.append(f'<text x="{40 + 40 * at}" y="14" text-anchor="middle">{"abcdefgh"[at]}</text><text x="10" y="{44 + 40 * at}" text-anchor="middle">{at + 1}</text>')
+        text += [f'<path d="M{20 + 40 * at} 20V340M20 {20 + 40 * at}H340" stroke="#174"/>' for at in range(9)]
+        legal = self.squares()
+        for at, square in enumerate(SQUARES):
+            x, y = 40 + 40 * (at % 8), 40 + 40 * (at // 8)
+            if self.cells[at] != EMPTY:
+                text.append(f'<circle cx="{x}" cy="{y}" r="16" fill="{colour[self.cells[at]]}"/>')
+            elif square in legal:
+                text.append(f'<circle cx="{x}" cy="{y}" r="4" fill="{colour[self.side]}"/>')
+        return "".join([*text, "</svg>"])
 
+
+@dataclasses.dataclass(frozen=True)
 class Board:
-    """A game that is being played: a start, the moves made, and the position that they lead to. Passes are made by `play` itself
-    where a player can't move and a move of the other one is played; they may be written too."""
+    """A game that is being played: a start and the moves made from it, passes among them. It can't be changed: `push` and `pop` give others.
+    Two are equal if their starts and moves are."""
 
-    def __init__(self, start: Position | None = None):
-        self.start = start or Position.opening()
-        self.position = self.start
-        self._past: list[tuple[Position, str]] = []
+    start: Position = Position()
+    moves: tuple[str, ...] = ()
+
+    def __post_init__(self) -> None:
+        past = [self.start]
+        for move in self.moves:
+            past.append(past[-1].play(move))
+        self.__dict__["_past"] = tuple(past)
 
     @classmethod
     def parse(cls, text: str) -> Board:
-        """A board with the position of a text (`Position.parse`)."""
+        """A board that begins with the position of a text (`Position.parse`)."""
         return cls(Position.parse(text))
 
     @property
-    def moves(self) -> list[str]:
-        """What was played from the start, passes among it."""
-        return [move for _, move in self._past]
+    def position(self) -> Position:
+        """What the moves lead to."""
+        return self._positions[-1]
+
+    @property
+    def _positions(self) -> tuple[Position, ...]:
+        found: tuple[Position, ...] = self.__dict__["_past"]
+        return found
 
     def positions(self) -> Iterator[tuple[Position, str]]:
         """Each position with the move that was played at it, passes among them."""
-        return iter(self._past)
+        return zip(self._positions, self.moves)
 
     @property
     def side(self) -> str:
@@ -215,36 +299,38 @@ class Board:
     def is_over(self) -> bool:
         return self.position.is_over
 
-    def legal_moves(self) -> list[str]:
-        return self.position.legal_moves()
+    @property
+    def legal(self) -> tuple[str, ...]:
+        """What `push` takes without a pass before it."""
+        return self.position.legal
 
-    def play(self, move: str) -> Position:
-        """Makes a move, with a pass before it where the player to move has none but that; gives the position after it."""
+    def push(self, move: str) -> Board:
+        """The board after a move, with a pass before it where the player to move has none but that. `IllegalMove` where it isn't allowed."""
+        board = self
         if move.lower() != PASS and self.position.must_pass:
-            self._play(PASS)
-        return self._play(move)
+            board = board._pushed(PASS)
+        return board._pushed(move.lower())
 
-    def _play(self, move: str) -> Position:
-        after = self.position.play(move)
-        self._past.append((self.position, move.lower()))
-        self.position = after
-        return after
+    def _pushed(self, move: str) -> Board:
+        board = object.__new__(Board)
+        board.__dict__.update(start=self.start, moves=(*self.moves, move), _past=(*self._positions, self.position.play(move)))
+        return board
 
-    def undo(self) -> str | None:
-        """Takes the last move back, and a pass before it; gives the move. None at the start."""
-        if not self._past:
-            return None
-        self.position, move = self._past.pop()
-        while self._past and self._past[-1][1] == PASS:
-            self.position, _ = self._past.pop()
-        return move
+    def pop(self) -> Board:
+        """The board before the last move, and before a pass that stands before it; itself at the start."""
+        count = len(self.moves) - 1
+        while count > 0 and self.moves[count - 1] == PASS:
+            count -= 1
+        board = object.__new__(Board)
+        board.__dict__.update(start=self.start, moves=self.moves[: max(count, 0)], _past=self._positions[: max(count, 0) + 1])
+        return board
 
     def flip(self) -> Board:
         """The same game with the colours exchanged."""
-        other = Board(self.start.flip())
-        for move in self.moves:
-            other._play(move)
-        return other
+        return Board(self.start.flip(), self.moves)
 
     def __str__(self) -> str:
         return self.position.drawn()
+
+    def _repr_svg_(self) -> str:
+        return self.position._repr_svg_()

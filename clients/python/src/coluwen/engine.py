@@ -1,64 +1,388 @@
-"""The one engine behind the bridges: what they ask of a server for a position, by a depth that the server's grain lets through.
+"""Values of positions without a server, by processes of the program `othello` on this computer.
 
-In the middle of a game a server looks as many plies deep as its grain lets it (`Client.depths`); near the end, from 12 empty squares on, to
-the end. A depth that is set beyond that is taken for the greatest that can be had, and `tell` says so once.
+    with Engine(workers=4) as engine:
+        result = engine.analyse(Position.opening(), 8)
+        for question, answer in engine.analyse_many(positions, 6):
+            ..                                                # as by a `Client`
+
+An `Engine` is an `Analyst`, as a `Client` is: the same calls, results and faults. Each question is searched by one process, and to give it up ends
+that process; another is begun in its place.
 """
 from __future__ import annotations
 
+import asyncio
+import collections
+import concurrent.futures
+import functools
+import os
+import pathlib
+import re
+import select
+import shutil
+import subprocess
 import threading
-from collections.abc import Callable, Iterator
+import time
+import weakref
 
+from ._core import DEEPEST, Info
+from .aio import AsyncClient
+from .analyst import Analyst, Result, checked
 from .board import Position
-from .client import DEEPEST, Client, Result
-from .score import Score
+from .errors import Broken, Closed, ColuwenError, Late, Refused, TooDeep, Unreachable
+from .score import AT_MOST, EXACT, Entry, Score
 
-SURE = 4  # plies that a server of any grain looks deep
+PROGRAM = "COLUWEN_OTHELLO"  # the variable that names the program
+OPTIONS = ("solve", "--visited")  # one search for each line: the fastest of what `solve` has
+TRIES = 3  # of a question whose processes end
+LONGEST = 64  # bytes of an answer
+ANSWER = re.compile(rb"(0|-?[1-9][0-9]{0,5}) ([a-h][1-8]|pass|-) ([1-9][0-9]*)\n")
+REFUSAL = re.compile(rb"ERR ([1-9][0-9])\n")
+CORNERS = ("a1", "h1", "a8", "h8")
+HERE = pathlib.Path(__file__).resolve()
 
 
-class Engine:
-    """Searches; another thread may stop it. `tell` is called with a line of text."""
+def program_of(named: str | None = None) -> tuple[str, str]:
+    """The program, and its version: what is named, else by the variable COLUWEN_OTHELLO, else on PATH, else the package's own, else this checkout's,
+    if it is built. `Unreachable` where there is none."""
+    named = named or os.environ.get(PROGRAM)
+    if named:
+        path = shutil.which(named)
+        version = version_of(path) if path else ""
+        if not path or not version:
+            raise Unreachable(f"{named} isn't the program `othello`")
+        return path, version
+    for path in programs_here():
+        if version := version_of(path):
+            return path, version
+    raise Unreachable(f"the program `othello` isn't there: the variable {PROGRAM} names it, or it stands on PATH")
 
-    def __init__(self, client: Client, depth: int = 6, tell: Callable[[str], None] | None = None):
-        self.client, self.depth = client, depth
-        self.tell = tell or (lambda text: None)
-        self.stop = threading.Event()
-        self.told: set[int] = set()
-        client.counts_frames = True
 
-    def limit(self, position: Position, depth: int) -> int:
-        """How deep a position is looked at where so many plies are wanted."""
-        depth = min(depth, DEEPEST)
-        if depth <= SURE or position.empties <= DEEPEST:
-            return depth
-        most = self.client.depths().mostly
-        if depth > most and depth not in self.told:
-            self.told.add(depth)
-            self.tell(f"depth {depth} can't be had at this server's grain; {most} plies it is, and to the end from {DEEPEST} empty squares on")
-        return min(depth, most)
+def programs_here() -> list[str]:
+    """Where the program may be, the first to be tried first."""
+    own, crates = HERE.parent / "program", HERE.parents[min(4, len(HERE.parents) - 1)] / "crates"
+    fast = [own / "othello-avx2"] if has_avx2() else []
+    built = [crates / "othello_server/out/othello_server", crates / "othello_server/out/unproved/othello"]
+    there = [str(path) for path in (*fast, own / "othello", *built) if os.access(path, os.X_OK)]
+    return [found, *there] if (found := shutil.which("othello")) else there
 
-    def search(self, position: Position, depth: int | None = None) -> Result:
-        """What is known of a position: so deep as is set, or, where that can't be had of it, as deep as can. `Stopped` once `stop` is set."""
-        wanted = self.limit(position, self.depth if depth is None else depth)
-        while not (found := self.client.attempt(position, wanted, None, self.stop)):
-            self.tell(f"depth {wanted} can't be had of this position")
-            wanted -= 1
-        return found
 
-    def deepening(self, position: Position) -> Iterator[Result]:
-        """The same of 1, 2, .. plies, up to the depth that is set, once each."""
-        for depth in range(1, self.limit(position, self.depth) + 1):
-            found = self.client.attempt(position, depth, None, self.stop)
-            if not found:
-                self.tell(f"depth {depth} can't be had of this position")
+def has_avx2() -> bool:
+    """Whether this computer runs the program that is built for AVX2."""
+    try:
+        flags = re.search("^flags.*", pathlib.Path("/proc/cpuinfo").read_text(), re.MULTILINE)
+    except OSError:
+        return False
+    return flags is not None and {"avx2", "bmi1", "bmi2", "fma", "movbe"} <= set(flags[0].split())
+
+
+@functools.cache
+def version_of(path: str) -> str:
+    """What version of the program this is; nothing where it is another."""
+    try:
+        told = subprocess.run([path, "--version"], stdin=subprocess.DEVNULL, stdout=subprocess.PIPE, stderr=subprocess.DEVNULL, timeout=10, check=False).stdout
+    except (OSError, subprocess.TimeoutExpired):
+        return ""
+    found = re.fullmatch(rb"othello ([0-9][!-~]{0,30})\n", told)
+    return found[1].decode() if found else ""
+
+
+class Question:
+    """One that is asked. `seat` is where it is searched."""
+
+    def __init__(self, position: Position, depth: int, timeout: float | None):
+        self.position, self.depth, self.timeout = position, depth, timeout
+        self.future = concurrent.futures.Future[Result]()
+        self.seat: Seat | None = None
+        self.asked = 0.0  # when its search began
+
+    @property
+    def line(self) -> bytes:
+        return f"{self.depth} {self.position.text}\n".encode()
+
+    def settle(self, value: int, move: str, entered: int) -> None:
+        if self.future.set_running_or_notify_cancel():
+            self.future.set_result(result_of(self, value, move, entered))
+
+    def fail(self, fault: ColuwenError) -> None:
+        if self.future.set_running_or_notify_cancel():
+            self.future.set_exception(fault)
+
+
+def result_of(question: Question, value: int, move: str, entered: int) -> Result:
+    """A value and a best move as a result. What is known of the other moves is that none is worth more."""
+    position, depth = question.position, question.depth
+    best = None if move == "-" else move
+    entries = []
+    if best:
+        ends, moves = depth >= position.empties, position.legal_moves()
+        for one in [corner for corner in CORNERS if corner in moves] + [each for each in moves if each not in CORNERS]:
+            entries.append(Entry(one, Score(value, EXACT if one == best else AT_MOST, ends, position.side)))
+    return Result(position, depth, Score.of(value, position, depth), best, tuple(entries), time.monotonic() - question.asked, entered)
+
+
+class Seat:
+    """A thread and its process, which is begun when there is something to ask, and again where it has ended."""
+
+    def __init__(self, pool: Pool):
+        self.pool = pool
+        self.question: Question | None = None  # changed under the pool's lock alone, as is the process
+        self.process: subprocess.Popen[bytes] | None = None
+        self.thread = threading.Thread(target=self.run, name="coluwen-engine", daemon=True)
+
+    def run(self) -> None:
+        while question := self.pool.take(self):
+            try:
+                self.work(question)
+            except ColuwenError as fault:
+                self.end()
+                question.fail(fault)
+            except BaseException as fault:  # of this package's own: nobody is to wait for an answer that never comes
+                self.end()
+                question.fail(Broken(f"the engine failed: {fault!r}"))
+        self.end()
+
+    def work(self, question: Question) -> None:
+        question.asked = time.monotonic()
+        until = None if question.timeout is None else question.asked + question.timeout
+        for _ in range(TRIES):
+            answer = self.ask(question.line, until)
+            if found := ANSWER.fullmatch(answer):
+                return question.settle(int(found[1]), found[2].decode(), int(found[3]))
+            if refused := REFUSAL.fullmatch(answer):
+                raise Refused(int(refused[1]))
+            self.end()
+            if question.future.done():
+                return None
+            if self.pool.closed:
+                raise Closed("the engine is closed")
+            if until is not None and time.monotonic() >= until:
+                assert question.timeout is not None
+                raise Late(question.timeout)
+        raise Broken(f"the program {self.pool.program} ended without an answer {TRIES} times")
+
+    def ask(self, line: bytes, until: float | None) -> bytes:
+        """What the process answers; less than a line where it has ended, or the time is over."""
+        process = self.begin()
+        if not process:
+            return b""
+        assert process.stdin and process.stdout
+        try:
+            os.write(process.stdin.fileno(), line)
+        except BrokenPipeError:
+            return b""
+        answer = b""
+        while not answer.endswith(b"\n") and len(answer) < LONGEST:
+            if until is not None and not select.select([process.stdout], [], [], max(until - time.monotonic(), 0))[0]:
+                return b""
+            if not (part := os.read(process.stdout.fileno(), LONGEST)):
+                return answer
+            answer += part
+        return answer
+
+    def begin(self) -> subprocess.Popen[bytes] | None:
+        """The process; none where what is asked was given up before it began."""
+        with self.pool.lock:
+            if self.pool.closed or (self.question and self.question.future.done()):
+                return None
+            if not self.process:
+                try:  # in a process group of its own: Ctrl-C at the terminal is this program's matter
+                    self.process = subprocess.Popen([self.pool.program, *OPTIONS], bufsize=0, process_group=0,
+                                                    stdin=subprocess.PIPE, stdout=subprocess.PIPE, stderr=subprocess.DEVNULL)
+                except OSError as fault:
+                    raise Unreachable(f"{self.pool.program}: {fault.strerror or fault}") from fault
+            return self.process
+
+    def end(self) -> None:
+        """Ends the process, and waits until it has."""
+        with self.pool.lock:
+            process, self.process = self.process, None
+        if process:
+            process.kill()
+            for stream in (process.stdin, process.stdout):
+                if stream:
+                    stream.close()
+            process.wait()
+
+
+class Pool:
+    """What the threads share: the questions that wait, and whether the engine is closed."""
+
+    def __init__(self, program: str, workers: int):
+        self.program, self.workers = program, workers
+        self.lock = threading.RLock()
+        self.changed = threading.Condition(self.lock)
+        self.waiting: collections.deque[Question] = collections.deque()
+        self.seats: list[Seat] = []
+        self.closed = False
+
+    def ask(self, question: Question) -> None:
+        question.future.add_done_callback(lambda future: self.give_up(question) if future.cancelled() else None)
+        with self.lock:
+            if self.closed:
+                raise Closed("the engine is closed")
+            self.waiting.append(question)
+            if len(self.seats) < self.workers and len(self.waiting) > sum(not seat.question for seat in self.seats):
+                self.seats.append(Seat(self))
+                self.seats[-1].thread.start()
+            self.changed.notify()
+
+    def take(self, seat: Seat) -> Question | None:
+        """The next question; none where the engine is closed."""
+        with self.lock:
+            seat.question = None
+            while True:
+                while self.waiting:
+                    question = self.waiting.popleft()
+                    if not question.future.done():
+                        seat.question, question.seat = question, seat
+                        return question
+                if self.closed:
+                    return None
+                self.changed.wait()
+
+    def give_up(self, question: Question) -> None:
+        """Ends the process that searches it; one that waits is passed over."""
+        with self.lock:
+            seat = question.seat
+            if seat and seat.question is question and seat.process:
+                seat.process.kill()
+
+    def close(self) -> None:
+        with self.lock:
+            if self.closed:
                 return
-            yield found
+            self.closed = True
+            left, seats = list(self.waiting), list(self.seats)
+            self.waiting.clear()
+            for seat in seats:
+                if seat.process:
+                    seat.process.kill()
+            self.changed.notify_all()
+        for question in left:
+            question.fail(Closed("the engine is closed"))
+        for seat in seats:
+            if seat.thread is not threading.current_thread():
+                seat.thread.join()
 
-    def frames(self) -> int:
-        """How many frames the server has opened for this engine, since it was asked last."""
-        found, self.client.frames = self.client.frames, 0
-        return found
+
+class Engine(Analyst):
+    """Answers any number of positions by processes of the program `othello`, `workers` of them (one for each processor where nothing is said);
+    threads may share it. No depth is beyond it. `program` names it, where it isn't found by itself (`program_of`). `timeout`: the seconds that a
+    question may take from when its search begins."""
+
+    def __init__(self, workers: int | None = None, *, program: str | None = None, timeout: float | None = None):
+        workers = len(os.sched_getaffinity(0)) if workers is None else workers
+        if isinstance(workers, bool) or not isinstance(workers, int) or workers < 1:
+            raise ValueError(f"workers is a whole number from 1 on, and not {workers!r}")
+        if timeout is not None and not timeout >= 0:
+            raise ValueError(f"timeout is a number of seconds, and not {timeout!r}")
+        self.program, self.version = program_of(program)
+        self.parallel, self._timeout = workers, timeout
+        self._pool = Pool(self.program, workers)
+        self._ended = weakref.finalize(self, self._pool.close)  # also where the interpreter ends
+
+    @property
+    def address(self) -> str:
+        """What it is, for a reader: the program's path."""
+        return self.program
+
+    def submit(self, position: str | Position, depth: int, *, timeout: float | None = None) -> concurrent.futures.Future[Result]:
+        question = Question(checked(position, depth), depth, self._timeout if timeout is None else timeout)
+        self._pool.ask(question)
+        return question.future
+
+    def info(self) -> Info:
+        """Every depth can be had."""
+        return Info(DEEPEST, self.version)
+
+    def ping(self) -> float:
+        """Whether the program answers: the seconds that a question at depth 0 takes."""
+        begun = time.monotonic()
+        self.analyse(Position.opening(), 0)
+        return time.monotonic() - begun
+
+    def close(self) -> None:
+        """Ends the processes, and waits until they have. Calls that wait, and later ones, raise `Closed`."""
+        self._ended()
 
 
-def in_discs(score: Score) -> str:
-    """A score as boards have it: discs at the end of the game, else points divided by a hundred."""
-    return f"{score.discs:+.2f}"
+class Fallback(Analyst):
+    """What one analyst can't give, as it is too deep for it (`TooDeep`), another one gives: `Fallback(client, engine)`. It closes both."""
+
+    def __init__(self, first: Analyst, second: Analyst):
+        self.first, self.second = first, second
+        self.parallel = first.parallel
+
+    def submit(self, position: str | Position, depth: int, *, timeout: float | None = None) -> concurrent.futures.Future[Result]:
+        future = concurrent.futures.Future[Result]()
+        asked = [self.first.submit(position, depth, timeout=timeout)]
+
+        def ended(one: concurrent.futures.Future[Result]) -> None:
+            if one.cancelled() or future.cancelled():
+                future.cancel()
+                return
+            fault = one.exception()
+            if isinstance(fault, TooDeep) and len(asked) == 1:
+                try:
+                    asked.append(self.second.submit(position, depth, timeout=timeout))
+                except ColuwenError as other:
+                    fault = other
+                else:
+                    asked[1].add_done_callback(ended)
+                    if future.cancelled():
+                        asked[1].cancel()
+                    return
+            if future.set_running_or_notify_cancel():
+                if fault:
+                    future.set_exception(fault)
+                else:
+                    future.set_result(one.result())
+
+        def given_up(one: concurrent.futures.Future[Result]) -> None:
+            if one.cancelled():
+                for each in list(asked):
+                    each.cancel()
+
+        asked[0].add_done_callback(ended)
+        future.add_done_callback(given_up)
+        return future
+
+    def info(self) -> Info:
+        return self.second.info()
+
+    def ping(self) -> float:
+        return self.first.ping()
+
+    def close(self) -> None:
+        try:
+            self.first.close()
+        finally:
+            self.second.close()
+
+
+class AsyncEngine(AsyncClient):
+    """The same as `Engine` for asyncio, or as another analyst, where one is given. A task that is cancelled gives its question up."""
+
+    def __init__(self, workers: int | None = None, *, program: str | None = None, timeout: float | None = None, analyst: Analyst | None = None):
+        self._analyst = analyst or Engine(workers, program=program, timeout=timeout)
+
+    @property
+    def parallel(self) -> int:
+        """How many questions are worked on at once."""
+        return self._analyst.parallel
+
+    async def analyse(self, position: str | Position, depth: int, *, timeout: float | None = None) -> Result:
+        """As `Engine.analyse`."""
+        return await asyncio.wrap_future(self._analyst.submit(position, depth, timeout=timeout))
+
+    async def info(self) -> Info:
+        """As `Engine.info`."""
+        return await asyncio.to_thread(self._analyst.info)
+
+    async def ping(self) -> float:
+        """As `Engine.ping`."""
+        return await asyncio.to_thread(self._analyst.ping)
+
+    async def close(self) -> None:
+        """As `Engine.close`."""
+        await asyncio.to_thread(self._analyst.close)

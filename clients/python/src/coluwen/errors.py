@@ -1,4 +1,6 @@
-"""What can go wrong, each by an exception of its own; all are a `ColuwenError`."""
+"""What can go wrong, each by an exception of its own; all are a `ColuwenError`. They can be pickled and copied, and what they tell in numbers
+is an attribute."""
+from __future__ import annotations
 
 FAULTS = {
     10: "no segment is left",
@@ -17,6 +19,8 @@ FAULTS = {
     27: "the depth is over 12",
     28: "no HELLO yet",
     29: "HELLO again",
+    30: "nobody has this token",
+    31: "too many lines in a time",
 }
 
 
@@ -25,19 +29,22 @@ class ColuwenError(Exception):
 
 
 class Refused(ColuwenError):
-    """The server answered `ERR number`. The session goes on."""
+    """The server answered `ERR number`: `number`, and what it means by `str`."""
 
     def __init__(self, number: int):
-        super().__init__(f"ERR {number}: {FAULTS.get(number, 'a fault that this client does not know')}")
+        super().__init__(number)
         self.number = number
+
+    def __str__(self) -> str:
+        return f"ERR {self.number}: {FAULTS.get(self.number, 'a fault that this client does not know')}"
 
 
 class Unreachable(ColuwenError, ConnectionError):
-    """The server can't be reached, or was lost."""
+    """The server can't be reached, or was lost, and trying again didn't help."""
 
 
 class Broken(ColuwenError, ConnectionError):
-    """What this session would read next isn't known to be the answer to what it asks: a new session is needed."""
+    """What a session would read next isn't known to be the answer to what it asks: a new session is needed."""
 
 
 class Silent(ColuwenError, TimeoutError):
@@ -45,20 +52,32 @@ class Silent(ColuwenError, TimeoutError):
 
 
 class Late(ColuwenError, TimeoutError):
-    """A job took longer than it was given, and was cancelled. The session goes on."""
+    """A job took longer than it was given, `seconds`, and was cancelled."""
+
+    def __init__(self, seconds: float):
+        super().__init__(seconds)
+        self.seconds = seconds
+
+    def __str__(self) -> str:
+        return f"the job was cancelled after {self.seconds:g} s"
 
 
-class Stopped(ColuwenError):
-    """What was asked for isn't wanted any more."""
+class Closed(ColuwenError):
+    """The client was closed: it asks nothing more."""
 
 
 class TooDeep(ColuwenError):
-    """A position can't be searched so deep at the server's grain: alone in a session with all that one may reserve it was
-    spent. `greatest` is the greatest depth that can be had of it."""
+    """A position can't be searched `depth` plies deep at the server's grain: alone in a session with all that one may reserve it was
+    spent. `greatest` is a lesser depth that the server surely has; 0 where none is known (the caller said what to reserve)."""
 
-    def __init__(self, depth: int, greatest: int):
-        super().__init__(f"depth {depth} can't be had at this server's grain; the greatest that can is {greatest}")
+    def __init__(self, depth: int, greatest: int = 0):
+        super().__init__(depth, greatest)
         self.depth, self.greatest = depth, greatest
+
+    def __str__(self) -> str:
+        if not self.greatest:
+            return f"depth {self.depth} takes more than is reserved"
+        return f"depth {self.depth} can't be had at this server's grain; depth {self.greatest} surely can"
 
 
 class IllegalMove(ColuwenError, ValueError):
@@ -66,9 +85,12 @@ class IllegalMove(ColuwenError, ValueError):
 
 
 class FormatError(ColuwenError, ValueError):
-    """A text or file that can't be read, with its name, line and column (from 1; a binary file's column is its byte)."""
+    """A text or file that can't be read: `text` says why, and `file`, `line` and `column` where (from 1; a binary file's column is its byte; 0
+    where there is none)."""
 
     def __init__(self, text: str, file: str = "", line: int = 0, column: int = 0):
-        place = ":".join([file or "text", *(str(number) for number in (line, column) if number)])
-        super().__init__(f"{place}: {text}")
+        super().__init__(text, file, line, column)
         self.text, self.file, self.line, self.column = text, file, line, column
+
+    def __str__(self) -> str:
+        return ":".join([self.file or "text", *(str(number) for number in (self.line, self.column) if number)]) + f": {self.text}"

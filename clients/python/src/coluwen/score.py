@@ -8,36 +8,44 @@ from __future__ import annotations
 
 import dataclasses
 
-from .board import Position
+from .board import BLACK, OTHER, Position
 
 GREATEST_EVALUATION, A_DISC, GREATEST = 1184, 2000, 128000
 EXACT, AT_MOST, AT_LEAST = "=", "<", ">"
-SIGNS = {EXACT: "is worth just", AT_MOST: "is worth at most", AT_LEAST: "is worth at least"}
+SIGNS = {EXACT: "", AT_MOST: "at most ", AT_LEAST: "at least "}
 TURNED = {EXACT: EXACT, AT_MOST: AT_LEAST, AT_LEAST: AT_MOST}
 
 
-@dataclasses.dataclass(frozen=True)
+@dataclasses.dataclass(frozen=True, order=True)
 class Score:
-    """A value seen by the player to move. `sign`: = exactly, < at most, > at least. `ends`: it is known to be the game's end."""
+    """A value as the player to move sees it; the greater, the better for that player, and of equals `at most` before exact before `at least`.
+
+    `value`: the server's; `sign`: = exactly, < at most, > at least; `ends`: it is known to be the game's end, and counts discs; `side`: who
+    is to move. `mover`, `black` and `white` have it in its `unit`, as that player sees it."""
 
     value: int
     sign: str = EXACT
     ends: bool = False
+    side: str = BLACK
 
     def __post_init__(self) -> None:
-        if self.sign not in SIGNS or abs(self.value) > GREATEST:
-            raise ValueError(f"{self.sign}{self.value} is no score")
+        if self.sign not in SIGNS or abs(self.value) > GREATEST or self.side not in OTHER:
+            raise ValueError(f"{self.sign}{self.value} of {self.side!r} is no score")
         if abs(self.value) > GREATEST_EVALUATION:
             object.__setattr__(self, "ends", True)
 
     @classmethod
     def of(cls, value: int, position: Position, depth: int, sign: str = EXACT) -> Score:
         """A value of a position that was searched so deep: where no cell would be left then, it is the end of the game."""
-        return cls(value, sign, depth >= position.empties)
+        return cls(value, sign, depth >= position.empties, position.side)
 
     @property
     def is_exact(self) -> bool:
         return self.sign == EXACT
+
+    @property
+    def is_draw(self) -> bool:
+        return self.ends and self.value == 0 and self.is_exact
 
     @property
     def unit(self) -> str:
@@ -45,45 +53,47 @@ class Score:
         return "discs" if self.ends else "points"
 
     @property
-    def number(self) -> int:
-        """How many of them."""
-        return self.value // A_DISC if self.ends and self.value >= 0 else -(-self.value // A_DISC) if self.ends else self.value
+    def mover(self) -> int:
+        """How many of the unit, as the player to move sees it."""
+        return (abs(self.value) // A_DISC) * (1 if self.value > 0 else -1) if self.ends else self.value
+
+    @property
+    def black(self) -> int:
+        """The same as black sees it: of a bound, the sign is turned too where white is to move (`flip`)."""
+        return self.mover if self.side == BLACK else -self.mover
+
+    @property
+    def white(self) -> int:
+        return -self.black
 
     @property
     def discs(self) -> float:
-        """In discs as boards show them: the evaluation's points divided by a hundred, so less than 12."""
+        """As boards show it: discs at the game's end, else the evaluation's points divided by a hundred, so less than 12."""
         return self.value / A_DISC if self.ends else self.value / 100
 
-    @property
-    def is_draw(self) -> bool:
-        return self.ends and self.value == 0 and self.is_exact
-
     def flip(self) -> Score:
-        """The same, seen by the opponent."""
-        return Score(-self.value, TURNED[self.sign], self.ends)
+        """The same, as the opponent sees it."""
+        return Score(-self.value, TURNED[self.sign], self.ends, OTHER[self.side])
 
     def __neg__(self) -> Score:
         return self.flip()
 
     def __str__(self) -> str:
         """`-3`, `+12 discs`, `draw`, `at most -4`."""
-        if self.ends and not self.value:
-            text = "draw"
-        elif self.ends:
-            text = f"{self.number:+d} disc{'s' * (abs(self.number) != 1)}"
+        if self.ends:
+            text = f"{self.mover:+d} disc{'s' * (abs(self.mover) != 1)}" if self.value else "draw"
         else:
             text = f"{self.value:+d}" if self.value else "0"
-        return {EXACT: "", AT_MOST: "at most ", AT_LEAST: "at least "}[self.sign] + text
+        return SIGNS[self.sign] + text
 
     def words(self) -> str:
         """The same as a sentence's end: `wins by 12 discs`, `a draw`, `-3`, `at most a draw`."""
-        bound = {EXACT: "", AT_MOST: "at most ", AT_LEAST: "at least "}[self.sign]
         if not self.ends:
             return str(self)
         if not self.value:
-            return f"{bound}a draw"
-        count = abs(self.number)
-        return f"{bound}{'wins' if self.value > 0 else 'loses'} by {count} disc{'s' * (count != 1)}"
+            return f"{SIGNS[self.sign]}a draw"
+        count = abs(self.mover)
+        return f"{SIGNS[self.sign]}{'wins' if self.value > 0 else 'loses'} by {count} disc{'s' * (count != 1)}"
 
 
 @dataclasses.dataclass(frozen=True)

@@ -2,58 +2,68 @@
 
     with Session("127.0.0.1", 4711, segments=64, nodes=4096) as session:
         job = session.ask(6, position)
-        print(session.wait(job))                # ("DONE", -3, "d3"), ("SPENT",) or ("CANCELLED",)
-        print(session.table(job))               # [("d3", "=", -3), ("c4", "<", -3), ..]
+        print(session.wait(job))                # Done(value=-3, move='d3'), Spent() or Cancelled()
+        print(session.table(job))               # (Entry(d3=-3), Entry(c4<-3), ..)
 
 Most callers want `Client`, which opens sessions as they are needed.
 """
 from __future__ import annotations
 
-import re
+import dataclasses
 import socket
 import ssl
 import threading
 import time
 from types import TracebackType
-from typing import Any, Protocol
 
-from .answers import LONGEST, Answer, parse
+from ._answers import LONGEST, Answer
+from ._core import Reservation, Wire, pause_after
+from .board import Position
 from .errors import Broken, Late, Refused, Silent
-from .reserve import Reservation
-
-SILENCE = 1.5  # seconds after which a server that says nothing is given up
-SHORTEST_PAUSE, LONGEST_PAUSE = 0.0002, 0.02  # seconds between two looks at a job
-State = tuple[Any, ...]  # ("DONE", value, move), ("SPENT",), ("CANCELLED",) or ("PENDING",)
-Table = list[tuple[str, str, int]]
+from .score import Entry, Score
 
 
-class HasText(Protocol):
-    @property
-    def text(self) -> str: ...
+@dataclasses.dataclass(frozen=True)
+class Pending:
+    """A job that hasn't ended."""
 
 
-def pause_after(seconds: float) -> float:
-    """How long to wait before the next look at a job that was looked at for so long."""
-    return min(max(seconds / 4, SHORTEST_PAUSE), LONGEST_PAUSE)
+@dataclasses.dataclass(frozen=True)
+class Done:
+    """A job that has a value, and its first best move (`-` at depth 0 and in a finished game)."""
+
+    value: int
+    move: str
 
 
-def tls_context(authority: str | None = None) -> ssl.SSLContext:
-    """What a session over TLS needs: the host's certificate is checked, by a file of authorities where one is named."""
-    return ssl.create_default_context(cafile=authority)
+@dataclasses.dataclass(frozen=True)
+class Spent:
+    """A job that has used up the reservation: it will never have a value."""
 
 
-def token_in(path: str) -> str:
-    """The token that a file has: what stands in a command's line every user of the host can read."""
-    with open(path, encoding="latin-1") as file:
-        token = file.read().strip()
-    if not re.fullmatch("[!-~]{1,64}", token):
-        raise OSError(f"{path} has no token: 1 to 64 letters, digits and signs")
-    return token
+@dataclasses.dataclass(frozen=True)
+class Cancelled:
+    """A job that was cancelled."""
 
 
-def text_of_position(position: str | HasText) -> str:
-    """The 66 letters of a position that is a text or a `Position`."""
-    return position if isinstance(position, str) else position.text
+@dataclasses.dataclass(frozen=True)
+class Quota:
+    """What is left: segments, nodes and steps."""
+
+    segments: int
+    nodes: int
+    steps: int
+
+
+@dataclasses.dataclass(frozen=True)
+class Live:
+    """The frames that are open, and their words."""
+
+    frames: int
+    words: int
+
+
+State = Pending | Done | Spent | Cancelled
 
 
 class Session:
@@ -61,108 +71,86 @@ class Session:
 
     `timeout` is how many seconds `wait` gives a job: after them the job is cancelled. `silence` is how many the server may
     take to answer what it answers at once, which is all but WAIT; after them the session is broken. Without either there is
-    no limit; with a `timeout` alone silence has as many seconds, 1.5 at least. `token` is a customer's of a site's gate."""
+    no limit. `token` is a customer's of a site."""
 
-    def __init__(self, host: str, port: int, segments: int, nodes: int, timeout: float | None = None, tls: ssl.SSLContext | None = None,
+    def __init__(self, host: str, port: int, segments: int, nodes: int, *, timeout: float | None = None, tls: ssl.SSLContext | None = None,
                  silence: float | None = None, token: str | None = None):  # fmt: skip
-        self.lock = threading.Lock()
-        self.broken: str | None = None
-        self.jobs, self.reserved = 0, Reservation(segments, nodes)
-        if silence is None and timeout is not None:
-            silence = max(timeout, SILENCE)
-        self.timeout, self.silence = timeout, silence
-        self.rest = b""  # what came behind the last answer
-        self.socket = self.connect(host, port, silence)
+        self._lock, self._wire = threading.Lock(), Wire()
+        self._timeout, self._silence = timeout, silence
+        self.reserved = Reservation(segments, nodes)
+        self._socket = self._connect(host, port, silence)
         try:
-            self.socket.setsockopt(socket.IPPROTO_TCP, socket.TCP_NODELAY, 1)
+            self._socket.setsockopt(socket.IPPROTO_TCP, socket.TCP_NODELAY, 1)
             if tls:
-                self.socket = tls.wrap_socket(self.socket, server_hostname=host)
-            self.call("HELLO", segments, nodes, token=token)
+                self._socket = tls.wrap_socket(self._socket, server_hostname=host)
+            self._call(f"HELLO {segments} {nodes}", token)
         except BaseException:
-            self.socket.close()
+            self._socket.close()
             raise
 
-    def connect(self, host: str, port: int, timeout: float | None) -> socket.socket:
+    def _connect(self, host: str, port: int, timeout: float | None) -> socket.socket:
         return socket.create_connection((host, port), timeout)
 
-    def call(self, word: str, *words: object, token: str | None = None) -> Answer:
-        """Sends one line and gives its answer. A token is its last word, and stands in no fault."""
-        line = " ".join(map(str, (word, *words)))
-        if "\n" in line or "\n" in (token or ""):
-            raise ValueError("a line has one LF, at its end")
-        with self.lock:
-            if self.broken:
-                raise Broken(f"this session can't be used any more: {self.broken}")
-            if self.rest:
-                self.broken = f"the server said {self.rest[:60]!r}, which wasn't asked"
-                raise Broken(self.broken)
-            self.broken = f"{word} was interrupted"  # until its answer has been read
-            limit = None if self.silence is None or word == "WAIT" else self.silence
-            try:
-                if self.silence is not None:
-                    self.socket.settimeout(limit)
-                self.socket.sendall((f"{line} {token}\n" if token else f"{line}\n").encode("latin-1"))
-                answer = self.read_line(limit)
-            except TimeoutError:
-                raise Silent(f"no answer to {word} in {limit or self.socket.gettimeout() or 0:.2g} s") from None
-            try:
-                found = parse(line, answer, self.jobs)
-            except Refused:
-                self.broken = None
-                raise
-            except Broken as fault:
-                self.broken = str(fault)
-                raise
-            if word == "ASK":
-                self.jobs += 1
-            self.broken = None
-            return found
+    @property
+    def jobs(self) -> int:
+        """How many were asked."""
+        return self._wire.jobs
 
-    def read_line(self, limit: float | None) -> bytes:
-        """The next line with its LF; what the connection's end or the longest answer cut has none."""
+    @property
+    def broken(self) -> str | None:
+        """Why the session can't be used any more."""
+        return self._wire.broken
+
+    def _call(self, line: str, token: str | None = None) -> Answer:
+        """Sends one line and gives its answer. Where it is interrupted the session can't be used any more, as the answer still comes."""
+        limit = None if line.startswith("WAIT") else self._silence
         end = None if limit is None else time.monotonic() + limit
-        while b"\n" not in self.rest and len(self.rest) < LONGEST:
-            if end is not None:
-                self.socket.settimeout(max(end - time.monotonic(), 0.001))
-            block = self.socket.recv(LONGEST + 1)
-            if not block:
-                break
-            self.rest += block
-        line, found, rest = self.rest.partition(b"\n")
-        self.rest = rest
-        return line + found
+        with self._lock:
+            data = self._wire.send(line, token)
+            try:
+                self._socket.settimeout(limit)
+                self._socket.sendall(data)
+                while not (found := self._wire.receive(self._socket.recv(LONGEST + 1))):
+                    if end is not None:
+                        self._socket.settimeout(max(end - time.monotonic(), 0.001))
+            except TimeoutError:
+                self._wire.broken = f"{line.partition(' ')[0]} was interrupted"
+                raise Silent(f"no answer to {line.partition(' ')[0]} in {limit or 0:.2g} s") from None
+            except OSError as fault:
+                self._wire.broken = self._wire.broken or str(fault)
+                raise
+        return found
 
     def reserve(self, segments: int, nodes: int) -> None:
         """Reserves so many segments and nodes in all: no fewer of either than before, and more of one."""
-        self.call("RESERVE", segments, nodes)
+        self._call(f"RESERVE {segments} {nodes}")
         self.reserved = Reservation(segments, nodes)
 
-    def ask(self, depth: int, position: str | HasText) -> int:
+    def ask(self, depth: int, position: str | Position) -> int:
         """Asks for a position of 66 bytes, so many plies deep (0 to 12); gives the job's number."""
-        return self.ask_line(f"{depth} {text_of_position(position)}")
+        return self.ask_line(f"{depth} {position}")
 
     def ask_line(self, line: str) -> int:
-        """The same of a line `depth position`."""
-        return self.call("ASK", line).job
+        """The same of a line `depth position`, as it stands."""
+        return self._call(f"ASK {line}").job
 
-    def get(self, job: int, word: str = "GET") -> State:
-        """How a job stands: ("PENDING",), ("DONE", value, move), ("SPENT",) or ("CANCELLED",)."""
-        answer = self.call(word, job)
-        return (answer.state, answer.value, answer.move) if answer.state == "DONE" else (answer.state,)
+    def get(self, job: int) -> State:
+        """How a job stands."""
+        return _state_of(self._call(f"GET {job}"))
 
     def wait(self, job: int) -> State:
         """How a job ended. Without a `timeout` the server reads no other line of this session until then, so that nobody can
         cancel the job: where another thread may, or the server may be lost meanwhile, use `poll`."""
-        return self.get(job, "WAIT") if self.timeout is None else self.poll(job, self.timeout)
+        return _state_of(self._call(f"WAIT {job}")) if self._timeout is None else self.poll(job, self._timeout)
 
     def poll(self, job: int, timeout: float | None = None) -> State:
         """How a job ended, by GET with pauses of up to 20 ms. Between them other threads may use the session, and cancel the
         job. After so many seconds the job is cancelled, and `Late` (a TimeoutError) is raised; the session goes on."""
         begun = time.monotonic()
-        while (found := self.get(job)) == ("PENDING",):
+        while isinstance(found := self.get(job), Pending):
             taken = time.monotonic() - begun
-            if timeout is not None and taken > timeout and (found := self.stopped(job)) == ("CANCELLED",):
-                raise Late(f"job {job} was cancelled after {timeout} s")
+            if timeout is not None and taken > timeout and isinstance(found := self.stopped(job), Cancelled):
+                raise Late(timeout)
             time.sleep(pause_after(taken))
         return found
 
@@ -174,47 +162,52 @@ class Session:
             pass
         return self.get(job)
 
-    def table(self, job: int) -> Table | None:
-        """What is known of each choice of a job that is done: its move, a sign (= just, < at most, > at least) and a number, in the
-        order of the choices, the best one's exact; none at depth 0. None where the job isn't done."""
-        answer = self.call("TABLE", job)
-        return list(answer.entries) if answer.state == "TABLE" else None
+    def table(self, job: int) -> tuple[Entry, ...] | None:
+        """What is known of each choice of a job that is done, in the order of the choices, the best one's exact; none at depth 0. None
+        where the job isn't done. Whether a score is the end of the game isn't known here."""
+        answer = self._call(f"TABLE {job}")
+        return tuple(Entry(move, Score(value, sign)) for move, sign, value in answer.entries) if answer.state == "TABLE" else None
 
     def cancel(self, job: int) -> None:
         """Ends a job that hasn't ended. Behind a WAIT of another thread it comes when that job has ended (`poll`)."""
-        self.call("CANCEL", job)
+        self._call(f"CANCEL {job}")
 
-    def quota(self) -> tuple[int, ...]:
-        """The segments, nodes and steps that are left."""
-        return self.call("QUOTA").numbers
+    def quota(self) -> Quota:
+        """What is left of the reservation."""
+        return Quota(*self._call("QUOTA").numbers)
 
-    def live(self) -> tuple[int, ...]:
-        """The frames that are open, and their words."""
-        return self.call("LIVE").numbers
+    def live(self) -> Live:
+        """What the jobs have open."""
+        return Live(*self._call("LIVE").numbers)
 
     def drop(self, why: str = "it was dropped") -> None:
         """Ends the connection under a call that waits; another thread may do so."""
-        self.broken = self.broken or why
+        self._wire.broken = self._wire.broken or why
         try:
-            self.socket.shutdown(socket.SHUT_RDWR)
+            self._socket.shutdown(socket.SHUT_RDWR)
         except OSError:
             pass
 
     def close(self) -> None:
         """Ends the session. A broken one is dropped without a word, since BYE would wait behind what it left."""
         try:
-            if not self.broken:
-                self.call("BYE")
-        except (OSError, Refused):
+            self._call("BYE")
+        except (OSError, Broken, Refused):
             pass
         finally:
-            self.broken = self.broken or "it was closed"
-            self.socket.close()
+            self._wire.broken = self._wire.broken or "it was closed"
+            self._socket.close()
 
     def __enter__(self) -> Session:
         return self
 
     def __exit__(self, kind: type[BaseException] | None, fault: BaseException | None, trace: TracebackType | None) -> None:
         if kind:
-            self.broken = self.broken or "it was left by a fault"
+            self._wire.broken = self._wire.broken or "it was left by a fault"
         self.close()
+
+
+def _state_of(answer: Answer) -> State:
+    if answer.state == "DONE":
+        return Done(answer.value, answer.move)
+    return Spent() if answer.state == "SPENT" else Cancelled() if answer.state == "CANCELLED" else Pending()

@@ -1,20 +1,26 @@
 """The formats of the Othello world.
 
-    from coluwen import formats
-    for problem in formats.problems("fforum.obf"):            # of any format: by the file's name, else by what stands in it
+    from coluwen import FormatError, formats
+    for one in formats.games("WTH_2020.wtb", "WTH_2021.wtb"):    # of any format: by the file's name, else by what stands in it
+        if isinstance(one, FormatError):
+            print("not read:", one)                               # with file, line and column; the games behind it come all the same
+        else:
+            print(one.black, one.white, one.result, formats.transcript.write(one))
+    for problem in formats.strictly(formats.problems("fforum.obf")):     # the first fault is raised
         print(problem.place, problem.position, problem.best())
-    for game in formats.games("wthor_2020.wtb"):
-        print(game.black, game.white, game.result, formats.transcript.write(game))
 
 | Format | Module | Read | Written |
 |---|---|---|---|
-| 66 letters, with a depth before them or not; FEN-like | `position` | `read_line`, `read_fen` | `Position.text`, `fen` |
-| transcripts: `F5d6..`, `1. f5 2. d6`, `f5-d6` | `transcript` | `read` | `write` |
+| 66 letters, with a depth before them or not; FEN-like; a board of 8 lines of 8 | `position` | `read_line`, `read_fen`, `read_board` | `Position.text`, `fen` |
+| transcripts: `F5d6..`, `1. f5 2. d6`, `f5-d6`, with the score behind it | `transcript` | `read`, `parts` | `write` |
 | Edax's .obf | `obf` | `read` | `write` |
-| GGF | `ggf` | `read` | `write` |
-| WTHOR's .wtb, with names from .jou and .trn | `wthor` | `read` | `write` |
+| GGF, and its board alone | `ggf` | `read`, `board_of` | `write` |
+| SGF of Othello, GM[2] | `sgf` | `read` | |
+| transcripts with heads as PGN's | `pgn` | `read` | |
+| WTHOR's .wtb, with names from .jou and .trn | `wthor` | `read`, `read_names` | `write`, `write_names` |
 
-What can't be read is a `FormatError` with file, line and column; nothing is cut silently. Each module says by which description it was
+Readers of games and problems give what they can read and what they can't: a `Game` or `Problem`, or a `FormatError` with file, line and column. A game with a
+fault is there with the moves before it (`is_whole` is false), and the fault behind it; nothing is cut silently. Each module says by which description it was
 made.
 """
 from __future__ import annotations
@@ -24,12 +30,15 @@ import re
 from collections.abc import Iterator
 
 from ..board import Position
-from . import ggf, obf, position, transcript, wthor
-from .records import Expected, Game, Place, Played, Problem
+from ..errors import FormatError
+from . import ggf, obf, pgn, position, sgf, transcript, wthor
+from .records import Expected, Game, Place, Played, Problem, strictly
 
-__all__ = ["Expected", "Game", "Place", "Played", "Problem", "games", "ggf", "kind_of", "obf", "position", "problems", "problems_of", "transcript", "wthor"]
-KINDS = ("lines", "obf", "ggf", "wtb")
-SUFFIXES = {".obf": "obf", ".ggf": "ggf", ".wtb": "wtb"}
+__all__ = ["KINDS", "Expected", "Game", "Place", "Played", "Problem", "games", "games_of", "ggf", "kind_of", "lines_of", "obf", "pgn", "position", "problems", "problems_of",
+           "read_line", "sgf", "strictly", "text_of", "transcript", "wthor"]  # fmt: skip
+KINDS = ("lines", "obf", "ggf", "sgf", "pgn", "wtb")
+SUFFIXES = {".obf": "obf", ".ggf": "ggf", ".wtb": "wtb", ".sgf": "sgf", ".pgn": "pgn"}
+NAMES = (".jou", ".trn")
 
 
 def kind_of(name: str, data: bytes) -> str:
@@ -37,69 +46,113 @@ def kind_of(name: str, data: bytes) -> str:
     suffix = SUFFIXES.get(pathlib.PurePath(name).suffix.lower())
     if suffix:
         return suffix
-    text = data[:4096].lstrip()
-    return "ggf" if re.match(rb"(\d+\s+)?\(;", text) else "lines"
+    text = data[:4096].removeprefix(b"\xef\xbb\xbf").lstrip()
+    if re.match(rb"\(\s*;[^)]*?GM\s*\[\s*\d", text):
+        return "sgf"
+    if re.match(rb"(\d+\s+)?\(;", text):
+        return "ggf"
+    return "pgn" if re.match(rb"\[\s*\w+\s*\"", text) else "lines"
 
 
-def problems(path: str, kind: str | None = None) -> Iterator[Problem]:
-    """The positions of a file: of games each position at which a move was made, with that move as what is expected."""
-    data = pathlib.Path(path).read_bytes()
-    return problems_of(data, str(path), kind)
-
-
-def problems_of(data: bytes, name: str = "", kind: str | None = None) -> Iterator[Problem]:
-    """The same of what a file has."""
-    kind = kind or kind_of(name, data)
-    if kind in ("ggf", "wtb"):
-        for game in games_of(data, name, kind):
-            yield from game.problems()
-    elif kind == "obf":
-        yield from obf.read(data.decode("latin-1").split("\n"), name)
-    else:
-        for number, line in enumerate(lines_of(data), 1):
-            yield from read_line(line, Place(name, number))
+def text_of(data: bytes) -> str:
+    """The text of a file: UTF-8 where it is that, else Japanese (CP932) where letters of full width stand in it, else Latin-1."""
+    try:
+        return data.decode("utf-8-sig")
+    except UnicodeDecodeError:
+        pass
+    if re.search(rb"(?:\x82[\x4f-\x58\x60-\x79\x81-\x9a]){2}", data):
+        return data.decode("cp932", "replace")
+    return data.decode("latin-1")
 
 
 def lines_of(data: bytes) -> list[str]:
     """The lines of a text without their ends; a last one that is empty is none."""
-    lines = data.decode("latin-1").split("\n")
+    lines = text_of(data).split("\n")
     return [line.removesuffix("\r") for line in (lines[:-1] if not lines[-1] else lines)]
 
 
-def read_line(line: str, place: Place = Place()) -> Iterator[Problem]:
-    """The positions of a line of any format that has a line for each: 66 letters, FEN-like, .obf, a GGF game, or a transcript. An empty
-    line, or a comment behind # or %, has none."""
-    text = line.strip()
+def problems(*paths: str, kind: str | None = None) -> Iterator[Problem | FormatError]:
+    """The positions of files: of games each position at which a move was made, with that move as what is expected."""
+    for path in paths:
+        yield from problems_of(pathlib.Path(path).read_bytes(), str(path), kind)
+
+
+def problems_of(data: bytes, name: str = "", kind: str | None = None) -> Iterator[Problem | FormatError]:
+    """The same of what a file has."""
+    kind = kind or kind_of(name, data)
+    if kind == "obf":
+        yield from obf.read(text_of(data).split("\n"), name)
+    elif kind != "lines":
+        yield from _positions_of(games_of(data, name, kind))
+    else:
+        lines, at = lines_of(data), 0
+        while at < len(lines):
+            if board := position.read_board(lines, at, Place(name)):
+                problem, at = board
+                yield problem
+                continue
+            yield from read_line(lines[at], Place(name, at + 1))
+            at += 1
+
+
+def _positions_of(games: Iterator[Game | FormatError]) -> Iterator[Problem | FormatError]:
+    for one in games:
+        if isinstance(one, FormatError):
+            yield one
+        else:
+            yield from one.problems()
+
+
+def read_line(line: str, place: Place = Place()) -> Iterator[Problem | FormatError]:
+    """The positions of a line of any format that has a line for each: 66 letters, FEN-like, .obf, a game or a board of GGF, or a transcript. An
+    empty line, or a comment behind # or %, has none."""
+    text = transcript.narrow(line).strip()
     if not text or text[0] in "#%":
         return
-    if text.startswith("(;"):
-        for game in ggf.read(line, place.file):
-            yield from game.problems()
-    elif ";" in text and re.match(r"[-.*XxOo\s]{64}", text):
-        problem = obf.read_line(line, place)
-        yield from [problem] if problem else []
-    elif re.match(r"[1-8XxOo*BbWw]+/", text):
-        yield position.read_fen(text, place)
-    elif re.match(r"(?:\d+[.)]\s*)?[a-hA-H][1-8]", text):
-        yield from transcript.read(line, None, place).problems()
-    else:
-        yield position.read_line(line, place)
+    try:
+        if text.startswith("(;"):
+            for one in _positions_of(ggf.read(line, place.file)):
+                yield FormatError(one.text, place.file, place.line, one.column) if isinstance(one, FormatError) else one
+        elif ";" in text and re.match(r"[-.*XxOo\s]{64}", text):
+            problem = obf.read_line(line, place)
+            yield from [problem] if problem else []
+        elif start := ggf.board_of(text.removeprefix("BO[").removesuffix("]")):
+            yield Problem(start, place=place)
+        elif re.match(r"[1-8XxOo*BbWw]+/", text):
+            yield position.read_fen(text, place)
+        elif re.match(r"(?:\d+[.)]\s*)?[a-hA-H][1-8]", text):
+            yield from _positions_of(transcript.parts(line, None, place))
+        else:
+            yield position.read_line(line, place)
+    except FormatError as fault:
+        yield fault
 
 
-def games(path: str, kind: str | None = None) -> Iterator[Game]:
-    """The games of a file: GGF, .wtb, or a transcript a line."""
-    return games_of(pathlib.Path(path).read_bytes(), str(path), kind)
+def games(*paths: str, kind: str | None = None) -> Iterator[Game | FormatError]:
+    """The games of files: GGF, SGF, PGN, .wtb, or a transcript a line. Among .wtb files those of .jou and .trn may be named; else the one of each
+    that lies beside them is taken for the names."""
+    named = {pathlib.PurePath(path).suffix.lower(): wthor.read_names(str(path)) for path in paths if pathlib.PurePath(path).suffix.lower() in NAMES}
+    for path in paths:
+        if pathlib.PurePath(path).suffix.lower() in NAMES:
+            continue
+        data = pathlib.Path(path).read_bytes()
+        if (kind or kind_of(str(path), data)) == "wtb":
+            players, tournaments = wthor.names_beside(str(path))
+            yield from wthor.read(data, str(path), named.get(".jou", players), named.get(".trn", tournaments))
+        else:
+            yield from games_of(data, str(path), kind)
 
 
-def games_of(data: bytes, name: str = "", kind: str | None = None) -> Iterator[Game]:
+def games_of(data: bytes, name: str = "", kind: str | None = None) -> Iterator[Game | FormatError]:
+    """The same of what a file has."""
     kind = kind or kind_of(name, data)
-    if kind == "ggf":
-        yield from ggf.read(data.decode("latin-1"), name)
-    elif kind == "wtb":
-        yield from wthor.read(data, name).games
+    if kind == "wtb":
+        yield from wthor.read(data, name)
+    elif kind in ("ggf", "sgf", "pgn"):
+        yield from {"ggf": ggf, "sgf": sgf, "pgn": pgn}[kind].read(text_of(data), name)
     elif kind == "obf":
-        raise Place(name).fault("an .obf has positions, and no games")
+        yield Place(name).fault("an .obf has positions, and no games")
     else:
         for number, line in enumerate(lines_of(data), 1):
             if line.strip() and line.strip()[0] not in "#%":
-                yield transcript.read(line, Position.opening(), Place(name, number))
+                yield from transcript.parts(line, Position.opening(), Place(name, number))

@@ -13,33 +13,41 @@ import re
 from collections.abc import Iterable, Iterator
 
 from ..board import PASS, START, Position
+from ..errors import FormatError
 from .records import Builder, Game, Place
 
 TAG = re.compile(r"\s*([A-Za-z]+)\s*\[([^\]]*)\]")
 MOVE = re.compile(r"\s*(?P<move>[a-hA-H][1-8]|(?i:pass|pa)|--)\s*(?:/\s*(?P<eval>[^/]*?)\s*(?:/\s*(?P<time>[^/]*?)\s*)?)?")
 BOARD = re.compile(r"\s*8\s+((?:[-.*XxOo]\s*){64})([*XxOo])\s*")
+COUNT, END = re.compile(r"\s*(\d+\s+)?(?=\(;|\Z)|\s*"), re.compile(r"\s*;\s*\)")
 SIDES = {"B": "X", "W": "O"}
 FIELDS = ("PB", "PW", "PC", "DT")
 
 
-def read(text: str, file: str = "") -> Iterator[Game]:
-    """The games of a text."""
+def read(text: str, file: str = "") -> Iterator[Game | FormatError]:
+    """The games of a text, and its faults. A game that has one, or is cut, is there with the moves before that, and its fault behind it; what can't
+    be read as a game is passed over to the next `(;`."""
     at, text = 0, text.removeprefix("\ufeff")
     expected = 0  # games that a count before them announced
     while True:
-        found = re.compile(r"\s*(\d+\s+)?").match(text, at)
+        found = COUNT.match(text, at)
         at = found.end() if found else at
-        if found and found[1]:
+        if found and found[1] or at == len(text):
             if expected:
-                raise place_of(text, found.start(1), file).fault(f"{expected} games are missing")
-            expected = int(found[1])
-        if at == len(text):
-            if expected:
-                raise place_of(text, at, file).fault(f"{expected} games are missing")
-            return
-        game, at = read_game(text, at, file)
-        expected = max(expected - 1, 0)
-        yield game
+                yield place_of(text, found.start(1) if found and found[1] else at, file).fault(f"{expected} games are missing")
+            if at == len(text):
+                return
+            expected = int(found[1]) if found and found[1] else 0
+        if not text.startswith("(;", at):
+            yield place_of(text, at, file).fault("no game begins here: (;")
+            at = text.find("(;", at)
+            if at < 0:
+                return
+            continue
+        tags, end, fault = tags_of(text, at, file)
+        game, other = game_of(text, tags, place_of(text, at, file), file, not fault)
+        yield from (one for one in (game, other or fault) if one)
+        expected, at = max(expected - 1, 0), end
 
 
 def place_of(text: str, at: int, file: str) -> Place:
@@ -47,49 +55,63 @@ def place_of(text: str, at: int, file: str) -> Place:
     return Place(file, text.count("\n", 0, at) + 1, at - (text.rfind("\n", 0, at) + 1) + 1)
 
 
-def read_game(text: str, at: int = 0, file: str = "") -> tuple[Game, int]:
-    """The game that begins at a letter, and where it ends."""
-    begun = at
-    if not text.startswith("(;", at):
-        raise place_of(text, at, file).fault("no game begins here: (;")
+def read_game(text: str, file: str = "") -> Game:
+    """The one game of a text; `FormatError` where it has a fault, or more stands there."""
+    found = list(read(text, file))
+    for one in found:
+        if isinstance(one, FormatError):
+            raise one
+    if len(found) != 1 or not isinstance(found[0], Game):
+        raise FormatError(f"{len(found)} games stand there, and not one", file)
+    return found[0]
+
+
+def tags_of(text: str, at: int, file: str) -> tuple[list[tuple[str, str, int]], int, FormatError | None]:
+    """The tags of the game that begins at a letter, where the next may begin, and what is at fault."""
     at += 2
     tags: list[tuple[str, str, int]] = []
-    while True:
-        found = TAG.match(text, at)
-        if found:
-            tags.append((found[1].upper(), found[2], found.start(2)))
-            at = found.end()
-            continue
-        end = re.compile(r"\s*;\s*\)").match(text, at)
-        if not end:
-            raise place_of(text, at, file).fault("here is no tag, NAME[value], and no end of the game, ;)")
-        return game_of(text, tags, place_of(text, begun, file), file), end.end()
+    while found := TAG.match(text, at):
+        tags.append((found[1].upper(), found[2], found.start(2)))
+        at = found.end()
+    if end := END.match(text, at):
+        return tags, end.end(), None if tags else place_of(text, at, file).fault("this game has no tags")
+    after = text.find("(;", at)
+    return tags, len(text) if after < 0 else after, place_of(text, at, file).fault("here is no tag, NAME[value], and no end of the game, ;)")
 
 
-def game_of(text: str, tags: list[tuple[str, str, int]], place: Place, file: str) -> Game:
+def game_of(text: str, tags: list[tuple[str, str, int]], place: Place, file: str, is_whole: bool) -> tuple[Game | None, FormatError | None]:
+    """The game of tags, and what is at fault in them; the moves are those before that."""
     named = {name: value for name, value, _ in tags if name not in SIDES}
     places = {name: place_of(text, at, file) for name, _, at in tags}
     if not tags:
-        raise place.fault("this game has no tags")
+        return None, None
     if named.get("GM", "Othello").strip().lower() not in ("othello", "reversi"):
-        raise places["GM"].fault(f"this is a game of {named['GM']}")
+        return None, places["GM"].fault(f"this is a game of {named['GM']}")
     if named.get("TY", "8").strip()[:1] not in ("8", "s") or "anti" in named.get("TY", ""):
-        raise places["TY"].fault(f"its type is {named['TY']}")
-    board = BOARD.fullmatch(named.get("BO", f"8 {START} *"))
-    if not board:
-        raise places["BO"].fault("its board isn't one of 8 lines: 8, 64 cells and the side to move")
-    builder = Builder(Position.parse(f"{board[1]} {board[2]}"), file)
-    for name, value, at in tags:
-        if name not in SIDES:
-            continue
-        found, here = MOVE.fullmatch(value), place_of(text, at, file)
-        if not found:
-            raise here.fault(f"{value!r} is no move")
-        move = found["move"].lower()
-        builder.play(PASS if move in ("pass", "pa", "--") else move, here, SIDES[name], number_of(found["eval"]), number_of(found["time"]))
+        return None, places["TY"].fault(f"its type is {named['TY']}")
+    start = board_of(named.get("BO", f"8 {START} *"))
+    if not start:
+        return None, places["BO"].fault("its board isn't one of 8 lines: 8, 64 cells and the side to move")
+    builder, fault = Builder(start, file), None
+    try:
+        for name, value, at in tags:
+            if name in SIDES:
+                found, here = MOVE.fullmatch(value), place_of(text, at, file)
+                if not found:
+                    raise here.fault(f"{value!r} is no move")
+                move = found["move"].lower()
+                builder.play(PASS if move in ("pass", "pa", "--") else move, here, SIDES[name], number_of(found["eval"]), number_of(found["time"]))
+    except FormatError as raised:
+        fault = raised
     others = tuple((name, value) for name, value, _ in tags if name not in (*SIDES, *FIELDS, "BO", "GM", "RE", "TY"))
     black, white, event, date = (named.get(name, "") for name in FIELDS)
-    return Game(builder.board.start, tuple(builder.moves), black, white, event, date, result_of(named.get("RE", "")), tags=others, place=place)
+    return Game(builder.start, tuple(builder.moves), black, white, event, date, result_of(named.get("RE", "")), tags=others, place=place, is_whole=is_whole and not fault), fault
+
+
+def board_of(text: str) -> Position | None:
+    """The position of BO: 8, 64 cells and the side to move; None where it is none."""
+    found = BOARD.fullmatch(text)
+    return Position.parse(f"{found[1]} {found[2]}") if found else None
 
 
 def number_of(text: str | None) -> float | None:

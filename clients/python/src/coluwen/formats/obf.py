@@ -18,9 +18,14 @@ from .records import Expected, Place, Problem
 FIELD = re.compile(r"\s*(?P<move>[a-hA-H][1-8]|(?i:pass|pa|ps)|--)\s*(?::\s*(?P<score>[+-]?\d{1,2})\s*)?")
 
 
-def read(lines: Iterable[str], file: str = "") -> Iterator[Problem]:
+def read(lines: Iterable[str], file: str = "") -> Iterator[Problem | FormatError]:
+    """The problems of lines, and the faults of those that can't be read."""
     for number, line in enumerate(lines, 1):
-        problem = read_line(line.rstrip("\r\n"), Place(file, number))
+        try:
+            problem = read_line(line.rstrip("\r\n"), Place(file, number))
+        except FormatError as fault:
+            yield fault
+            continue
         if problem:
             yield problem
 

@@ -4,7 +4,12 @@
 before them, as `othello solve` reads it: `6 ------..- X`.
 
 FEN-like: eight rows from the top, parted by /, then the side: `8/8/8/3OX3/3XO3/8/8/8 X`. A digit counts empty cells, X, x, *, B and b are
-black, O, o, W and w white, and so the side. No description of such a form is at hand; chess's was taken over, with the rows from the
+black, O, o, W and w white, and so the side.
+
+A board of 8 lines of 8 cells, with or without numbers, letters and spaces as boards are printed; who is to move stands behind it (`X`, `white`, `black to
+move`), and where it doesn't, it is who has the move after so many discs without passes.
+
+ No description of the FEN-like form is at hand; chess's was taken over, with the rows from the
 top as Othello names them.
 """
 from __future__ import annotations
@@ -15,6 +20,9 @@ from ..board import CELLS, Position
 from ..errors import FormatError
 from .records import Place, Problem
 
+ROW = re.compile(r"\s*(?:[1-8][\s|]*)?((?:[-.*XxOo][\s|]*){8})(?:[1-8])?\s*")
+HEAD = re.compile(r"\s*(?:[aA]\s*[bB]\s*[cC]\s*[dD]\s*[eE]\s*[fF]\s*[gG]\s*[hH])?\s*")
+TO_MOVE = re.compile(r"\s*(?:side|turn|player)?\s*[:=]?\s*(?P<side>[Xx*]|[Oo]|(?i:black|white))\s*(?:(?:is )?to (?:move|play))?[\s.]*", re.IGNORECASE)
 FEN_CELLS = {**CELLS, "B": "X", "b": "X", "W": "O", "w": "O"}
 
 
@@ -57,3 +65,24 @@ def read_fen(text: str, place: Place = Place()) -> Problem:
 def fen(position: Position) -> str:
     rows = [position.cells[at : at + 8] for at in range(0, 64, 8)]
     return "/".join(re.sub("-+", lambda found: str(len(found[0])), row) for row in rows) + f" {position.side}"
+
+
+def read_board(lines: list[str], at: int, place: Place = Place()) -> tuple[Problem, int] | None:
+    """The board that begins at a line (from 0), and behind which line it ends; None where none begins there."""
+    rows, here, first = list[str](), at, at
+    while here < len(lines) and len(rows) < 8:
+        found = ROW.fullmatch(lines[here])
+        if found:
+            first = first if rows else here
+            rows.append("".join(CELLS[letter] for letter in found[1] if letter in CELLS))
+        elif rows or not HEAD.fullmatch(lines[here]):
+            return None
+        here += 1
+    if len(rows) < 8:
+        return None
+    while here < len(lines) and HEAD.fullmatch(lines[here]) and here - at < 12:
+        here += 1
+    cells = "".join(rows)
+    told = TO_MOVE.fullmatch(lines[here]) if here < len(lines) else None
+    side = FEN_CELLS[told["side"][0]] if told else "XO"[(64 - cells.count("-")) % 2]
+    return Problem(Position(cells, side), place=Place(place.file, first + 1, 1)), here + 1 if told else here

@@ -1,11 +1,14 @@
-"""What the formats' readers give: problems, games, and where each was read."""
+"""What files of Othello give: problems, games, and where each was read."""
 from __future__ import annotations
 
 import dataclasses
-from collections.abc import Iterator
+from collections.abc import Iterable, Iterator
+from typing import TypeVar
 
-from ..board import PASS, Board, Position
+from ..board import PASS, SQUARES, Board, Position
 from ..errors import FormatError, IllegalMove
+
+Item = TypeVar("Item")
 
 
 @dataclasses.dataclass(frozen=True)
@@ -60,11 +63,14 @@ class Played:
     seconds: float | None = None
 
 
+PLAYED = {move: Played(move) for move in (*SQUARES, PASS)}  # of which nothing was said: one object for all games
+
+
 @dataclasses.dataclass(frozen=True)
 class Game:
     """A start and the moves from it, passes among them, and what else a format tells: names, place, date, result.
 
-    A result is how many discs black has more than white."""
+    A result is how many discs black has more than white. `is_whole`: nothing of it was at fault; else the moves are those before the fault."""
 
     start: Position = Position()
     moves: tuple[Played, ...] = ()
@@ -76,6 +82,7 @@ class Game:
     theoretical: int | None = None
     tags: tuple[tuple[str, str], ...] = ()
     place: Place = Place()
+    is_whole: bool = True
 
     def words(self) -> list[str]:
         """The moves without passes."""
@@ -83,10 +90,7 @@ class Game:
 
     def board(self) -> Board:
         """The game as it was played."""
-        board = Board(self.start)
-        for played in self.moves:
-            board.play(played.move)
-        return board
+        return Board(self.start, tuple(played.move for played in self.moves))
 
     def positions(self) -> Iterator[tuple[Position, str]]:
         """Each position with the move that was played at it, passes left out."""
@@ -101,17 +105,30 @@ class Game:
             yield Problem(position, None, (Expected(move),), f"move {number}", self.place)
 
 
+def strictly(found: Iterable[Item | FormatError]) -> Iterator[Item]:
+    """What a reader found, up to the first fault, which is raised."""
+    for one in found:
+        if isinstance(one, FormatError):
+            raise one
+        yield one
+
+
 class Builder:
     """Makes a game's moves one after another, and says where one can't be made. Passes that aren't written are put in."""
 
     def __init__(self, start: Position, file: str = ""):
-        self.board, self.file = Board(start), file
+        self.start = self.position = start
+        self.file = file
         self.moves: list[Played] = []
+
+    @property
+    def count(self) -> int:
+        """How many moves were made, without passes."""
+        return sum(played.move != PASS for played in self.moves)
 
     def play(self, move: str, place: Place, side: str | None = None, evaluation: float | None = None, seconds: float | None = None) -> None:
         """Makes a move; with a side it must be that one's."""
-        position = self.board.position
-        number = sum(played.move != PASS for played in self.moves) + 1
+        number, position = self.count + 1, self.position
         if position.is_over:
             raise place.fault(f"move {number}, {move}: the game is over")
         if move == PASS and not position.must_pass:
@@ -119,13 +136,14 @@ class Builder:
         if side and side == position.side and move != PASS and position.must_pass:
             raise place.fault(f"move {number}, {move}: that player can't move")
         if move != PASS and position.must_pass:
-            self.board.play(PASS)
-            self.moves.append(Played(PASS))
-            position = self.board.position
-        if side and side != position.side:
+            self._made(PASS, PLAYED[PASS])
+        if side and side != self.position.side:
             raise place.fault(f"move {number}, {move}: it is the other player's turn")
         try:
-            self.board.play(move)
+            self._made(move, PLAYED[move] if evaluation is None and seconds is None else Played(move, evaluation, seconds))
         except IllegalMove as fault:
             raise place.fault(f"move {number}, {fault}") from None
-        self.moves.append(Played(move, evaluation, seconds))
+
+    def _made(self, move: str, played: Played) -> None:
+        self.position = self.position.play(move)
+        self.moves.append(played)

@@ -1,44 +1,87 @@
-"""Games as people write them: `F5d6C3`, `1. f5 2. d6`, `f5-d6-c3`, `f5, d6; c3`.
+"""Games as people write them: `F5d6C3`, `1. f5 2. d6`, `f5-d6-c3`, `f5, d6; c3`, `f5d6c3 .. 33-31`.
 
 Squares in letters of either size; between them spaces, line ends, commas, semicolons, a hyphen, and numbers with a point or bracket
 behind them, which must count the moves (`1.`, `2)`) or the pairs of moves. A pass may be written (`pass`, `pa`, `ps`, `--`), and is put
-in where it isn't. Anything else is a fault, with its column.
+in where it isn't. Behind the moves may stand the result: black's discs and white's (`33-31`, `33:31`), or how many more (`+2`, `B+2`, `W+10`,
+`0`). Letters and digits of full width are read as the others. Anything else is a fault, with its column.
 """
 from __future__ import annotations
 
 import re
+from collections.abc import Iterator
 
-from ..board import PASS, Position
+from ..board import BLACK, PASS, Position
+from ..errors import FormatError
 from .records import Builder, Game, Place
 
 TOKEN = re.compile(r"(?P<space>[\s,;]+|-(?!-))|(?P<number>\d{1,3}\s*[.)]+)|(?P<move>[a-hA-H][1-8])|(?P<pass>(?i:pass|pa|ps)|--)")
+SCORE = re.compile(r"[\s,;:(\[]*(?:(?P<black>\d{1,2})\s*[-:]\s*(?P<white>\d{1,2})|(?P<side>[BbWw])?(?P<more>[+-]\d{1,2}|(?<![a-hA-H])0))(?:\.0+)?[\s,;.)\]]*")
+WIDE = {code: chr(code - 0xFEE0) for code in range(0xFF01, 0xFF5F)} | {0x3000: " ", 0x2212: "-", 0x2010: "-", 0x2013: "-", 0x30FC: "-"}
+
+
+def narrow(text: str) -> str:
+    """A text with its signs of full width as those of half."""
+    return text if text.isascii() else text.translate(WIDE)
 
 
 def read(text: str, start: Position | None = None, place: Place = Place()) -> Game:
-    """The game of a text, from the opening with black to begin if no start is given. A line's end counts a line further."""
+    """The game of a text, from the opening with black to begin if no start is given. `FormatError` where anything is at fault."""
+    *games, last = parts(text, start, place)
+    if isinstance(last, FormatError):
+        raise last
+    return last
+
+
+def parts(text: str, start: Position | None = None, place: Place = Place()) -> Iterator[Game | FormatError]:
+    """The game of a text; where it has a fault, the game of what stands before that, if there are moves, and the fault. A line's end counts a
+    line further."""
+    text = narrow(text)
     builder = Builder(start or Position.opening(), place.file)
     at, line, begun = 0, place.line or 1, -max(place.column - 1, 0)
     numbers: list[int] = []
-    while at < len(text):
-        found = TOKEN.match(text, at)
-        here = Place(place.file, line, at - begun + 1)
-        if not found:
-            word = re.match(r"\S+", text[at:])
-            raise here.fault(f"{word[0][:20] if word else text[at]!r} is no move")
-        if found["move"] or found["pass"]:
-            builder.play(found["move"].lower() if found["move"] else PASS, here)
-        elif found["number"]:
-            numbers.append(int(re.sub(r"\D", "", found["number"])))
-            count = sum(played.move != PASS for played in builder.moves)
-            if numbers[-1] not in (count + 1, (count + 2) // 2) or numbers != sorted(set(numbers)):
-                raise here.fault(f"the number {numbers[-1]} stands before move {count + 1}")
-        if found["space"]:
-            lines = found[0].count("\n")
-            line, begun = line + lines, at + found[0].rindex("\n") + 1 if lines else begun
-        at = found.end()
-    if not builder.moves:
-        raise place.fault("there are no moves")
-    return Game(builder.board.start, tuple(builder.moves), place=place)
+    result: float | None = None
+    fault: FormatError | None = None
+    try:
+        while at < len(text):
+            here = Place(place.file, line, at - begun + 1)
+            if builder.moves and (score := SCORE.fullmatch(text, at)):
+                result = result_of(score, builder.position, here)
+                break
+            found = TOKEN.match(text, at)
+            if not found:
+                word = re.match(r"\S+", text[at:])
+                raise here.fault(f"{word[0][:20] if word else text[at]!r} is no move")
+            if found["move"] or found["pass"]:
+                builder.play(found["move"].lower() if found["move"] else PASS, here)
+            elif found["number"]:
+                numbers.append(int(re.sub(r"\D", "", found["number"])))
+                if numbers[-1] not in (builder.count + 1, (builder.count + 2) // 2) or numbers != sorted(set(numbers)):
+                    raise here.fault(f"the number {numbers[-1]} stands before move {builder.count + 1}")
+            if found["space"] and (lines := found[0].count("\n")):
+                line, begun = line + lines, at + found[0].rindex("\n") + 1
+            at = found.end()
+        if not builder.moves:
+            raise place.fault("there are no moves")
+    except FormatError as raised:
+        fault = raised
+    if builder.moves:
+        yield Game(builder.start, tuple(builder.moves), result=result, place=place, is_whole=not fault)
+    if fault:
+        yield fault
+
+
+def result_of(score: re.Match[str], final: Position, place: Place) -> float:
+    """What a score behind the moves says; a fault where the game is over otherwise."""
+    if score["black"]:
+        result = int(score["black"]) - int(score["white"])
+    else:
+        result = int(score["more"]) * (-1 if (score["side"] or "").lower() == "w" else 1)
+    played = final.final_discs(BLACK)
+    if final.is_over and result not in (played, final.discs(BLACK) - final.discs("O")):
+        raise place.fault(f"the score is said to be {result:+d} for black, and is {played:+d}")
+    if abs(result) > 64:
+        raise place.fault(f"a score of {result:+d} discs")
+    return float(result)
 
 
 def write(game: Game, form: str = "plain") -> str:
@@ -47,7 +90,7 @@ def write(game: Game, form: str = "plain") -> str:
     words = game.words()
     if form == "capitals":
         sides = [position.side for position, _ in game.positions()]
-        return "".join(word.upper() if side == "X" else word for word, side in zip(words, sides))
+        return "".join(word.upper() if side == BLACK else word for word, side in zip(words, sides))
     if form == "numbered":
         return " ".join(f"{number}. {word}" for number, word in enumerate(words, 1))
     return {"plain": "", "spaced": " ", "hyphens": "-"}[form].join(words)

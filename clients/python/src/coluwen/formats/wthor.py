@@ -17,73 +17,116 @@ from __future__ import annotations
 import dataclasses
 import pathlib
 import struct
-from collections.abc import Iterable
+from collections.abc import Iterable, Iterator
 
-from ..board import BLACK, SQUARES, WHITE, Position
+from ..board import ALL, BLACK, BLACK_BIT, LINES, PASS, SQUARES, WHITE, WHITE_BIT, Position, can_move, discs_of
 from ..errors import FormatError
-from .records import Builder, Game, Place
+from .records import PLAYED, Game, Place, Played
 
 HEAD = struct.Struct("<BBBBIHHBBBB")
 RECORD = struct.Struct("<HHHBB60s")
 NAME_BYTES = {".jou": 20, ".trn": 26}
 
 
+OPENING = Position.opening()
+START_DISCS = discs_of(OPENING.cells)
+SQUARE_OF = [8 * (code // 10 - 1) + code % 10 - 1 if 1 <= code // 10 <= 8 and 1 <= code % 10 <= 8 else -1 for code in range(256)]
+TAKEN = [BLACK_BIT[at] | WHITE_BIT[at] for at in range(64)]
+SIDES, OWN = (LINES[BLACK], LINES[WHITE]), (BLACK_BIT, WHITE_BIT)
+SQUARES_PLAYED = [PLAYED[square] for square in SQUARES]
+
+
 @dataclasses.dataclass(frozen=True)
-class Wthor:
-    """A file: when it was made (year, month, day), of which year its games are, to which depth the theoretical scores, and the games."""
+class Head:
+    """What stands before the games: when the file was made (year, month, day), how many games and names it has, of which year the games are, the
+    board's size, and to which depth the theoretical scores are."""
 
     made: tuple[int, int, int]
+    games: int
+    names: int
     year: int
+    size: int
     depth: int
-    games: tuple[Game, ...]
 
 
-def head_of(data: bytes, file: str) -> tuple[int, ...]:
+def head_of(data: bytes, file: str = "") -> Head:
     if len(data) < HEAD.size:
         raise FormatError(f"a head has {HEAD.size} bytes, and here are {len(data)}", file, column=len(data) + 1)
-    return HEAD.unpack_from(data)
+    century, year, month, day, games, names, played, size, _, depth, _ = HEAD.unpack_from(data)
+    return Head((100 * century + year, month, day), games, names, played, size, depth)
 
 
-def read(data: bytes, file: str = "", players: list[str] | None = None, tournaments: list[str] | None = None) -> Wthor:
-    """The games of a .wtb. Where names aren't given they stand as `player 12`."""
-    century, year, month, day, count, names, played, size, _, depth, _ = head_of(data, file)
-    if size not in (0, 8):
-        raise FormatError(f"its boards have {size} lines", file, column=13)
-    if names:
-        raise FormatError(f"its head counts {names} names, as no .wtb has", file, column=9)
-    wanted = HEAD.size + count * RECORD.size
+def read(data: bytes, file: str = "", players: list[str] | None = None, tournaments: list[str] | None = None) -> Iterator[Game | FormatError]:
+    """The games of a .wtb, one after another, and its faults. Where names aren't given they stand as `player 12`. A game with a fault is there with
+    the moves before that, and the fault behind it; what a cut file has of its games is there, and a fault of the file comes first."""
+    if len(data) < HEAD.size:
+        yield FormatError(f"a head has {HEAD.size} bytes, and here are {len(data)}", file, column=len(data) + 1)
+        return
+    head = head_of(data, file)
+    if head.size not in (0, 8):
+        yield FormatError(f"its boards have {head.size} lines", file, column=13)
+        return
+    if head.names:
+        yield FormatError(f"its head counts {head.names} names, as no .wtb has", file, column=9)
+    wanted = HEAD.size + head.games * RECORD.size
     if len(data) != wanted:
-        raise FormatError(f"its head counts {count} games, which take {wanted} bytes, and the file has {len(data)}", file, column=5)
-    games = [game_of(data, HEAD.size + number * RECORD.size, file, number + 1, played, players, tournaments) for number in range(count)]
-    return Wthor((100 * century + year, month, day), played, depth, tuple(games))
+        yield FormatError(f"its head counts {head.games} games, which take {wanted} bytes, and the file has {len(data)}", file, column=5)
+    for number in range(min(head.games, (len(data) - HEAD.size) // RECORD.size)):
+        yield from game_of(data, HEAD.size + number * RECORD.size, file, number + 1, str(head.year), players, tournaments)
 
 
-def game_of(data: bytes, at: int, file: str, number: int, year: int, players: list[str] | None, tournaments: list[str] | None) -> Game:
-    tournament, black, white, discs, theoretical, moves = RECORD.unpack_from(data, at)
-    builder, place = Builder(Position.opening(), file), Place(file, 0, at + 1)
-    words = moves.rstrip(b"\0")
-    for offset, code in enumerate(words):
-        here = Place(file, 0, at + 8 + offset + 1)
-        row, column = divmod(code, 10)
-        if not (1 <= row <= 8 and 1 <= column <= 8):
-            raise here.fault(f"game {number}: {code} is no square")
-        try:
-            builder.play(SQUARES[8 * (row - 1) + column - 1], here)
-        except FormatError as fault:
-            raise here.fault(f"game {number}: {fault.text}") from None
-    if discs > 64 or theoretical > 64:
-        raise Place(file, 0, at + 7).fault(f"game {number}: {max(discs, theoretical)} discs")
-    final = builder.board.position
-    if final.is_over and discs != black_discs(final):
-        raise Place(file, 0, at + 7).fault(f"game {number}: black is said to have {discs} discs, and has {black_discs(final)}")
-    return Game(Position.opening(), tuple(builder.moves), named(players, black, "player"), named(players, white, "player"),
-                named(tournaments, tournament, "tournament"), str(year), float(2 * discs - 64), theoretical, place=place)  # fmt: skip
+def game_of(data: bytes, at: int, file: str, number: int, year: str, players: list[str] | None, tournaments: list[str] | None) -> Iterator[Game | FormatError]:
+    tournament, black, white, discs, theoretical, codes = RECORD.unpack_from(data, at)
+    moves, final, fault = replayed(codes.rstrip(b"\0"))
+    if fault:
+        fault = FormatError(f"game {number}: {fault.text}", file, column=at + 8 + fault.column)
+    elif discs > 64 or theoretical > 64:
+        fault = FormatError(f"game {number}: {max(discs, theoretical)} discs", file, column=at + 7)
+    elif is_over(final) and discs != black_discs(final):
+        fault = FormatError(f"game {number}: black is said to have {discs} discs, and has {black_discs(final)}", file, column=at + 7)
+    yield Game(OPENING, tuple(moves), named(players, black, "player"), named(players, white, "player"), named(tournaments, tournament, "tournament"), year,
+               float(2 * discs - 64), theoretical, (), Place(file, 0, at + 1), not fault)  # fmt: skip
+    if fault:
+        yield fault
 
 
-def black_discs(final: Position) -> int:
+def replayed(codes: bytes) -> tuple[list[Played], int, FormatError | None]:
+    """The moves of codes, the discs after them, and which can't be made. Passes are put in."""
+    discs, side, moves = START_DISCS, 0, list[Played]()
+    for number, code in enumerate(codes):
+        at = SQUARE_OF[code]
+        if at < 0:
+            return moves, discs, FormatError(f"{code} is no square", column=number + 1)
+        changed = 0
+        if not discs & TAKEN[at]:
+            for mask, line in SIDES[side][at]:
+                changed |= line[discs & mask]
+            if not changed:
+                for mask, line in SIDES[1 - side][at]:
+                    changed |= line[discs & mask]
+                if changed and not can_move(discs, (BLACK, WHITE)[side]):
+                    moves.append(PLAYED[PASS])
+                    side = 1 - side
+                else:
+                    changed = 0
+        if not changed:
+            word = f"move {number + 1}, {SQUARES[at]}"
+            return moves, discs, FormatError(f"{word}: white can't play there" if side else f"{word}: black can't play there", column=number + 1)
+        discs = discs ^ changed | OWN[side][at]
+        side = 1 - side
+        moves.append(SQUARES_PLAYED[at])
+    return moves, discs, None
+
+
+def is_over(discs: int) -> bool:
+    return (discs | discs >> 64) & ALL == ALL or not can_move(discs, BLACK) and not can_move(discs, WHITE)
+
+
+def black_discs(discs: int) -> int:
     """Black's discs at the end, with the empty squares the winner's, or half of them."""
-    black, white = final.discs(BLACK), final.discs(WHITE)
-    return black + (final.empties if black > white else final.empties // 2 if black == white else 0)
+    black, white = (discs & ALL).bit_count(), (discs >> 64).bit_count()
+    empty = 64 - black - white
+    return black + (empty if black > white else empty // 2 if black == white else 0)
 
 
 def named(names: list[str] | None, number: int, kind: str) -> str:
@@ -96,10 +139,19 @@ def read_names(path: str) -> list[str]:
     if suffix not in NAME_BYTES:
         raise FormatError("names are in .jou and .trn files", path)
     data, size = pathlib.Path(path).read_bytes(), NAME_BYTES[suffix]
-    count = head_of(data, path)[5]
+    count = head_of(data, path).names
     if len(data) != HEAD.size + count * size:
         raise FormatError(f"its head counts {count} names of {size} bytes, and the file has {len(data)} bytes", path, column=9)
     return [data[at : at + size].split(b"\0")[0].decode("latin-1") for at in range(HEAD.size, len(data), size)]
+
+
+def names_beside(path: str) -> tuple[list[str] | None, list[str] | None]:
+    """The players and tournaments that the folder of a .wtb names, where it has one .jou and one .trn."""
+    found = []
+    for suffix in NAME_BYTES:
+        paths = [str(one) for one in pathlib.Path(path).parent.glob("*") if one.suffix.lower() == suffix]
+        found.append(read_names(paths[0]) if len(paths) == 1 else None)
+    return found[0], found[1]
 
 
 def write(games: Iterable[Game], year: int, made: tuple[int, int, int] = (2000, 1, 1), depth: int = 0, players: list[str] | None = None,
@@ -108,10 +160,10 @@ def write(games: Iterable[Game], year: int, made: tuple[int, int, int] = (2000, 
     players, tournaments = players if players is not None else [], tournaments if tournaments is not None else []
     records = []
     for game in games:
-        if game.start != Position.opening() or len(game.words()) > 60:
+        if game.start != OPENING or len(game.words()) > 60:
             raise ValueError("a .wtb has games from the opening alone")
         codes = bytes(10 * int(word[1]) + "abcdefgh".index(word[0]) + 1 for word in game.words())
-        discs = black_discs(game.final()) if game.final().is_over else (64 + int(game.result or 0)) // 2
+        discs = black_discs(discs_of(game.final().cells)) if game.final().is_over else (64 + int(game.result or 0)) // 2
         numbers = [number_of(names, name) for names, name in ((tournaments, game.event), (players, game.black), (players, game.white))]
         records.append(RECORD.pack(*numbers, discs, game.theoretical if game.theoretical is not None else discs, codes))
     century, rest = divmod(made[0], 100)

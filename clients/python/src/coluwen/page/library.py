@@ -13,8 +13,9 @@ import dataclasses
 from collections.abc import AsyncIterator, Callable
 from typing import Any, Protocol
 
+from .._core import DEEPEST
+from ..analyst import Result
 from ..board import PASS, Position
-from ..client import DEEPEST, Result
 from ..errors import Refused, TooDeep
 
 Told = Callable[[dict[str, Any]], None]
@@ -22,7 +23,7 @@ FIRST_PAUSE, LONGEST_PAUSE = 1.0, 8.0  # seconds between two tries of a server t
 
 
 class Source(Protocol):
-    """What values come from: `Engine`, or another for a trial."""
+    """What values come from: `AsyncClient`, or another for a trial."""
 
     async def analyse(self, position: str | Position, depth: int) -> Result: ...
 
@@ -176,7 +177,7 @@ class Library:
         position = result.position
         if position.is_over:
             return Found(result, (), position.empties)
-        if result.best in ("-", ""):
+        if not result.best:
             return Found(result)
         after = position.play(result.best)
         try:

@@ -5,6 +5,7 @@ use Rattle.sched_rules.specs.declared.step.StepOf.TheVariants.{AdmitMore}
 use Rattle.jamboree_core.specs.jamboree_rules.declared.leaf.LeafAnswer.{LeafAnswer}
 use Rattle.number_index.specs.Places.{IsAt}
 use Rattle.number_index.proofs.Edits.{at-within, at-own, at-said, at-set}
+use Rattle.hall.specs.Entries.{long_steps}
 use Rattle.hall.specs.Journals.{owner_of_journal, journal_in, longer, raise_count}
 use Rattle.hall.proofs.Lists.{at-place, steps_of}
 use Rattle.hall.proofs.journal.raise.Given.{Over}
@@ -35,6 +36,13 @@ raise-requires-clause-place g c =
     let raises = ap (λ (steps : List (StepOf LeafAnswer)). raise_count steps) same in
     let long = ap (λ (steps : List (StepOf LeafAnswer)). length steps) same in
     omega (arith, raises, long, c.requires.place)
+
+pub raise-requires-clause-long : goal.raise-requires-clause-long
+raise-requires-clause-long g c =
+    let same = steps g (goal.at.raise-requires-clause-long g c).After-index_mut-journal in
+    let raises = ap (λ (steps : List (StepOf LeafAnswer)). raise_count steps) same in
+    let long = ap (λ (steps : List (StepOf LeafAnswer)). long_steps steps) same in
+    omega (arith, raises, long, c.requires.long)
 
 pub raise-requires-clause-taken : goal.raise-requires-clause-taken
 raise-requires-clause-taken g c = rw (own g (goal.at.raise-requires-clause-taken g c).After-index_mut-journal) c.requires.taken

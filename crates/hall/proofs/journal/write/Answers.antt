@@ -1,7 +1,8 @@
 use Rattle.std.proofs.Common.{[], length, ap, sym, ◌∙◌, arith}
 use Rattle.number_index.proofs.Edits.{at-within, at-own, at-said, at-set}
+use Rattle.hall.specs.Entries.{long_steps}
 use Rattle.hall.specs.Journals.{owner_of_journal, longer}
-use Rattle.hall.proofs.Lists.{at-place, steps_of, places_of, further-longer}
+use Rattle.hall.proofs.Lists.{at-place, steps_of, places_of, longs_of, further-longer}
 use Rattle.hall.proofs.journal.write.Goals as goal
 
 pub index_mut-journal-requires : goal.index_mut-journal-requires
@@ -16,10 +17,12 @@ write-requires g c =
     let place = at-place c.args.tenant c.args.journals.now.items _ c.place_of-at.result c.requires.rising c.requires.there c.as_slice.ensures.value c.place_of-at.ensures in
     let steps = at-said owner_of_journal steps_of [] c.args.tenant c.args.journals.now.items c.place_of-at.result c.index_mut-journal.result.now place c.index_mut-journal.ensures.value in
     let places = at-said owner_of_journal places_of 0 c.args.tenant c.args.journals.now.items c.place_of-at.result c.index_mut-journal.result.now place c.index_mut-journal.ensures.value in
+    let longs = at-said owner_of_journal longs_of 0 c.args.tenant c.args.journals.now.items c.place_of-at.result c.index_mut-journal.result.now place c.index_mut-journal.ensures.value in
     record {
       own = c.requires.own ∙ sym (at-own owner_of_journal c.args.tenant c.args.journals.now.items c.place_of-at.result c.index_mut-journal.result.now place c.index_mut-journal.ensures.value);
       serial = c.requires.serial;
       place = rw (ap length steps, places) at c.requires.place;
+      long = rw (ap long_steps steps, longs) at c.requires.long;
       going = c.requires.is_appended;
       search = c.requires.search;
       raises_not = c.requires.raises_not;

@@ -7,13 +7,13 @@ use Rattle.leaf_search.proofs.WindowLemmas.{IsSearching}
 use Rattle.leaf_search.proofs.tree.+search.Given as goal
 
 abbrev pub decreases-best_of : goal.decreases-best_of
-decreases-best_of l = 2 * (2 * l.depth + passing (cells l.board))
+decreases-best_of l = 2 * (2 * l.depth + passing (cells l.weighed.board))
 
 abbrev pub decreases-search_below : goal.decreases-search_below
-decreases-search_below l = 2 * (2 * l.depth + passing (cells l.board)) + 1
+decreases-search_below l = 2 * (2 * l.depth + passing (cells l.weighed.board)) + 1
 
 abbrev pub invariant-best_of-loop-choice : goal.invariant-best_of-loop-choice
-invariant-best_of-loop-choice l = IsSearching l.window.alpha l.window.beta (choice_value l.depth (cells l.board)) (choices (cells l.board)) l.left l.best.score l.best.choice
+invariant-best_of-loop-choice l = IsSearching l.window.alpha l.window.beta (choice_value l.depth (cells l.weighed.board)) (choices (cells l.weighed.board)) l.left l.best.score l.best.choice
 
 abbrev pub decreases-best_of-loop-choice : goal.decreases-best_of-loop-choice
 decreases-best_of-loop-choice l = length l.left

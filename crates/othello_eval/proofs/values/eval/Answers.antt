@@ -5,7 +5,4 @@ use Rattle.othello_eval.proofs.PlainLemmas.{same_bits, within_more}
 use Rattle.othello_eval.proofs.values.eval.Goals as goal
 
 pub returns-clause-value : goal.returns-clause-value
-returns-clause-value c =
-    same_bits c.eval_by_mobility.result (within_more c.eval_by_mobility.result c.eval_by_mobility.ensures.within)
-    ∙ c.eval_by_mobility.ensures.value
-    ∙ ap (λ b. eval (cells b)) c.of.ensures
+returns-clause-value c = same_bits c.eval.result (within_more c.eval.result c.eval.ensures.within) ∙ c.eval.ensures.value ∙ ap (λ b. eval (cells b)) c.of.ensures

@@ -208,6 +208,14 @@ fn a_job_is_done(rt: HostRuntime) -> Result<(), Fail> {
 /// How many bytes are taken before the hall is made, and given back once an admission was refused.
 const BALLAST: usize = 262_144;
 
+/// How many bytes more the next heap has.
+const UNIT: u32 = 32;
+
+/// How many bytes a place of a journal takes, and one for a long entry.
+const PLACE: u32 = 8;
+
+const LONG_PLACE: u32 = 48;
+
 /// What the hall shows of its first tenant and of its storage.
 fn look_at<A: Allocator>(hall: &Hall<A>) -> (Option<Left>, usize, u128, u64) {
     (
@@ -346,7 +354,7 @@ fn is_wanting_in<A: Allocator + Copy>(
 fn is_wanting_of(rt: &impl Abort, alloc: Global, units: usize, plan: &Plan) -> Option<bool>
     requires { units < 16384 }
 {
-    let heap = heap_of(rt, alloc, BALLAST + units * 32);
+    let heap = heap_of(rt, alloc, BALLAST + units * UNIT as usize);
     is_wanting(rt, &heap, plan)
 }
 
@@ -383,7 +391,8 @@ fn each_growth_of_an_admission_is_refused(rt: HostRuntime) {
         opening: opening(&rt),
         more: None,
     };
-    holds(&rt, refusals(&rt, rt.alloc(), &plan) > 786 * 2);
+    let journal = (16 + 770) * PLACE + (1 + 513) * LONG_PLACE;
+    holds(&rt, refusals(&rt, rt.alloc(), &plan) > journal / UNIT);
 }
 
 /// Each growth of a raise is refused in turn: those of the journal's two lists, and of the core's places.
@@ -394,7 +403,8 @@ fn each_growth_of_a_raise_is_refused(rt: HostRuntime) {
         opening: opening(&rt),
         more: Some(reserve_of(&rt, 2, 3)),
     };
-    holds(&rt, refusals(&rt, rt.alloc(), &plan) > 819 * 48 / 32);
+    let longs = (3 + 514) * LONG_PLACE;
+    holds(&rt, refusals(&rt, rt.alloc(), &plan) > longs / UNIT);
 }
 
 /// How many bytes of the heap a raise of one node takes beyond those that the journal gave back; 0 where no hall is
@@ -419,11 +429,13 @@ fn bytes_of_a_raise<A: Allocator + Copy>(
     heap.used().saturating_sub(before)
 }
 
-/// A journal grows by just the places of the nodes that came, and isn't doubled: 16 places of 8 and of 48
-/// bytes for a node, and one of each for the raise.
+/// A journal grows by just the places of the nodes that came, and isn't doubled: 16 places and a long one for a node,
+/// and one of each for the raise.
 #[test]
 fn one_node_more_takes_one_node(rt: HostRuntime) {
     let heap = heap_of(&rt, rt.alloc(), 1 << 23);
+    let node = (16 * PLACE + LONG_PLACE) as usize;
+    let raise = (PLACE + LONG_PLACE) as usize;
     let bytes = bytes_of_a_node(&rt, &heap, &heap);
-    holds(&rt, bytes >= 17 * 56 && bytes < 4096);
+    holds(&rt, bytes >= node + raise && bytes < 512);
 }

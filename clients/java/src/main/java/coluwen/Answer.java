@@ -13,17 +13,15 @@ import java.util.stream.Stream;
 
 /**
  * An answer of the server that fits its line, by the one grammar of answers (answers.py of the Python package states it in words;
- * clients/conformance.txt has the rows that the clients of all languages are tried by). {@code numbers}: of WELCOME, RESERVED, QUOTA, LIVE.
+ * clients/conformance.txt has the rows that the clients of all languages are tried by). {@code numbers}: of WELCOME, RESERVED, QUOTA, LIVE; {@code more}: what is behind the first of INFO.
  */
-record Answer(String state, int job, int value, String move, List<Entry> entries, List<Integer> numbers) {
+record Answer(String state, int job, int value, String move, List<Entry> entries, List<Integer> numbers, String more) {
   static final int LONGEST = 1115; // bytes of an answer, with its LF
 
   /** An entry of a table. */
   record Entry(String move, char sign, int value) {
     @Override
-    public String toString() {
-      return move + sign + value;
-    }
+    public String toString() { return move + sign + value; }
   }
 
   private static final String NUMBER = "(?:0|[1-9][0-9]{0,7})";
@@ -34,17 +32,16 @@ record Answer(String state, int job, int value, String move, List<Entry> entries
   private static final String JOB = " (?<job>" + NUMBER + ")";
   private static final String DONE = "(?<state>DONE)" + JOB + " (?<value>" + VALUE + ") (?<move>" + PLACE + "|-)";
   private static final String TWO = " (?<a>" + NUMBER + ") (?<b>" + NUMBER + ")";
-  private static final Map<String, Pattern> FORMS = Map.of(
-      "HELLO", Pattern.compile("(?<state>WELCOME)" + TWO), "RESERVE", Pattern.compile("(?<state>RESERVED)" + TWO),
-      "ASK", Pattern.compile("(?<state>JOB)" + JOB), "GET", Pattern.compile(DONE + "|" + ended("PENDING|SPENT|CANCELLED")),
-      "WAIT", Pattern.compile(DONE + "|" + ended("SPENT|CANCELLED")),
-      "TABLE", Pattern.compile("(?<state>TABLE)" + JOB + "(?<entries>(?: (?:" + PLACE + ")[=<>]" + VALUE + ")*)|" + ended("PENDING|SPENT|CANCELLED")),
-      "CANCEL", Pattern.compile("(?<state>CANCELLED)" + JOB), "QUOTA", Pattern.compile("(?<state>QUOTA)" + TWO + " (?<c>" + NUMBER + ")"),
-      "LIVE", Pattern.compile("(?<state>LIVE)" + TWO), "BYE", Pattern.compile("(?<state>BYE)"));
+  private static final Map<String, Pattern> FORMS = Map.ofEntries(
+      form("HELLO", "(?<state>WELCOME)" + TWO), form("RESERVE", "(?<state>RESERVED)" + TWO), form("ASK", "(?<state>JOB)" + JOB),
+      form("GET", DONE + "|" + ended("PENDING|SPENT|CANCELLED")), form("WAIT", DONE + "|" + ended("SPENT|CANCELLED")),
+      form("TABLE", "(?<state>TABLE)" + JOB + "(?<entries>(?: (?:" + PLACE + ")[=<>]" + VALUE + ")*)|" + ended("PENDING|SPENT|CANCELLED")),
+      form("CANCEL", "(?<state>CANCELLED)" + JOB), form("QUOTA", "(?<state>QUOTA)" + TWO + " (?<c>" + NUMBER + ")"),
+      form("LIVE", "(?<state>LIVE)" + TWO), form("INFO", "(?<state>INFO) (?<a>" + NUMBER + ")(?<more>(?: [!-~]+)*)"), form("BYE", "(?<state>BYE)"));
 
-  private static String ended(String states) {
-    return "(?<other>" + states + ") (?<otherJob>" + NUMBER + ")";
-  }
+  private static Map.Entry<String, Pattern> form(String word, String text) { return Map.entry(word, Pattern.compile(text)); }
+
+  private static String ended(String states) { return "(?<other>" + states + ") (?<otherJob>" + NUMBER + ")"; }
 
   /**
    * The answer to a line (both without LF), where so many jobs were asked before. {@code Refused} where it is an ERR, and {@code Broken}
@@ -69,7 +66,7 @@ record Answer(String state, int job, int value, String move, List<Entry> entries
     if ((again != null && !again.equals(given)) || moves.size() != entries.size() || tooGreat) throw misfit(line, text);
     var state = group(found, "state") != null ? group(found, "state") : group(found, "other");
     var move = group(found, "move") == null ? "" : group(found, "move");
-    return new Answer(state, job == null ? 0 : Integer.parseInt(job), value, move, entries, numbers.stream().map(Integer::valueOf).toList());
+    return new Answer(state, job == null ? 0 : Integer.parseInt(job), value, move, entries, numbers.stream().map(Integer::valueOf).toList(), group(found, "more"));
   }
 
   /** The words that must stand again in the answer: of ASK the next job's number; null where none must. */
@@ -77,7 +74,7 @@ record Answer(String state, int job, int value, String move, List<Entry> entries
     return switch (words.get(0)) {
       case "HELLO" -> words.subList(1, 3);
       case "ASK" -> List.of(String.valueOf(jobs + 1));
-      case "QUOTA", "LIVE", "BYE" -> null;
+      case "QUOTA", "LIVE", "INFO", "BYE" -> null;
       default -> words.subList(1, words.size());
     };
   }

@@ -1,315 +1,357 @@
 package coluwen;
 
 import coluwen.ColuwenException.Broken;
-import coluwen.ColuwenException.Refused;
-import coluwen.ColuwenException.Silent;
-import coluwen.ColuwenException.Stopped;
-import coluwen.ColuwenException.TooDeep;
-import coluwen.ColuwenException.Unreachable;
-import coluwen.Session.Outcome;
-import coluwen.Session.State;
 import java.io.IOException;
+import java.net.Socket;
+import java.net.URI;
 import java.net.UnknownHostException;
-import java.util.ArrayDeque;
-import java.util.Comparator;
+import java.nio.charset.StandardCharsets;
+import java.nio.file.Files;
+import java.nio.file.Path;
+import java.security.GeneralSecurityException;
+import java.security.KeyStore;
+import java.security.cert.CertificateFactory;
+import java.time.Duration;
+import java.util.ArrayList;
+import java.util.HashMap;
 import java.util.List;
 import java.util.Map;
 import java.util.concurrent.CompletableFuture;
-import java.util.concurrent.CompletionException;
-import java.util.concurrent.ConcurrentHashMap;
-import java.util.concurrent.ExecutorService;
-import java.util.concurrent.Executors;
-import java.util.function.BooleanSupplier;
+import java.util.concurrent.Future;
+import java.util.concurrent.ScheduledThreadPoolExecutor;
+import java.util.concurrent.TimeUnit;
 import java.util.function.Consumer;
+import java.util.function.DoubleConsumer;
+import javax.net.ssl.SSLContext;
 import javax.net.ssl.SSLException;
+import javax.net.ssl.TrustManagerFactory;
 
 /**
- * Values of positions from a server, by as many sessions as they need. Threads may share it.
+ * Values of positions from a server, by as many sessions as they need.
  *
  * <pre>{@code
- * try (var client = new Client()) {                              // the server of this host, 127.0.0.1:4711
+ * try (var client = Client.connect()) {                          // COLUWEN_URL, or othello://127.0.0.1:4711
  *   var result = client.analyse(Position.opening(), 6);
- *   System.out.println(result.score() + " " + result.best() + " " + result.table());
+ *   System.out.println(result.score() + " " + result.best().orElse("none") + " " + result.table());
  * }
  * }</pre>
+ *
+ * What there is to wait for it tells to the logger {@code coluwen} (and {@code onEvent}).
  */
-public final class Client implements AutoCloseable {
-  static final List<Integer> USED_UP = List.of(10, 11, 13); // ASK: this session takes no more jobs, and another one may
-  static final List<Integer> LATER = List.of(14, 19); // HELLO: it may come again
-  private static final int DEEPEST = 12;
-  // Mid-game positions, and how many nodes they take at most at a depth that is no more than a ply over the server's grain.
-  private static final List<String> PROBES = List.of("-O-------O-------OXOO---XOXXOO--OOXXOOO---OXO------OO----------- X",
-      "-----X-------XX---OOOXO---OXX----OOOOXO---OO--X--OXO------X----- X");
-  private static final int FEW_NODES = 50;
+public final class Client implements Analyst {
+  private static final System.Logger LOGGER = System.getLogger("coluwen");
 
-  /** So many segments and nodes. */
-  record Reservation(int segments, int nodes) {}
+  /** Something that is told: {@code opened}, {@code full}, {@code silent} or {@code lost}. */
+  public record Event(String name, Object detail) {}
 
-  // What is reserved where nobody says it: by the first session, and at most; between them RESERVE raises.
-  private static final List<Reservation> LEVELS = List.of(new Reservation(256, 8192), new Reservation(1024, 65536));
-  private static final List<Reservation> RAISED = List.of(new Reservation(512, 16384), new Reservation(1024, 32768), LEVELS.get(1));
+  private final Builder options;
+  private final Core core;
+  private final Map<Core.Seat, Socket> sockets = new HashMap<>();
+  private final Map<Core.Question, Consumer<Core.Question>> waiting = new HashMap<>();
+  private final ScheduledThreadPoolExecutor clock = new ScheduledThreadPoolExecutor(1, task -> daemon(task, "coluwen-clock"));
+  private final long origin = System.nanoTime();
+  private Future<?> alarm;
 
-  /**
-   * How a server is spoken to. In seconds: {@code patience}, for how long a server that is full is asked again; {@code silence}, after
-   * what time one that can't be reached or says nothing is given up; {@code timeout}, how long a job may take (0 for no limit).
-   * {@code sessions}: how many are used at once. {@code segments} and {@code nodes}: 0 where the client chooses what to reserve.
-   */
-  public record Options(String host, int port, boolean secure, String token, int sessions, double patience, double silence, double timeout,
-      int segments, int nodes, Consumer<String> tell) {
-    public static Options of(String host, int port) {
-      return new Options(host, port, false, null, 4, 30, 1.5, 0, 0, 0, text -> {});
-    }
-  }
-
-  /** How deep a server looks at mid-game positions: {@code sure} plies at each, {@code mostly} at most of them. */
-  public record Depths(int grain, int sure, int mostly) {}
-
-  final Options options;
-  final List<Reservation> levels;
-  private final Session.Place place;
-  private final Map<Integer, Integer> needs = new ConcurrentHashMap<>(); // of a depth the level that its last job needed
-  private final ArrayDeque<Session> idle = new ArrayDeque<>();
-  private final ExecutorService workers;
-  private Depths depths;
-
-  public Client() {
-    this(Options.of("127.0.0.1", 4711));
-  }
-
-  public Client(Options options) {
+  private Client(Builder options) {
     this.options = options;
-    place = new Session.Place(options.host(), options.port(), options.secure(), options.token());
-    var most = LEVELS.get(1);
-    levels = isFree() ? LEVELS : List.of(new Reservation(options.segments() > 0 ? options.segments() : most.segments(), options.nodes() > 0 ? options.nodes() : most.nodes()));
-    workers = Executors.newFixedThreadPool(Math.max(options.sessions(), 1), task -> {
-      var thread = new Thread(task, "coluwen");
-      thread.setDaemon(true);
-      return thread;
-    });
+    var isFree = options.segments == 0 && options.nodes == 0;
+    var most = Core.LEVELS.get(1);
+    var levels = isFree ? Core.LEVELS : List.of(new Core.Reservation(options.segments > 0 ? options.segments : most.segments(), options.nodes > 0 ? options.nodes : most.nodes()));
+    core = new Core(new Core.Limits(levels, isFree, options.token, options.sessions, options.ahead, options.patience.toMillis(), options.silence.toMillis(), options.outage.toMillis()));
+    clock.setRemoveOnCancelPolicy(true);
   }
 
-  boolean isFree() {
-    return options.segments() == 0 && options.nodes() == 0;
-  }
+  /** How a server is spoken to; each has a default. */
+  public static final class Builder {
+    private String host = "127.0.0.1";
+    private int port = 4711;
+    private SSLContext tls;
+    private String token;
+    private int sessions = 4;
+    private int ahead = 1;
+    private Duration silence = Duration.ofMillis(1500);
+    private Duration outage = Duration.ofMinutes(2);
+    private Duration patience = Duration.ofSeconds(30);
+    private Duration timeout;
+    private int segments;
+    private int nodes;
+    private Consumer<Event> onEvent = event -> {};
 
-  /**
-   * A session. Where the server is full for now it is asked again for {@code patience}; where it can't be reached or says nothing,
-   * until it has been silent for as long as {@code silence} says.
-   */
-  Session open(int level, BooleanSupplier stop) throws InterruptedException {
-    var silence = (int) (1000 * options.silence());
-    var begun = System.nanoTime();
-    var heard = begun;
-    for (boolean told = false; ; Thread.sleep(100)) {
-      try {
-        var left = (int) Math.max(silence - Session.since(heard), 50);
-        var session = new Session(place, levels.get(level).segments(), levels.get(level).nodes(), left);
-        session.silence(silence);
-        return session;
-      } catch (Refused refusal) { // so the server is there: it has all its time again
-        heard = System.nanoTime();
-        if (!LATER.contains(refusal.number()) || Session.since(begun) > 1000 * options.patience()) throw refusal;
-        if (!told && Session.since(begun) > 1000) {
-          options.tell().accept(refusal.getMessage() + "; it is asked again for " + options.patience() + " s");
-          told = true;
-        }
-      } catch (UnknownHostException fault) {
-        throw unreachable("there is no such host", fault);
-      } catch (IOException | Broken | Silent fault) {
-        if (fault instanceof SSLException || Session.since(heard) > silence * 0.8) throw unreachable(fault.getMessage(), fault);
+    private Builder() {}
+
+    private static int within(String name, int least, int value, int most) {
+      if (value < least || value > most) throw new IllegalArgumentException(name + " is a number from " + least + " to " + most + ", and not " + value);
+      return value;
+    }
+
+    private static Duration positive(String name, Duration value) {
+      if (value.isNegative() || value.isZero()) throw new IllegalArgumentException(name + " is more than nothing, and not " + value);
+      return value;
+    }
+
+    public Builder host(String value) { host = value; return this; }
+    public Builder port(int value) { port = within("port", 1, value, 65535); return this; }
+
+    /** TLS, by the authorities of this context; the certificate must be the host's. Null for none. */
+    public Builder tls(SSLContext value) { tls = value; return this; }
+
+    /** A customer's of a site. */
+    public Builder token(String value) {
+      if (!value.matches("[!-~]{1,64}")) throw new IllegalArgumentException("a token has 1 to 64 letters, digits and signs");
+      token = value;
+      return this;
+    }
+
+    /** How many sessions are used at once (4). */
+    public Builder sessions(int value) { sessions = within("sessions", 1, value, 64); return this; }
+
+    /** How many questions a session has at once (1). */
+    public Builder ahead(int value) { ahead = within("ahead", 1, value, 256); return this; }
+
+    /** After what time a server that says nothing is given up (1.5 s). */
+    public Builder silence(Duration value) { silence = positive("silence", value); return this; }
+
+    /** For how long a server that was heard before is asked again then, by new sessions (2 min). */
+    public Builder outage(Duration value) { outage = value; return this; }
+
+    /** For how long a server that is full is asked again (30 s). */
+    public Builder patience(Duration value) { patience = value; return this; }
+
+    /** How long a job may take (no limit). */
+    public Builder timeout(Duration value) { timeout = positive("timeout", value); return this; }
+
+    /** What each session reserves, where the client isn't to choose it. */
+    public Builder segments(int value) { segments = within("segments", 1, value, 4096); return this; }
+
+    public Builder nodes(int value) { nodes = within("nodes", 1, value, 65536); return this; }
+
+    /** Who hears what there is to wait for. */
+    public Builder onEvent(Consumer<Event> value) { onEvent = value; return this; }
+
+    public Client build() { return new Client(this); }
+
+    private void set(String name, String value) throws IOException, GeneralSecurityException {
+      switch (name) {
+        case "tls" -> tls(value.isEmpty() || value.equals("0") ? null : value.equals("1") ? SSLContext.getDefault() : trusting(Path.of(value)));
+        case "token" -> token(Files.readString(Path.of(value)).strip());
+        case "sessions" -> sessions(Integer.parseInt(value));
+        case "ahead" -> ahead(Integer.parseInt(value));
+        case "segments" -> segments(Integer.parseInt(value));
+        case "nodes" -> nodes(Integer.parseInt(value));
+        case "silence" -> silence(seconds(value));
+        case "outage" -> outage(seconds(value));
+        case "patience" -> patience(seconds(value));
+        case "timeout" -> timeout(seconds(value));
+        default -> throw new IllegalArgumentException("there is no option " + name);
       }
-      if (stop.getAsBoolean()) throw new Stopped();
+    }
+
+    private static Duration seconds(String value) { return Duration.ofMillis(Math.round(1000 * Double.parseDouble(value))); }
+
+    /** TLS by a file of authorities. */
+    private static SSLContext trusting(Path authorities) throws IOException, GeneralSecurityException {
+      var store = KeyStore.getInstance(KeyStore.getDefaultType());
+      store.load(null, null);
+      try (var file = Files.newInputStream(authorities)) {
+        for (var each : CertificateFactory.getInstance("X.509").generateCertificates(file)) store.setCertificateEntry("authority " + store.size(), each);
+      }
+      var trust = TrustManagerFactory.getInstance(TrustManagerFactory.getDefaultAlgorithm());
+      trust.init(store);
+      var found = SSLContext.getInstance("TLS");
+      found.init(null, trust.getTrustManagers(), null);
+      return found;
     }
   }
 
-  Unreachable unreachable(String text, Throwable cause) {
-    return new Unreachable(options.host() + ":" + options.port() + ": " + text, cause);
+  public static Builder builder() { return new Builder(); }
+
+  /** A client of the server that COLUWEN_URL names, or of this host's. */
+  public static Client connect() {
+    var address = System.getenv("COLUWEN_URL");
+    return address == null || address.isEmpty() ? builder().build() : connect(address);
   }
 
   /**
-   * The score of a position, so many plies deep (0 to 12), its best move and its table. {@code TooDeep} where the server's grain doesn't
-   * let it through, and says what does; {@code Late} after the {@code timeout}; {@code Refused} tells a fault of the depth.
+   * A client of the server that an address names: {@code othello://host:port}, and behind a question mark {@code tls} (1, or a file of authorities), {@code token} (a file
+   * that has it), or any other option by its name, times in seconds.
    */
-  public Result analyse(Position position, int depth) {
-    return analyse(position, depth, () -> false);
+  public static Client connect(String address) { return at(address).build(); }
+
+  /** The same to be built, with other options. */
+  public static Builder at(String address) {
+    try {
+      var uri = URI.create(address);
+      var isBare = uri.getPath().isEmpty() || uri.getPath().equals("/");
+      if (!"othello".equals(uri.getScheme()) || uri.getHost() == null || !isBare || uri.getUserInfo() != null) throw new IllegalArgumentException("it isn't of that form");
+      var found = builder().host(uri.getHost().replaceAll("^\\[|\\]$", ""));
+      if (uri.getPort() >= 0) found.port(uri.getPort());
+      for (var word : uri.getQuery() == null ? new String[0] : uri.getQuery().split("&")) found.set(word.replaceAll("=.*", ""), word.substring(word.indexOf('=') + 1));
+      return found;
+    } catch (IllegalArgumentException | NullPointerException | IOException | GeneralSecurityException fault) {
+      throw new IllegalArgumentException(address + " is no address, othello://host:port?tls=1: " + fault.getMessage(), fault);
+    }
   }
 
-  private Result analyse(Position position, int depth, BooleanSupplier stop) {
+  @Override
+  public Duration timeout() { return options.timeout; }
+
+  @Override
+  public int window() { return 64 * options.sessions; }
+
+  @Override
+  public CompletableFuture<Result> analyseAsync(Position position, int depth, Duration timeout) {
+    if (depth < 0 || depth > Core.DEEPEST) throw new IllegalArgumentException("a depth is a number from 0 to " + Core.DEEPEST + ", and not " + depth);
     var begun = System.nanoTime();
-    var found = spentOrDone(position, depth, stop);
-    if (found.state.outcome() == Outcome.SPENT) throw new TooDeep(depth, greatest(position, depth, stop));
-    var ends = depth >= position.empties();
-    var table = found.table.stream().map(entry -> new Entry(entry.move(), new Score(entry.value(), entry.sign(), ends))).toList();
-    return new Result(position, depth, new Score(found.state.value(), '=', ends), found.state.move(), table, Session.since(begun) / 1000.0);
+    var question = new Core.Question(Core.Kind.JOB, position.text(), depth, timeout == null ? 0 : Math.max(timeout.toNanos() / 1e6, 0.001));
+    return asked(question, done -> resultOf(position, depth, done, Duration.ofNanos(System.nanoTime() - begun)));
   }
 
-  /** The same by a thread of the client. Where the future is cancelled, so is the job. */
-  public CompletableFuture<Result> analyseAsync(Position position, int depth) {
-    var future = new CompletableFuture<Result>();
-    workers.execute(() -> {
-      try {
-        if (!future.isDone()) future.complete(analyse(position, depth, future::isDone));
-      } catch (Throwable fault) {
-        future.completeExceptionally(fault);
-      }
+  private static Result resultOf(Position position, int depth, Core.Question found, Duration taken) {
+    var ends = depth >= position.empties();
+    var table = found.entries.stream().map(entry -> new Entry(entry.move(), new Score(entry.value(), entry.sign(), ends, position.side()))).toList();
+    var best = java.util.Optional.of(found.done.move()).filter(move -> !move.equals("-"));
+    return new Result(position, depth, new Score(found.done.value(), '=', ends, position.side()), best, table, taken);
+  }
+
+  @Override
+  public Info info() { return joined(asked(new Core.Question(Core.Kind.INFO, "", 0, 0), done -> done.info)); }
+
+  @Override
+  public Duration ping() {
+    return joined(asked(new Core.Question(Core.Kind.PING, "", 0, 0), done -> Duration.ofNanos((long) (1e6 * done.milliseconds))));
+  }
+
+  private static <T> T joined(CompletableFuture<T> future) {
+    try {
+      return future.join();
+    } catch (java.util.concurrent.CompletionException fault) {
+      throw fault.getCause() instanceof RuntimeException known ? known : fault;
+    }
+  }
+
+  private <T> CompletableFuture<T> asked(Core.Question question, java.util.function.Function<Core.Question, T> resultOf) {
+    var future = new CompletableFuture<T>();
+    try {
+      act(now -> {
+        core.ask(question, now);
+        waiting.put(question, done -> {
+          if (done.fault != null) future.completeExceptionally(done.fault);
+          else future.complete(resultOf.apply(done));
+        });
+      });
+    } catch (ColuwenException.Closed fault) {
+      return CompletableFuture.failedFuture(fault);
+    }
+    future.whenComplete((result, fault) -> {
+      if (future.isCancelled()) act(now -> core.drop(question, new ColuwenException.Stopped(), now));
     });
     return future;
   }
 
-  /** Each move's value exactly, the best first: one ask for each of the positions that they lead to, so many at once as sessions. */
-  public List<Entry> analyseAll(Position position, int depth) {
-    if (depth < 1) throw new IllegalArgumentException("moves are looked at from depth 1 on");
-    var ends = depth >= position.empties();
-    var moves = position.legalMoves();
-    var found = moves.stream().map(move -> analyseAsync(position.play(move), move.equals(Position.PASS) ? depth : depth - 1)).toList();
-    try {
-      return java.util.stream.IntStream.range(0, moves.size())
-          .mapToObj(at -> new Entry(moves.get(at), new Score(-found.get(at).join().score().value(), '=', ends)))
-          .sorted(Comparator.comparingInt(entry -> -entry.score().value())).toList();
-    } catch (CompletionException fault) {
-      throw fault.getCause() instanceof ColuwenException known ? known : fault;
-    } finally {
-      found.forEach(future -> future.cancel(true));
-    }
-  }
-
-  /** How deep this server looks at mid-game positions, found out once. */
-  public synchronized Depths depths() {
-    if (depths == null) {
-      var grain = PROBES.stream().mapToInt(this::grainBy).min().orElse(0);
-      depths = new Depths(grain, Math.min(grain + 4, DEEPEST), Math.min(grain + 5, DEEPEST));
-    }
-    return depths;
-  }
-
-  private int grainBy(String probe) {
-    try (var session = open(0, () -> false)) {
-      for (int depth = 2; depth < 9; depth++) {
-        var before = session.quota().get(1);
-        session.poll(session.ask(depth, Position.parse(probe)), 0);
-        if (before - session.quota().get(1) > FEW_NODES) return depth - 2;
-      }
-      return 6;
-    } catch (IOException fault) {
-      throw unreachable(fault.getMessage(), fault);
-    } catch (InterruptedException fault) {
-      throw interrupted();
-    }
-  }
-
-  /** The greatest depth less than this one that a position can be searched to. */
-  int greatest(Position position, int depth, BooleanSupplier stop) {
-    for (int less = depth - 1; less > 0; less--) if (spentOrDone(position, less, stop).state.outcome() != Outcome.SPENT) return less;
-    return 0;
-  }
-
-  private static Stopped interrupted() {
-    Thread.currentThread().interrupt();
-    return new Stopped();
-  }
-
-  /** How a job ended, and the table of one that is done. */
-  private record Found(State state, List<Answer.Entry> table) {}
-
-  private Found spentOrDone(Position position, int depth, BooleanSupplier stop) {
-    int level = needs.getOrDefault(depth, 0);
-    var fresh = false;
-    for (int losses = 0; ; ) {
-      Session session = null;
-      try {
-        session = taken(level, fresh, stop);
-        var job = asked(session, depth + " " + position.text());
-        if (job == 0) {
-          fresh = true;
-          session.close();
-          continue;
-        }
-        var found = session.poll(job, options.timeout(), stop);
-        if (found.outcome() != Outcome.SPENT || (session.jobs() == 1 && level == levels.size() - 1)) {
-          needs.put(depth, level);
-          return new Found(found, found.outcome() == Outcome.DONE ? session.table(job) : List.of());
-        }
-        session.close();
-        level = Math.min(level + 1, levels.size() - 1);
-        fresh = true;
-      } catch (IOException | Broken | Silent fault) {
-        if (session != null) session.close();
-        fresh = true; // other idle ones may be lost too
-        if (++losses > 3 || fault instanceof Silent) throw unreachable(fault.getMessage(), fault);
-      } catch (InterruptedException fault) {
-        if (session != null) session.close();
-        throw interrupted();
-      } finally {
-        if (session != null) kept(session);
-      }
-    }
-  }
-
-  private Session taken(int level, boolean fresh, BooleanSupplier stop) throws InterruptedException {
-    synchronized (idle) {
-      for (var session : idle) {
-        if (!fresh && session.nodes() >= levels.get(level).nodes()) {
-          idle.remove(session);
-          return session;
-        }
-      }
-    }
-    return open(level, stop);
-  }
-
-  private void kept(Session session) {
-    if (session.isBroken() || session.jobs() >= 256) {
-      session.close();
-      return;
-    }
-    Session old;
-    synchronized (idle) {
-      idle.addFirst(session);
-      old = idle.size() > Math.max(options.sessions(), 1) ? idle.removeLast() : null;
-    }
-    if (old != null) old.close();
-  }
-
-  /** The job of a line, for which more is reserved where nothing is left; 0 where the session takes no more. */
-  int asked(Session session, String line) throws IOException {
-    while (true) {
-      try {
-        return session.ask(line);
-      } catch (Refused refusal) {
-        if (!USED_UP.contains(refusal.number()) || session.jobs() == 0) throw refusal;
-        var more = RAISED.stream().filter(step -> step.nodes() > session.nodes()).findFirst();
-        if (!isFree() || refusal.number() == 13 || more.isEmpty()) return 0;
-        try {
-          session.reserve(Math.max(more.get().segments(), session.segments()), more.get().nodes());
-        } catch (Refused full) {
-          return 0;
-        }
-      }
-    }
-  }
-
-  /** The level of the reservations that a depth's last job needed. */
-  int levelOf(String depth) {
-    return depth.matches("\\d{1,2}") ? needs.getOrDefault(Integer.valueOf(depth), 0) : 0;
-  }
-
-  void needed(String depth, int level) {
-    needs.put(Integer.valueOf(depth), level);
-  }
-
-  /** Which server has a depth, in words. */
-  static String grainFor(int depth) {
-    if (depth - 4 <= 6) return "a server of --grain " + Math.max(depth - 4, 0) + " has it";
-    return depth - 5 <= 6 ? "a server of --grain " + (depth - 5) + " has it mostly" : "no server has it but near the end of a game";
-  }
-
-  /** Ends the sessions that are kept. */
+  /** Ends the sessions. Calls that wait, and later ones, are {@code Closed}. */
   @Override
   public void close() {
-    workers.shutdown();
-    synchronized (idle) {
-      idle.forEach(Session::close);
-      idle.clear();
+    act(core::end);
+    synchronized (core) {
+      try {
+        while (!core.isEmpty()) core.wait();
+      } catch (InterruptedException fault) {
+        Thread.currentThread().interrupt();
+      }
+      clock.shutdownNow();
     }
+  }
+
+  /** Tells the core something, and does what it says; what is told to others is so once the core is free. */
+  private void act(DoubleConsumer step) {
+    var later = new ArrayList<Runnable>();
+    synchronized (core) {
+      try {
+        step.accept(now());
+      } finally {
+        for (var todo = core.take(); !todo.isEmpty(); todo = core.take()) todo.forEach(action -> perform(action, later));
+        if (alarm != null) alarm.cancel(false);
+        var wait = (long) (1e6 * (core.next() - now()));
+        if (core.next() < Double.POSITIVE_INFINITY && !clock.isShutdown()) alarm = clock.schedule(() -> act(core::passed), Math.max(wait, 0), TimeUnit.NANOSECONDS);
+        core.notifyAll();
+      }
+    }
+    if (!later.isEmpty()) CompletableFuture.runAsync(() -> later.forEach(Runnable::run));
+  }
+
+  private double now() { return (System.nanoTime() - origin) / 1e6; }
+
+  private void perform(Core.Action action, List<Runnable> later) {
+    switch (action.what()) {
+      case OPEN -> daemon(() -> serve(action.seat()), "coluwen-session").start();
+      case SEND -> write(action.seat(), action.text());
+      case CLOSE -> shut(sockets.remove(action.seat()));
+      case TELL -> later.add(() -> tell(new Event(action.text(), action.detail())));
+      case SETTLED -> {
+        var question = (Core.Question) action.detail();
+        var heard = waiting.remove(question);
+        if (heard != null) later.add(() -> heard.accept(question));
+      }
+    }
+  }
+
+  private void tell(Event event) {
+    LOGGER.log(event.name().equals("opened") ? System.Logger.Level.DEBUG : System.Logger.Level.INFO, () -> options.host + ":" + options.port + ": " + event.name() + ": "
+        + (event.detail() instanceof Throwable fault ? fault.getMessage() : event.detail()));
+    try {
+      options.onEvent.accept(event);
+    } catch (RuntimeException fault) {
+      LOGGER.log(System.Logger.Level.WARNING, "who hears events is at fault", fault);
+    }
+  }
+
+  private static Thread daemon(Runnable task, String name) {
+    var thread = new Thread(task, name);
+    thread.setDaemon(true);
+    return thread;
+  }
+
+  private void write(Core.Seat seat, String bytes) {
+    try {
+      sockets.get(seat).getOutputStream().write(bytes.getBytes(StandardCharsets.ISO_8859_1));
+    } catch (IOException fault) {
+      shut(sockets.get(seat)); // its reader tells that it is lost
+    }
+  }
+
+  private static void shut(Socket socket) {
+    try {
+      if (socket != null) socket.close();
+    } catch (IOException fault) {
+      // it is of no use any more
+    }
+  }
+
+  /** A session's thread: connects, and reads until the connection ends. */
+  private void serve(Core.Seat seat) {
+    try (var socket = Session.connected(options.host, options.port, options.tls, (int) Math.min(seat.silence(), Integer.MAX_VALUE))) {
+      act(now -> {
+        if (!core.isOpen(seat)) return;
+        sockets.put(seat, socket);
+        core.opened(seat, now);
+      });
+      synchronized (core) {
+        if (!core.isOpen(seat)) return; // it came too late
+      }
+      var block = new byte[2 * Answer.LONGEST];
+      for (int count = socket.getInputStream().read(block); count >= 0; count = socket.getInputStream().read(block)) {
+        var bytes = new String(block, 0, count, StandardCharsets.ISO_8859_1);
+        act(now -> core.received(seat, bytes, now));
+      }
+      lost(seat, "the server ended the session", false);
+    } catch (UnknownHostException fault) {
+      lost(seat, "there is no such host", true);
+    } catch (IOException fault) {
+      lost(seat, fault.getMessage(), fault instanceof SSLException);
+    }
+  }
+
+  private void lost(Core.Seat seat, String why, boolean isFinal) {
+    act(now -> core.lost(seat, new Broken(options.host + ":" + options.port + ": " + why), isFinal, now));
   }
 }

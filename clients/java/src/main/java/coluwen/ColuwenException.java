@@ -2,10 +2,9 @@ package coluwen;
 
 import java.util.Map;
 
-/** What can go wrong, each by a class of its own. */
+/** What can go wrong, each by a class of its own. A wrong argument is an {@code IllegalArgumentException}, before anything is sent. */
+@SuppressWarnings("serial")
 public class ColuwenException extends RuntimeException {
-  private static final long serialVersionUID = 1;
-
   /** What the numbers of {@code ERR} say. */
   public static final Map<Integer, String> FAULTS = Map.ofEntries(
       Map.entry(10, "no segment is left"), Map.entry(11, "no node is left"), Map.entry(13, "256 jobs were asked"),
@@ -15,15 +14,13 @@ public class ColuwenException extends RuntimeException {
       Map.entry(22, "the line is too long"), Map.entry(23, "not a number, or outside the limits"),
       Map.entry(24, "the position hasn't 66 bytes"), Map.entry(25, "a byte of the position spells no cell"),
       Map.entry(26, "no space and side follow the cells"), Map.entry(27, "the depth is over 12"),
-      Map.entry(28, "no HELLO yet"), Map.entry(29, "HELLO again"));
+      Map.entry(28, "no HELLO yet"), Map.entry(29, "HELLO again"), Map.entry(30, "nobody has this token"),
+      Map.entry(31, "too many lines in a time"));
 
-  ColuwenException(String text, Throwable cause) {
-    super(text, cause);
-  }
+  ColuwenException(String text, Throwable cause) { super(text, cause); }
 
   /** The server answered {@code ERR number}. The session goes on. */
   public static final class Refused extends ColuwenException {
-    private static final long serialVersionUID = 1;
     private final int number;
 
     Refused(int number) {
@@ -31,83 +28,60 @@ public class ColuwenException extends RuntimeException {
       this.number = number;
     }
 
-    public int number() {
-      return number;
-    }
+    public int number() { return number; }
   }
 
   /** The server can't be reached, or was lost. */
   public static final class Unreachable extends ColuwenException {
-    private static final long serialVersionUID = 1;
-
-    Unreachable(String text, Throwable cause) {
-      super(text, cause);
-    }
+    Unreachable(String text, Throwable cause) { super(text, cause); }
   }
 
   /** What this session would read next isn't known to be the answer to what it asks: a new session is needed. */
   public static final class Broken extends ColuwenException {
-    private static final long serialVersionUID = 1;
-
-    Broken(String text) {
-      super(text, null);
-    }
+    Broken(String text) { super(text, null); }
   }
 
   /** The server didn't answer in time what it answers at once: a new session is needed. */
   public static final class Silent extends ColuwenException {
-    private static final long serialVersionUID = 1;
-
-    Silent(String text) {
-      super(text, null);
-    }
+    Silent(String text) { super(text, null); }
   }
 
   /** A job took longer than it was given, and was cancelled. The session goes on. */
   public static final class Late extends ColuwenException {
-    private static final long serialVersionUID = 1;
+    Late(String text) { super(text, null); }
+  }
 
-    Late(String text) {
-      super(text, null);
-    }
+  /** The client or the session was closed: nothing more is sent. */
+  public static final class Closed extends ColuwenException {
+    Closed(String what) { super("this " + what + " is closed", null); }
   }
 
   /** A job was cancelled, since nobody wants its result any more. */
   public static final class Stopped extends ColuwenException {
-    private static final long serialVersionUID = 1;
-
-    Stopped() {
-      super("it was stopped", null);
-    }
+    Stopped() { super("it was stopped", null); }
   }
 
-  /** A position can't be searched so deep at the server's grain; {@code greatest} is the greatest depth that can be had of it. */
+  /**
+   * A position can't be searched so deep at the server's grain; {@code greatest} is a depth that can be had of each position, 0 where
+   * nothing is known of less.
+   */
   public static final class TooDeep extends ColuwenException {
-    private static final long serialVersionUID = 1;
     private final int depth;
     private final int greatest;
 
     TooDeep(int depth, int greatest) {
-      super("depth " + depth + " can't be had at this server's grain; the greatest that can is " + greatest, null);
+      super("depth " + depth + " can't be had at this server's grain; depth " + greatest + " can", null);
       this.depth = depth;
       this.greatest = greatest;
     }
 
-    public int depth() {
-      return depth;
-    }
+    public int depth() { return depth; }
 
-    public int greatest() {
-      return greatest;
-    }
+    public int greatest() { return greatest; }
   }
 
-  /** A move that the rules don't allow at its position, or a text that is no position. */
+  /** A move that the rules don't allow at its position. A text that is no position is an {@code IllegalArgumentException}. */
   public static final class IllegalMove extends ColuwenException {
-    private static final long serialVersionUID = 1;
-
-    IllegalMove(String text) {
-      super(text, null);
-    }
+    IllegalMove(String text) { super(text, null); }
   }
 }

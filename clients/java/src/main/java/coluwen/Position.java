@@ -16,36 +16,26 @@ public record Position(String cells, char side) {
   private static final String START = "-".repeat(27) + "OX" + "-".repeat(6) + "XO" + "-".repeat(27);
 
   public Position {
-    if (!cells.matches("[XO-]{64}") || (side != 'X' && side != 'O')) throw new IllegalMove(cells + " and " + side + " are no position");
+    if (!cells.matches("[XO-]{64}") || (side != 'X' && side != 'O')) throw new IllegalArgumentException(cells + " and " + side + " are no position");
   }
 
-  public static Position opening() {
-    return new Position(START, 'X');
-  }
+  public static Position opening() { return new Position(START, 'X'); }
 
   /** The position of a text of 66 letters: X, x or * is black, O or o white, - or . empty. */
   public static Position parse(String text) {
     var found = text.replaceAll("\\s", "").replace('x', 'X').replace('*', 'X').replace('o', 'O').replace('.', '-');
-    if (!found.matches("[XO-]{64}[XO]")) throw new IllegalMove(text + " is no position: 64 cells, a space, and the side to move");
+    if (!found.matches("[XO-]{64}[XO]")) throw new IllegalArgumentException(text + " is no position: 64 cells, a space, and the side to move");
     return new Position(found.substring(0, 64), found.charAt(64));
   }
 
-  public String text() {
-    return cells + " " + side;
-  }
+  public String text() { return cells + " " + side; }
 
   @Override
-  public String toString() {
-    return text();
-  }
+  public String toString() { return text(); }
 
-  public int empties() {
-    return (int) cells.chars().filter(cell -> cell == '-').count();
-  }
+  public int empties() { return (int) cells.chars().filter(cell -> cell == '-').count(); }
 
-  private static char other(char side) {
-    return side == 'X' ? 'O' : 'X';
-  }
+  private static char other(char side) { return side == 'X' ? 'O' : 'X'; }
 
   /** The squares (0 to 63) whose discs a move of the side flips. */
   private static List<Integer> flips(String cells, char side, int square) {
@@ -76,9 +66,7 @@ public record Position(String cells, char side) {
     return !found.isEmpty() || squares(cells, other(side)).isEmpty() ? found : List.of(PASS);
   }
 
-  public boolean isOver() {
-    return legalMoves().isEmpty();
-  }
+  public boolean isOver() { return legalMoves().isEmpty(); }
 
   /** The position after a move; {@code IllegalMove} where the rules don't allow it. */
   public Position play(String move) {
@@ -93,9 +81,7 @@ public record Position(String cells, char side) {
   }
 
   /** The same with the colours exchanged. */
-  public Position flip() {
-    return new Position(cells.replace('X', '?').replace('O', 'X').replace('?', 'O'), other(side));
-  }
+  public Position flip() { return new Position(cells.replace('X', '?').replace('O', 'X').replace('?', 'O'), other(side)); }
 
   /** The board for a terminal, with what {@code marks} has for its empty squares; a pass stands below it. */
   public String drawn(Map<String, String> marks) {

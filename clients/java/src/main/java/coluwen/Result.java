@@ -1,9 +1,11 @@
 package coluwen;
 
+import java.time.Duration;
 import java.util.List;
+import java.util.Optional;
 
 /**
- * What a search found: the score of the position, its first best move ({@code -} at depth 0 and in a finished game), and what is known
- * of each move in the order in which they were tried: the best one's value exactly, of most others a bound.
+ * What a search found: the score of the position, its first best move (none at depth 0 and in a finished game), and what is known of each
+ * move in the order in which they were tried: the best one's value exactly, of most others a bound.
  */
-public record Result(Position position, int depth, Score score, String best, List<Entry> table, double seconds) {}
+public record Result(Position position, int depth, Score score, Optional<String> best, List<Entry> table, Duration taken) {}

@@ -14,10 +14,10 @@ import java.util.List;
 import java.util.regex.Pattern;
 import org.junit.jupiter.api.Test;
 
-/** The rows of clients/conformance.txt, as the clients of the other languages have them too. The property `conformance` names the file. */
+/** The rows of clients/conformance.txt, as the clients of the other languages have them too. The property `clients` names its folder. */
 class ConformanceTest {
   private static List<List<String>> rows(String kind) throws IOException {
-    var file = Path.of(System.getProperty("conformance", "../conformance.txt"));
+    var file = Path.of(System.getProperty("clients", ".."), "conformance.txt");
     var found = Files.readAllLines(file).stream().map(line -> Arrays.asList(line.split("\t", -1))).filter(row -> row.get(0).equals(kind)).map(row -> row.subList(1, row.size())).toList();
     assertTrue(found.size() > 10);
     return found;
@@ -35,7 +35,7 @@ class ConformanceTest {
       String found;
       try {
         var text = spelled(row.get(2));
-        if (!text.endsWith("\n")) throw new Broken("no LF"); // a session's reader gives `parse` nothing then: UseTest
+        if (!text.endsWith("\n")) throw new Broken("no LF"); // a session's reader gives `parse` nothing then: BehaviourTest
         found = Answer.parse(row.get(1), text.substring(0, text.length() - 1), Integer.parseInt(row.get(0))).words();
       } catch (Refused fault) {
         found = "REFUSED " + fault.number();
@@ -62,6 +62,6 @@ class ConformanceTest {
 
   @Test
   void scores() throws IOException {
-    for (var row : rows("score")) assertEquals(row.get(3), new Score(Integer.parseInt(row.get(0)), row.get(1).charAt(0), row.get(2).equals("1")).toString());
+    for (var row : rows("score")) assertEquals(row.get(3), new Score(Integer.parseInt(row.get(0)), row.get(1).charAt(0), row.get(2).equals("1"), 'X').toString());
   }
 }

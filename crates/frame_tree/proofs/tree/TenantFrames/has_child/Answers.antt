@@ -22,4 +22,4 @@ returns-in-None-clause-child g c =
 
 pub returns-in-None-clause-leaf : goal.returns-in-None-clause-leaf
 returns-in-None-clause-leaf g c =
-    rw (← c.self.view_is) (no_counted_leaf c.self.inside.store.slots (length c.self.inside.ready.list) c.args.serial c.self.invariant.sound c.in-None.ensures.none)
+    rw (← c.self.view_is) (λ _. no_counted_leaf c.self.inside.store.slots (length c.self.inside.ready.list) c.args.serial c.self.invariant.sound c.in-None.ensures.none)

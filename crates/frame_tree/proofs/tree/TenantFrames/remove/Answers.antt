@@ -49,7 +49,7 @@ invariant_of-self g c =
     let leaf = rw (← c.self.view_is) at c.requires.leaf in
     let gone = ready_in-remove slots c.known_place-at.result c.args.serial c.take-slot.result (linked_rises [] slots c.self.invariant.sound.linked) place.within place.found c.take-slot.ensures.value in
     rw (c.take-slot.ensures.left, c.leave.ensures, c.remove.ensures.left) (is_tenant _ _ _ _ _
-    (lost_sound slots _ _ _ c.known_place-at.result c.args.serial c.take-slot.result c.self.invariant.sound place.within place.found c.take-slot.ensures.value leaf refl refl)
+    (lost_sound slots _ c.known_place-at.result c.args.serial c.take-slot.result c.self.invariant.sound place.within place.found c.take-slot.ensures.value leaf)
     (removed_index slots c.self.inside.serials.list c.known_place-at.result c.self.invariant.index ∙ sym (serials_of-without_child c.take-slot.result.parent (remove slots c.known_place-at.result)))
     (rw (ready_in-without_child c.take-slot.result.parent (remove slots c.known_place-at.result), c.self.invariant.ready_frames) gone)
     (omega (arith, c.self.invariant.within, length-remove slots c.known_place-at.result place.within, length-without_child c.take-slot.result.parent (remove slots c.known_place-at.result)))
@@ -61,7 +61,7 @@ pub returns-clause-left : goal.returns-clause-left
 returns-clause-left g c =
     let place = found_at _ _ _ _ c.self.invariant.index c.known_place-at.ensures.within c.known_place-at.ensures.found in
     let leaf = rw (← c.self.view_is) at c.requires.leaf in
-    let frames = lost_frames c.self.inside.store.slots _ _ _ c.known_place-at.result c.args.serial c.take-slot.result c.self.invariant.sound place.within place.found c.take-slot.ensures.value leaf refl refl in
+    let frames = lost_frames c.self.inside.store.slots _ c.known_place-at.result c.args.serial c.take-slot.result c.self.invariant.sound place.within place.found c.take-slot.ensures.value leaf in
     rw (← c.self.view_is, c.take-slot.ensures.left, frames) refl
 
 pub returns-clause-value : goal.returns-clause-value

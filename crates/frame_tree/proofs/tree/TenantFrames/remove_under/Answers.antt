@@ -72,7 +72,7 @@ invariant_of-self g c =
     let slots = c.self.inside.store.slots in
     let cuts = cut_ready slots _ c.known_place-at.result c.args.serial c.self.inside.store.places c.at-slot.result _ c.self.inside.ready.list c.self.invariant.sound place.within place.found c.at-slot.ensures refl c.self.invariant.ready_frames c.self.invariant.within in
     rw (c.add_ready.ensures, c.forget_from.ensures, c.add_serials.ensures, c.truncate.ensures, c.cut.ensures.kept, c.put.ensures) (is_tenant _ _ _ _ _
-    (cut_sound slots _ _ c.known_place-at.result c.args.serial c.at-slot.result _ c.self.invariant.sound place.within place.found c.at-slot.ensures refl refl)
+    (cut_sound slots _ c.known_place-at.result c.args.serial c.at-slot.result c.self.invariant.sound place.within place.found c.at-slot.ensures _ _ refl refl)
     (cut_index slots _ c.self.inside.serials.list c.known_place-at.result c.self.invariant.index cuts.front)
     cuts.ready
     (omega (arith, cut_length c.args.serial slots c.known_place-at.result c.at-slot.result _ refl, c.self.invariant.within))
@@ -83,7 +83,7 @@ invariant_of-self g c =
 pub returns-clause-left : goal.returns-clause-left
 returns-clause-left g c =
     let place = found_at _ _ _ _ c.self.invariant.index c.known_place-at.ensures.within c.known_place-at.ensures.found in
-    let frames = cut_frames c.self.inside.store.slots _ c.known_place-at.result c.args.serial c.at-slot.result _ c.self.invariant.sound place.within place.found c.at-slot.ensures refl in
+    let frames = cut_frames c.self.inside.store.slots _ c.known_place-at.result c.args.serial c.at-slot.result c.self.invariant.sound place.within place.found c.at-slot.ensures _ refl in
     rw (← c.self.view_is, c.cut.ensures.kept, c.put.ensures, frames) refl
 
 pub returns-clause-values : goal.returns-clause-values

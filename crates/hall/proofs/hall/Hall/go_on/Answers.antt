@@ -32,6 +32,11 @@ write-requires-clause-place g c =
     let on = taken _ _ _ c.args.step.now c.step_as-answer.result c.step_as-answer.new.self.shared (sym c.is_ok.ensures.value ∙ c.if-is_ok.true) c.self.invariant c.step_as-answer.ensures.one c.requires.is_appended c.requires.raises_not c.requires.search c.step_as-answer.ensures.known in
     rw (← c.requires.own) (on.place c.requires.raises_not)
 
+pub write-requires-clause-long : goal.write-requires-clause-long
+write-requires-clause-long g c =
+    let on = taken _ _ _ c.args.step.now c.step_as-answer.result c.step_as-answer.new.self.shared (sym c.is_ok.ensures.value ∙ c.if-is_ok.true) c.self.invariant c.step_as-answer.ensures.one c.requires.is_appended c.requires.raises_not c.requires.search c.step_as-answer.ensures.known in
+    rw (← c.requires.own) (on.long c.requires.raises_not)
+
 pub write-requires-clause-serial : goal.write-requires-clause-serial
 write-requires-clause-serial g c =
     let on = taken _ _ _ c.args.step.now c.step_as-answer.result c.step_as-answer.new.self.shared (sym c.is_ok.ensures.value ∙ c.if-is_ok.true) c.self.invariant c.step_as-answer.ensures.one c.requires.is_appended c.requires.raises_not c.requires.search c.step_as-answer.ensures.known in

@@ -39,6 +39,11 @@ raise-answer-requires-clause-place g c =
     let ready = is-ready _ _ _ c.args.number c.args.reserve c.self.invariant (rw (← c.self.view_is) at c.requires) in
     ready.place
 
+pub raise-answer-requires-clause-long : goal.raise-answer-requires-clause-long
+raise-answer-requires-clause-long g c =
+    let ready = is-ready _ _ _ c.args.number c.args.reserve c.self.invariant (rw (← c.self.view_is) at c.requires) in
+    ready.long
+
 pub invariant_of-self : goal.invariant_of-self
 invariant_of-self g c =
     let ok = sym c.is_ok.ensures.value ∙ c.if-is_ok.true in

@@ -8,8 +8,8 @@ use Rattle.hall.proofs.journal.Journal.write.Goals as goal
 
 pub push_reserved-requires : goal.push_reserved-requires
 push_reserved-requires g c =
-    let room = has-room c.self.inside.tenant c.self.inside.places c.self.inside.entries.items c.self.inside.longs.items c.args.self.now c.self.view_is c.self.invariant.2 c.requires.place in
-    omega (arith, room.0, c.self.invariant.0, c.self.inside.entries.ok.0)
+    let room = has-room c.self.inside.tenant c.self.inside.places c.self.inside.long_places c.self.inside.entries.items c.self.inside.longs.items c.args.self.now c.self.view_is c.self.invariant.2 c.requires.place in
+    omega (arith, room, c.self.invariant.0, c.self.inside.entries.ok.0)
 
 pub invariant_of-self : goal.invariant_of-self
 invariant_of-self g c =
@@ -17,7 +17,7 @@ invariant_of-self g c =
     let more = rw short at (long_count-more c.of-entry.result c.self.inside.entries.items) in
     let same = ap long_count c.push_reserved.ensures.items in
     let done =
-    written-short c.self.inside.tenant c.self.inside.places c.of-entry.result c.self.inside.entries.items c.push_reserved.new.self.items c.self.inside.longs.items c.args.self.now c.args.step.now c.self.view_is c.push_reserved.ensures.items short
+    written-short c.self.inside.tenant c.self.inside.places c.self.inside.long_places c.of-entry.result c.self.inside.entries.items c.push_reserved.new.self.items c.self.inside.longs.items c.args.self.now c.args.step.now c.self.view_is c.push_reserved.ensures.items short
     (rw c.requires.own at (c.of-entry.ensures.short short)) in
     let raises = ap (λ (j : JournalOf). raise_count j.steps) done ∙ counted-after c.args.step.now c.args.self.now.steps None c.requires.raises_not in
     let before = ap (λ (j : JournalOf). raise_count j.steps) c.self.view_is in
@@ -26,5 +26,5 @@ invariant_of-self g c =
 pub returns : goal.returns
 returns g c =
     let short = sym c.is_long.ensures ∙ c.if-is_long.false in
-    written-short c.self.inside.tenant c.self.inside.places c.of-entry.result c.self.inside.entries.items c.push_reserved.new.self.items c.self.inside.longs.items c.args.self.now c.args.step.now c.self.view_is c.push_reserved.ensures.items short
+    written-short c.self.inside.tenant c.self.inside.places c.self.inside.long_places c.of-entry.result c.self.inside.entries.items c.push_reserved.new.self.items c.self.inside.longs.items c.args.self.now c.args.step.now c.self.view_is c.push_reserved.ensures.items short
     (rw c.requires.own at (c.of-entry.ensures.short short))

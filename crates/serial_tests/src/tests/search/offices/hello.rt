@@ -15,6 +15,14 @@ use std::sync::ledger::Blank;
 /// How many bytes are taken before the hall is made, and given back before a later line.
 const BALLAST: usize = 262_144;
 
+/// How many bytes more the next heap has.
+const UNIT: u32 = 32;
+
+/// How many bytes a place of a journal takes, and one for a long entry.
+const PLACE: u32 = 8;
+
+const LONG_PLACE: u32 = 48;
+
 /// Gives one line a call, and the ballast back before one of them.
 struct Ballasted<'a> {
     ballast: Option<Vec<u8, &'a LocalHeap>>,
@@ -192,7 +200,7 @@ fn outcome_in<L: DeskLedger, R: Wait + Abort>(
     requires name { blank.name ≡ L.name }
     requires parts { (blank.parts ≡ L.parts) × (L.all ≡ L.parts) × (L.all ≡ 13835058055282163712) }
 {
-    let heap = heap_of(rt, alloc, BALLAST + units * 32);
+    let heap = heap_of(rt, alloc, BALLAST + units * UNIT as usize);
     let told = told_in::<L, R>(rt, alloc, &heap, blank, plan);
     holds(rt, heap.used() == 0);
     match told {
@@ -241,11 +249,13 @@ fn wanting_in<R: Wait + Abort>(rt: &R, alloc: Global, plan: Plan) -> u32 {
 /// each heap gets all back.
 #[test]
 fn a_refused_hello_is_taken_later(rt: HostRuntime) {
-    holds(&rt, wanting_in(&rt, rt.alloc(), HELLO) > 786 * 56 / 32);
+    let journal = (2 * 16 + 770) * PLACE + (2 + 513) * LONG_PLACE;
+    holds(&rt, wanting_in(&rt, rt.alloc(), HELLO) > journal / UNIT);
 }
 
 /// So it is of RESERVE, which leaves all as it was where it is refused.
 #[test]
 fn a_refused_raise_is_taken_later(rt: HostRuntime) {
-    holds(&rt, wanting_in(&rt, rt.alloc(), RESERVE) > 834 * 48 / 32);
+    let longs = (4 + 514) * LONG_PLACE;
+    holds(&rt, wanting_in(&rt, rt.alloc(), RESERVE) > longs / UNIT);
 }

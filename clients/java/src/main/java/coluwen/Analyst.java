@@ -1,0 +1,125 @@
+package coluwen;
+
+import java.time.Duration;
+import java.util.ArrayList;
+import java.util.Comparator;
+import java.util.List;
+import java.util.concurrent.CancellationException;
+import java.util.concurrent.CompletableFuture;
+import java.util.concurrent.CompletionException;
+import java.util.concurrent.ExecutionException;
+import java.util.function.Consumer;
+import java.util.function.Function;
+import java.util.stream.Stream;
+
+/** What a client of a server and an engine of this host have in common. Threads may share it. */
+public interface Analyst extends AutoCloseable {
+  /**
+   * The score of a position so many plies deep (0 to 12), its best move and its table. The future fails by {@code TooDeep} where the depth
+   * can't be had, and by {@code Late} once the job has taken this long (null: no limit). Where it is cancelled, so is the job.
+   */
+  CompletableFuture<Result> analyseAsync(Position position, int depth, Duration timeout);
+
+  /** How deep it looks at mid-game positions, found out once. */
+  Info info();
+
+  /** How long it takes to say a word. */
+  Duration ping();
+
+  /** Ends it. Calls that wait, and later ones, are {@code Closed}. */
+  @Override
+  void close();
+
+  /** How long a job may take where no call says it; null for no limit. */
+  default Duration timeout() { return null; }
+
+  /** How many questions {@code analyseMany} takes before their answers were taken from it. */
+  default int window() { return 64; }
+
+  default CompletableFuture<Result> analyseAsync(Position position, int depth) {
+    return analyseAsync(position, depth, timeout());
+  }
+
+  default Result analyse(Position position, int depth) { return analyse(position, depth, timeout()); }
+
+  /** The same by the thread that calls; an interrupt cancels the job, and {@code Stopped} is thrown. */
+  default Result analyse(Position position, int depth, Duration timeout) {
+    return joined(analyseAsync(position, depth, timeout));
+  }
+
+  /** Each move's value exactly, the best first, of equals the one from a1 on: one question for each position that a move leads to. */
+  default List<Entry> analyseAll(Position position, int depth) {
+    checked(depth);
+    if (depth < 1) throw new IllegalArgumentException("moves are looked at from depth 1 on");
+    var futures = new ArrayList<CompletableFuture<Entry>>();
+    var questions = new ArrayList<CompletableFuture<Result>>();
+    for (var move : position.legalMoves()) {
+      var left = move.equals(Position.PASS) ? depth : depth - 1; // a pass uses no ply
+      var question = analyseAsync(position.play(move), left);
+      questions.add(question);
+      futures.add(question.handle((result, fault) -> {
+        if (fault instanceof ColuwenException.TooDeep deep) throw new ColuwenException.TooDeep(depth, deep.greatest() == 0 ? 0 : deep.greatest() + depth - left);
+        if (fault != null) throw new CompletionException(fault);
+        return new Entry(move, new Score(-result.score().value(), '=', depth >= position.empties(), position.side()));
+      }));
+    }
+    try {
+      return futures.stream().map(Analyst::joined).sorted(Comparator.comparing(Entry::score).reversed()).toList();
+    } finally {
+      questions.forEach(question -> question.cancel(true));
+    }
+  }
+
+  /** How many questions are answered, of these at fault; and how many there are, where the source is a collection, else -1. */
+  record Progress(int done, int faults, int total) {}
+
+  /** How many questions are asked: {@code isOrdered}, by their order or as they are known; {@code window}; {@code timeout} of each (null: no limit); {@code onProgress}, called after each. */
+  record Bulk(boolean isOrdered, int window, Duration timeout, Consumer<Progress> onProgress) {
+    public Bulk {
+      if (window < 1) throw new IllegalArgumentException("a window has one place at least, and not " + window);
+    }
+
+    public Bulk asKnown() { return new Bulk(false, window, timeout, onProgress); }
+
+    public Bulk window(int most) { return new Bulk(isOrdered, most, timeout, onProgress); }
+
+    public Bulk timeout(Duration most) { return new Bulk(isOrdered, window, most, onProgress); }
+
+    public Bulk onProgress(Consumer<Progress> heard) { return new Bulk(isOrdered, window, timeout, heard); }
+  }
+
+  /** Questions in their order, by this analyst's window and timeout. */
+  default Bulk bulk() { return new Bulk(true, window(), timeout(), progress -> {}); }
+
+  default Stream<Outcome<Position>> analyseMany(Iterable<Position> positions, int depth) {
+    return analyseMany(positions, Function.identity(), depth, bulk());
+  }
+
+  /**
+   * Of each question of a source, of which {@code positionOf} makes its position, the result or the fault; a fault of one is its own. The source is
+   * taken by a thread of its own, no further ahead than the window. Where the stream is closed, what isn't answered is cancelled.
+   */
+  default <T> Stream<Outcome<T>> analyseMany(Iterable<T> questions, Function<? super T, Position> positionOf, int depth, Bulk how) {
+    checked(depth);
+    return new Many<>(this, questions, positionOf, depth, how).stream();
+  }
+
+  private static void checked(int depth) {
+    if (depth < 0 || depth > Core.DEEPEST) throw new IllegalArgumentException("a depth is a number from 0 to " + Core.DEEPEST + ", and not " + depth);
+  }
+
+  private static <T> T joined(CompletableFuture<T> future) {
+    try {
+      return future.get();
+    } catch (ExecutionException fault) {
+      if (fault.getCause() instanceof RuntimeException known) throw known;
+      throw new CompletionException(fault.getCause());
+    } catch (CancellationException fault) {
+      throw new ColuwenException.Stopped();
+    } catch (InterruptedException fault) {
+      future.cancel(true);
+      Thread.currentThread().interrupt();
+      throw new ColuwenException.Stopped();
+    }
+  }
+}

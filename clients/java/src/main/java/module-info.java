@@ -1,0 +1,4 @@
+/** Values of Othello positions from a server of {@code othello serve}. */
+module coluwen {
+  exports coluwen;
+}

@@ -1,0 +1,305 @@
+package elsewhere;
+
+import static org.junit.jupiter.api.Assertions.assertEquals;
+import static org.junit.jupiter.api.Assertions.assertFalse;
+import static org.junit.jupiter.api.Assertions.assertThrows;
+import static org.junit.jupiter.api.Assertions.assertTrue;
+
+import coluwen.Analyst;
+import coluwen.Client;
+import coluwen.ColuwenException;
+import coluwen.Info;
+import coluwen.Position;
+import coluwen.Score;
+import coluwen.Session;
+import java.io.IOException;
+import java.time.Duration;
+import java.util.ArrayList;
+import java.util.Collections;
+import java.util.Iterator;
+import java.util.List;
+import java.util.concurrent.CompletableFuture;
+import java.util.concurrent.CountDownLatch;
+import java.util.concurrent.TimeUnit;
+import java.util.concurrent.atomic.AtomicBoolean;
+import java.util.function.BiPredicate;
+import java.util.function.Function;
+import java.util.function.Supplier;
+import java.util.stream.IntStream;
+import org.junit.jupiter.api.Test;
+import org.junit.jupiter.api.Timeout;
+
+/** What the rows don't say, by a class of another package: typed results, what is checked and told, and what a caller gives up. */
+@Timeout(30)
+class ClientTest {
+  private static final Position OPENING = Position.opening();
+
+  /** Answers that are right in their form; a job is done, or else pending, as {@code isDone} says of its depth and position. */
+  private static Supplier<Function<String, String>> sound(BiPredicate<Integer, String> isDone) {
+    return () -> {
+      var jobs = new ArrayList<String>();
+      return line -> {
+        var words = line.split(" ");
+        var job = words.length > 1 && words[1].matches("\\d{1,3}") ? Integer.parseInt(words[1]) : 0;
+        return switch (words[0]) {
+          case "HELLO" -> "WELCOME " + words[1] + " " + words[2] + "\n";
+          case "RESERVE" -> "RESERVED " + words[1] + " " + words[2] + "\n";
+          case "ASK" -> jobs.add(isDone.test(job, words[2] + " " + words[3]) ? "DONE" : "PENDING") ? "JOB " + jobs.size() + "\n" : "";
+          case "CANCEL" -> jobs.set(job - 1, "CANCELLED") + " " + job + "\n";
+          case "GET", "WAIT" -> jobs.get(job - 1) + " " + job + (jobs.get(job - 1).equals("DONE") ? " 5 d3\n" : "\n");
+          case "TABLE" -> "TABLE " + job + " d3=5 c4<-1\n";
+          case "QUOTA" -> "QUOTA 256 8000 9000\n";
+          case "LIVE" -> "LIVE 0 0\n";
+          case "INFO" -> "INFO 2\n";
+          default -> "BYE\n";
+        };
+      };
+    };
+  }
+
+  private static Supplier<Function<String, String>> cancelling() {
+    var inner = sound((depth, text) -> false);
+    return () -> {
+      var answers = inner.get();
+      return line -> line.startsWith("CANCEL") ? "CANCELLED " + line.split(" ")[1] + "\n" : answers.apply(line);
+    };
+  }
+
+  private static Client.Builder at(Told server) {
+    return Client.builder().port(server.port()).silence(Duration.ofSeconds(5));
+  }
+
+  @Test
+  void resultsAreRecords() throws IOException {
+    try (var server = Told.answering(sound((depth, text) -> true)); Analyst client = at(server).build()) {
+      var found = client.analyse(OPENING, 6);
+      assertEquals("+5 d3 [d3=5, c4<-1]", found.score() + " " + found.best().orElseThrow() + " " + found.table());
+      assertEquals(new Info(2, 6, 7, java.util.Optional.empty()), client.info());
+      assertFalse(client.ping().isNegative());
+      assertTrue(client.window() == 256 && client.ping().compareTo(Duration.ofSeconds(5)) < 0);
+    }
+  }
+
+  @Test
+  void scoresAreOrderedAndSeenByEachPlayer() {
+    var less = new Score(-4, '<', false, 'O');
+    var more = new Score(8000, '>', true, 'O');
+    assertTrue(less.compareTo(more) < 0 && Collections.max(List.of(more, less)).equals(more));
+    assertEquals(List.of(4, 4, -4, 4), List.of(more.mover(), more.white(), more.black(), less.black()));
+    assertEquals(new Score(-8000, '<', true, 'X'), more.flip());
+    assertEquals(-4, more.flip().black());
+  }
+
+  @Test
+  void whatCantBeIsToldBeforeAnythingIsSent() throws IOException {
+    try (var server = Told.answering(sound((depth, text) -> true)); var client = at(server).build()) {
+      for (var depth : List.of(-1, 13)) {
+        assertThrows(IllegalArgumentException.class, () -> client.analyse(OPENING, depth));
+        assertThrows(IllegalArgumentException.class, () -> client.analyseMany(List.of(OPENING), depth));
+      }
+      assertThrows(IllegalArgumentException.class, () -> client.analyseAll(OPENING, 0));
+      assertEquals(List.of(), server.heard);
+    }
+    for (var address : List.of("http://h", "othello:", "othello://h:1?tls=3", "othello://h/x", "othello://h?speed=1", "h:1", "")) assertThrows(IllegalArgumentException.class, () -> Client.connect(address), address);
+    assertThrows(IllegalArgumentException.class, () -> Client.builder().sessions(0));
+    assertThrows(IllegalArgumentException.class, () -> Client.builder().token("a b"));
+    assertThrows(IllegalArgumentException.class, () -> Client.builder().silence(Duration.ZERO));
+  }
+
+  @Test
+  void anAddressNamesTheServer() throws IOException {
+    var token = java.nio.file.Files.createTempFile("token", "");
+    java.nio.file.Files.writeString(token, "secret\n");
+    try (var server = Told.answering(sound((depth, text) -> true));
+        var client = Client.connect("othello://127.0.0.1:" + server.port() + "?tls=0&silence=5&nodes=4096&token=" + token)) {
+      assertEquals(5, client.analyse(OPENING, 1).score().value());
+      assertEquals("HELLO 1024 4096 secret", server.heard.get(0));
+    }
+  }
+
+  @Test
+  void noMoreSessionsThanAreAllowed() throws Exception {
+    try (var server = Told.answering(cancelling()); var client = at(server).sessions(3).ahead(2).build()) {
+      var futures = IntStream.range(0, 20).mapToObj(each -> client.analyseAsync(OPENING, 6)).toList();
+      while (server.heard.stream().filter(line -> line.startsWith("GET")).count() < 20) TimeUnit.MILLISECONDS.sleep(5);
+      assertEquals(3, server.heard.stream().filter(line -> line.startsWith("HELLO")).count());
+      assertEquals(6, server.heard.stream().filter(line -> line.startsWith("ASK")).count());
+      futures.forEach(future -> future.cancel(true));
+    }
+  }
+
+  /** A session is asked 256 times at most, and no more once it says that it has had enough. */
+  @Test
+  void aSessionHasItsJobs() throws Exception {
+    for (var most : List.of(3, 256)) {
+      var counts = Collections.synchronizedList(new ArrayList<int[]>());
+      var right = sound((depth, text) -> true);
+      try (var server = Told.answering(() -> {
+        var count = new int[1];
+        counts.add(count);
+        var answers = right.get();
+        return line -> line.startsWith("ASK") && ++count[0] > most && most < 256 ? "ERR 13\n" : answers.apply(line);
+      }); var client = at(server).sessions(1).build()) {
+        assertEquals(most + 1, client.analyseMany(Collections.nCopies(most + 1, OPENING), 2).filter(one -> one.fault() == null).count());
+        assertEquals(List.of(most < 256 ? most + 1 : most, 1), counts.stream().map(count -> count[0]).toList());
+      }
+    }
+  }
+
+  @Test
+  void whereThereIsRoomForFewerThoseDoTheWork() throws IOException {
+    var isFirst = new AtomicBoolean(true);
+    var right = sound((depth, text) -> true);
+    try (var server = Told.answering(() -> isFirst.getAndSet(false) ? right.get() : line -> "ERR 14\n"); var client = at(server).sessions(2).ahead(1).build()) {
+      for (var each : List.of(client.analyseAsync(OPENING, 6), client.analyseAsync(OPENING, 6))) assertEquals(5, each.join().score().value());
+    }
+  }
+
+  @Test
+  void aCancelledFutureCancelsItsJobAndItsPlaceIsFree() throws Exception {
+    try (var server = Told.answering(cancelling()); var client = at(server).sessions(1).ahead(1).build()) {
+      var first = client.analyseAsync(OPENING, 6);
+      var second = client.analyseAsync(OPENING, 4);
+      while (server.heard.stream().noneMatch(line -> line.startsWith("GET"))) TimeUnit.MILLISECONDS.sleep(5);
+      assertTrue(second.cancel(true) && first.cancel(true));
+      assertThrows(ColuwenException.Late.class, () -> client.analyse(OPENING, 3, Duration.ofMillis(50)));
+      assertEquals(List.of("ASK 6", "CANCEL 1", "ASK 3", "CANCEL 2"), server.heard.stream().filter(line -> line.matches("(ASK|CANCEL).*")).map(line -> line.split(" ")[0] + " " + line.split(" ")[1]).toList());
+    }
+  }
+
+  @Test
+  void anInterruptCancelsTheJob() throws Exception {
+    try (var server = Told.answering(cancelling()); var client = at(server).build()) {
+      var ended = new CompletableFuture<Throwable>();
+      var thread = new Thread(() -> {
+        try {
+          client.analyse(OPENING, 6);
+        } catch (ColuwenException fault) {
+          ended.complete(Thread.currentThread().isInterrupted() ? fault : null);
+        }
+      });
+      thread.start();
+      while (server.heard.stream().noneMatch(line -> line.startsWith("GET"))) TimeUnit.MILLISECONDS.sleep(5);
+      thread.interrupt();
+      assertTrue(ended.get() instanceof ColuwenException.Stopped);
+      while (!server.heard.contains("CANCEL 1")) TimeUnit.MILLISECONDS.sleep(5);
+    }
+  }
+
+  @Test
+  void aFullServerIsToldAndAskedAgain() throws Exception {
+    var right = sound((depth, text) -> true);
+    var events = Collections.synchronizedList(new ArrayList<String>());
+    try (var server = Told.answering(() -> events.isEmpty() ? line -> "ERR 14\n" : right.get());
+        var client = at(server).onEvent(event -> events.add(event.name())).build()) {
+      assertEquals(5, client.analyse(OPENING, 1).score().value());
+      while (events.size() < 2) TimeUnit.MILLISECONDS.sleep(5);
+      assertEquals(List.of("full", "opened"), events);
+    }
+  }
+
+  /** A source that waits: what is known is given before it goes on; and what is left when the stream is closed is cancelled. */
+  @Test
+  void answersComeBeforeTheNextQuestionDoes() throws Exception {
+    var goOn = new CountDownLatch(1);
+    var progress = Collections.synchronizedList(new ArrayList<Analyst.Progress>());
+    Iterable<Position> source = () -> new Iterator<>() {
+      private int at;
+
+      @Override
+      public boolean hasNext() {
+        return at < 3;
+      }
+
+      @Override
+      public Position next() {
+        try {
+          if (at == 1) goOn.await();
+        } catch (InterruptedException fault) {
+          throw new IllegalStateException(fault);
+        }
+        return at++ == 1 ? OPENING.play("d3") : OPENING;
+      }
+    };
+    var right = sound((depth, text) -> text.equals(OPENING.text()));
+    try (var server = Told.answering(right); var client = at(server).sessions(2).build()) {
+      try (var outcomes = client.analyseMany(source, Function.identity(), 3, client.bulk().asKnown().onProgress(progress::add))) {
+        var iterator = outcomes.iterator();
+        assertEquals(0, iterator.next().index());
+        goOn.countDown();
+        assertEquals(2, iterator.next().index());
+      }
+      while (server.heard.stream().noneMatch(line -> line.startsWith("CANCEL"))) TimeUnit.MILLISECONDS.sleep(5);
+      assertEquals(List.of(new Analyst.Progress(1, 0, -1), new Analyst.Progress(2, 0, -1)), progress);
+    }
+  }
+
+  @Test
+  void aFaultOfTheSourceIsTheCallers() throws IOException {
+    Iterable<Position> broken = () -> {
+      throw new IllegalStateException("no more");
+    };
+    try (var server = Told.answering(sound((depth, text) -> true)); var client = at(server).build()) {
+      assertThrows(IllegalStateException.class, () -> client.analyseMany(broken, 3).count());
+    }
+  }
+
+  @Test
+  void silenceIsToldAndTheWorkIsKept() throws Exception {
+    var events = Collections.synchronizedList(new ArrayList<String>());
+    var connections = new AtomicBoolean(true);
+    var right = sound((depth, text) -> true);
+    Supplier<Told.Script> scripts = () -> {
+      var isFirst = connections.getAndSet(false);
+      var answers = right.get();
+      return lines -> {
+        for (String line = lines.next(); line != null; line = lines.next()) if (!isFirst || !line.startsWith("TABLE")) lines.send(answers.apply(line));
+      };
+    };
+    try (var server = new Told(scripts); var client = Client.builder().port(server.port()).silence(Duration.ofSeconds(1)).onEvent(event -> events.add(event.name())).build()) {
+      assertEquals(5, client.analyse(OPENING, 6).score().value());
+      while (events.size() < 3) TimeUnit.MILLISECONDS.sleep(5);
+      assertEquals(List.of("opened", "silent", "opened"), events);
+    }
+  }
+
+  @Test
+  void aClosedClientSaysSo() throws Exception {
+    try (var server = Told.answering(cancelling()); var client = at(server).build()) {
+      var future = client.analyseAsync(OPENING, 6);
+      client.close();
+      assertTrue(assertThrows(java.util.concurrent.ExecutionException.class, future::get).getCause() instanceof ColuwenException.Closed);
+      assertThrows(ColuwenException.Closed.class, client::info);
+      assertThrows(ColuwenException.Closed.class, () -> client.analyse(OPENING, 6));
+    }
+  }
+
+  @Test
+  void aSessionHasAMethodForEachLine() throws IOException {
+    try (var server = Told.answering(sound((depth, text) -> true))) {
+      var session = new Session("127.0.0.1", server.port(), null, "secret", 64, 4096, Duration.ofSeconds(5));
+      var job = session.ask(6, OPENING);
+      assertEquals(new Session.State(Session.Outcome.DONE, 5, "d3"), session.await(job));
+      assertEquals("[d3=5, c4<-1]", session.table(job, 'X', false).toString());
+      assertEquals(new Session.Quota(256, 8000, 9000), session.quota());
+      assertEquals(new Session.Live(0, 0), session.live());
+      session.reserve(128, 8192);
+      session.close();
+      assertThrows(ColuwenException.Closed.class, session::quota);
+      assertEquals("HELLO 64 4096 secret", server.heard.get(0));
+      assertEquals("BYE", server.heard.get(server.heard.size() - 1));
+    }
+  }
+
+  /** With the property {@code coluwen.port}: a server of {@code othello serve}. */
+  @Test
+  void aServerAnswers() {
+    var port = Integer.getInteger("coluwen.port", 0);
+    org.junit.jupiter.api.Assumptions.assumeTrue(port != 0);
+    try (var client = Client.builder().port(port).silence(Duration.ofSeconds(20)).build()) {
+      var found = client.analyse(OPENING, 4);
+      assertEquals("-4 d3", found.score().value() + " " + found.best().orElseThrow());
+      assertTrue(client.analyseAll(OPENING, 4).stream().allMatch(entry -> entry.score().isExact() && entry.score().value() == -4));
+    }
+  }
+}

@@ -1,0 +1,445 @@
+// How positions come to their values, without input and output: bytes and moments (in milliseconds of a clock that never goes back) go in,
+// and what is to be done comes out. `Wire` is one session's lines; `Core` is all that a client asks, by as many sessions as it needs.
+import { LONGEST, parse } from "./answers.mjs";
+import { Broken, Closed, Late, Refused, Silent, TooDeep, Unreachable } from "./faults.mjs";
+
+export const DEEPEST = 12; // plies that a server looks at most
+const MOST_JOBS = 256; // of a session
+const USED_UP = [10, 11, 13]; // ASK: this session takes no more jobs, and another one may
+const LATER = [14, 19, 31]; // HELLO: it may come again
+const [UNKNOWN, RATE] = [21, 31]; // INFO: this is no site; ASK: it may come again in its session
+const RETRY = 100; // before a server is asked again
+const GRACE = 200; // for so long the answer to a line may still come where a job's time is over
+const LOSSES = 4; // a question isn't asked again once so many sessions were lost with it
+// What is reserved where nobody says it: by the first session, and at most; between them RESERVE raises.
+const LEVELS = [{ segments: 256, nodes: 8192 }, { segments: 1024, nodes: 65536 }];
+const RAISED = [{ segments: 512, nodes: 16384 }, { segments: 1024, nodes: 32768 }, LEVELS[1]];
+// Mid-game positions, and how many nodes they take at most at a depth that is no more than a ply over the server's grain.
+const PROBES = ["-O-------O-------OXOO---XOXXOO--OOXXOOO---OXO------OO----------- X", "-----X-------XX---OOOXO---OXX----OOOOXO---OO--X--OXO------X----- X"];
+const [FEW_NODES, LEAST_PROBE, LAST_PROBE] = [50, 2, 8];
+
+/** How long to wait before the next look at a job that was asked so long ago. */
+export const pauseAfter = (taken) => Math.min(Math.max(taken / 4, 0.2), 20);
+
+/** The lines of one session, and which answer is whose. */
+export class Wire {
+  waiting = []; // lines that were sent and aren't answered
+  jobs = 0; // that were asked
+  #rest = ""; // what came behind the last LF
+
+  /** The bytes of a line. A token is its last word, and stands in no fault. */
+  line(words, token = "") {
+    const line = words.join(" ");
+    if (!/^[ -~]*$/.test(line + token)) throw new RangeError(`${JSON.stringify(line)} is no line: it has other bytes than ASCII's signs`);
+    this.waiting.push(line);
+    return token ? `${line} ${token}\n` : `${line}\n`;
+  }
+
+  /** What each line that these bytes end answers: { line, answer } or { line, refusal }. Broken where they are no answers. */
+  answers(block) {
+    const parts = (this.#rest + block).split("\n");
+    this.#rest = parts.pop();
+    const found = parts.map((text) => this.#answer(text));
+    if (this.#rest && !this.waiting.length) this.#answer(this.#rest);
+    if (this.#rest.length >= LONGEST) throw new Broken(`an answer has more than ${LONGEST} bytes`);
+    return found;
+  }
+
+  #answer(text) {
+    const line = this.waiting.shift();
+    if (line === undefined) throw new Broken(`the server said ${JSON.stringify(text.slice(0, 60))}, which wasn't asked`);
+    try {
+      const answer = parse(line, text, this.jobs);
+      if (answer.state === "JOB") this.jobs += 1;
+      return { line, answer };
+    } catch (refusal) {
+      if (!(refusal instanceof Refused)) throw refusal;
+      return { line, refusal };
+    }
+  }
+}
+
+/** How deep a server looks: by INFO where it knows that, else by how many nodes two positions take from depth to depth. */
+class Probe {
+  grain = 6; version = null; // that a site says last
+  #place = 0; #depth = LEAST_PROBE; #nodes = null; #wasSpent = false;
+
+  /** The next line, after the answer to the one before; null once the grain is known. */
+  next(answer, refusal) {
+    if (refusal && refusal.number !== UNKNOWN && !USED_UP.includes(refusal.number)) throw refusal;
+    const state = answer?.state ?? (refusal ? "REFUSED" : "BEGIN");
+    if (state === "BEGIN") return ["INFO"];
+    if (state === "JOB" || state === "PENDING") return ["GET", answer.job];
+    if (state === "INFO") [this.grain, this.version] = [answer.numbers[0], answer.more.split(" ").at(-1) || null];
+    else if (state !== "QUOTA") this.#wasSpent ||= this.#nodes !== null && state !== "DONE";
+    else this.#counted(answer.numbers[1]);
+    if (state === "INFO" || this.#place === PROBES.length) return null;
+    return state === "QUOTA" ? ["ASK", this.#depth, PROBES[this.#place]] : ["QUOTA"];
+  }
+
+  /** So many nodes are left after a job; before the first there is nothing to compare. */
+  #counted(nodes) {
+    const isFirst = this.#nodes === null;
+    const isOver = !isFirst && (this.#wasSpent || this.#nodes - nodes > FEW_NODES);
+    if (isOver) this.grain = Math.min(this.grain, this.#depth - 2);
+    if (!isFirst) this.#depth += 1;
+    if (isOver || this.#depth > LAST_PROBE) [this.#place, this.#depth] = [this.#place + 1, LEAST_PROBE];
+    [this.#nodes, this.#wasSpent] = [nodes, false];
+  }
+}
+
+/** A session, from its opening to its end. */
+class Seat {
+  wire = new Wire();
+  isReady = false; // it has been welcomed
+  isRetired = false; // it takes no more
+  running = []; // the questions whose jobs it has, the oldest first
+  asked = null; // what the line is for that isn't answered: { word, question }
+  freeAt = 0; // before it asks nothing
+  constructor(level, reserved, silence, now, probe) { Object.assign(this, { level, reserved, silence, begun: now, deadline: now + silence, probe }); }
+  get questions() { return [...new Set([...this.running, this.asked?.question])].filter(Boolean); }
+}
+
+/**
+ * Questions and their answers. What goes in: `ask`, `drop`, `end`; of a session `opened`, `received`, `lost`; and `passed`, once `next` has
+ * come. What comes out by `take`: ["open", seat], ["send", seat, bytes], ["close", seat], ["tell", name, detail], ["settled", question].
+ *
+ * A question has a `kind`: of a `job` its `position` (a text), `depth` and `timeout` (from when it is asked); a `ping` and an `info` have no
+ * more. Once it is settled it has a `fault`, or `found`: { value, move, entries }, milliseconds, or { grain, sure, mostly, version }.
+ */
+export class Core {
+  next = Infinity; // when `passed` is to be called, if nothing comes before
+  #queue = []; // questions that no session has
+  #seats = new Set(); #out = []; #isEnded = false;
+  #needs = new Map(); // of a depth the level that its last job needed
+  #deep = []; #info = null; // questions that wait for what is known of the server's grain, and that
+  #heard = null; #trouble = null; #full = null; // when the server last said anything; since when it can't be reached, or is full
+  #silences = 0; #probeLosses = 0; #wasTold = false; #retryAt = 0;
+  #most; // how many sessions there may be now
+
+  constructor({ segments, nodes, token = "", sessions = 4, ahead = 1, patience = 30_000, silence = 1500, outage = 120_000 } = {}) {
+    Object.assign(this, { token, sessions, ahead, patience, silence, outage });
+    this.isFree = segments === undefined && nodes === undefined;
+    this.levels = this.isFree ? LEVELS : [{ segments: segments ?? LEVELS[1].segments, nodes: nodes ?? LEVELS[1].nodes }];
+    this.#most = sessions;
+  }
+
+  take() { return this.#out.splice(0); }
+  get isEmpty() { return !this.#seats.size; }
+
+  ask(question, now) {
+    if (this.#isEnded) throw new Closed("client");
+    Object.assign(question, { level: 0, isAlone: false, job: 0, losses: 0, isSettled: false, until: Infinity, limit: Infinity, pollAt: Infinity, refusedAt: null });
+    if (question.kind === "info") this.#tooDeep(question);
+    else this.#queue.push(question);
+    this.#go(now);
+  }
+
+  /** Nobody wants a question's answer any more: it ends with this fault, and its job is cancelled once a line can be sent. */
+  drop(question, fault, now) {
+    this.#settle(question, { fault });
+    this.#go(now);
+  }
+
+  /** What isn't settled is so by Closed, and nothing more is asked. */
+  end(now) {
+    this.#isEnded = true;
+    for (const seat of this.#seats) for (const one of seat.questions) this.#settle(one, { fault: new Closed("client") });
+    this.#failWaiting(() => new Closed("client"));
+    for (const seat of [...this.#seats]) {
+      if (seat.isReady && !seat.asked && !seat.running.length) this.#send(seat, ["BYE"], null, now);
+      else if (seat.asked?.word !== "BYE") this.#close(seat);
+    }
+    this.#plan(now);
+  }
+
+  opened(seat, now) {
+    if (this.#seats.has(seat)) this.#send(seat, ["HELLO", seat.reserved.segments, seat.reserved.nodes], null, now, this.token);
+    this.#plan(now);
+  }
+
+  received(seat, bytes, now) {
+    if (!this.#seats.has(seat)) return;
+    let found;
+    try {
+      found = seat.wire.answers(bytes);
+    } catch (fault) {
+      this.lost(seat, fault, now);
+      return;
+    }
+    for (const { answer, refusal } of found) {
+      [this.#heard, this.#trouble] = [now, null];
+      const { word, question } = seat.asked;
+      [seat.asked, seat.deadline] = [null, Infinity];
+      if (seat.probe && word !== "HELLO" && word !== "BYE") this.#probed(seat, answer, refusal, now);
+      else this[`_${word}`](seat, question, answer, refusal, now);
+    }
+    this.#go(now);
+  }
+
+  /** A session is there no more, or can't be had: `fault` says why; `isFinal` where trying again can't mend it. */
+  lost(seat, fault, now, isFinal = false) {
+    if (!this.#seats.has(seat)) return;
+    this.#close(seat);
+    if (seat.asked?.word === "BYE" && !seat.running.length) return void this.#go(now);
+    const isSilent = fault instanceof Silent;
+    const again = seat.questions.filter((one) => !one.isSettled);
+    if (seat.isReady && (seat.asked || again.length)) this.#tell(isSilent ? "silent" : "lost", fault);
+    if (seat.isReady && isSilent) this.#silences += 1;
+    for (const one of [...this.#seats]) if (one.isReady && !one.asked && !one.running.length) this.#close(one); // they may be lost too
+    for (const one of again) {
+      Object.assign(one, { job: 0, until: Infinity, limit: Infinity, losses: one.losses + (isSilent ? 0 : 1) });
+      if (one.losses >= LOSSES || (isSilent && !this.#isOutage(now)) || one.kind === "ping") this.#settle(one, { fault: unreachable(fault) });
+    }
+    this.#queue.unshift(...again.filter((one) => !one.isSettled));
+    if (!seat.isReady) this.#notReached(seat, fault, now, isFinal);
+    else if (seat.probe && ((this.#probeLosses += 1) >= LOSSES || (isSilent && !this.#isOutage(now)))) this.#failDeep(unreachable(fault));
+    this.#go(now);
+  }
+
+  /** Time goes on. */
+  passed(now) {
+    for (const seat of [...this.#seats]) {
+      for (const one of seat.questions) if (now >= one.limit) this.#settle(one, { fault: late(one) });
+      if (now >= seat.deadline) this.lost(seat, new Silent(`no ${seat.asked ? `answer to ${seat.asked.word}` : "connection"} in ${seat.silence} ms`), now);
+    }
+    this.#go(now);
+  }
+
+  #tell(name, detail) { this.#out.push(["tell", name, detail]); }
+
+  #settle(question, outcome) {
+    if (question.isSettled) return;
+    Object.assign(question, outcome, { isSettled: true });
+    this.#queue = this.#queue.filter((one) => one !== question);
+    this.#out.push(["settled", question]);
+  }
+
+  #failDeep(fault) {
+    this.#probeLosses = 0;
+    for (const one of this.#deep.splice(0)) this.#settle(one, { fault });
+  }
+
+  #failWaiting(faultOf) {
+    for (const one of [...this.#queue]) this.#settle(one, { fault: faultOf() });
+    this.#failDeep(faultOf());
+  }
+
+  #close(seat) {
+    this.#seats.delete(seat);
+    this.#out.push(["close", seat]);
+  }
+
+  /** Whether the server may be waited for: it was heard, and not too long ago. */
+  #isOutage(now) { return this.#heard !== null && now - this.#heard < this.outage; }
+
+  /** Nobody listens, or says a word before the welcome. It is tried again for a while; where other sessions go on, they do the work. */
+  #notReached(seat, fault, now, isFinal) {
+    if (this.#trouble === null && this.#heard !== null) this.#tell(fault instanceof Silent ? "silent" : "lost", fault);
+    this.#trouble ??= seat.begun;
+    this.#retryAt = now + RETRY;
+    if (!isFinal && (now - this.#trouble < 0.8 * this.silence || this.#isOutage(now))) return;
+    if ([...this.#seats].some(({ isReady }) => isReady)) this.#most = this.#seats.size;
+    else this.#failWaiting(() => unreachable(fault));
+  }
+
+  #send(seat, words, question, now, token) {
+    seat.asked = { word: words[0], question };
+    seat.deadline = now + seat.silence;
+    this.#out.push(["send", seat, seat.wire.line(words, token)]);
+  }
+
+  // What each line's answer brings.
+
+  _HELLO(seat, _, answer, refusal, now) {
+    if (answer) {
+      [seat.isReady, this.#full] = [true, null];
+      return this.#tell("opened", seat.reserved);
+    }
+    this.#close(seat);
+    this.#full ??= now;
+    this.#retryAt = now + RETRY;
+    const isLater = LATER.includes(refusal.number);
+    if (isLater && [...this.#seats].some(({ isReady }) => isReady)) return void (this.#most = this.#seats.size);
+    if (!isLater || now - this.#full > this.patience) {
+      this.#full = null;
+      return this.#failWaiting(() => new Refused(refusal.number));
+    }
+    if (!this.#wasTold && now - this.#full > 1000) [this.#wasTold] = [true, this.#tell("full", refusal)];
+  }
+
+  _ASK(seat, question, answer, refusal, now) {
+    if (answer) {
+      Object.assign(question, { job: answer.job, pollAt: now });
+      return void seat.running.push(question);
+    }
+    const more = this.isFree && refusal.number !== 13 ? RAISED.find(({ nodes }) => nodes > seat.reserved.nodes) : null;
+    question.refusedAt ??= now;
+    if (refusal.number === RATE && now - question.refusedAt <= this.patience) seat.freeAt = now + RETRY;
+    else if (!USED_UP.includes(refusal.number) || !seat.wire.jobs) return this.#settle(question, { fault: refusal });
+    else if (more) this.#send(seat, ["RESERVE", Math.max(more.segments, seat.reserved.segments), more.nodes], null, now);
+    else seat.isRetired = true;
+    if (!question.isSettled) this.#queue.unshift(Object.assign(question, { until: Infinity, limit: Infinity }));
+  }
+
+  _RESERVE(seat, _, answer) {
+    if (answer) [seat.reserved] = [{ segments: answer.numbers[0], nodes: answer.numbers[1] }];
+    else seat.isRetired = true;
+  }
+
+  _GET(seat, question, answer, refusal, now) {
+    if (refusal) return this.lost(seat, new Broken(refusal.message), now);
+    if (answer.state === "PENDING") return void (question.pollAt = now + pauseAfter(now - question.askedAt));
+    if (answer.state === "DONE" && !question.isSettled) {
+      question.found = answer;
+      return this.#send(seat, ["TABLE", question.job], question, now);
+    }
+    seat.running = seat.running.filter((one) => one !== question);
+    if (answer.state === "SPENT") this.#spent(seat, question);
+    else this.#settle(question, { fault: late(question) });
+  }
+
+  _TABLE(seat, question, answer, refusal, now) {
+    if (answer?.state !== "TABLE") return this.lost(seat, new Broken(`job ${question.job} was DONE, and has no table`), now);
+    seat.running = seat.running.filter((one) => one !== question);
+    if (question.isAlone) this.#needs.set(question.depth, question.level);
+    this.#silences = 0;
+    const { value, move } = question.found;
+    this.#settle(question, { found: { value, move, entries: answer.entries } });
+  }
+
+  _CANCEL(seat, question, answer) {
+    if (question.isSettled || answer) seat.running = seat.running.filter((one) => one !== question);
+    if (answer) this.#settle(question, { fault: late(question) });
+    question.until = Infinity; // where it had ended, its result counts
+    question.pollAt = 0;
+  }
+
+  _QUOTA(seat, question, answer, refusal, now) {
+    if (answer) this.#settle(question, { found: now - question.askedAt });
+    else this.#settle(question, { fault: refusal });
+  }
+
+  _BYE(seat) { this.#close(seat); }
+
+  /** A job that had too little: it is asked again with more, as the first of a session; where it was that, its depth can't be had. */
+  #spent(seat, question) {
+    const top = this.levels.length - 1;
+    seat.isRetired = true;
+    if (question.isSettled) return;
+    if (seat.wire.jobs > 1 || seat.level < top) {
+      Object.assign(question, { isAlone: true, job: 0, until: Infinity, limit: Infinity, level: Math.min(Math.max(question.level, seat.level) + 1, top) });
+      this.#queue.unshift(question);
+      return;
+    }
+    this.#needs.set(question.depth, top);
+    this.#tooDeep(question);
+  }
+
+  /** What asks for the server's grain, or can't be answered at it. */
+  #tooDeep(question) {
+    if (question.kind === "info" ? this.#info : this.#info || !this.isFree) {
+      const greatest = this.isFree ? Math.min(this.#info.sure, question.depth - 1) : 0;
+      this.#settle(question, question.kind === "info" ? { found: this.#info } : { fault: new TooDeep(question.depth, greatest) });
+    } else {
+      this.#deep.push(question);
+    }
+  }
+
+  #probed(seat, answer, refusal, now) {
+    try {
+      if (answer?.state === "PENDING") seat.freeAt = now + 1;
+      seat.line = seat.probe.next(answer, refusal);
+    } catch (fault) {
+      this.#failDeep(fault);
+      seat.line = null;
+    }
+    if (seat.line) return;
+    const { grain, version } = seat.probe;
+    if (this.#deep.length) this.#info = { grain, sure: Math.min(grain + 4, DEEPEST), mostly: Math.min(grain + 5, DEEPEST), version };
+    for (const one of this.#deep.splice(0)) this.#tooDeep(one);
+  }
+
+  // What is done next.
+
+  /** Sends what can be sent, and opens and ends sessions. */
+  #go(now) {
+    for (const seat of [...this.#seats]) this.#turn(seat, now);
+    if (!this.#isEnded) this.#staff(now);
+    this.#plan(now);
+  }
+
+  /** The next line of a session that waits for no answer. */
+  #turn(seat, now) {
+    if (!seat.isReady || seat.asked) return;
+    if (seat.probe) {
+      if (seat.line === undefined) seat.line = seat.probe.next();
+      if (seat.line && now >= seat.freeAt) this.#send(seat, seat.line, null, now);
+      else if (!seat.line) this.#send(seat, ["BYE"], null, now);
+      return;
+    }
+    const gone = seat.running.find((one) => one.isSettled || now >= one.until);
+    if (gone) return this.#send(seat, ["CANCEL", gone.job], gone, now);
+    const next = this.#nextFor(seat, now);
+    if (next) return this.#begin(seat, next, now);
+    const [oldest] = seat.running;
+    if (oldest && now >= oldest.pollAt) return this.#send(seat, ["GET", oldest.job], oldest, now);
+    if (!oldest && seat.isRetired) this.#send(seat, ["BYE"], null, now);
+  }
+
+  #begin(seat, question, now) {
+    this.#queue = this.#queue.filter((one) => one !== question);
+    question.askedAt = now;
+    if (question.kind === "ping") return this.#send(seat, ["QUOTA"], question, now);
+    if (question.timeout) [question.until, question.limit] = [now + question.timeout, now + question.timeout + GRACE];
+    this.#send(seat, ["ASK", question.depth, question.position], question, now);
+  }
+
+  #levelOf(question) { return Math.max(question.level, this.#needs.get(question.depth) ?? 0); }
+  #hasEnough(seat, question) { return seat.reserved.nodes >= this.levels[this.#levelOf(question)].nodes; }
+
+  /** What a session may be asked more. */
+  #nextFor(seat, now) {
+    seat.isRetired ||= seat.wire.jobs >= MOST_JOBS;
+    if (seat.isRetired || now < seat.freeAt || seat.running.length >= this.ahead || seat.running.some(({ isAlone }) => isAlone)) return null;
+    const others = [...this.#seats].filter((one) => !one.probe && (!one.isReady || (one !== seat && !one.running.length && !one.asked))).length; // they have nothing yet
+    const places = now >= this.#retryAt ? this.#most - this.#seats.size : 0;
+    if (seat.running.length && this.#queue.length <= others + places) return null;
+    return this.#queue.find((one) => (one.isAlone ? !seat.wire.jobs && !seat.running.length : true) && this.#hasEnough(seat, one)) ?? null;
+  }
+
+  /** Opens the sessions that are wanted; where every place is taken, and no session can take the first that waits, one ends. */
+  #staff(now) {
+    const seats = [...this.#seats];
+    if (!this.#queue.length && seats.every(({ asked, running }) => !asked && !running.length)) this.#most = this.sessions;
+    if (now < this.#retryAt) return;
+    const opening = seats.filter((one) => !one.isReady && !one.probe).length;
+    if (this.#deep.length && !seats.some(({ probe }) => probe) && this.#seats.size < this.#most) this.#open(0, now, new Probe());
+    for (const one of this.#queue.slice(opening)) if (this.#seats.size < this.#most) this.#open(this.#levelOf(one), now);
+    const [first] = this.#queue;
+    if (this.#seats.size < this.#most || seats.length < this.#seats.size || seats.some((one) => !one.isReady || one.isRetired || one.probe || one.asked?.word === "BYE")) return;
+    if (!this.#deep.length && !(first && seats.every((one) => (first.isAlone && one.wire.jobs) || !this.#hasEnough(one, first)))) return;
+    const least = seats.reduce((found, one) => (one.running.length < found.running.length ? one : found));
+    least.isRetired = true;
+    this.#turn(least, now);
+  }
+
+  #open(level, now, probe = null) {
+    const reserved = probe ? LEVELS[0] : this.levels[level];
+    const seat = new Seat(level, { ...reserved }, Math.min(this.silence * 2 ** this.#silences, Math.max(this.outage, this.silence)), now, probe);
+    this.#seats.add(seat);
+    this.#out.push(["open", seat]);
+  }
+
+  #plan(now) {
+    const times = [this.#retryAt];
+    for (const seat of this.#seats) {
+      times.push(seat.deadline, seat.freeAt);
+      for (const { until, limit, pollAt } of seat.questions) times.push(until, limit, pollAt);
+    }
+    this.next = Math.min(Infinity, ...times.filter((at) => at > now));
+  }
+}
+
+const unreachable = (fault) => new Unreachable(fault.message, { cause: fault });
+const late = ({ depth, timeout }) => new Late(`a job of depth ${depth} was cancelled after ${timeout} ms`);

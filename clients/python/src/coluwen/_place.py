@@ -1,0 +1,97 @@
+"""Where a server is and how it is spoken to: options, addresses, tokens."""
+from __future__ import annotations
+
+import dataclasses
+import os
+import re
+import ssl
+import urllib.parse
+from typing import Any
+
+from ._core import Options
+from ._driver import Driver
+
+HOST, PORT = "127.0.0.1", 4711
+URL = "COLUWEN_URL"  # the variable that names a server where the caller doesn't
+SILENCE, PATIENCE, OUTAGE, SESSIONS = 1.5, 30.0, 120.0, 4
+
+
+def tls_context(authority: str | None = None) -> ssl.SSLContext:
+    """What a session over TLS needs: the host's certificate is checked, by a file of authorities where one is named."""
+    return ssl.create_default_context(cafile=authority)
+
+
+def token_in(path: str) -> str:
+    """The token that a file has: what stands in a command's line every user of the host can read."""
+    with open(path, encoding="latin-1") as file:
+        token = file.read().strip()
+    if not re.fullmatch("[!-~]{1,64}", token):
+        raise OSError(f"{path} has no token: 1 to 64 letters, digits and signs")
+    return token
+
+
+@dataclasses.dataclass(frozen=True)
+class Place:
+    """A server and a client's options."""
+
+    host: str
+    port: int
+    tls: ssl.SSLContext | None
+    timeout: float | None
+    options: Options
+
+    @classmethod
+    def of(cls, host: str | None = None, port: int | None = None, *, tls: ssl.SSLContext | bool | None = None, token: str | None = None, sessions: int = SESSIONS,
+           ahead: int = 1, patience: float = PATIENCE, silence: float = SILENCE, outage: float = OUTAGE, timeout: float | None = None, segments: int | None = None,
+           nodes: int | None = None, counts: bool = False) -> Place:  # fmt: skip
+        """The same from `Client`'s words, each of which is tested. Where no host is named it is that of COLUWEN_URL, if there is one."""
+        named = url_of(os.environ.get(URL, "")) if host is None and port is None else {}
+        at: tuple[str, int] = (host or str(named.get("host", HOST)), port or int(named.get("port", PORT)))
+        tls, token = named.get("tls") if tls is None else tls, named.get("token") if token is None else token
+        for name, number in (("sessions", sessions), ("ahead", ahead), ("segments", segments), ("nodes", nodes), ("port", port)):
+            if number is not None and (isinstance(number, bool) or not isinstance(number, int) or number < 1):
+                raise ValueError(f"{name} is a whole number from 1 on, and not {number!r}")
+        for name, seconds in (("patience", patience), ("silence", silence), ("outage", outage), ("timeout", timeout)):
+            if seconds is not None and not seconds >= 0:
+                raise ValueError(f"{name} is a number of seconds, and not {seconds!r}")
+        if token is not None and not re.fullmatch("[!-~]{1,64}", token):
+            raise ValueError("a token has 1 to 64 letters, digits and signs")
+        context = tls_context() if tls is True else tls or None
+        options = Options(f"{at[0]}:{at[1]}", token, sessions, ahead, patience, silence, outage, segments, nodes, counts)
+        return cls(*at, context, timeout, options)
+
+    @property
+    def parallel(self) -> int:
+        return self.options.sessions * self.options.ahead
+
+    def driver(self) -> Driver:
+        return Driver(self.host, self.port, self.tls, self.options)
+
+
+def url_of(text: str) -> dict[str, Any]:
+    """`Client`'s words in an address, `othello://host:port?tls=..&token=..`, of which all but the host may be missing; `host:port` is one too.
+
+    `tls`: 1, or a file of authorities; `token`: a file that has the customer's token; any other of `Client`'s options by its name."""
+    if not text:
+        return {}
+    parts = urllib.parse.urlsplit(text if "://" in text else f"othello://{text}")
+    try:
+        words: dict[str, Any] = {"host": parts.hostname or HOST, "port": parts.port or PORT}
+    except ValueError as fault:
+        raise ValueError(f"{text!r} is no address of a server: {fault}") from None
+    if parts.scheme not in ("othello", "othellos") or parts.path.strip("/") or parts.username or parts.fragment:
+        raise ValueError(f"{text!r} is no address of a server, othello://host:port?tls=1")
+    if parts.scheme == "othellos":
+        words["tls"] = True
+    for name, value in urllib.parse.parse_qsl(parts.query, keep_blank_values=True, strict_parsing=True):
+        if name == "tls":
+            words["tls"] = value not in ("", "0") and (True if value == "1" else tls_context(value))
+        elif name == "token":
+            words["token"] = token_in(value)
+        elif name in ("sessions", "ahead", "segments", "nodes"):
+            words[name] = int(value)
+        elif name in ("patience", "silence", "outage", "timeout"):
+            words[name] = float(value)
+        else:
+            raise ValueError(f"{text!r} has a word {name!r} that isn't known")
+    return words

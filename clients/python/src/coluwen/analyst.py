@@ -1,0 +1,245 @@
+"""What values come from: `Analyst` is what a `Client` of a server and an engine on this computer have in common, and what the commands use.
+
+    for question, answer in client.analyse_many(positions, 6):
+        if isinstance(answer, Result):
+            print(question, answer.score, answer.best)
+        else:
+            print(question, "has no value:", answer)          # a fault of one is its own
+"""
+from __future__ import annotations
+
+import abc
+import concurrent.futures
+import dataclasses
+import queue
+from collections.abc import Callable, Iterable, Iterator, Sized
+from types import TracebackType
+from typing import Any, Literal, TypeVar
+
+from ._core import DEEPEST, Found, Info
+from .board import PASS, Position
+from .errors import ColuwenError, FormatError, TooDeep
+from .score import EXACT, Entry, Score
+
+Order = Literal["asked", "known"]
+Asked = str | Position | tuple[str | Position, int]
+Self = TypeVar("Self", bound="Analyst")
+
+
+@dataclasses.dataclass(frozen=True)
+class Result:
+    """What a search found: the score of the position, its first best move (None at depth 0 and in a finished game), and what is known of
+    each move in the order in which they were tried: the best one's value exactly, of most others a bound (`Entry`). `seconds`: from when it
+    was asked to when it was known; `nodes`: what it took of the reservation, where that is counted, or how many positions an engine entered."""
+
+    position: Position
+    depth: int
+    score: Score
+    best: str | None
+    table: tuple[Entry, ...] = ()
+    seconds: float = 0.0
+    nodes: int | None = None
+
+
+@dataclasses.dataclass(frozen=True)
+class Outcome:
+    """What became of one of many: `question` as it was given, its number (from 0), and `answer`: a `Result` or a fault."""
+
+    question: Any
+    answer: Result | ColuwenError
+    number: int
+
+    def __iter__(self) -> Iterator[Any]:
+        return iter((self.question, self.answer))
+
+
+@dataclasses.dataclass(frozen=True)
+class Progress:
+    """How many of many are done, of these at fault; and how many there are, where the source says it."""
+
+    done: int
+    faults: int
+    total: int | None = None
+
+
+class Unfit(FormatError, TypeError):
+    """A question that is none: it isn't sent."""
+
+
+def checked(position: str | Position, depth: int, least: int = 0) -> Position:
+    """The position of a question. `Unfit`, a ValueError and TypeError, where it is none, or the depth isn't a whole number of plies."""
+    if isinstance(depth, bool) or not isinstance(depth, int) or not least <= depth <= DEEPEST:
+        raise Unfit(f"a depth is a whole number from {least} to {DEEPEST}, and not {depth!r}")
+    if isinstance(position, Position):
+        return position
+    if not isinstance(position, str):
+        raise Unfit(f"a position is a Position or a text of 66 letters, and not {position!r}")
+    try:
+        return Position.parse(position)
+    except FormatError as fault:
+        raise Unfit(*fault.args) from None
+
+
+def parted(asked: Any, depth: int | None) -> tuple[Any, Any]:
+    """The position and depth of one of many: what names no depth has that of all."""
+    position, own = asked if isinstance(asked, tuple) and len(asked) == 2 else (asked, None)
+    return position, depth if own is None else own
+
+
+def result_of(position: Position, depth: int, found: Found) -> Result:
+    """What the core found, as a result."""
+    entries = tuple(Entry(move, Score(value, sign, depth >= position.empties, position.side)) for move, sign, value in found.entries)
+    return Result(position, depth, Score.of(found.value, position, depth), None if found.move == "-" else found.move, entries, found.seconds, found.nodes)
+
+
+def parts_of(position: Position, depth: int) -> list[tuple[str, Position, int]]:
+    """Each legal move with the position that it leads to, and how deep that one is to be searched: a pass uses no ply."""
+    return [(move, position.play(move), depth if move == PASS else depth - 1) for move in position.legal_moves()]
+
+
+def moves_of(position: Position, depth: int, results: Iterable[Result]) -> list[Entry]:
+    """Each move's value from the results of what they lead to: the best first, of equals the one from a1 on."""
+    ends = depth >= position.empties
+    entries = [Entry(move, Score(-result.score.value, EXACT, ends, position.side)) for (move, *_), result in zip(parts_of(position, depth), results)]
+    return sorted(entries, key=lambda entry: -entry.score.value)
+
+
+class Many:
+    """The bookkeeping of `analyse_many`: what was taken from the source and isn't given on yet, in order or as it is known."""
+
+    def __init__(self, source: Any, depth: int | None, order: Order, window: int, on_progress: Callable[[Progress], object] | None):
+        if order not in ("asked", "known"):
+            raise ValueError(f"results come in the order 'asked' or 'known', and not {order!r}")
+        if window < 1:
+            raise ValueError(f"a window has at least one place, and not {window}")
+        self.depth, self.in_order, self.window, self.on_progress = depth, order == "asked", window, on_progress
+        self.total = len(source) if isinstance(source, Sized) else None
+        self.taken = self.given = self.faults = 0
+        self.known: dict[int, Outcome] = {}
+
+    @property
+    def has_room(self) -> bool:
+        return self.taken - self.given < self.window
+
+    def take(self, asked: Any) -> tuple[int, Position | None, int]:
+        """One more of the source: its number, position and depth; no position where it is at fault, which is known then."""
+        number, self.taken = self.taken, self.taken + 1
+        position, depth = parted(asked, self.depth)
+        try:
+            return number, checked(position, depth), depth
+        except Unfit as fault:
+            self.settle(asked, number, fault)
+            return number, None, 0
+
+    def settle(self, asked: Any, number: int, answer: Result | ColuwenError) -> None:
+        self.known[number] = Outcome(asked, answer, number)
+
+    def ready(self) -> Iterator[Outcome]:
+        """What may be given on."""
+        while self.known and (not self.in_order or self.given in self.known):
+            outcome = self.known.pop(self.given if self.in_order else next(iter(self.known)))
+            self.given += 1
+            self.faults += isinstance(outcome.answer, ColuwenError)
+            if self.on_progress:
+                self.on_progress(Progress(self.given, self.faults, self.total))
+            yield outcome
+
+
+class Analyst(abc.ABC):
+    """Answers any number of positions; threads may share it. `submit`, `info`, `ping`, `close` and `parallel` are what a kind of it has of
+    its own."""
+
+    parallel = 4  # how many questions it works on at once
+
+    @abc.abstractmethod
+    def submit(self, position: str | Position, depth: int, *, timeout: float | None = None) -> concurrent.futures.Future[Result]:
+        """Begins to analyse a position; the future gives its result, or raises its fault, and its `cancel` gives it up."""
+
+    @abc.abstractmethod
+    def info(self) -> Info:
+        """What depths can be had: `grain`, `sure` and `mostly`, and a `version`, where one is told."""
+
+    @abc.abstractmethod
+    def ping(self) -> float:
+        """Whether it is there: the seconds that a line and its answer take."""
+
+    @abc.abstractmethod
+    def close(self) -> None:
+        """Ends it. Calls that wait, and later ones, raise `Closed`."""
+
+    def __enter__(self: Self) -> Self:
+        return self
+
+    def __exit__(self, kind: type[BaseException] | None, fault: BaseException | None, trace: TracebackType | None) -> None:
+        self.close()
+
+    def analyse(self, position: str | Position, depth: int, *, timeout: float | None = None) -> Result:
+        """The score of a position, so many plies deep (0 to 12), its best move, and its table. `TooDeep` where that can't be had, and says
+        what can; `Late` after `timeout` seconds of work, for which the job is cancelled."""
+        future = self.submit(position, depth, timeout=timeout)
+        try:
+            return future.result()
+        except BaseException:  # Ctrl-C: nobody waits for it any more
+            future.cancel()
+            raise
+
+    def analyse_all(self, position: str | Position, depth: int, *, timeout: float | None = None) -> list[Entry]:
+        """Each move's value, exactly: one question for each of the positions that they lead to, a ply less deep. The best come first, of
+        equals the one from a1 on; `pass` alone where the player must pass, and none where the game is over."""
+        place = checked(position, depth, 1)
+        parts = parts_of(place, depth)
+        futures = [self.submit(after, left, timeout=timeout) for _, after, left in parts]
+        try:
+            return moves_of(place, depth, [future.result() for future in futures])
+        except TooDeep as fault:
+            raise TooDeep(depth, fault.greatest and min(fault.greatest + 1, depth - 1)) from None
+        finally:
+            for future in futures:
+                future.cancel()
+
+    def analyse_many(self, positions: Iterable[Asked], depth: int | None = None, *, order: Order = "asked", timeout: float | None = None, window: int | None = None,
+                     on_progress: Callable[[Progress], object] | None = None) -> Iterator[Outcome]:  # fmt: skip
+        """The same of any number of positions, or pairs of a position and a depth, also without end: an `Outcome` (question, result or fault)
+        for each, as soon as it is known, in the order in which they are `asked`, or as they are `known`.
+
+        Positions are taken as they are wanted: no more than `window` (64 for each that is worked on at once) are taken and not given on.
+        `on_progress` is called with a `Progress` for each that is given on. What isn't wanted any more, as the loop was left, is cancelled."""
+        many = Many(positions, depth, order, 64 * self.parallel if window is None else window, on_progress)
+        return self._many(many, iter(positions), timeout)
+
+    def _many(self, many: Many, source: Iterator[Asked], timeout: float | None) -> Iterator[Outcome]:
+        ended: queue.SimpleQueue[tuple[Any, int, concurrent.futures.Future[Result]]] = queue.SimpleQueue()
+        begun: dict[int, concurrent.futures.Future[Result]] = {}
+        is_over = False
+        try:
+            while True:
+                while begun and (not ended.empty() or is_over or not many.has_room):
+                    asked, number, future = ended.get()
+                    del begun[number]
+                    fault = future.exception()
+                    if fault and not isinstance(fault, ColuwenError):
+                        raise fault
+                    many.settle(asked, number, fault if isinstance(fault, ColuwenError) else future.result())
+                    if many.known and (not many.in_order or many.given in many.known):
+                        break
+                yield from many.ready()
+                if is_over and not begun:
+                    return
+                if is_over or not many.has_room:
+                    continue
+                try:
+                    asked = next(source)
+                except StopIteration:
+                    is_over = True
+                    continue
+                number, position, wanted = many.take(asked)
+                if position:
+                    begun[number] = future = self.submit(position, wanted, timeout=timeout)
+                    future.add_done_callback(lambda one, asked=asked, number=number: ended.put((asked, number, one)))  # type: ignore[misc]
+        finally:
+            for future in begun.values():
+                future.cancel()
+
+    def limit(self, position: Position, depth: int) -> int:
+        """How deep a position is surely looked at where so many plies are wanted: to the end from 12 empty squares on."""
+        return min(depth, position.empties, DEEPEST) if position.empties <= DEEPEST else min(depth, self.info().sure)

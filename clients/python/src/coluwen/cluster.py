@@ -1,0 +1,168 @@
+"""Values of positions by the computers of a Dask cluster, each with engines of its own (`coluwen.Engine`).
+
+    with Cluster("tcp://scheduler:8786") as cluster:          # of `dask-scheduler`, with `dask-worker`s that have this package and the program
+        for question, answer in cluster.analyse_many(positions, 8):
+            ..                                                # as by a `Client`
+
+It needs Debian's python3-distributed. What a worker searched that is lost another one searches again; what begins it can't be cancelled there.
+"""
+from __future__ import annotations
+
+import concurrent.futures
+import importlib
+import threading
+from typing import Any
+
+from ._core import DEEPEST, Info
+from .analyst import Analyst, Result, checked
+from .board import Position
+from .engine import Engine
+from .errors import Broken, Closed, ColuwenError, Unreachable
+
+TOGETHER = {4: 64, 6: 16, 8: 4}  # how many questions up to which depth are one task of the cluster, whose tasks take about a millisecond each
+MOMENT = 0.005  # seconds, for which a task waits for more questions
+Asked = tuple[str, int, float | None]
+_engine: Engine | None = None
+_lock = threading.Lock()
+
+
+def engine_here() -> Engine:
+    """A worker's engine, which is made once: as many processes as the worker has threads."""
+    global _engine
+    with _lock:
+        if not _engine:
+            distributed: Any = importlib.import_module("distributed")
+            _engine = Engine(distributed.get_worker().nthreads)
+        return _engine
+
+
+def answer_here(asked: list[Asked]) -> list[Result | ColuwenError]:
+    """What a worker answers to the questions of a task."""
+    engine = engine_here()
+    futures = [engine.submit(position, depth, timeout=timeout) for position, depth, timeout in asked]
+    found: list[Result | ColuwenError] = []
+    for future in futures:
+        try:
+            found.append(future.result())
+        except ColuwenError as fault:
+            found.append(fault)
+    return found
+
+
+class Task:
+    """Questions that are sent together."""
+
+    def __init__(self) -> None:
+        self.asked: list[Asked] = []
+        self.futures: list[concurrent.futures.Future[Result]] = []
+        self.sent: Any = None  # the cluster's future
+
+    def fail(self, fault: ColuwenError) -> None:
+        for future in self.futures:
+            if future.set_running_or_notify_cancel():
+                future.set_exception(fault)
+
+    def ended(self, sent: Any) -> None:
+        """Takes what the cluster says."""
+        try:
+            answers = sent.result()
+        except concurrent.futures.CancelledError:
+            self.fail(Broken("the cluster's scheduler was lost"))
+            return
+        except Exception as fault:
+            self.fail(Broken(f"the cluster failed: {fault}"))
+            return
+        for future, answer in zip(self.futures, answers, strict=True):
+            if not future.set_running_or_notify_cancel():
+                continue
+            if isinstance(answer, ColuwenError):
+                future.set_exception(answer)
+            else:
+                future.set_result(answer)
+
+
+class Cluster(Analyst):
+    """Answers any number of positions by a cluster's workers; threads may share it. `timeout`: the seconds that a question may take from when its
+    search begins."""
+
+    def __init__(self, scheduler: str, *, timeout: float | None = None, patience: float = 10.0):
+        try:
+            distributed: Any = importlib.import_module("distributed")
+        except ImportError as fault:
+            raise Unreachable("the cluster's package isn't here: Debian's python3-distributed") from fault
+        try:
+            self._client: Any = distributed.Client(scheduler, timeout=patience, set_as_default=False)
+            self._client.wait_for_workers(1, timeout=patience)
+        except (OSError, TimeoutError, ValueError, distributed.TimeoutError) as fault:
+            raise Unreachable(f"{scheduler}: {fault}") from fault
+        self.address, self._timeout = scheduler, timeout
+        self._lock = threading.Lock()
+        self._gathered: dict[int, Task] = {}  # by how many questions go together
+        self._sent: set[Task] = set()
+        self._closed = False
+
+    @property
+    def parallel(self) -> int:  # type: ignore[override]
+        """How many threads the cluster's workers have now."""
+        threads: dict[str, int] = self._client.nthreads()
+        return max(sum(threads.values()), 1)
+
+    def submit(self, position: str | Position, depth: int, *, timeout: float | None = None) -> concurrent.futures.Future[Result]:
+        place = checked(position, depth)
+        most = next((count for deepest, count in TOGETHER.items() if depth <= deepest), 1)
+        future = concurrent.futures.Future[Result]()
+        with self._lock:
+            if self._closed:
+                raise Closed("the cluster is closed")
+            task = self._gathered.setdefault(most, Task())
+            if not task.asked and most > 1:
+                threading.Timer(MOMENT, self._send, (most, task)).start()
+            task.asked.append((place.text, depth, self._timeout if timeout is None else timeout))
+            task.futures.append(future)
+            is_full = len(task.asked) == most
+        future.add_done_callback(lambda one: self._give_up(task) if one.cancelled() else None)
+        if is_full:
+            self._send(most, task)
+        return future
+
+    def _send(self, most: int, task: Task) -> None:
+        """Sends a task, if it isn't sent yet."""
+        with self._lock:
+            if self._gathered.get(most) is not task or self._closed:
+                return
+            del self._gathered[most]
+            self._sent.add(task)
+        task.sent = self._client.submit(answer_here, task.asked, pure=False)
+        task.sent.add_done_callback(lambda sent: self._take(task, sent))
+        self._give_up(task)
+
+    def _take(self, task: Task, sent: Any) -> None:
+        task.ended(sent)
+        with self._lock:
+            self._sent.discard(task)
+
+    def _give_up(self, task: Task) -> None:
+        """Takes a task back of which nothing is wanted any more."""
+        if task.sent and all(future.cancelled() for future in task.futures):
+            task.sent.cancel()
+
+    def info(self) -> Info:
+        """Every depth can be had."""
+        return Info(DEEPEST)
+
+    def ping(self) -> float:
+        """How many seconds a question at depth 0 takes there."""
+        return self.analyse(Position.opening(), 0).seconds
+
+    def close(self) -> None:
+        """Leaves the cluster. Calls that wait, and later ones, raise `Closed`; the workers keep their engines."""
+        with self._lock:
+            if self._closed:
+                return
+            self._closed = True
+            left = [*self._gathered.values(), *self._sent]
+        for task in left:
+            task.fail(Closed("the cluster is closed"))
+            if task.sent:
+                task.sent.cancel()
+        self._client.close()

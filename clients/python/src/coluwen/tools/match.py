@@ -1,0 +1,364 @@
+"""A match of two engines over a list of openings, each played in both colours: a table with the error of the score, and Elo.
+
+usage: coluwen-match [--openings FILE] [--games FILE] [--seconds 60] [--at-once 2] ONE OTHER
+
+ONE and OTHER are each `depth:6` (the server of --server, so many plies), `gtp:COMMAND` or `nboard:COMMAND` (a program, with its
+words, as 'gtp:gtp-rhino -l 2'), with `NAME=` before it if it is to have a name. FILE of --openings has games of any format, transcripts a
+line for example; without it each pair of games begins from one of the four first moves and their replies. --games keeps the games as GGF.
+--at-once plays so many openings at the same time, each by programs of its own.
+
+    $ coluwen-match --openings openings.txt depth:4 'gtp:gtp-rhino -l 1 -b 0'
+
+The referee keeps the rules itself: an engine that plays what isn't legal, says nothing for --seconds or ends loses that game by 64 discs,
+and is told. Passes are made by the referee, and are told to engines that take them. The score is wins and half the draws; its error is
+that of the mean of the pairs (both colours of an opening), one standard deviation. Elo is the difference of ratings that such a score
+stands for, with what the score less and more its error stand for; there is none where all games were won or lost.
+"""
+from __future__ import annotations
+
+import concurrent.futures
+import contextlib
+import dataclasses
+import math
+import pathlib
+import queue
+import shlex
+import subprocess
+import sys
+import threading
+from collections.abc import Callable, Iterable, Iterator, Sequence
+
+from .. import formats
+from ..analyst import Analyst
+from ..board import BLACK, NAMES, PASS, WHITE, Board, Position
+from ..errors import ColuwenError, IllegalMove
+from ..formats import Game, Played, ggf
+from .command import LONG_OUTAGE, analyst_of, ending, parser, say, teller
+from .player import Player as Searcher
+
+NAME = "coluwen-match"
+LOST = 64  # discs by which a game is lost that isn't played to its end
+
+
+class Player:
+    """One side of a match."""
+
+    def __init__(self, name: str):
+        self.name = name
+
+    def begin(self, board: Board) -> None:
+        """A game begins, with what was played already."""
+
+    def told(self, move: str, side: str) -> None:
+        """A move of either side, or a pass."""
+
+    def move(self, board: Board) -> str:
+        """What this side plays."""
+        raise NotImplementedError
+
+    def close(self) -> None:
+        pass
+
+
+class Forfeit(ColuwenError):
+    """An engine has lost a game otherwise than on the board."""
+
+    def __init__(self, player: Player, text: str):
+        super().__init__(f"{player.name} {text}")
+        self.player = player
+
+
+class Plies(Player):
+    """So many plies of the server."""
+
+    def __init__(self, name: str, analyst: Analyst, depth: int):
+        super().__init__(name)
+        self.searcher = Searcher(analyst, depth, teller(NAME))
+
+    def move(self, board: Board) -> str:
+        return self.searcher.search(board.position).best or PASS
+
+
+class Program(Player):
+    """An engine that is spoken to by its standard input and output."""
+
+    def __init__(self, name: str, command: str, seconds: float):
+        super().__init__(name)
+        self.seconds, self.heard = seconds, queue.Queue[str | None]()
+        self.process = subprocess.Popen(shlex.split(command), stdin=subprocess.PIPE, stdout=subprocess.PIPE, text=True, bufsize=1)
+        threading.Thread(target=self.listen, daemon=True).start()
+
+    def listen(self) -> None:
+        if self.process.stdout:
+            for line in self.process.stdout:
+                self.heard.put(line.rstrip("\r\n"))
+        self.heard.put(None)
+
+    def say(self, line: str) -> None:
+        try:
+            if self.process.stdin:
+                self.process.stdin.write(f"{line}\n")
+        except OSError:
+            raise Forfeit(self, "has ended") from None
+
+    def line(self) -> str:
+        try:
+            found = self.heard.get(timeout=self.seconds)
+        except queue.Empty:
+            raise Forfeit(self, f"says nothing for {self.seconds:g} seconds") from None
+        if found is None:
+            raise Forfeit(self, "has ended")
+        return found
+
+    def close(self) -> None:
+        try:
+            self.say("quit")
+            self.process.wait(2)
+        except (Forfeit, subprocess.TimeoutExpired):
+            self.process.kill()
+        self.process.wait()
+
+
+class GtpProgram(Program):
+    """An engine by the Go Text Protocol."""
+
+    takes_passes = True  # until it has refused one
+
+    def ask(self, line: str) -> tuple[bool, str]:
+        """Whether a command was carried out, and its response."""
+        self.say(line)
+        found = self.line()
+        while not found.startswith(("=", "?")):
+            found = self.line()
+        lines = [found[1:].strip()]
+        while text := self.line():
+            lines.append(text)
+        return found.startswith("="), "\n".join(lines).strip()
+
+    def begin(self, board: Board) -> None:
+        if board.start != Position.opening():
+            raise ColuwenError("a game by GTP begins at the opening")
+        if self.ask("known_command set_game")[1] == "true":
+            self.ask("set_game Othello")
+        self.ask("boardsize 8")
+        self.ask("clear_board")
+        for position, move in board.positions():
+            self.told(move, position.side)
+
+    def told(self, move: str, side: str) -> None:
+        if move == PASS and not self.takes_passes:
+            return
+        done, text = self.ask(f"play {NAMES[side]} {move.upper()}")
+        if not done and move == PASS:
+            self.takes_passes = False
+        elif not done:
+            raise Forfeit(self, f"doesn't take {move}: {text}")
+
+    def move(self, board: Board) -> str:
+        done, text = self.ask(f"genmove {NAMES[board.side]}")
+        if not done:
+            raise Forfeit(self, f"has no move: {text}")
+        return text.lower()
+
+
+class NBoardProgram(Program):
+    """An engine by NBoard's protocol: each position is set up as a game."""
+
+    def move(self, board: Board) -> str:
+        game = Game(board.start, tuple(Played(move) for move in board.moves))
+        self.say("set game " + ggf.write_game(game))
+        self.say("go")
+        while not (found := self.line()).startswith("==="):
+            pass
+        word = found[3:].split("/")[0].strip().lower()
+        return PASS if word == "pa" else word
+
+    def begin(self, board: Board) -> None:
+        self.say("nboard 1")
+
+    def told(self, move: str, side: str) -> None:
+        pass
+
+
+def player_of(word: str, analyst: Analyst, seconds: float) -> Player:
+    """The player that a word of the command line says."""
+    name, _, rest = word.partition("=") if word.split(":")[0].count("=") else ("", "", word)
+    kind, _, command = rest.partition(":")
+    name = name or rest
+    if kind == "depth" and command.isdecimal() and 1 <= int(command) <= 12:
+        return Plies(name, analyst, int(command))
+    if kind in ("gtp", "nboard") and command.strip():
+        return (GtpProgram if kind == "gtp" else NBoardProgram)(name, command, seconds)
+    raise ColuwenError(f"{word!r} is no player: depth:1..12, gtp:COMMAND or nboard:COMMAND")
+
+
+@dataclasses.dataclass(frozen=True)
+class Outcome:
+    """A game as it was played: black's discs more than white's, an empty square being the winner's, and what ended it otherwise."""
+
+    game: Game
+    discs: int
+    fault: str = ""
+
+
+def play(black: Player, white: Player, opening: Board, number: int) -> Outcome:
+    """One game, by the referee's rules."""
+    board, players, fault, discs = opening, {BLACK: black, WHITE: white}, "", 0
+    try:
+        for player in players.values():
+            player.begin(board)
+        while not board.is_over:
+            move, side = PASS, board.side
+            if not board.position.must_pass:
+                move = moved(players[side], board)
+            board = board.push(move)
+            for at, player in players.items():
+                if at != side or move == PASS:
+                    player.told(move, side)
+        discs = board.position.final_discs(BLACK)
+    except Forfeit as forfeit:
+        fault, discs = str(forfeit), -LOST if forfeit.player is black else LOST
+    moves = tuple(Played(move) for move in board.moves)
+    return Outcome(Game(board.start, moves, black.name, white.name, f"{NAME} {number}", result=float(discs)), discs, fault)
+
+
+def moved(player: Player, board: Board) -> str:
+    """A player's move, which must be legal."""
+    move = player.move(board)
+    try:
+        board.position.play(move)
+    except IllegalMove as illegal:
+        raise Forfeit(player, f"plays {move!r}: {illegal}") from None
+    return move
+
+
+def openings_of(path: str | None) -> list[Board]:
+    """The openings of a file; else the four first moves with each reply."""
+    if path:
+        return [game.board() for game in formats.strictly(formats.games(path))]
+    found = []
+    for first in Position.opening().legal_moves():
+        for reply in Position.opening().play(first).legal_moves():
+            found.append(Board().push(first).push(reply))
+    return found
+
+
+class Table:
+    """The results, by pairs of games of an opening."""
+
+    def __init__(self, one: str, other: str):
+        self.one, self.other = one, other
+        self.discs: list[tuple[str, int]] = []  # of each game the colour of the first, and its discs more
+
+    def add(self, side: str, outcome: Outcome) -> None:
+        self.discs.append((side, outcome.discs if side == BLACK else -outcome.discs))
+
+    def score(self) -> tuple[float, float]:
+        """The first one's score, from 0 to 1, and its error."""
+        points = [(discs > 0) + (discs == 0) / 2 for _, discs in self.discs]
+        return mean_and_error([sum(points[at : at + 2]) / len(points[at : at + 2]) for at in range(0, len(points), 2)])
+
+    def lines(self) -> list[str]:
+        rows = [f"{'':24}{'games':>6}{'won':>6}{'drawn':>6}{'lost':>6}{'score':>9}{'error':>8}{'discs':>8}{'error':>8}"]
+        for label, discs in ((f"{self.one} as black", [d for side, d in self.discs if side == BLACK]), ("as white", [d for side, d in self.discs if side == WHITE])):
+            rows.append(row_of(label, discs, [(d > 0) + (d == 0) / 2 for d in discs]))
+        every = [discs for _, discs in self.discs]
+        pairs = [sum(every[at : at + 2]) / len(every[at : at + 2]) for at in range(0, len(every), 2)]
+        score, error = self.score()
+        mean, spread = mean_and_error(pairs)
+        won, drawn = sum(d > 0 for d in every), sum(d == 0 for d in every)
+        rows.append(f"{'in all':24}{len(every):>6}{won:>6}{drawn:>6}{len(every) - won - drawn:>6}{100 * score:>8.1f}%{100 * error:>7.1f}%{mean:>+8.2f}{spread:>8.2f}")
+        return [*rows, f"Elo {elo_text(score, error)}"]
+
+
+def row_of(label: str, discs: list[int], points: list[float]) -> str:
+    score, error = mean_and_error(points)
+    mean, spread = mean_and_error([float(each) for each in discs])
+    won, drawn = sum(d > 0 for d in discs), sum(d == 0 for d in discs)
+    return f"{label[:24]:24}{len(discs):>6}{won:>6}{drawn:>6}{len(discs) - won - drawn:>6}{100 * score:>8.1f}%{100 * error:>7.1f}%{mean:>+8.2f}{spread:>8.2f}"
+
+
+def mean_and_error(numbers: list[float]) -> tuple[float, float]:
+    """The mean, and the standard deviation of the mean; that of one number isn't known, and is written as 0."""
+    if not numbers:
+        return 0.0, 0.0
+    mean = sum(numbers) / len(numbers)
+    if len(numbers) < 2:
+        return mean, 0.0
+    return mean, math.sqrt(sum((each - mean) ** 2 for each in numbers) / (len(numbers) - 1) / len(numbers))
+
+
+def elo(score: float) -> float:
+    """The difference of ratings that a score (over 0, under 1) stands for."""
+    return 400 * math.log10(score / (1 - score))
+
+
+def elo_text(score: float, error: float) -> str:
+    """The same in words, with what the score less and more its error stand for."""
+    if not 0 < score < 1:
+        return "isn't known: one side has won all games" if score in (0, 1) else "isn't known"
+    low, high = (f"{elo(at):+.0f}" if 0 < at < 1 else "unknown" for at in (score - error, score + error))
+    return f"{elo(score):+.0f} ({low} to {high})"
+
+
+Pair = Callable[[], contextlib.AbstractContextManager[tuple[Player, Player]]]
+
+
+def match(pair: Pair, openings: Iterable[Board], tell: Callable[[str], None], at_once: int = 1) -> tuple[Table, list[Outcome]]:
+    """Each opening in both colours, so many openings at the same time; `pair` gives two players of their own to each of these."""
+    begun = list(openings)
+    spare: queue.SimpleQueue[tuple[Player, Player]] = queue.SimpleQueue()
+    with contextlib.ExitStack() as stack, concurrent.futures.ThreadPoolExecutor(at_once) as pool:
+        pairs = [stack.enter_context(pair()) for _ in range(min(at_once, max(len(begun), 1)))]
+        for one in pairs:
+            spare.put(one)
+
+        def both(number: int) -> list[Outcome]:
+            one, other = players = spare.get()
+            try:
+                return [play(*((one, other) if side == BLACK else (other, one)), begun[number], 2 * number + at + 1) for at, side in enumerate((BLACK, WHITE))]
+            finally:
+                spare.put(players)
+
+        table, outcomes = Table(pairs[0][0].name, pairs[0][1].name), list[Outcome]()
+        for found in pool.map(both, range(len(begun))):
+            for side, outcome in zip((BLACK, WHITE), found):
+                outcomes.append(outcome)
+                table.add(side, outcome)
+                passes = sum(played.move == PASS for played in outcome.game.moves)
+                told = outcome.fault or f"{len(outcome.game.words())} moves, {passes} passes"
+                tell(f"{len(outcomes)}: {outcome.game.black} {outcome.discs:+d} {outcome.game.white} ({told})")
+    return table, outcomes
+
+
+def main(words: Sequence[str] | None = None) -> int:
+    options = parser(__doc__, NAME, LONG_OUTAGE)
+    options.add_argument("one", metavar="ONE")
+    options.add_argument("other", metavar="OTHER")
+    options.add_argument("--openings", metavar="FILE", help="games of any format that each pair begins with")
+    options.add_argument("--games", metavar="FILE", help="keeps the games, as GGF")
+    options.add_argument("--seconds", type=float, default=60, metavar="S", help="after which an engine that says nothing has lost (%(default)g)")
+    options.add_argument("--at-once", type=int, default=1, metavar="N", help="how many openings are played at the same time (%(default)d)")
+    asked = options.parse_args(words)
+    with analyst_of(asked, NAME) as client:
+
+        @contextlib.contextmanager
+        def pair() -> Iterator[tuple[Player, Player]]:
+            with contextlib.ExitStack() as stack:
+                one, other = (stack.enter_context(contextlib.closing(player_of(word, client, asked.seconds))) for word in (asked.one, asked.other))
+                yield one, other
+
+        table, outcomes = match(pair, openings_of(asked.openings), say, max(asked.at_once, 1))
+    if asked.games:
+        pathlib.Path(asked.games).write_text(ggf.write(outcome.game for outcome in outcomes), encoding="latin-1")
+    say("\n".join(table.lines()))
+    faults = [outcome.fault for outcome in outcomes if outcome.fault]
+    if faults:
+        print(f"{NAME}: {len(faults)} games were lost otherwise than on the board", file=sys.stderr)
+    return 3 if faults else 0
+
+
+command = ending(NAME, main)
+
+if __name__ == "__main__":
+    command()

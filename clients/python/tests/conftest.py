@@ -1,0 +1,13 @@
+"""Hypothesis without a folder of its own, and with the same examples each time: the gate's answer doesn't hang on chance."""
+import atexit
+import shutil
+import tempfile
+
+import hypothesis
+from hypothesis import configuration
+
+_HOME = tempfile.mkdtemp(prefix="hypothesis-")
+atexit.register(shutil.rmtree, _HOME, ignore_errors=True)
+configuration.set_hypothesis_home_dir(_HOME)
+hypothesis.settings.register_profile("gate", database=None, derandomize=True, deadline=None, max_examples=60)
+hypothesis.settings.load_profile("gate")

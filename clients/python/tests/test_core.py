@@ -1,0 +1,460 @@
+"""The core alone, in a time of its own: servers that answer as a model says, without sockets and without waiting."""
+from __future__ import annotations
+
+import heapq
+import random
+from collections.abc import Callable
+from typing import Any
+
+import hypothesis
+import hypothesis.strategies as st
+import pytest
+from coluwen import Broken, Closed, Late, Refused, TooDeep, Unreachable
+from coluwen._core import Core, Ended, Errand, Found, Open, Options, Question, Send, Shut, Told, Wire, Work, ping
+from told import value_of
+
+OPENING = "---------------------------OX------XO--------------------------- X"
+POSITIONS = [OPENING[:at] + "X" + OPENING[at + 1 :] for at in range(20)]
+
+
+class Model:
+    """What a server is like: how long an answer takes, how long a job and how it ends, how many sessions it has, and when it is away."""
+
+    def __init__(self, takes: float = 0.001, job: float = 0.05, most: int = 64, grain: int = 4, spent: Callable[[int, int, int], bool] = lambda depth, nodes, jobs: False):
+        self.takes, self.job, self.most, self.grain, self.spent = takes, job, most, grain, spent
+        self.away: list[tuple[float, float]] = []  # from when to when nobody is there
+        self.mute: list[tuple[float, float]] = []  # when lines aren't answered, and never will be
+        self.full = 14
+        self.too_fast: list[tuple[float, float]] = []  # when each line but HELLO is refused, as too many came
+
+    def is_away(self, now: float) -> bool:
+        return any(begin <= now < end for begin, end in self.away)
+
+    def is_mute(self, now: float) -> bool:
+        return any(begin <= now < end for begin, end in self.mute)
+
+
+class Peer:
+    """The server's side of one session."""
+
+    def __init__(self, model: Model):
+        self.model, self.jobs, self.nodes, self.is_in = model, list[tuple[float, str, int]](), 0, False
+
+    def answer(self, line: str, now: float, present: int) -> str:
+        word, *rest = line.split(" ")
+        if word == "HELLO":
+            if present >= self.model.most:
+                return f"ERR {self.model.full}"
+            self.is_in, self.nodes = True, int(rest[1])
+            return f"WELCOME {rest[0]} {rest[1]}"
+        if word == "RESERVE":
+            self.nodes += int(rest[1]) - self.nodes
+            return f"RESERVED {rest[0]} {rest[1]}"
+        if word == "ASK":
+            if len(self.jobs) == 256:
+                return "ERR 13"
+            depth, position = int(rest[0]), " ".join(rest[1:])
+            is_probe = position.startswith(("-O---", "-----X"))
+            self.nodes -= 200 if is_probe and depth > self.model.grain + 1 else 20
+            ends = "SPENT" if self.model.spent(depth, self.nodes, len(self.jobs)) else "DONE"
+            self.jobs.append((now + self.model.job, ends, value_of(position)))
+            return f"JOB {len(self.jobs)}"
+        if word in ("QUOTA", "INFO", "BYE"):
+            return {"QUOTA": f"QUOTA 1 {max(self.nodes, 0)} 1", "INFO": "ERR 21", "BYE": "BYE"}[word]
+        number = int(rest[0])
+        at, ends, value = self.jobs[number - 1]
+        if word == "CANCEL":
+            if now >= at:
+                return "ERR 17"
+            self.jobs[number - 1] = (now, "CANCELLED", 0)
+            return f"CANCELLED {number}"
+        if word == "GET":
+            return f"PENDING {number}" if now < at else f"DONE {number} {value} d3" if ends == "DONE" else f"{ends} {number}"
+        return f"TABLE {number} d3={value}"
+
+
+class Stage:
+    """A core among servers of a model: what is sent, how many sessions were open, what ended and when."""
+
+    def __init__(self, model: Model, **options: Any):
+        self.model, self.core, self.now = model, Core(Options("here", **options)), 0.0
+        self.peers: dict[int, Peer] = {}
+        self.open: set[int] = set()
+        self.queue: list[tuple[float, int, Callable[[], None]]] = []
+        self.sent: list[tuple[float, int, str]] = []
+        self.ended: list[tuple[float, Work]] = []
+        self.told: list[str] = []
+        self.most_open = self.number = 0
+
+    def later(self, seconds: float, call: Callable[[], None]) -> None:
+        self.number += 1
+        heapq.heappush(self.queue, (self.now + seconds, self.number, call))
+
+    def ask(self, *works: Work) -> None:
+        for work in works:
+            self.core.ask(work, self.now)
+        self.act()
+
+    def act(self) -> None:
+        for event in self.core.events():
+            if isinstance(event, Open):
+                self.open.add(event.key)
+                self.most_open = max(self.most_open, len(self.open))
+                self.later(0.001, lambda key=event.key: self.connect(key))  # type: ignore[misc]
+            elif isinstance(event, Send):
+                line = event.data.decode().removesuffix("\n")
+                assert event.key in self.open and "\n" not in line
+                self.sent.append((self.now, event.key, line))
+                if not self.model.is_mute(self.now):
+                    self.later(self.model.takes, lambda key=event.key, line=line: self.answer(key, line))  # type: ignore[misc]
+            elif isinstance(event, Shut):
+                self.open.discard(event.key)
+                self.peers.pop(event.key, None)
+            elif isinstance(event, Ended):
+                self.ended.append((self.now, event.work))
+            elif isinstance(event, Told):
+                self.told.append(event.text)
+
+    def connect(self, key: int) -> None:
+        if key in self.open:
+            if self.model.is_away(self.now):
+                self.core.failed(key, "nobody is there", self.now)
+            else:
+                self.peers[key] = Peer(self.model)
+                self.core.opened(key, self.now)
+
+    def answer(self, key: int, line: str) -> None:
+        if key not in self.peers:
+            return
+        if self.model.is_away(self.now):
+            del self.peers[key]
+            self.core.received(key, b"", self.now)
+            return
+        told = self.peers[key].answer(line, self.now, sum(peer.is_in for peer in self.peers.values()))
+        if any(begin <= self.now < end for begin, end in self.model.too_fast) and not line.startswith(("HELLO", "BYE")):
+            told = "ERR 31"
+        for part in (told[: len(told) // 2].encode(), told[len(told) // 2 :].encode() + b"\n"):  # in two pieces, as TCP may
+            if key in self.open:
+                self.core.received(key, part, self.now)
+
+    def run(self, seconds: float) -> None:
+        """So long, or until nothing more happens."""
+        end = self.now + seconds
+        for _ in range(100_000):
+            due = self.core.next_tick()
+            first = min([at for at in (due, self.queue[0][0] if self.queue else None) if at is not None], default=None)
+            if first is None or first > end:
+                self.now = end
+                return
+            self.now = max(self.now, first)
+            if self.queue and self.queue[0][0] <= self.now:
+                heapq.heappop(self.queue)[2]()
+            else:
+                self.core.tick(self.now)
+            self.act()
+        raise AssertionError("it turns without end")
+
+    def lines(self, word: str) -> list[str]:
+        return [line for _, _, line in self.sent if line.startswith(word)]
+
+
+def results(works: list[Question]) -> list[int | str]:
+    return [work.found.value if isinstance(work.found, Found) else type(work.fault).__name__ for work in works]
+
+
+def test_each_has_its_own_value_by_no_more_sessions_than_are_allowed() -> None:
+    works = [Question(3, POSITIONS[at % 20]) for at in range(100)]
+    stage = Stage(Model(), sessions=3)
+    stage.ask(*works)
+    stage.run(60)
+    assert results(works) == [value_of(work.position) for work in works] and stage.most_open == 3
+    assert len(stage.lines("HELLO")) == 3 and len(stage.lines("ASK")) == 100
+    assert stage.ended[-1][0] == pytest.approx(100 / 3 * 0.056, rel=0.35)  # three at a time
+
+
+def test_ahead() -> None:
+    """So many at once with one session, and no more."""
+    works = [Question(3, POSITIONS[at % 20]) for at in range(40)]
+    stage = Stage(Model(), sessions=1, ahead=4)
+    stage.ask(*works)
+    stage.run(60)
+    assert results(works) == [value_of(work.position) for work in works] and stage.most_open == 1
+    most = under_way = 0
+    for _, _, line in stage.sent:
+        under_way += line.startswith("ASK") - line.startswith("TABLE")
+        most = max(most, under_way)
+    assert most == 4
+
+
+def test_fewer_sessions_than_are_wanted() -> None:
+    """Those that are granted do it all; it is told once, and asked for more rarely."""
+    works = [Question(3, POSITIONS[at % 20]) for at in range(60)]
+    stage = Stage(Model(most=2, job=0.2), sessions=5)
+    stage.ask(*works)
+    stage.run(60)
+    assert results(works) == [value_of(work.position) for work in works]
+    assert [text for text in stage.told if "granted" in text] == ["2 of 5 sessions were granted"]
+    assert len(stage.lines("HELLO")) < 30
+
+
+def test_256_jobs_a_session() -> None:
+    works = [Question(1, POSITIONS[at % 20]) for at in range(600)]
+    stage = Stage(Model(job=0), sessions=1)
+    stage.ask(*works)
+    stage.run(60)
+    assert results(works) == [value_of(work.position) for work in works] and len(stage.lines("HELLO")) == 3 and stage.most_open == 1
+    for key in {key for _, key, _ in stage.sent}:
+        assert sum(line.startswith("ASK") for _, one, line in stage.sent if one == key) <= 256
+
+
+def test_an_outage_loses_nothing() -> None:
+    """The server is away for a while, and silent for another: all is asked again, and it is told."""
+    model = Model(job=0.3)
+    model.away, model.mute = [(1.0, 6.0)], [(9.0, 14.0)]
+    works = [Question(5, POSITIONS[at % 20]) for at in range(80)]
+    stage = Stage(model, sessions=4, outage=30)
+    stage.ask(*works)
+    stage.run(100)
+    assert results(works) == [value_of(work.position) for work in works] and stage.most_open <= 4
+    assert any("nobody is there; it is tried again for 30 s" in text for text in stage.told) and any("no answer to" in text for text in stage.told)
+
+
+@pytest.mark.parametrize("outage, least, most", [(0, 1.4, 3.5), (5, 6, 9)])
+def test_an_outage_that_lasts(outage: float, least: float, most: float) -> None:
+    model = Model(job=10)
+    model.mute = [(1.0, 1e9)]
+    work = Question(5, OPENING)
+    stage = Stage(model, sessions=1, outage=outage)
+    stage.ask(work)
+    stage.run(100)
+    assert isinstance(work.fault, Unreachable) and least < stage.ended[-1][0] < most
+
+
+def test_a_host_that_is_slow() -> None:
+    """A server that takes longer to each answer than silence says is waited for twice as long each time."""
+    work = Question(5, OPENING)
+    stage = Stage(Model(takes=1.0, job=3), sessions=1, silence=1.5, outage=60)
+    stage.ask(work)
+    stage.run(20)
+    assert results([work]) == [value_of(OPENING)]
+    model = Model(takes=0.01, job=1)
+    stage = Stage(model, sessions=1, silence=0.5, outage=60)
+    stage.ask(work := Question(5, OPENING))
+    stage.run(0.3)
+    model.takes = 0.8
+    stage.run(30)
+    assert results([work]) == [value_of(OPENING)] and len(stage.lines("HELLO")) == 2
+
+
+def test_patience() -> None:
+    model = Model(most=0)
+    work = Question(3, OPENING)
+    stage = Stage(model, sessions=2, patience=3)
+    stage.ask(work)
+    stage.run(2)
+    assert not work.ended and [text for text in stage.told if "ERR 14" in text]
+    stage.run(5)
+    assert isinstance(work.fault, Refused) and work.fault.number == 14 and 3 <= stage.ended[-1][0] < 3.5
+    stage = Stage(model, sessions=2, patience=30)
+    stage.ask(work := Question(3, OPENING))
+    stage.run(2)
+    model.most = 1
+    stage.run(2)
+    assert results([work]) == [value_of(OPENING)]
+    model.most, model.full = 0, 30
+    stage = Stage(model, sessions=2)
+    stage.ask(work := Question(3, OPENING))
+    stage.run(1)
+    assert isinstance(work.fault, Refused) and work.fault.number == 30 and len(stage.lines("HELLO")) <= 2
+
+
+def test_what_is_spent() -> None:
+    """Alone, with more, once; what can't be had at all is TooDeep, with what the server surely has; the server is probed once for all of them."""
+    stage = Stage(Model(spent=lambda depth, nodes, jobs: depth > 7 or depth > 5 and (nodes < 20000 or jobs > 0)), sessions=2)
+    works = [Question(depth, POSITIONS[at]) for at, depth in enumerate((3, 6, 9, 3, 9, 6, 12))]
+    stage.ask(*works)
+    stage.run(60)
+    assert results(works) == [value_of(work.position) if work.depth < 9 else "TooDeep" for work in works]
+    assert [str(work.fault) for work in works if work.fault][0] == "depth 9 can't be had at this server's grain; depth 8 surely can"
+    assert [work.fault.greatest for work in works if isinstance(work.fault, TooDeep)] == [8, 8, 8] and len(stage.lines("INFO")) == 1
+    assert stage.most_open == 2
+    before = len(stage.sent)
+    stage.ask(work := Question(9, OPENING))
+    stage.run(10)
+    assert isinstance(work.fault, TooDeep) and not [line for _, _, line in stage.sent[before:] if line.startswith("INFO")]
+    assert [line for _, _, line in stage.sent[before:] if line.startswith("HELLO")] == ["HELLO 1024 65536"]
+
+
+def test_an_older_question_isn_t_passed_over() -> None:
+    """One that needs more than the open sessions have gets a session, though younger ones keep coming."""
+    stage = Stage(Model(spent=lambda depth, nodes, jobs: depth == 9 and nodes < 20000), sessions=1)
+    deep = Question(9, OPENING)
+    stage.ask(*(Question(3, POSITIONS[at]) for at in range(3)), deep)
+    for at in range(60):
+        stage.run(0.05)
+        stage.ask(Question(3, POSITIONS[at % 20]))
+    assert results([deep]) == [value_of(OPENING)]
+
+
+def test_late_and_given_up() -> None:
+    model = Model(job=5)
+    stage = Stage(model, sessions=1)
+    late, next_one = Question(6, OPENING, timeout=0.5), Question(6, POSITIONS[3], timeout=9)
+    stage.ask(late, next_one)
+    stage.run(1)
+    assert isinstance(late.fault, Late) and late.fault.seconds == 0.5 and stage.ended[0][0] < 0.6 and stage.lines("CANCEL") == ["CANCEL 1"]
+    stage.run(10)
+    assert results([next_one]) == [value_of(POSITIONS[3])]
+    stage.ask(given := Question(6, OPENING), waits := Question(6, POSITIONS[4]))
+    stage.run(0.5)
+    stage.core.give_up(given, Broken("not wanted"), stage.now)
+    stage.core.give_up(waits, Broken("not wanted"), stage.now)
+    stage.act()
+    assert given.ended and waits.ended
+    stage.run(5)
+    assert stage.lines("CANCEL") == ["CANCEL 1", "CANCEL 3"] and len(stage.lines("ASK")) == 3 and len(stage.lines("HELLO")) == 1
+
+
+def test_lines_that_come_too_fast() -> None:
+    """What a site refuses for coming too fast is said again a little later, and not at once; whichever line it is."""
+    for begin in (0.0, 0.003, 0.02, 0.056, 0.057, 0.058, 0.059):
+        model = Model(job=0.05)
+        model.too_fast = [(begin, begin + 1.5)]
+        stage = Stage(model, sessions=1)
+        stage.ask(work := Question(3, OPENING), other := Question(3, POSITIONS[5]))
+        stage.run(10)
+        assert results([work, other]) == [value_of(OPENING), value_of(POSITIONS[5])]
+        assert len([line for at, _, line in stage.sent if begin + 0.01 <= at < begin + 1.4]) <= 16
+    model.too_fast = [(0.0, 1e9)]
+    stage = Stage(model, sessions=1, patience=3)
+    stage.ask(work := Question(3, OPENING))
+    stage.run(20)
+    assert isinstance(work.fault, Refused) and work.fault.number == 31 and 3 <= stage.ended[-1][0] < 4
+    model.too_fast = [(1.0, 2.0)]
+    stage = Stage(model, sessions=1)
+    stage.ask(ping_work := Errand(ping))
+    stage.run(1.0)
+    assert ping_work.ended
+    model.job = 60
+    stage.ask(late := Question(3, OPENING, timeout=0.5), asked := Errand(ping))
+    stage.run(10)
+    assert isinstance(late.fault, Late) and asked.ended and not asked.fault and len(stage.lines("CANCEL")) <= 11
+
+
+def test_each_has_a_session_of_its_own_before_any_has_two() -> None:
+    stage = Stage(Model(job=1), sessions=3, ahead=4)
+    stage.ask(Errand(ping))
+    stage.run(1)
+    stage.ask(*(Question(3, POSITIONS[at]) for at in range(3)))
+    stage.run(0.5)
+    asked = [key for _, key, line in stage.sent if line.startswith("ASK")]
+    assert len(asked) == len(set(asked)) == 3
+    stage.ask(*(Question(3, POSITIONS[at]) for at in range(3, 12)))
+    stage.run(0.2)
+    asked = [key for _, key, line in stage.sent if line.startswith("ASK")]
+    assert sorted(asked.count(key) for key in set(asked)) == [4, 4, 4] and stage.most_open == 3
+
+
+def test_silence_is_twice_as_long_each_time() -> None:
+    model = Model(job=100)
+    stage = Stage(model, sessions=1, silence=0.5, outage=20)
+    stage.ask(work := Question(5, OPENING))
+    stage.run(0.2)
+    answer = stage.answer
+    stage.answer = lambda key, line: answer(key, line) if line.startswith("HELLO") else None  # type: ignore[method-assign, assignment]
+    stage.run(60)
+    begun = [at for at, _, line in stage.sent if line.startswith("HELLO")]
+    assert [round(after - before, 1) for before, after in zip(begun[1:], begun[2:])] == [1.0, 2.0, 4.0, 8.0] and isinstance(work.fault, Unreachable)
+    assert "no answer to ASK in 16 s" in str(work.fault)
+
+
+def test_a_job_that_somebody_else_cancelled() -> None:
+    stage = Stage(Model(job=1), sessions=1)
+    stage.ask(work := Question(3, OPENING))
+    stage.run(0.5)
+    peer = next(iter(stage.peers.values()))
+    peer.jobs[0] = (0.0, "CANCELLED", 0)
+    stage.run(1)
+    assert isinstance(work.fault, Broken) and "cancelled by nobody here" in str(work.fault)
+
+
+def test_close() -> None:
+    stage = Stage(Model(job=5), sessions=2)
+    works = [Question(6, OPENING), Question(6, POSITIONS[1]), Question(6, POSITIONS[2])]
+    stage.ask(Errand(ping))
+    stage.run(1)
+    stage.ask(*works)
+    stage.run(1)
+    stage.core.close(stage.now)
+    stage.act()
+    assert results(works) == ["Closed"] * 3 and stage.core.has_ended and not stage.open
+    before = len(stage.sent)
+    stage.run(10)
+    assert len(stage.sent) == before
+    with pytest.raises(Closed):
+        stage.core.ask(Question(1, OPENING), stage.now)
+    stage = Stage(Model(), sessions=2)
+    stage.ask(Errand(ping))
+    stage.run(1)
+    stage.core.close(stage.now)
+    stage.act()
+    assert not stage.core.has_ended and stage.lines("BYE") == ["BYE"]
+    stage.run(1)
+    assert stage.core.has_ended
+
+
+def test_counted_nodes() -> None:
+    stage = Stage(Model(), sessions=1, counts=True)
+    works = [Question(3, POSITIONS[at]) for at in range(5)]
+    stage.ask(*works)
+    stage.run(5)
+    assert [work.found.nodes for work in works] == [20] * 5
+
+
+@hypothesis.given(st.integers(0, 10**9), st.integers(1, 4), st.integers(1, 3))
+def test_whatever_happens_each_ends_as_it_should(seed: int, sessions: int, ahead: int) -> None:
+    """Outages, silences, a limit of sessions, jobs that are spent: each question has its own value, or its own fault, and sessions are as many
+    as are allowed; the core never turns without end."""
+    chance = random.Random(seed)
+    model = Model(takes=chance.choice([0.0005, 0.01]), job=chance.choice([0.0, 0.02, 0.5]), most=chance.randint(1, 4), spent=lambda depth, nodes, jobs: depth > 6 or depth == 6 and nodes < 20000)
+    at = 0.5
+    for _ in range(chance.randint(0, 3)):
+        at += chance.random() * 4
+        (model.away if chance.random() < 0.5 else model.mute).append((at, at + chance.random() * 3))
+        at += 3
+    works = [Question(chance.choice([1, 3, 6, 9]), chance.choice(POSITIONS)) for _ in range(chance.randint(1, 40))]
+    stage = Stage(model, sessions=sessions, ahead=ahead, outage=60, patience=60)
+    for work in works:
+        stage.ask(work)
+        stage.run(chance.random() * 0.1)
+    stage.run(300)
+    assert results(works) == ["TooDeep" if work.depth == 9 else value_of(work.position) for work in works]
+    assert stage.most_open <= sessions
+    stage.core.close(stage.now)
+    stage.act()
+    stage.run(5)
+    assert stage.core.has_ended
+
+
+def test_a_wire() -> None:
+    wire = Wire()
+    assert wire.send("HELLO 1 2", "secret") == b"HELLO 1 2 secret\n" and wire.receive(b"WELC") is None
+    with pytest.raises(Broken) as fault:
+        wire.receive(b"OME 1 3\n")
+    assert "secret" not in str(fault.value) and wire.broken
+    with pytest.raises(Broken):
+        wire.send("BYE")
+    wire = Wire()
+    wire.send("QUOTA")
+    with pytest.raises(Broken, match="QUOTA was interrupted"):
+        wire.send("BYE")
+    with pytest.raises(ValueError):
+        Wire().send("two\nlines")
+    with pytest.raises(Broken, match="wasn't asked"):
+        Wire().receive(b"BYE\n")
+    with pytest.raises(Broken, match="ended the session"):
+        Wire().receive(b"")
+    wire = Wire()
+    wire.send("BYE")
+    with pytest.raises(Broken, match="more than 1115 bytes"):
+        wire.receive(b"y" * 1115)

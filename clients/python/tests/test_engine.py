@@ -1,0 +1,334 @@
+"""An engine on this computer: values, faults, what becomes of processes that end, hang or answer nonsense, and that none is left.
+
+What the program itself answers is tried where it is built (`program_of`); the rest is tried with a program that does as the test says."""
+import asyncio
+import concurrent.futures
+import os
+import pathlib
+import pickle
+import signal
+import subprocess
+import sys
+import threading
+import time
+
+import pytest
+
+from coluwen import AsyncEngine, Broken, Closed, Engine, FormatError, Late, Position, Result, TooDeep, Unreachable
+from coluwen.analyst import Analyst
+from coluwen.engine import Fallback, program_of
+
+OPENING = Position.opening()
+SOON = 5.0  # seconds that are ample for what needs a hundredth of one
+# Answers `depth * 10 c1` to each position of black, and to white's: depth 12 hangs, 11 ends each time, 10 ends the first time, 9 is nonsense.
+FALSE = """#!{python} -uSB
+import os, sys, time
+if sys.argv[1:] == ["--version"]:
+    print("othello 9.9.9")
+    sys.exit()
+for line in sys.stdin:
+    depth, side = int(line.split()[0]), line.split()[2]
+    if side == "O":
+        if depth == 12:
+            time.sleep(600)
+        once = os.path.join(os.path.dirname(sys.argv[0]), "once")
+        if depth == 11 or depth == 10 and not os.path.exists(once):
+            open(once, "w").close()
+            sys.exit(3)
+        if depth == 9:
+            print("what?", flush=True)
+            continue
+    print(10 * depth, "d3" if depth else "-", 1, flush=True)
+"""
+WHITE = OPENING.flip()
+
+
+@pytest.fixture
+def false(tmp_path: pathlib.Path) -> str:
+    program = tmp_path / "othello"
+    program.write_text(FALSE.format(python=sys.executable))
+    program.chmod(0o755)
+    return str(program)
+
+
+def built() -> bool:
+    try:
+        program_of()
+    except Unreachable:
+        return False
+    return True
+
+
+real = pytest.mark.skipif(not built(), reason="the program isn't built")
+
+
+def children() -> dict[int, str]:
+    """The processes that this one has begun and not waited for, and the state of each."""
+    found = {}
+    for place in pathlib.Path("/proc").glob("[0-9]*/stat"):
+        try:
+            words = place.read_text().rpartition(")")[2].split()
+        except OSError:
+            continue
+        if int(words[1]) == os.getpid():
+            found[int(place.parent.name)] = words[0]
+    return found
+
+
+def until(holds: object, seconds: float = SOON) -> bool:
+    end = time.monotonic() + seconds
+    while not holds():  # type: ignore[operator]
+        if time.monotonic() > end:
+            return False
+        time.sleep(0.002)
+    return True
+
+
+@real
+def test_it_is_an_analyst_whose_values_are_the_programs() -> None:
+    with Engine(2) as engine:
+        assert isinstance(engine, Analyst)
+        result = engine.analyse(OPENING, 2)
+        assert (result.score.value, result.best, result.depth, result.position) == (-4, "d3", 2, OPENING)
+        assert [str(entry) for entry in result.table] == ["d3=-4", "c4<-4", "f5<-4", "e6<-4"]
+        assert engine.analyse(OPENING.text, 0).best is None
+        assert engine.info().sure == 12
+        assert [(entry.move, entry.score.value) for entry in engine.analyse_all(OPENING, 2)] == [("d3", -4), ("c4", -4), ("f5", -4), ("e6", -4)]
+        after = OPENING.play("f5").play("d6")
+        best = engine.analyse(after, 5)
+        values = engine.analyse_all(after, 5)
+        assert values[0].score.value == best.score.value and best.best in [entry.move for entry in values if entry.score.value == best.score.value]
+
+
+@real
+def test_many_of_any_depth_are_answered_in_order_with_their_faults() -> None:
+    asked = [(OPENING, 3), ("nonsense", 3), (OPENING.play("d3"), 2), (OPENING, 13)]
+    with Engine(3) as engine:
+        outcomes = list(engine.analyse_many(asked))
+    assert [outcome.number for outcome in outcomes] == [0, 1, 2, 3]
+    assert [type(outcome.answer).__mro__[1 if index % 2 else 0] for index, outcome in enumerate(outcomes)] == [Result, FormatError, Result, FormatError]
+
+
+@real
+def test_ten_thousand_positions_while_processes_are_killed() -> None:
+    game, positions = OPENING, []
+    while len(positions) < 10000:
+        positions.append(game)
+        moves = game.legal_moves()
+        game = game.play(moves[len(positions) * 7 % len(moves)]) if moves else OPENING.play(OPENING.legal_moves()[len(positions) % 4])
+    killed, over = 0, threading.Event()
+
+    def kill() -> None:
+        nonlocal killed
+        while not over.wait(0.05):
+            for pid in children():
+                os.kill(pid, signal.SIGKILL)
+                killed += 1
+                break
+
+    with Engine(4) as engine:
+        wanted = {place: engine.analyse(place, 1) for place in set(positions[:50])}
+        killer = threading.Thread(target=kill)
+        killer.start()
+        try:
+            outcomes = list(engine.analyse_many(positions, 1))
+        finally:
+            over.set()
+            killer.join()
+    assert [outcome.question for outcome in outcomes] == positions
+    assert all(isinstance(outcome.answer, Result) for outcome in outcomes)
+    assert killed > 2
+    assert all((wanted[place].score, wanted[place].best) == (outcome.answer.score, outcome.answer.best) for place, outcome in zip(positions[:50], outcomes))
+    assert children() == {}
+
+
+def test_processes_that_end_are_begun_anew_and_nothing_is_lost(false: str) -> None:
+    with Engine(1, program=false) as engine:
+        assert engine.version == "9.9.9"
+        assert engine.analyse(WHITE, 10).score.value == 100  # its first process ended
+        futures = [engine.submit(OPENING, 1), engine.submit(WHITE, 11), engine.submit(OPENING, 2), engine.submit(WHITE, 9), engine.submit(OPENING, 3)]
+        assert [futures[at].result(SOON).score.value for at in (0, 2, 4)] == [10, 20, 30]
+        for at in (1, 3):
+            with pytest.raises(Broken):
+                futures[at].result(SOON)
+    assert children() == {}
+
+
+def test_what_is_given_up_ends_its_process_at_once(false: str) -> None:
+    with Engine(1, program=false) as engine:
+        engine.analyse(OPENING, 1)
+        before = set(children())
+        hanging, behind = engine.submit(WHITE, 12), engine.submit(OPENING, 4)
+        time.sleep(0.05)
+        begun = time.monotonic()
+        assert hanging.cancel()
+        assert until(lambda: not before & set(children()), 0.5)
+        assert time.monotonic() - begun < 0.5
+        assert behind.result(SOON).score.value == 40
+        waits = engine.submit(WHITE, 12)
+        never = engine.submit(OPENING, 5)
+        assert never.cancel() and waits.cancel()
+        assert engine.analyse(OPENING, 6).score.value == 60
+        assert "Z" not in children().values()
+
+
+def test_a_question_that_takes_too_long_is_late(false: str) -> None:
+    with Engine(1, program=false) as engine:
+        with pytest.raises(Late) as fault:
+            engine.analyse(WHITE, 12, timeout=0.2)
+        assert fault.value.seconds == 0.2
+        assert engine.analyse(OPENING, 7, timeout=SOON).score.value == 70
+    with Engine(1, program=false, timeout=0.2) as engine, pytest.raises(Late):
+        engine.analyse(WHITE, 12)
+
+
+def test_close_ends_what_waits_and_leaves_no_process(false: str) -> None:
+    engine = Engine(2, program=false)
+    futures = [engine.submit(WHITE, 12) for _ in range(5)]
+    time.sleep(0.1)
+    begun = time.monotonic()
+    engine.close()
+    assert time.monotonic() - begun < 2
+    for future in futures:
+        with pytest.raises(Closed):
+            future.result(SOON)
+    with pytest.raises(Closed):
+        engine.submit(OPENING, 1)
+    engine.close()
+    assert children() == {}
+
+
+def test_a_loop_that_is_left_gives_up_what_it_asked(false: str) -> None:
+    with Engine(2, program=false) as engine:
+        for _question, answer in engine.analyse_many([(OPENING, 1), *[(WHITE, 12)] * 9], order="known"):
+            assert isinstance(answer, Result)
+            break
+        assert engine.analyse(OPENING, 2).score.value == 20
+
+
+def test_threads_share_it(false: str) -> None:
+    with Engine(3, program=false) as engine, concurrent.futures.ThreadPoolExecutor(9) as threads:
+        values = list(threads.map(lambda number: engine.analyse(OPENING, number % 9).score.value, range(200)))
+    assert values == [10 * (number % 9) for number in range(200)]
+
+
+def test_a_program_that_is_none_is_told(tmp_path: pathlib.Path, monkeypatch: pytest.MonkeyPatch) -> None:
+    with pytest.raises(Unreachable):
+        Engine(program=str(tmp_path / "nothing"))
+    other = tmp_path / "othello"
+    other.write_text("#!/bin/sh\necho a game\n")
+    other.chmod(0o755)
+    with pytest.raises(Unreachable):
+        Engine(program=str(other))
+    monkeypatch.setenv("COLUWEN_OTHELLO", str(other))
+    with pytest.raises(Unreachable):
+        Engine()
+    for workers in (0, True, 1.5):
+        with pytest.raises(ValueError):
+            Engine(workers)  # type: ignore[arg-type]
+
+
+def test_a_program_that_is_taken_away_is_told(false: str) -> None:
+    with Engine(1, program=false) as engine:
+        os.unlink(false)
+        with pytest.raises(Unreachable):
+            engine.analyse(OPENING, 1)
+
+
+def test_an_interpreter_that_ends_without_close_leaves_no_process(false: str) -> None:
+    script = "import sys, os\nfrom coluwen import Engine, Position\ne = Engine(2, program=sys.argv[1])\nf = e.submit(Position.opening().flip(), 12)\ne.analyse(Position.opening(), 1)\nprint(*[s.process.pid for s in e._pool.seats])"
+    begun = time.monotonic()
+    told = subprocess.run([sys.executable, "-c", script, false], stdout=subprocess.PIPE, text=True, timeout=SOON, check=True, env={**os.environ, "PYTHONPATH": os.pathsep.join(sys.path)})
+    pids = told.stdout.split()
+    assert len(pids) == 2 and time.monotonic() - begun < SOON
+    assert until(lambda: not any(os.path.exists(f"/proc/{pid}") for pid in pids))
+
+
+def test_results_and_faults_can_be_pickled(false: str) -> None:
+    with Engine(1, program=false) as engine:
+        result = engine.analyse(OPENING, 3)
+    for one in (result, Broken("lost"), Late(0.5), TooDeep(9, 8)):
+        copy = pickle.loads(pickle.dumps(one))
+        assert repr(copy) == repr(one)
+
+
+class Shallow(Analyst):
+    """Has depth 3 at most."""
+
+    def __init__(self) -> None:
+        self.closed = False
+
+    def submit(self, position: str | Position, depth: int, *, timeout: float | None = None) -> concurrent.futures.Future[Result]:
+        future = concurrent.futures.Future[Result]()
+        if depth == 5:
+            future.set_exception(Broken("lost"))
+        elif depth > 3:
+            future.set_exception(TooDeep(depth, 3))
+        return future
+
+    def info(self) -> object: ...  # type: ignore[override]
+    def ping(self) -> float: ...  # type: ignore[empty-body]
+
+    def close(self) -> None:
+        self.closed = True
+
+
+def test_what_one_cannot_give_another_one_gives(false: str) -> None:
+    first = Shallow()
+    with Fallback(first, Engine(1, program=false)) as both:
+        assert both.analyse(OPENING, 4).score.value == 40
+        with pytest.raises(Broken):
+            both.analyse(OPENING, 5)
+        waits = both.submit(WHITE, 12)
+        time.sleep(0.05)
+        assert waits.cancel()
+        assert both.analyse(OPENING, 6).score.value == 60
+        assert both.submit(OPENING, 2).cancel()
+        assert both.info().sure == 12
+    assert first.closed and children() == {}
+
+
+def test_the_same_for_asyncio(false: str) -> None:
+    async def asks() -> None:
+        async with AsyncEngine(1, program=false) as engine:
+            assert (await engine.analyse(OPENING, 3)).score.value == 30
+            assert [outcome.answer.score.value async for outcome in engine.analyse_many([(OPENING, 1), (OPENING, 2)])] == [10, 20]
+            assert len(await engine.analyse_all(OPENING, 2)) == 4
+            with pytest.raises(TimeoutError):
+                async with asyncio.timeout(0.1):
+                    await engine.analyse(WHITE, 12)
+            assert (await engine.analyse(OPENING, 4)).score.value == 40  # so the hanging process is gone
+            assert (await engine.info()).sure == 12 and await engine.ping() >= 0
+        with pytest.raises(Closed):
+            await engine.analyse(OPENING, 1)
+
+    asyncio.run(asks())
+    assert children() == {}
+
+
+def command(module: str, *words: str, false: str, text: str = "", **env: str) -> subprocess.CompletedProcess[str]:
+    """A command of the package, where no server is named."""
+    env = {"PATH": "/usr/bin:/bin", "PYTHONPATH": os.pathsep.join(sys.path), "COLUWEN_OTHELLO": false, **env}
+    return subprocess.run([sys.executable, "-m", module, *words], input=text, capture_output=True, text=True, timeout=20, check=False, env=env)
+
+
+def test_commands_need_no_server(false: str, tmp_path: pathlib.Path) -> None:
+    lines = command("coluwen.tools.lines", false=false, text=f"3 {OPENING.text}\n13 {OPENING.text}\n")
+    assert (lines.returncode, lines.stdout) == (3, "DONE 30 d3\nERR 27 the depth is over 12\n")
+    rows = tmp_path / "rows.csv"
+    batch = command("coluwen.tools.batch", "--depth", "4", "--workers", "2", str(rows), false=false, text=f"{OPENING.text}\n{OPENING.play('d3').text}\n")
+    assert batch.returncode == 0, batch.stderr
+    assert [row.split(",")[1:4] for row in rows.read_text().splitlines()[1:]] == [["4", "40", "d3"]] * 2
+    gtp = command("coluwen.tools.gtp", "--depth", "2", false=false, text="genmove b\nquit\n")
+    assert gtp.stdout.startswith("= D3")
+    review = command("coluwen.tools.review", "f5d6", "--depth", "2", false=false)
+    assert review.returncode == 0, review.stderr
+
+
+def test_commands_say_that_nothing_gives_values(tmp_path: pathlib.Path) -> None:
+    told = command("coluwen.tools.lines", false=str(tmp_path / "none"))
+    assert told.returncode == 1 and "no server is named" in told.stderr
+    told = command("coluwen.tools.lines", "--server", "127.0.0.1:9", "--silence", "0.1", false=str(tmp_path / "none"))
+    assert told.returncode == 1 and "127.0.0.1:9" in told.stderr
+    told = command("coluwen.tools.lines", "--server", "127.0.0.1:9", "--fallback", "engine", false=str(tmp_path / "none"))
+    assert told.returncode == 1 and "isn't the program" in told.stderr

@@ -1,0 +1,165 @@
+"""The commands: what they say to boards and on terminals, and how they end, against servers that answer as they are told."""
+from __future__ import annotations
+
+import pathlib
+import re
+import shutil
+import subprocess
+import sys
+import time
+
+import pytest
+from coluwen import Client, Position
+from coluwen.board import Board
+from coluwen.errors import Refused
+from coluwen.tools import lines, review
+from coluwen.tools.gtp import Gtp
+from coluwen.tools.match import GtpProgram, NBoardProgram, Player, match
+from coluwen.tools.player import Player as Searcher
+from told import sound, told, value_of
+
+BIN = pathlib.Path(__file__).resolve().parents[2] / "bin"
+OPENING = Position.opening()
+COMMANDS = ("coluwen", "coluwen-batch", "coluwen-gtp", "coluwen-match", "coluwen-nboard", "coluwen-page", "coluwen-review")
+
+
+def command(name: str, *words: object, stdin: str = "", **more: object) -> subprocess.CompletedProcess[str]:
+    return subprocess.run([sys.executable, BIN / name, *map(str, words)], input=stdin, capture_output=True, text=True, timeout=50, check=False, **more)  # type: ignore[call-overload, no-any-return]
+
+
+@pytest.mark.parametrize("name", COMMANDS)
+def test_each_says_what_it_is(name: str) -> None:
+    found = command(name, "--help")
+    assert found.returncode == 0 and found.stdout.startswith(f"usage: {name}") and "--server" in found.stdout and not found.stderr
+    assert command(name, "--version").stdout.startswith(f"{name} (coluwen) 1.")
+    wrong = command(name, "--no-such-option")
+    assert wrong.returncode == 2 and "usage:" in wrong.stderr
+    if shutil.which("help2man"):
+        page = subprocess.run(["help2man", "-N", BIN / name], capture_output=True, text=True, check=False)
+        assert page.returncode == 0 and f".TH {name.upper()}" in page.stdout
+
+
+def test_nobody_is_there() -> None:
+    for name, words in (("coluwen", ()), ("coluwen-gtp", ()), ("coluwen-nboard", ()), ("coluwen-review", ("f5",)), ("coluwen-batch", ("/tmp/none.csv",)), ("coluwen-page", ())):
+        begun = time.monotonic()
+        found = command(name, "--server", "127.0.0.1:1", "--silence", "0.4", *words)
+        assert found.returncode == 1 and found.stderr.count("\n") == 1 and found.stderr.startswith(f"{name}: 127.0.0.1:1: ") and time.monotonic() - begun < 20, found
+
+
+def test_lines() -> None:
+    """In order, each with its own; what the server would refuse has its number, in the order of its tests."""
+    after = OPENING.play("f5")
+    asked = {f"3 {OPENING}": f"DONE {value_of(OPENING.text)} d3", f"04 {after}": f"DONE {value_of(after.text)} f4", "nonsense": "ERR 21", "x y": "ERR 23", f"13 {OPENING}": "ERR 27", f"3 {OPENING}X": "ERR 24",
+             f"3 {OPENING.text.replace('O', 'Q', 1)}": "ERR 25", f"3 {OPENING.cells}XX": "ERR 26", f"3 {OPENING.cells} -": "ERR 26", "1" * 130: "ERR 22", "": "ERR 21", f"123456789 {OPENING}": "ERR 23",
+             f"9 {OPENING}": "SPENT"}  # fmt: skip
+    with told(sound(state=lambda depth, nodes: "SPENT" if depth > 8 else "DONE")) as server:
+        found = command("coluwen", "--server", f"127.0.0.1:{server.port}", "--ahead", 4, stdin="\n".join(asked) + "\r\n")
+        answers = found.stdout.split("\n")
+        assert [answer[: len(wanted)] for answer, wanted in zip(answers, asked.values())] == list(asked.values()) and len(answers) == len(asked) + 1 and found.returncode == 3
+        assert "line 13: depth 9 can't be had at this server's grain" in found.stderr and len([line for line in server.heard if line.startswith("HELLO")]) <= 4
+        shown = command("coluwen", "--server", f"127.0.0.1:{server.port}", "--tables", stdin=f"2 {OPENING}\n")
+        assert shown.returncode == 0 and f"*={value_of(OPENING.text)}" in shown.stdout and "<-1" in shown.stdout
+    with pytest.raises(Refused):
+        lines.question_of("3")
+
+
+def test_lines_at_once() -> None:
+    """An answer comes before the next line does."""
+    with told(sound()) as server:
+        process = subprocess.Popen([sys.executable, BIN / "coluwen", "--server", f"127.0.0.1:{server.port}"], stdin=subprocess.PIPE, stdout=subprocess.PIPE, text=True)
+        assert process.stdin and process.stdout
+        for _ in range(3):
+            process.stdin.write(f"2 {OPENING}\n")
+            process.stdin.flush()
+            assert process.stdout.readline() == f"DONE {value_of(OPENING.text)} d3\n"
+        process.stdin.close()
+        assert process.wait(20) == 0
+
+
+def test_gtp() -> None:
+    with told(sound(5)) as server, Client("127.0.0.1", server.port) as client:
+        gtp = Gtp(Searcher(client, 3))
+        commands = ("1 protocol_version", "name", "boardsize 8", "play black f5", "play black d6", "play white d6", "genmove black", *["undo"] * 4, "final_score", "boardsize 9",
+                    f"coluwen-position XO{'-' * 62} O", "genmove white", "genmove black", "showboard", "what", "", "known_command play", "coluwen-depth 0", "quit")  # fmt: skip
+        said = [gtp.heard(line)[0] for line in commands]
+        assert said[:6] == ["=1 2\n", "= Coluwen\n", "=\n", "=\n", "? illegal move\n", "=\n"] and said[7:13] == ["=\n", "=\n", "=\n", "? cannot undo\n", "? cannot score\n", "? unacceptable size\n"]
+        assert said[6] == "= C3\n" and said[13:16] == ["=\n", "= PASS\n", "= C1\n"]
+        assert said[17] == "? unknown command\n" and said[18] == "" and said[19] == "= true\n" and said[20].startswith("? ")
+        position = Board.parse("X" * 63 + "- O")
+        gtp.board = position
+        assert gtp.heard("final_score")[0] == "= B+64\n"  # the empty square is the winner's
+
+
+def conversation(server_port: int, said: str) -> list[str]:
+    found = command("coluwen-nboard", "--server", f"127.0.0.1:{server_port}", "--depth", 2, stdin=said)
+    assert found.returncode == 0, found
+    return found.stdout.splitlines()
+
+
+def test_nboard() -> None:
+    with told(sound(-250)) as server:
+        begun = OPENING.play("f5").play("d6").play("c3")
+        legal = begun.legal
+        told_of = conversation(server.port, "nboard 1\nset depth 2\nset game (;GM[Othello]BO[8 " + OPENING.cells + " *]B[F5]W[D6];)\nmove C3\nmove A1\nhint 2\n")
+        assert told_of[0] == "set myname Coluwen" and "status a1: white can't play there" in told_of
+        assert [line for line in told_of if line.startswith("search")] == [f"search {move} {at} 0 {depth}" + bound for depth in (1, 2) for move, at, bound in ((legal[0].upper(), "-2.50", ""), (legal[1].upper(), "-0.01", " at most"))]
+        assert [line for line in told_of if line.startswith("nodestats")][0].startswith("nodestats 120 ")
+        assert [line for line in conversation(server.port, "move F5\ngo\n") if line.startswith("===")][0].startswith("=== F4/-2.50/")
+        asked = [line for line in server.heard if line.startswith("ASK")]
+        assert f"ASK 1 {begun}" in asked and not [line for line in asked if line.startswith("ASK 3") and str(begun) in line]
+        assert "status game 1:1: this is a game of Go" not in told_of
+        wrong = conversation(server.port, "nboard 1\nset game (;GM[Go]B[F5];)\nset game nothing\nanalyze\n")
+        assert sum("is a game of Go" in line or "no game begins" in line for line in wrong) == 2 and "analysis 0 -2.50" in wrong
+        pong = conversation(server.port, "ping 7\nquit\n")
+        assert pong == ["pong 7"]
+
+
+def test_what_is_looked_for_is_stopped_by_a_ping() -> None:
+    with told(sound(state=lambda depth, nodes: "PENDING" if depth > 2 else "DONE")) as server:
+        process = subprocess.Popen([sys.executable, BIN / "coluwen-nboard", "--server", f"127.0.0.1:{server.port}", "--depth", "4"], stdin=subprocess.PIPE, stdout=subprocess.PIPE, text=True)
+        assert process.stdin and process.stdout
+        process.stdin.write("go\n")
+        process.stdin.flush()
+        while not any(line.startswith("ASK 4") for line in server.heard):
+            time.sleep(0.01)
+        process.stdin.write("ping 1\nquit\n")
+        process.stdin.flush()
+        assert process.stdout.read().splitlines()[-1] == "pong 1" and process.wait(20) == 0
+        assert any(line.startswith("CANCEL") for line in server.heard)
+
+
+def test_review() -> None:
+    """Values are those of the player who moves: of a move that of the position behind it, turned; the best one's is the position's own."""
+    game = Board().push("f5").push("d6").push("c3")
+    with told(sound()) as server, Client("127.0.0.1", server.port) as client:
+        rows = list(review.review(client, game, 4))
+        assert [(row.number, row.move) for row in rows] == [(1, "f5"), (2, "d6"), (3, "c3")] and not any(row.fault for row in rows)
+        for row, (position, move) in zip(rows, game.positions()):
+            assert row.value and row.best_value and row.value.value == -value_of(position.play(move).text) and row.best_value.value == value_of(position.text)
+            assert row.lost == row.best_value.value - row.value.value and row.best == position.legal[0]
+        asked = {line for line in server.heard if line.startswith("ASK")}
+        assert {f"ASK 4 {position}" for position, _ in game.positions()} <= asked and f"ASK 3 {game.position}" in asked
+        sgf = pathlib.Path(__file__).parent / "fixtures" / "quarry.sgf"
+        whole = command("coluwen-review", "--server", f"127.0.0.1:{server.port}", "--depth", 2, "--file", sgf)
+        assert whole.returncode == 0 and len(re.findall(r"(?m)^ *\d+ (?:black|white) ", whole.stdout)) == 60 and re.search(r"black: \d+ of \d+ moves were best; \d+ points", whole.stdout)
+        headed = subprocess.run(f"{sys.executable} {BIN}/coluwen-review --server 127.0.0.1:{server.port} --depth 2 --file {sgf} | head -2", shell=True, capture_output=True, text=True, timeout=50, check=False)
+        assert headed.stdout.count("\n") == 2 and not headed.stderr
+        assert "are named" not in (wrong := command("coluwen-review", "--depth", 2, "f5a1").stderr) and wrong.startswith("coluwen-review: text:1:3: move 2")
+
+
+def test_a_match_of_programs() -> None:
+    """A game by the bridges themselves, as the referee speaks to them."""
+    with told(sound(3)) as server:
+        words = f"--server 127.0.0.1:{server.port} --depth 1"
+
+        class First(Player):
+            def move(self, board: Board) -> str:
+                return board.legal[0]
+
+        for kind, name in ((GtpProgram, "coluwen-gtp"), (NBoardProgram, "coluwen-nboard")):
+            program = kind("one", f"{sys.executable} {BIN}/{name} {words}", 20)
+            try:
+                table, outcomes = match(lambda: __import__("contextlib").nullcontext((program, First("other"))), [Board().push("f5")], lambda text: None)  # noqa: B023
+            finally:
+                program.close()
+            assert not any(outcome.fault for outcome in outcomes) and all(outcome.game.final().is_over for outcome in outcomes) and len(table.discs) == 2

@@ -1,0 +1,139 @@
+#!/usr/bin/env python3
+"""Shows that the tests of JavaScript and Java tell wrong bodies of their clients: each is put into a copy, and the tests of its language must fail there.
+
+usage: clients/wrong_bodies.py [--list] [WORD..]      (numbers, languages, or words of what is wrong; all where none is named)
+
+On a quiet host COLUWEN_ONCE=1 takes half the time: a row that fails isn't played again then.
+"""
+import pathlib
+import re
+import shutil
+import subprocess
+import sys
+import tempfile
+
+HERE = pathlib.Path(__file__).resolve().parent
+SOURCES = {"javascript": "javascript/src/{}.mjs", "java": "java/src/main/java/coluwen/{}.java"}
+TESTS = {"javascript": ["node", "--test", *(f"test/{name}.test.mjs" for name in ("behaviour", "client", "conformance", "core"))], "java": ["./build", "test", "-N", ".*EngineTest"]}
+# What is wrong, and in each language the file, what stands in it once, and what comes in its place.
+BODIES = (
+    ("a reservation is never raised",
+     ("core", "const more = this.isFree && refusal.number !== 13 ?", "const more = false ?"),
+     ("Core", "limits.isFree() && refusal.number() != 13 && step.nodes() > nodes", "false && nodes < 0")),
+    ("Score.flip keeps the sign",
+     ("score", "new Score(0 - this.value, TURNED[this.sign]", "new Score(0 - this.value, this.sign"),
+     ("Score", "sign == '<' ? '>' : sign == '>' ? '<' : '=', ends, side ==", "sign, ends, side ==")),
+    ("Score.flip keeps the side", ("score", "this.ends, OTHER[this.side])", "this.ends, this.side)"), ("Score", "ends, side == 'X' ? 'O' : 'X')", "ends, side)")),
+    ("all moves are unsorted",
+     ("analyst", ".sort((one, other) => Score.compare(other.score, one.score))", ""),
+     ("Analyst", ".sorted(Comparator.comparing(Entry::score).reversed())", ".sorted(Comparator.comparing(Entry::move))")),
+    ("all moves begin with the worst", ("analyst", "Score.compare(other.score, one.score)", "Score.compare(one.score, other.score)"), ("Analyst", "Comparator.comparing(Entry::score).reversed()", "Comparator.comparing(Entry::score)")),
+    ("a move's value is the opponent's", ("analyst", "new Score(0 - score.value", "new Score(0 + score.value"), ("Analyst", "new Score(-result.score().value()", "new Score(result.score().value()")),
+    ("a pass takes a ply", ("analyst", "move === PASS ? depth : depth - 1", "depth - 1"), ("Analyst", "move.equals(Position.PASS) ? depth : depth - 1", "depth - 1")),
+    ("TooDeep says the depth that was asked", ("core", "Math.min(this.#info.sure, question.depth - 1)", "question.depth"), ("Core", "Math.min(info.sure(), question.depth - 1)", "question.depth")),
+    ("TooDeep says the sure depth alone", ("core", "Math.min(this.#info.sure, question.depth - 1)", "this.#info.sure"), ("Core", "Math.min(info.sure(), question.depth - 1)", "info.sure()")),
+    ("the grain is that of the last position", ("core", "if (isOver) this.grain = Math.min(this.grain, this.#depth - 2);", "if (isOver) this.grain = this.#depth - 2;"), ("Core", "if (isOver) grain = Math.min(grain, depth - 2);", "if (isOver) grain = depth - 2;")),
+    ("a probe that was spent counts as done", ("core", "!isFirst && (this.#wasSpent || ", "!isFirst && ("), ("Core", "nodes >= 0 && (wasSpent || ", "nodes >= 0 && (")),
+    ("there is no limit of sessions",
+     ("core", "if (this.#seats.size < this.#most) this.#open(this.#levelOf(one), now);", "this.#open(this.#levelOf(one), now);"),
+     ("Core", "if (seats.size() < most) open(levelOf(one), now, null);", "open(levelOf(one), now, null);")),
+    ("256 jobs are forgotten", ("core", "seat.isRetired ||= seat.wire.jobs >= MOST_JOBS;", ""), ("Core", "seat.isRetired |= seat.wire.jobs() >= MOST_JOBS;", "")),
+    ("ERR 13 is a fault", ("core", "const USED_UP = [10, 11, 13];", "const USED_UP = [10, 11];"), ("Core", "USED_UP = List.of(10, 11, 13);", "USED_UP = List.of(10, 11);")),
+    ("ahead is forgotten", ("core", "seat.running.length >= this.ahead ||", ""), ("Core", "seat.running.size() >= limits.ahead() ||", "")),
+    ("what is spent isn't asked again", ("core", "if (seat.wire.jobs > 1 || seat.level < top) {", "if (false) {"), ("Core", "if (seat.wire.jobs() > 1 || seat.level < top) {", "if (seat.level < 0) {")),
+    ("what was spent isn't alone",
+     ("core", "|| seat.running.some(({ isAlone }) => isAlone)) return null;", ") return null;"),
+     ("Core", "|| seat.running.stream().anyMatch(one -> one.isAlone)) return null;", ") return null;")),
+    ("the level that a depth needed is forgotten", ("core", "if (question.isAlone) this.#needs.set(question.depth, question.level);", ""), ("Core", "if (question.isAlone) needs.put(question.depth, question.level);", "")),
+    ("a late job isn't cancelled", ("core", "const gone = seat.running.find((one) => one.isSettled || now >= one.until);", "const gone = seat.running.find((one) => now >= one.until + 1e9);"), ("Core", "one -> one.isSettled || now >= one.until", "one -> now >= one.until + 1e9")),
+    ("a slow answer keeps who gave up waiting", ("core", "if (now >= one.limit) this", "if (false) this"), ("Core", "if (now >= one.limit) settle", "if (now < 0) settle")),
+    ("CANCEL that came too late is a fault", ("core", "if (answer) this.#settle(question, { fault: late(question) });", "this.#settle(question, { fault: late(question) });"), ("Core", "if (answer != null) settle(question, late(question));", "settle(question, late(question));")),
+    ("time goes on while a question waits for its turn", ("core", "isSettled: false, until: Infinity,", "isSettled: false, until: now + (question.timeout ?? Infinity),"), None),
+    ("silence is for ever", ("core", "if (now >= seat.deadline) this", "if (false) this"), ("Core", "if (now >= seat.deadline) lost", "if (now < 0) lost")),
+    ("silence isn't asked again", ("core", "(isSilent && !this.#isOutage(now)) || one.kind", "isSilent || one.kind"), ("Core", "(isSilent && !isOutage(now)) || one.kind", "isSilent || one.kind")),
+    ("silence isn't doubled", ("core", "this.silence * 2 ** this.#silences", "this.silence"), ("Core", "limits.silence() * Math.pow(2, silences)", "limits.silence()")),
+    ("a loss is one for ever", ("core", "if (one.losses >= LOSSES ||", "if ("), ("Core", "if (one.losses >= LOSSES ||", "if (")),
+    ("a loss ends the question", ("core", "const LOSSES = 4;", "const LOSSES = 1;"), ("Core", "int LOSSES = 4;", "int LOSSES = 1;")),
+    ("a full server isn't asked again", ("core", "const LATER = [14, 19, 31];", "const LATER = [];"), ("Core", "LATER = List.of(14, 19, 31);", "LATER = List.of();")),
+    ("a token that nobody has is asked again", ("core", "const LATER = [14, 19, 31];", "const LATER = [14, 19, 30, 31];"), ("Core", "LATER = List.of(14, 19, 31);", "LATER = List.of(14, 19, 30, 31);")),
+    ("too many lines in a time are a fault", ("core", "if (refusal.number === RATE &&", "if (false &&"), ("Core", "if (refusal.number() == RATE &&", "if (false &&")),
+    ("a full server ends what others could do", ("core", "if (isLater && [...this.#seats].some(({ isReady }) => isReady)) return", "if (false) return"), ("Core", "if (isLater && seats.stream().anyMatch(one -> one.isReady)) {", "if (now < 0) {")),
+    ("a closed client goes on", ("core", "if (this.#isEnded) throw new Closed", "if (false) throw new Closed"), ("Core", "if (isEnded) throw new Closed", "if (now < 0) throw new Closed")),
+    ("what waits isn't told that the client was closed", ("core", "for (const seat of this.#seats) for (const one of seat.questions) this.#settle(one, { fault: new Closed(\"client\") });", ""), ("Core", "for (var seat : seats) for (var one : seat.questions()) settle(one, new Closed(\"client\"));", "")),
+    ("BYE is said behind a line that isn't answered", ("core", "if (seat.isReady && !seat.asked && !seat.running.length) this.#send(seat, [\"BYE\"], null, now);", "if (seat.isReady) this.#send(seat, [\"BYE\"], null, now);"), ("Core", "if (seat.isIdle()) send(seat, \"BYE\", null, now);", "if (seat.isReady) send(seat, \"BYE\", null, now);")),
+    ("what wasn't asked is taken", ("core", "if (line === undefined) throw new Broken(", "if (line === undefined) return { refusal: null }; if (false) throw new Broken("), ("Wire", "if (line == null) throw new Broken(\"the server said what wasn't asked\");", "if (line == null) return new Reply(null, null);")),
+    ("endless bytes are read", ("core", "if (this.#rest.length >= LONGEST) throw", "if (false) throw"), ("Wire", "if (rest.length() >= Answer.LONGEST) throw", "if (rest.length() < 0) throw")),
+    ("another job's answer is taken", ("answers", '.includes(word) ? null : rest', '.includes(word) ? null : null'), ("Answer", "default -> words.subList(1, words.size());", "default -> null;")),
+    ("128001 is a value", ("answers", " || values.some((value) => Math.abs(value) > GREATEST)", ""), ("Answer", " || tooGreat", "")),
+    ("a move stands twice in a table", ("answers", "!again || twice ||", "!again ||"), ("Answer", " || moves.size() != entries.size()", "")),
+    ("one direction flips nothing", ("board", "[-1, 0, 1].flatMap((down) => [-1, 0, 1].map(", "[-1, 0, 1].flatMap((down) => [0, 1].map("), ("Position", "for (int right = -1;", "for (int right = 0;")),
+    ("nobody passes", ("board", "squares : [PASS];", "squares : [];"), ("Position", "? found : List.of(PASS);", "? found : List.of();")),
+    ("black's number is the mover's", ("score", 'this.side === "X" ? this.mover : 0 - this.mover', "this.mover"), ("Score", "return side == 'X' ? mover() : -mover();", "return mover();")),
+    ("a wrong depth is sent", ("analyst", "if (!Number.isInteger(depth) || depth < 0 || depth > DEEPEST) throw", "if (false) throw"), ("Client", 'if (depth < 0 || depth > Core.DEEPEST) throw', 'if (depth < -99) throw')),
+    ("an endless source is taken without end", ("analyst", "&& taken.length < window) coming", ") coming"), ("Many", "taken - given >= how.window()", "taken < 0")),
+    ("many answers come in any order", ("analyst", 'const next = order === "asked" ? known.find((one) => one === taken[0]) : known[0];', "const next = known[0];"), ("Many", "if (how.isOrdered()) early.put(outcome.index(), outcome);", "if (taken < 0) early.put(outcome.index(), outcome);")),
+    ("what the caller leaves isn't cancelled", ("analyst", 'stops.end(new ColuwenError("the answers aren\'t wanted any more"));', ""), ("Many", "left.forEach(future -> future.cancel(true));", "")),
+    ("an aborted question stays", ("client", 'signal?.addEventListener("abort", leave);', ""), ("Client", "if (future.isCancelled()) act(", "if (false) act(")),
+    ("a full server isn't told", ("core", '[this.#wasTold] = [true, this.#tell("full", refusal)]', "this.#wasTold = true"), ("Core", 'tell("full", refusal);', "")),
+)  # fmt: skip
+
+
+def changed(language, name, old, new):
+    """A source, and its text with a change."""
+    path = pathlib.Path(SOURCES[language].format(name))
+    text = (HERE / path).read_text()
+    if text.count(old) != 1:
+        sys.exit(f"{path} has {old!r} {text.count(old)} times")
+    return path, text.replace(old, new)
+
+
+def wrong():
+    for what, javascript, java in BODIES:
+        yield from ((what, language, change) for language, change in (("javascript", javascript), ("java", java)) if change)
+
+
+def tried(language, change=None):
+    """How the tests of a copy end: their status, and what they say."""
+    with tempfile.TemporaryDirectory() as folder:
+        clients = pathlib.Path(folder, "clients")
+        for name in ("behaviour", "page", language):
+            shutil.copytree(HERE / name, clients / name, symlinks=True, ignore=shutil.ignore_patterns("target", "node_modules"))
+        shutil.copy(HERE / "conformance.txt", clients)
+        if change:
+            path, text = changed(language, *change)
+            (clients / path).write_text(text)
+        try:
+            done = subprocess.run(TESTS[language], cwd=clients / language, capture_output=True, text=True, check=False, timeout=300)
+        except subprocess.TimeoutExpired:
+            return 1, "they don't end"
+        said = done.stdout + done.stderr
+        if "SyntaxError" in said or "error: warnings found" in said or ".java:" in done.stderr and "error:" in done.stderr:
+            sys.exit(f"{change} is no program:\n{done.stderr[-1500:]}")
+        return done.returncode, said
+
+
+def main():
+    words = [word for word in sys.argv[1:] if word != "--list"]
+    chosen = [(number, *one) for number, one in enumerate(wrong(), 1) if not words or any(word in (str(number), one[1]) or (not word.isdigit() and word in one[0]) for word in words)]
+    for _, _, language, change in chosen:
+        changed(language, *change)
+    if "--list" in sys.argv:
+        print(*(f"{number:>3} {language}: {what}" for number, what, language, _ in chosen), sep="\n")
+        return 0
+    for language in sorted({language for _, _, language, _ in chosen}):
+        status, said = tried(language)
+        if status:
+            sys.exit(f"{language}: the tests fail where nothing is wrong:\n" + "\n".join(line for line in said.splitlines() if "not ok" in line or "rror" in line or "=>" in line))
+    missed = []
+    for number, what, language, change in chosen:
+        status, said = tried(language, change)
+        tests = [name for name in re.findall(r"not ok \d+ - (.*)|JUnit Jupiter:(?:\w+:)?(.*)", said) if name != ("behaviour rows", "")]
+        print(f"{number:>3} {language}: {what}: {'told by ' + ', '.join(''.join(name) for name in tests[:3]) if status else 'PASSES'}", flush=True)
+        if not status:
+            missed.append(number)
+    print(f"of {len(chosen)} wrong bodies {len(chosen) - len(missed)} are told" + (f"; not {missed}" if missed else ""))
+    return 1 if missed else 0
+
+
+if __name__ == "__main__":
+    sys.exit(main())

@@ -1,4 +1,0 @@
-use Rattle.definition_laws.proofs.steps.lone.Goals as goal
-
-pub returns : goal.returns
-returns g c = λ procedure tenant frame is. is

@@ -1,2 +1,0 @@
-mod OpeningLemmas
-mod CountedLeads

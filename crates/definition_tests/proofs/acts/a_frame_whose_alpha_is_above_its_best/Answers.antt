@@ -1,8 +1,0 @@
-use Rattle.std.proofs.Common.{refl}
-use Rattle.othello_board.specs.Rules.{squares, squares_beside}
-use Rattle.othello_moves.specs.Choices.{in_order}
-use Rattle.definition_tests.proofs.acts.a_frame_whose_alpha_is_above_its_best.Goals as goal
-
-pub returns : goal.returns
-unfolding squares squares_beside in_order
-returns c = record { first = refl; test = refl; again = refl; low = refl }

@@ -1,5 +1,0 @@
-pub mod SmallCores
-pub mod SmallSearches
-pub mod SmallSessions
-pub mod SmallHalls
-pub mod SmallDesks

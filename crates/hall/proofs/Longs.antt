@@ -1,0 +1,126 @@
+-- A journal stays within its places for long entries: each frame is given at most one Answer, and a job at most one Submit and one Cancel.
+use Rattle.std.proofs.Common.{◌≡◌, ℕ, ◌+◌, ◌≤◌, List, [], ◌∷◌, length, Option, Some, None, Result, Ok, Err, refl, ap, arith}
+use Rattle.std.specs.Prelude.{if◌then◌else◌}
+use Rattle.frame_tree.specs.Frames.{root_of}
+use Rattle.sched_rules.specs.declared.job.Job.{Job}
+use Rattle.sched_rules.specs.declared.job.Job.TheVariants.{Live, Done, Spent as SpentJob, Cancelled as CancelledJob}
+use Rattle.sched_rules.specs.declared.refusal.Refusal.{Refusal}
+use Rattle.sched_rules.specs.declared.refusal.Refusal.TheVariants.{NoJob, OldTenant}
+use Rattle.sched_rules.specs.declared.step.StepOf.{StepOf}
+use Rattle.sched_rules.specs.declared.step.StepOf.TheVariants.{Admit, AdmitMore, Submit, Answer, Cancel}
+use Rattle.sched_rules.specs.declared.step.DidOf.TheVariants.{Cancelled}
+use Rattle.sched_rules.specs.Functions.{Functions}
+use Rattle.sched_rules.specs.Trees.{Tenant, admitted_with, job_at}
+use Rattle.sched_rules.specs.Lone.{Outcome, lone_step, cancelled, submit_tests, submitted, ended}
+use Rattle.sched_rules.specs.Runs.{state_after, alone_from}
+use Rattle.jamboree_core.specs.jamboree_rules.declared.leaf.LeafAnswer.{LeafAnswer}
+use Rattle.jamboree_core.specs.jamboree_rules.Procedure.{jamboree}
+use Rattle.jamboree_core.specs.sched_laws.Shapes.{IsShaped}
+use Rattle.jamboree_core.specs.Replies.{AreSearches}
+use Rattle.jamboree_core.specs.Journals.{StaysTaken, AreTakenFrom, IsJournalOf}
+use Rattle.jamboree_core.proofs.sched_laws_Shaped.{unless-passed, came, by-kinds, step-shaped, admitted-shaped}
+use Rattle.jamboree_core.proofs.sched_laws_Parts.{length-with_ended}
+use Rattle.jamboree_core.proofs.sched_laws_Consequences.{live-root, root-above}
+use Rattle.jamboree_core.proofs.Answering.{one_if_answer, answer_count, journal-answers}
+use Rattle.hall.specs.Entries.{is_long_step, long_steps}
+use Rattle.hall.specs.Journals.{raise_in, one_for, raise_count}
+use Rattle.hall.specs.Uses.{ended_count}
+use Rattle.hall.proofs.Using.{job-ended, submit-used, ended-more, ended-few, told-by}
+
+-- how often a tenant has asked: one Submit a job, and at most one Cancel for each that has ended
+abbrev pub asked : Tenant → ℕ
+asked tenant = length tenant.jobs + ended_count tenant.jobs
+
+-- so much more was asked, if the tenant stays
+abbrev HasAsked : ℕ → Tenant → Option Tenant → Type 0
+HasAsked more tenant None = Unit {0}
+HasAsked more tenant (Some after) = asked tenant + more ≤ asked after
+
+finish-asked : (tenant : Tenant) (root : ℕ) (words : List ℕ) → asked tenant + 0 ≤ asked (ended root (Done words) tenant)
+finish-asked tenant root words = grind (arith, ended-more, length-with_ended)
+
+any-asked : {I A : Type 0} (functions : Functions I A) (tenant : Tenant) (step : StepOf A) (outcome : Outcome I) → lone_step functions tenant step ≡ Ok outcome → IsShaped tenant → HasAsked 0 tenant outcome.0
+any-asked functions tenant step outcome is shape = by-kinds functions tenant step outcome (HasAsked 0 tenant) is (record {
+  at_raise = λ number quota raises. omega arith;
+  at_submit = λ serials root frames. (let more = submit-used tenant root in omega (arith, more));
+  at_work = λ serials frames. omega arith;
+  at_finish = λ root words. finish-asked tenant root words;
+  at_spend = λ serial f at. (let more = (job-ended (root_of f.path) SpentJob tenant tt shape (root-above tenant serial f shape at)).0 in omega (arith, more));
+  at_cancel = λ number root at. (let more = (job-ended root CancelledJob tenant tt shape (live-root tenant number root shape at)).0 in omega (arith, more));
+  at_leave = λ number leaves. tt;
+})
+
+-- a Submit and a Cancel
+submit-asked : {I A : Type 0} (functions : Functions I A) (tenant : Tenant) (number : ℕ) (words : List ℕ) (size : ℕ) (outcome : Outcome I) → lone_step functions tenant (Submit number words size) ≡ Ok outcome → HasAsked 1 tenant outcome.0
+submit-asked {I} functions tenant number words size outcome is =
+    let p = unless-passed (submit_tests tenant words size) (submitted {I = I} tenant number words size) outcome is in
+    came (HasAsked 1 tenant) (submitted {I = I} tenant number words size) outcome p.1 (let more = submit-used tenant (tenant.serials + 1) in omega (arith, more))
+
+cancel-asked : {I A : Type 0} (functions : Functions I A) (tenant : Tenant) (number job : ℕ) (outcome : Outcome I) → lone_step functions tenant (Cancel number job) ≡ Ok outcome → IsShaped tenant → HasAsked 1 tenant outcome.0
+cancel-asked {I} functions tenant number job outcome is shape = by (job_at tenant.jobs job) refl is
+  where
+    none : ◌≡◌ {A = Result (Outcome I) Refusal} (Err NoJob) (Ok outcome) → HasAsked 1 tenant outcome.0
+    none e = absurd cc
+
+    by : (found : Option Job) → job_at tenant.jobs job ≡ found → cancelled tenant found ≡ Ok outcome → HasAsked 1 tenant outcome.0
+    by None at e = none e
+    by (Some (Live root)) at e =
+        let both : ◌≡◌ {A = Result (Outcome I) Refusal} (Ok (Some (ended root CancelledJob tenant), Cancelled)) (Ok outcome) = e in
+        let pair : ◌≡◌ {A = Outcome I} (Some (ended root CancelledJob tenant), Cancelled) outcome = cc in
+        came (HasAsked 1 tenant) (Some (ended root CancelledJob tenant), Cancelled) outcome pair (let more = (job-ended root CancelledJob tenant tt shape (live-root tenant job root shape at)).0 in omega (arith, more))
+    by (Some (Done words)) at e = none e
+    by (Some SpentJob) at e = none e
+    by (Some CancelledJob) at e = none e
+
+-- each long step is a raise, an Answer, or asks
+abbrev one_if_long : {A : Type 0} → StepOf A → ℕ
+one_if_long step = if is_long_step step then 1 else 0
+
+abbrev Accounted : {A : Type 0} → StepOf A → Tenant → Option Tenant → Type 0
+Accounted step tenant None = Unit {0}
+Accounted step tenant (Some after) = asked tenant + one_if_long step ≤ asked after + one_for (raise_in step) + one_if_answer step
+
+account : {A : Type 0} (step : StepOf A) (tenant : Tenant) (after : Option Tenant) (more : ℕ) → one_if_long step ≤ more + one_for (raise_in step) + one_if_answer step → HasAsked more tenant after → Accounted step tenant after
+account step tenant None more long has = tt
+account step tenant (Some after) more long has = omega (arith, long, has)
+
+step-accounted : {I A : Type 0} (functions : Functions I A) (tenant : Tenant) (step : StepOf A) (outcome : Outcome I) → lone_step functions tenant step ≡ Ok outcome → IsShaped tenant → Accounted step tenant outcome.0
+step-accounted {I} {A} functions tenant (Admit number quota) outcome is shape = (let no_admission : ◌≡◌ {A = Result (Outcome I) Refusal} (Err OldTenant) (Ok outcome) = is in absurd cc)
+step-accounted {I} {A} functions tenant (Submit number words size) outcome is shape = account {A = A} (Submit number words size) tenant outcome.0 1 (omega arith) (submit-asked functions tenant number words size outcome is)
+step-accounted {I} {A} functions tenant (Cancel number job) outcome is shape = account {A = A} (Cancel number job) tenant outcome.0 1 (omega arith) (cancel-asked functions tenant number job outcome is shape)
+step-accounted {I} {A} functions tenant (AdmitMore number quota) outcome is shape = account {A = A} (AdmitMore number quota) tenant outcome.0 0 (omega arith) (any-asked functions tenant (AdmitMore number quota) outcome is shape)
+step-accounted {I} {A} functions tenant (Answer worker name answer) outcome is shape = account {A = A} (Answer worker name answer) tenant outcome.0 0 (omega arith) (any-asked functions tenant (Answer worker name answer) outcome is shape)
+step-accounted {I} {A} functions tenant step outcome is shape = account {A = A} step tenant outcome.0 0 (omega arith) (any-asked functions tenant step outcome is shape)
+
+-- over the steps of a journal
+longs-from : {I A : Type 0} (functions : Functions I A) (before tenant : Tenant) (steps : List (StepOf A)) → AreTakenFrom functions (Some before) steps → alone_from functions (Some before) steps ≡ Some tenant → IsShaped before →
+    asked before + long_steps steps ≤ asked tenant + raise_count steps + answer_count steps
+longs-from functions before tenant [] taken comes shape = (let own : before ≡ tenant = cc in let same = ap asked own in omega (arith, same))
+longs-from {I} {A} functions before tenant (step ∷ steps) taken comes shape =
+    by (λ next on to well. longs-from functions next tenant steps on to well) (lone_step functions before step) refl taken.0 taken.1 comes
+  where
+    by : ((next : Tenant) → AreTakenFrom functions (Some next) steps → alone_from functions (Some next) steps ≡ Some tenant → IsShaped next → asked next + long_steps steps ≤ asked tenant + raise_count steps + answer_count steps) →
+        (result : Result (Outcome I) Refusal) → lone_step functions before step ≡ result → StaysTaken result → AreTakenFrom functions (state_after (Some before) result) steps →
+        alone_from functions (state_after (Some before) result) steps ≡ Some tenant → asked before + long_steps (step ∷ steps) ≤ asked tenant + raise_count (step ∷ steps) + answer_count (step ∷ steps)
+    by later (Ok (None, did)) is stays on to = absurd stays
+    by later (Err refusal) is stays on to = absurd stays
+    by later (Ok (Some next, did)) is stays on to =
+        let one : asked before + one_if_long step ≤ asked next + one_for (raise_in step) + one_if_answer step = step-accounted functions before step (Some next, did) is shape in
+        let rest = later next on to (step-shaped functions before step (Some next, did) is shape) in
+        omega (arith, one, rest)
+
+from-admission : {I A : Type 0} (functions : Functions I A) (journal : List (StepOf A)) (tenant : Tenant) → IsJournalOf functions journal tenant → long_steps journal ≤ asked tenant + raise_count journal + answer_count journal + 1
+from-admission functions [] tenant is = (let none : None ≡ Some tenant = is.comes in absurd cc)
+from-admission functions (Admit number quota ∷ later) tenant is = (let all = longs-from functions (admitted_with quota) tenant later is.taken.1 is.comes (admitted-shaped quota) in omega (arith, all))
+from-admission functions (_ ∷ later) tenant is = absurd is.taken.0
+
+-- how many steps of a journal of searches are kept in long entries at most
+pub journal-longs : (grain : ℕ) (journal : List (StepOf LeafAnswer)) (tenant : Tenant) → IsJournalOf (jamboree grain) journal tenant → AreSearches journal → long_steps journal ≤ tenant.reserve.nodes + 513 + raise_count journal
+journal-longs grain journal tenant is searches =
+    let all = from-admission (jamboree grain) journal tenant is in
+    let answers = journal-answers grain journal tenant is searches in
+    let shape = (told-by (jamboree grain) journal tenant is).shape in
+    let opened = shape.opened in
+    let jobs = shape.few_jobs in
+    let few = ended-few tenant.jobs in
+    omega (arith, all, answers, opened, jobs, few)

@@ -1,0 +1,17 @@
+use Rattle.std.proofs.Common.{arith}
+use Rattle.std.proofs.lemmas.Int.{ints}
+use Rattle.othello_board.specs.Words.{cells}
+use Rattle.othello_eval.proofs.WeighedLemmas.{known_within, known_bits, after_move}
+use Rattle.othello_eval.proofs.weighed.Weighed.play.Goals as goal
+
+pub turned-requires-clause-discs : goal.turned-requires-clause-discs
+turned-requires-clause-discs c = known_bits _ (known_within _ (cells c.args.self.board) c.args.self.weighed)
+
+pub invariant_of-result : goal.invariant_of-result
+invariant_of-result c =
+    let board = c.args.self.board in
+    let next = c.play-board.result in
+    let moved = after_move board.own board.opp next.own next.opp c.args.square board.disjoint next.disjoint c.requires.legal c.play-board.ensures in
+    let known = c.args.self.weighed in
+    let within = known_within _ (cells board) known in
+    record { weighed = omega (arith, ints, moved, known, within.0, within.1, c.turned.ensures, c.word_value-flipped.ensures.value, c.word_value-flipped.ensures.within.0, c.word_value-flipped.ensures.within.1, c.weight_of.ensures.value, c.weight_of.ensures.within.0, c.weight_of.ensures.within.1) }

@@ -1,0 +1,118 @@
+-- The words of the lanes, and the legal squares that they make.
+use Rattle.std.proofs.Common.{◌≡◌, ℕ, ◌-◌, ◌*◌, ◌^◌, ◌<◌, Bool, not, ◌||◌, filter, bit_and, bit_or, min, max, refl, sym, ap, ap₂, ◌∙◌, arith}
+use Rattle.std.specs.Int.{bit_at}
+use Rattle.std.proofs.lemmas.Nat.{or_lt, and_le_l, and_le_r, mod_below, shr_le}
+use Rattle.std.proofs.lemmas.Nat.Bits.{bit_at_and, bit_at_or, bit_at-lt, bit_at_ones, same_from_bits}
+use Rattle.othello_board.specs.declared.directions.Direction.{Direction}
+use Rattle.othello_board.specs.declared.directions.Direction.TheVariants.{North, NorthEast, East, SouthEast, South, SouthWest, West, NorthWest}
+use Rattle.othello_board.specs.Rules.{run, is_legal, squares, is_nil}
+use Rattle.othello_board.specs.Words.{cells_of, bits_of}
+use Rattle.othello_board.specs.Shifts.{opposite, slid_from, bit_there}
+use Rattle.othello_board.proofs.ShiftLemmas.{slid_up, slid_down}
+use Rattle.othello_moves.specs.Inner.{bit_of, is_inner}
+use Rattle.othello_moves.specs.Lanes.{raised, lowered, reached}
+use Rattle.othello_moves.proofs.LeadLemmas.{inside, inside_bit, middle_bit, paired, paired_bit, led, led_one, led_more, led_two_more, start_bit, starts_bit, max_of_tests, legal_bit, word_of_passing}
+
+-- what a lane reaches is where a run begins
+reached_bits : (shift : ℕ → ℕ) (own opp over : ℕ) (d : Direction)
+    → ((x : ℕ) → x < 2 ^ 64 → (t : ℕ) → t < 64 → bit_at (shift x) t ≡ bit_there x (slid_from (opposite d) t))
+    → ((x : ℕ) → x < 2 ^ 64 → shift x < 2 ^ 64)
+    → own < 2 ^ 64 → over < 2 ^ 64
+    → ((t : ℕ) → t < 64 → bit_at over t ≡ bit_of (inside (cells_of own opp) d t))
+    → (t : ℕ) → t < 64 → bit_at (reached shift own over) t ≡ bit_of (not (is_nil (run (cells_of own opp) t d)))
+reached_bits shift own opp over d slides fits own_fits over_fits over_bits =
+    let board = cells_of own opp in
+    let pairs = bit_and over (shift over) in
+    let one = bit_and over (shift own) in
+    let two = bit_or one (bit_and over (shift one)) in
+    let four = bit_or two (bit_and pairs (shift (shift two))) in
+    let six = bit_or four (bit_and pairs (shift (shift four))) in
+    let pairs_fit : pairs < 2 ^ 64 = omega (arith, and_le_l over (shift over)) in
+    let one_fits : one < 2 ^ 64 = omega (arith, and_le_l over (shift own)) in
+    let two_fits : two < 2 ^ 64 = or_lt 64 one (bit_and over (shift one)) one_fits (omega (arith, and_le_l over (shift one))) in
+    let four_fits : four < 2 ^ 64 = or_lt 64 two (bit_and pairs (shift (shift two))) two_fits (omega (arith, and_le_l pairs (shift (shift two)))) in
+    let six_fits : six < 2 ^ 64 = or_lt 64 four (bit_and pairs (shift (shift four))) four_fits (omega (arith, and_le_l pairs (shift (shift four)))) in
+    let pair_bits : (t : ℕ) → t < 64 → bit_at pairs t ≡ bit_of (paired board d t) = paired_bit over (shift over) board d over_bits (slides over over_fits) in
+    let one_bits : (t : ℕ) → t < 64 → bit_at one t ≡ bit_of (led 0 board d t) = led_one own opp over (shift own) d over_bits (slides own own_fits) in
+    let two_bits : (t : ℕ) → t < 64 → bit_at two t ≡ bit_of (led 1 board d t) = led_more own opp over one (shift one) 0 d over_bits (slides one one_fits) one_bits in
+    let four_bits : (t : ℕ) → t < 64 → bit_at four t ≡ bit_of (led 3 board d t) =
+    led_two_more two pairs (shift two) (shift (shift two)) 0 board d pair_bits (slides two two_fits) (slides (shift two) (fits two two_fits)) two_bits in
+    let six_bits : (t : ℕ) → t < 64 → bit_at six t ≡ bit_of (led 5 board d t) =
+    led_two_more four pairs (shift four) (shift (shift four)) 2 board d pair_bits (slides four four_fits) (slides (shift four) (fits four four_fits)) four_bits in
+    start_bit six (shift six) board d (slides six six_fits) six_bits
+
+raised_fits : (k x : ℕ) → x < 2 ^ 64 → raised k x < 2 ^ 64
+raised_fits k x h = mod_below (x * 2 ^ k) (2 ^ 64) (omega arith)
+
+lowered_fits : (k x : ℕ) → x < 2 ^ 64 → lowered k x < 2 ^ 64
+lowered_fits k x h = omega (arith, shr_le x k)
+
+-- the opposing discs that may stand inside a run: all, or those of columns b to g
+inside_all : (own opp : ℕ) (d : Direction) → bit_and own opp ≡ 0 → ((t : ℕ) → bit_of (is_inner d t) ≡ 1) → (t : ℕ) → t < 64 → bit_at opp t ≡ bit_of (inside (cells_of own opp) d t)
+inside_all own opp d disjoint all t below =
+    let ones : bit_at 18446744073709551615 t ≡ 1 = bit_at_ones 64 t below in
+    every (bit_at opp t) (bit_at 18446744073709551615 t) (bit_at-lt opp t) ones
+    ∙ sym (bit_at_and opp 18446744073709551615 t)
+    ∙ inside_bit own opp 18446744073709551615 d disjoint (λ u u_below. bit_at_ones 64 u u_below ∙ sym (all u)) t below
+  where
+    every : (a b : ℕ) → a < 2 → b ≡ 1 → a ≡ min a b
+    every a b h e = omega arith
+
+abbrev inner_discs : ℕ → ℕ
+inner_discs opp = bit_and opp 0x7e7e_7e7e_7e7e_7e7e
+
+-- ---- all directions
+
+either_bit : (x y t : ℕ) (a b : Bool) → bit_at x t ≡ bit_of a → bit_at y t ≡ bit_of b → bit_at (bit_or x y) t ≡ bit_of (a || b)
+either_bit x y t a b first second = bit_at_or x y t ∙ ap₂ max first second ∙ max_of_tests a b
+
+turned_lines : (x y : ℕ) → bit_or x y ≡ bit_or y x
+turned_lines x y = same_from_bits _ _ (λ i. rw (bit_at_or x y i, bit_at_or y x i) (omega arith))
+
+pub both_lines : (own opp : ℕ) → own < 2 ^ 64 → opp < 2 ^ 64 → bit_and own opp ≡ 0
+    → bit_and (bit_or
+    (bit_or (bit_or (reached (lowered 8) own opp) (reached (raised 8) own opp)) (bit_or (reached (lowered 7) own (inner_discs opp)) (reached (raised 7) own (inner_discs opp))))
+    (bit_or (bit_or (reached (lowered 1) own (inner_discs opp)) (reached (raised 1) own (inner_discs opp))) (bit_or (reached (lowered 9) own (inner_discs opp)) (reached (raised 9) own (inner_discs opp)))))
+    (2 ^ 64 - 1 - bit_or own opp)
+    ≡ bits_of (filter (is_legal (cells_of own opp)) squares)
+both_lines own opp own_fits opp_fits disjoint =
+    let board = cells_of own opp in
+    let inner = inner_discs opp in
+    let s = reached (lowered 8) own opp in
+    let n = reached (raised 8) own opp in
+    let sw = reached (lowered 7) own inner in
+    let ne = reached (raised 7) own inner in
+    let e = reached (lowered 1) own inner in
+    let w = reached (raised 1) own inner in
+    let se = reached (lowered 9) own inner in
+    let nw = reached (raised 9) own inner in
+    let inner_fits : inner < 2 ^ 64 = omega (arith, and_le_l opp 0x7e7e_7e7e_7e7e_7e7e) in
+    let all = bit_or (bit_or (bit_or s n) (bit_or sw ne)) (bit_or (bit_or e w) (bit_or se nw)) in
+    let empty = 2 ^ 64 - 1 - bit_or own opp in
+    let by_order : all ≡ bit_or (bit_or (bit_or n s) (bit_or ne sw)) (bit_or (bit_or e w) (bit_or se nw)) =
+    ap₂ (λ x y. bit_or (bit_or x y) (bit_or (bit_or e w) (bit_or se nw))) (turned_lines s n) (turned_lines sw ne) in
+    let lane : (shift : ℕ → ℕ) (over : ℕ) (d : Direction) → ((x : ℕ) → x < 2 ^ 64 → (t : ℕ) → t < 64 → bit_at (shift x) t ≡ bit_there x (slid_from (opposite d) t)) → ((x : ℕ) → x < 2 ^ 64 → shift x < 2 ^ 64) → over < 2 ^ 64 → ((t : ℕ) → t < 64 → bit_at over t ≡ bit_of (inside board d t)) → (t : ℕ) → t < 64 → bit_at (reached shift own over) t ≡ bit_of (not (is_nil (run board t d))) =
+    λ shift over d slides fits over_fits over_bits. reached_bits shift own opp over d slides fits own_fits over_fits over_bits in
+    let up : (k : ℕ) (d : Direction) → ((x : ℕ) (t : ℕ) → t < 64 → bit_at (raised k x) t ≡ bit_there x (slid_from (opposite d) t)) → ((t : ℕ) → t < 64 → bit_at inner t ≡ bit_of (inside board d t)) → (t : ℕ) → t < 64 → bit_at (reached (raised k) own inner) t ≡ bit_of (not (is_nil (run board t d))) =
+    λ k d slides bits. lane (raised k) inner d (λ x h. slides x) (raised_fits k) inner_fits bits in
+    let down : (k : ℕ) (d : Direction) → ((x : ℕ) → x < 2 ^ 64 → (t : ℕ) → t < 64 → bit_at (lowered k x) t ≡ bit_there x (slid_from (opposite d) t)) → ((t : ℕ) → t < 64 → bit_at inner t ≡ bit_of (inside board d t)) → (t : ℕ) → t < 64 → bit_at (reached (lowered k) own inner) t ≡ bit_of (not (is_nil (run board t d))) =
+    λ k d slides bits. lane (lowered k) inner d slides (lowered_fits k) inner_fits bits in
+    word_of_passing (bit_and all empty) (is_legal board) (omega (arith, and_le_r all empty))
+    (λ t below. legal_bit own opp all t own_fits opp_fits below
+    (ap (λ x. bit_at x t) by_order
+    ∙ starts_bit (run board t) n ne e se s sw w nw t
+    (lane (raised 8) opp North (λ x h. slid_up x 8 (slid_from South) refl) (raised_fits 8) opp_fits (inside_all own opp North disjoint (λ u. refl)) t below)
+    (up 7 NorthEast (λ x. slid_up x 7 (slid_from SouthWest) refl) (inside_bit own opp 0x7e7e_7e7e_7e7e_7e7e NorthEast disjoint middle_bit) t below)
+    (down 1 East (λ x h. slid_down x 1 (slid_from West) refl h) (inside_bit own opp 0x7e7e_7e7e_7e7e_7e7e East disjoint middle_bit) t below)
+    (down 9 SouthEast (λ x h. slid_down x 9 (slid_from NorthWest) refl h) (inside_bit own opp 0x7e7e_7e7e_7e7e_7e7e SouthEast disjoint middle_bit) t below)
+    (lane (lowered 8) opp South (λ x h. slid_down x 8 (slid_from North) refl h) (lowered_fits 8) opp_fits (inside_all own opp South disjoint (λ u. refl)) t below)
+    (down 7 SouthWest (λ x h. slid_down x 7 (slid_from NorthEast) refl h) (inside_bit own opp 0x7e7e_7e7e_7e7e_7e7e SouthWest disjoint middle_bit) t below)
+    (up 1 West (λ x. slid_up x 1 (slid_from East) refl) (inside_bit own opp 0x7e7e_7e7e_7e7e_7e7e West disjoint middle_bit) t below)
+    (up 9 NorthWest (λ x. slid_up x 9 (slid_from SouthEast) refl) (inside_bit own opp 0x7e7e_7e7e_7e7e_7e7e NorthWest disjoint middle_bit) t below)))
+
+-- the same for the opponent, where the words are named the other way round
+pub and_turned : (x y : ℕ) → bit_and x y ≡ bit_and y x
+and_turned x y = same_from_bits _ _ (λ i. rw (bit_at_and x y i, bit_at_and y x i) (omega arith))
+
+pub or_turned : (x y : ℕ) → bit_or x y ≡ bit_or y x
+or_turned x y = turned_lines x y

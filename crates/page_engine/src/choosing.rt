@@ -1,0 +1,34 @@
+//! What the choices of a board lead to, and are worth.
+ghost use Rattle.std.specs.Prelude.{◌≡◌, ◌<◌, ◌≤◌, Contains};
+ghost use Rattle.std.specs.Option.{option_map};
+ghost use Rattle.othello_board.specs.Words.{cells};
+ghost use Rattle.othello_moves.specs.Choices.{choices};
+ghost use Rattle.page_engine.specs.leaf_search.othello_eval.Values.{IsWithin};
+ghost use Rattle.page_engine.specs.leaf_search.othello_eval.Minimax.{choice_value};
+ghost use Rattle.page_engine.specs.Codes.{after_code};
+
+use super::codes::choice_of;
+use leaf_search::search_full;
+use othello_board::Board;
+use othello_moves::{Choice, after, plies};
+
+/// The board after the choice that has this code, seen by the other player; None where no choice of the board has it.
+pub(crate) fn board_after(board: Board, code: u32) -> Option<Board>
+    ensures { option_map cells result ≡ after_code (cells board) code }
+{
+    match choice_of(board, code) {
+        None => None,
+        Some(choice) => Some(after(board, choice)),
+    }
+}
+
+/// What a choice of a board is worth to the mover, where the board is looked at to a depth of 1 to 12 plies.
+pub(crate) fn worth(board: Board, choice: Choice, depth: u8) -> i32
+    requires chosen { Contains (choices (cells board)) choice }
+    requires deep { 0 < depth }
+    requires shallow { depth ≤ 12 }
+    ensures value { result ≡ choice_value depth (cells board) choice }
+    ensures within { IsWithin 128000 result }
+{
+    -search_full(after(board, choice), depth - plies(choice) as u8).score
+}

@@ -1,0 +1,163 @@
+#!/usr/bin/env python3
+"""The packages of other languages' own kinds: an npm tgz and jars with their pom.
+
+usage: release/languages.py make TREE OUT    (of the tree of a release's archive, or a checkout; times by SOURCE_DATE_EPOCH)
+       release/languages.py try OUT          (OUT: a release; what isn't installed here is skipped and named)
+
+`try` installs each from OUT alone, by `npm install ./..tgz` and by Maven without a registry (Debian's packages), and runs the first program
+of its README with a server of the archive.
+"""
+import contextlib
+import gzip
+import io
+import json
+import os
+import pathlib
+import re
+import shutil
+import socket
+import subprocess
+import sys
+import tarfile
+import tempfile
+import time
+
+MAVEN = pathlib.Path("/usr/share/maven-repo")  # of Debian's packages
+PLUGINS = ("install", "compiler", "resources")
+SETTINGS = f"""<settings xmlns="http://maven.apache.org/SETTINGS/1.0.0"><mirrors><mirror><id>debian</id><mirrorOf>*</mirrorOf><url>file://{MAVEN}</url></mirror></mirrors></settings>"""
+PROJECT = """<project xmlns="http://maven.apache.org/POM/4.0.0">
+  <modelVersion>4.0.0</modelVersion><groupId>example</groupId><artifactId>first</artifactId><version>1</version>
+  <properties><maven.compiler.release>17</maven.compiler.release><project.build.sourceEncoding>UTF-8</project.build.sourceEncoding></properties>
+  <dependencies><dependency><groupId>org.coluwen</groupId><artifactId>coluwen</artifactId><version>{}</version></dependency></dependencies>
+  <build><plugins>
+    <plugin><groupId>org.apache.maven.plugins</groupId><artifactId>maven-compiler-plugin</artifactId><version>3.10.1</version></plugin>
+    <plugin><groupId>org.apache.maven.plugins</groupId><artifactId>maven-resources-plugin</artifactId><version>3.3.0</version></plugin>
+  </plugins></build>
+</project>
+"""
+SAID = "0 d3\n"  # what a first program says first: the opening at depth 6
+
+
+def fail(text):
+    sys.exit(f"languages: {text}")
+
+
+def make(tree, out, epoch):
+    """Makes the packages of a tree into a folder."""
+    about = json.loads((tree / "clients/javascript/package.json").read_text())
+    pack_npm(tree, out / f"{about['name']}-{about['version']}.tgz", about["files"], epoch)
+    if f"  <version>{about['version']}</version>" not in (tree / "clients/java/pom.xml").read_text() or about["version"] != (tree / "VERSION").read_text().strip():
+        fail("VERSION, package.json and pom.xml have other versions")
+    program = [tree / "othello"] if (tree / "othello").read_bytes()[:4] == b"\x7fELF" else []  # a checkout has a script there
+    subprocess.run([tree / "clients/java/build", "jars", out, *program], check=True, env=dict(os.environ, SOURCE_DATE_EPOCH=str(epoch)))
+
+
+def pack_npm(tree, target, names, epoch):
+    """A tgz as npm packs one: what package.json lists, below `package`, with the licence."""
+    here, engine, data = tree / "clients/javascript", tree / "clients/page/engine", io.BytesIO()
+    files = {str(path.relative_to(here)): path for name in ("package.json", *names) for path in (here / name, *(here / name).rglob("*")) if path.is_file()}
+    files |= {f"engine/{path.relative_to(engine)}": path for path in engine.rglob("*") if path.is_file()} | {"LICENSE": tree / "LICENSE"}
+    with tarfile.open(fileobj=data, mode="w", format=tarfile.USTAR_FORMAT) as archive:
+        for name, path in sorted(files.items()):
+            text = path.read_bytes()
+            if name == "src/engine.mjs":  # (in a checkout the engine lies beside the page)
+                text = text.replace(b"../../page/engine/", b"../engine/")
+            entry = tarfile.TarInfo(f"package/{name}")
+            entry.size, entry.mtime, entry.mode = len(text), epoch, 0o644
+            archive.addfile(entry, io.BytesIO(text))
+    target.write_bytes(gzip.compress(data.getvalue(), 9, mtime=0))
+
+
+@contextlib.contextmanager
+def server(out, folder):
+    """A server of the release's program; its address."""
+    with tarfile.open(next(out.glob("*-x86_64.tar.gz"))) as archive:
+        archive.extractall(folder)
+    with socket.create_server(("127.0.0.1", 0)) as free:
+        port = free.getsockname()[1]
+    program = next(pathlib.Path(folder).glob("*/othello"))
+    process = subprocess.Popen([program, "serve", "--sessions", "100", "--port", str(port), "--grain", "2"], stdout=subprocess.PIPE, text=True)
+    try:
+        if not process.stdout.readline().startswith("listening"):
+            fail("the archive's program serves nothing")
+        yield f"othello://127.0.0.1:{port}"
+    finally:
+        process.kill()
+        process.wait()
+
+
+def run(*words, where, **more):
+    done = subprocess.run([*map(str, words)], cwd=where, capture_output=True, text=True, check=False, timeout=600, env=dict(os.environ, **more))
+    if done.returncode:
+        fail(f"{' '.join(map(str, words))}: {done.stdout[-2000:]}{done.stderr[-2000:]}")
+    return done.stdout
+
+
+def first_program(readme, language):
+    return re.search(rf"```{language}\n(.*?)```", readme, re.S)[1]
+
+
+def check_said(what, text):
+    if not text.startswith(SAID):
+        fail(f"the first program of {what} says {text!r}")
+
+
+def try_npm(out, folder, address):
+    """`npm install` of the tgz in an empty folder; the first program of the README that was installed."""
+    run("npm", "install", "--offline", "--no-audit", "--no-fund", "--cache", f"{folder}/npm", next(out.glob("*.tgz")), where=folder)
+    installed = folder / "node_modules/coluwen"
+    (folder / "first.mjs").write_text(first_program((installed / "README.md").read_text(), "js"))
+    check_said("npm's package", run("node", "first.mjs", where=folder, COLUWEN_URL=address))
+
+
+def try_maven(out, folder, address):
+    """`mvn install:install-file` of the jars into an empty repository; the first program in a project that depends on them."""
+    jar = next(path for path in out.glob("coluwen-*.jar") if not re.search("-(sources|javadoc)", path.name))
+    version = jar.stem.removeprefix("coluwen-")
+    for suffix in ("-sources.jar", "-javadoc.jar", ".pom"):
+        if not (out / f"coluwen-{version}{suffix}").is_file():
+            fail(f"there is no coluwen-{version}{suffix}")
+    (folder / "settings.xml").write_text(SETTINGS)
+    maven = ("mvn", "-q", "-B", "-s", folder / "settings.xml", f"-Dmaven.repo.local={folder}/m2")
+    run(*maven, "org.apache.maven.plugins:maven-install-plugin:install-file", f"-Dfile={jar}", f"-DpomFile={jar.with_suffix('.pom')}", f"-Dsources={out}/coluwen-{version}-sources.jar", f"-Djavadoc={out}/coluwen-{version}-javadoc.jar", where=folder)
+    source = folder / "src/main/java/First.java"
+    source.parent.mkdir(parents=True)
+    with tarfile.open(next(out.glob("*-x86_64.tar.gz"))) as archive:
+        readme = next(archive.extractfile(entry).read().decode() for entry in archive if entry.name.endswith("clients/java/README.md"))
+    source.write_text(first_program(readme, "java"))
+    (folder / "pom.xml").write_text(PROJECT.format(version))
+    run(*maven, "compile", where=folder)
+    installed = folder / f"m2/org/coluwen/coluwen/{version}/coluwen-{version}.jar"
+    check_said("Maven's artifact", run("java", "-cp", f"target/classes:{installed}", "First", where=folder, COLUWEN_URL=address))
+    modules = run("java", "--module-path", installed, "--describe-module", "coluwen", where=folder)
+    if f"coluwen@{version}" not in modules.splitlines()[0]:
+        fail(f"the jar's module is {modules}")
+
+
+def try_all(out):
+    """What was tried, and what wasn't."""
+    trials = {"npm": (try_npm, shutil.which("npm")), "maven": (try_maven, shutil.which("mvn") and all((MAVEN / f"org/apache/maven/plugins/maven-{name}-plugin").exists() for name in PLUGINS))}
+    with tempfile.TemporaryDirectory() as tree, server(out, tree) as address:
+        for name, (trial, is_here) in trials.items():
+            if not is_here:
+                print(f"{name}: skipped, since it isn't here")
+                continue
+            begun = time.monotonic()
+            with tempfile.TemporaryDirectory() as folder:
+                trial(out, pathlib.Path(folder), address)
+            print(f"{name}: installed from the archive alone; the first program of its README answers ({time.monotonic() - begun:.0f} s)")
+
+
+def main():
+    words = sys.argv[1:]
+    if words[:1] == ["make"] and len(words) == 3:
+        pathlib.Path(words[2]).mkdir(parents=True, exist_ok=True)
+        make(pathlib.Path(words[1]).resolve(), pathlib.Path(words[2]).resolve(), int(os.environ.get("SOURCE_DATE_EPOCH") or time.time()))
+    elif words[:1] == ["try"] and len(words) == 2:
+        try_all(pathlib.Path(words[1]).resolve())
+    else:
+        sys.exit(__doc__)
+
+
+if __name__ == "__main__":
+    main()

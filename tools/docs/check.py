@@ -1,0 +1,294 @@
+#!/usr/bin/env python3
+"""Checks the documents: README.md, CONTRIBUTING.md, CHANGELOG.md, clients/README.md, docs/*.md and the pages of promises
+that are written by hand. Every link, also to a part of a document, and every path leads somewhere; every name in backticks,
+also in the heads of crates and their examples, is there in code, definitions or scripts (a comment or another document shows nothing); every
+counted figure and every list is what the tree says (so the transcripts are those of the texts that the gate plays); and
+docs/promises and docs/pictures are what their scripts write.
+
+usage: tools/docs/check.py [FILE..]     (all where none is named)
+       tools/docs/check.py write        writes the counted figures, the pages of promises and the tables anew
+       tools/docs/check.py words        prints the words of each document that is written by hand
+
+A counted figure stands in a document as `<!--n:NAME-->123<!---->`, which shows as 123; `figures` below has the names. A list that
+is made stands between `<!--made:NAME-->` and `<!--/made-->`; `LISTS` below has the names, and `words` leaves it out.
+"""
+import pathlib
+import re
+import subprocess
+import sys
+
+HERE = pathlib.Path(__file__).resolve().parent
+TOP = HERE.parent.parent
+sys.path.insert(0, str(HERE))
+WORD = re.compile(r"[A-Za-z_][A-Za-z0-9_]*")
+FIGURE = re.compile(r"<!--n:([\w:.-]+)-->(.*?)<!---->")
+LIST = re.compile(r"(<!--made:(\w+)-->\n).*?(<!--/made-->)", re.S)
+PROMISES = TOP / "docs/promises"
+BY_HAND = [PROMISES / "HOW-TO-READ.md", PROMISES / "WHAT-IS-ASSUMED.md"]
+MADE = [["tools/docs/promises.py"], ["docs/pictures/draw.py"]]
+# Names of the toolchain, its library, the system and other tools, which the tree need not say.
+FOREIGN = set("""A B N T P Q S D K k n s t d r w x y z f g j rt sh check try lib gate test doc fmt lemma tidy must plant fail core
+    callgrind valgrind perf compare_exchange venv site packages strace nice syscall nc logic rattle13b rattle13f
+    dac8208d650f15bf systemd analyze verify security rand popcnt as_mut_slice get_flag low_File File time
+    Prop structure inductive datatype predicate forall exists fun function Nat Int ofNat negSucc proj old
+    omega grind simp search refl ghost requires ensures record abbrev unfoldable data module nat pattern vVERSION coluwen_1 VERSION86_64 xHH drawn_ irreducible_def trivial opaque axioms baxiom holes trusted""".split())
+
+
+def tracked():
+    """The files of the tree, committed or about to be; all but what builds leave where git can't say."""
+    listed = subprocess.run(["git", "-C", TOP, "ls-files", "-z", "--cached", "--others", "--exclude-standard"], capture_output=True, text=True, check=False)
+    if listed.returncode == 0:
+        names = listed.stdout.split("\0")
+    else:
+        names = [str(path.relative_to(TOP)) for path in TOP.rglob("*") if not {"out", ".git", "__pycache__"} & set(path.relative_to(TOP).parts)]
+    return [name for name in names if name and (TOP / name).is_file()]
+
+
+def is_evidence(name):
+    """Whether a file shows that a name is there: no document or picture does."""
+    return not (name.endswith(".md") or name.startswith("docs/") and not name.endswith(".py") or name == "tools/docs/check.py")
+
+
+def known(files):
+    """Every word of a source, a definition, a script or a file's name."""
+    words = set(FOREIGN)
+    for name in files:
+        words.update(WORD.findall(name))
+        if is_evidence(name):
+            try:
+                text = (TOP / name).read_text()
+                if name.endswith((".rt", ".antt")):  # a comment shows nothing
+                    text = re.sub(r"^\s*(//|--).*", "", text, flags=re.M)
+                words.update(WORD.findall(text))
+                words.update(re.findall(r"def try_(\w+)", text))  # the trials of deploy/try
+            except UnicodeDecodeError:
+                pass
+    return words
+
+
+def lines_of(files, *patterns):
+    return sum(len((TOP / name).read_text().splitlines()) for name in files if any(re.fullmatch(pattern, name) for pattern in patterns))
+
+
+def figures(files):
+    """The figures that documents state, by name."""
+    from promises import Pages
+    pages = Pages()
+    pages.make()
+    crates = [line for line in (TOP / "crates.txt").read_text().splitlines() if line and not line.startswith("#")]
+    lower = {line.split(":")[0].split()[0]: line.split(":")[1].split() for line in crates}
+
+    def below(name, found):
+        if name in lower and name not in found:
+            for other in lower[name]:
+                below(other, found)
+            found.append(name)
+        return found
+
+    tests = [name for name in files if re.fullmatch(r"crates/\w+/src/(.*/)?(tests(/.*)?|rows)\.rt", name) or re.fullmatch(r"crates/\w+/src/tests/.*\.rt", name)]
+    found = {
+        "crates": len(crates),
+        "crates:serve": len(below("othello_server", [])),
+        "edits": sum(1 for name in files if re.fullmatch(r"crates/\w+/must-fail/\w+\.edit", name)),
+        "bodies": sum(1 for name in files if re.fullmatch(r"crates/\w+/must-fail/(more/)?\w+\.edit", name)),
+        "tests": sum((TOP / name).read_text().count("#[test]") for name in files if name.startswith("crates/") and name.endswith(".rt")),
+        "lines:specs": lines_of(files, r"crates/\w+/specs/.*\.antt"),
+        "lines:proofs": lines_of(files, r"crates/\w+/proofs/.*\.antt"),
+        "lines:tests": lines_of(files, *map(re.escape, tests)),
+        "rows": int((TOP / "crates/transcripts/stdout").read_text().split()[0]),
+    }
+    found["lines:src"] = lines_of(files, r"crates/\w+/src/.*\.rt") - found["lines:tests"]
+    reached = set()
+    for page, _, _, definitions, lines, _ in pages.counts:
+        found[f"definitions:{page}"] = definitions
+        found[f"lines:{page}"] = lines
+    for page, call, _ in pages.promises:
+        if call.startswith("promises::"):
+            reached.update(pages.reached(pages.call(call))[0])
+    found["definitions:promises"] = len(reached)
+    found["lines:promises"] = sum(len(pages.specs.definitions[key].lines) for key in reached)
+    rounded = ("lines:specs", "lines:proofs", "lines:tests", "lines:src", "rows")  # to hundreds, or each change would change a document
+    return {name: f"{round(number, -2) if name in rounded else number:,}" for name, number in found.items()}
+
+
+def crate_table():
+    """The crates by group, in the order of crates.txt, each with its sentence of tools/docs/about_crates.txt, or else the first of its head."""
+    said = dict(line.split(" | ", 1) for line in (HERE / "about_crates.txt").read_text().splitlines() if line and not line.startswith("#"))
+    rows = ["| Crate | What it is |", "|---|---|"]
+    for line in (TOP / "crates.txt").read_text().splitlines():
+        if line.startswith("# ") and not line.startswith("# The crates, lowest first"):
+            rows.append(f"| **{said.pop(line[2:], line[2:])}** | |")
+        elif line and not line.startswith("#"):
+            name = line.split(":")[0].split()[0]
+            root = next(path for path in (TOP / "crates" / name / "src/lib.rt", TOP / "crates" / name / "src/main.rt") if path.exists())
+            head = " ".join(re.match(r"(?://! .*\n)+", root.read_text())[0].replace("//! ", "").split())
+            first = re.split(r"(?<=[.]) ", head)[0].removeprefix(f"`{name}`: ")
+            rows.append(f"| `{name}` | {said.pop(name, first[0].upper() + first[1:])} |")
+    if said:
+        sys.exit(f"tools/docs/about_crates.txt names what isn't there: {', '.join(said)}")
+    return "\n".join(rows) + "\n"
+
+
+def quoted(name):
+    """What is sent and what is answered in a text of crates/transcripts/data, in order."""
+    lines = (TOP / "crates/transcripts/data" / name).read_text().splitlines()
+    return [line[2:] for line in lines if line.startswith("> ")], [line[2:] for line in lines if line.startswith("< ")]
+
+
+def solve_transcript():
+    """What `othello solve` answers the lines of quoted.solve: all but the last at the default grain, that one with --visited."""
+    sent, answered = quoted("quoted.solve")
+    shown = ["$ ./othello solve <<'LINES'", *sent[:-1], "LINES", *answered[:-1], f"$ printf '{sent[-1]}\\n' | ./othello solve --visited", answered[-1]]
+    return "\n".join(["```text", *shown, "```"]) + "\n"
+
+
+def session_transcript():
+    """The lines of quoted.session with their answers."""
+    shown = ["$ ./othello serve --sessions 1 --port 4711 --grain 4     # in one terminal; prints: listening 127.0.0.1:4711",
+             "$ nc 127.0.0.1 4711                                      # in another"]
+    for sent, answered in zip(*quoted("quoted.session")):
+        shown += [sent, f"< {answered}"]
+    return "\n".join(["```text", *shown, "```"]) + "\n"
+
+
+def gate_rows():
+    """The rows of a crate that tools/gate_cost.py printed of the last gate, as they are kept in gate.txt beside this script."""
+    return "```text\n" + (HERE / "gate.txt").read_text() + "```\n"
+
+
+def error_table():
+    """The numbers of ERR that a client may see, with the words of the code for each, in four columns."""
+    words = dict(enumerate(re.findall(r'#\[error\("(.*?)"\)\]\n', (TOP / "crates/protocol/src/faults.rt").read_text()), 21))
+    refusals = (TOP / "crates/sched_rules/src/refusal.rt").read_text()
+    names = {name: int(number) for number, name in re.findall(r"^    /// (\d+): (?:.*\n    ///)*.*\n    (\w+)", refusals, re.M)}
+    words |= {names[name]: text for name, text in re.findall(r'Refusal::(\w+) => "(.*?)"', refusals)}
+    shown = [f"{number} | {words[number]}" for number in (10, 11, 13, 14, 17, 19, 20, *range(21, 30))]
+    rows = ["| `ERR` | Words | `ERR` | Words | `ERR` | Words | `ERR` | Words |", "|" + "---|" * 8]
+    rows += [f"| {' | '.join(shown[row::4])} |" for row in range(4)]
+    return "\n".join(rows) + "\n"
+
+
+def depth_table():
+    """The table that bench/jobs/depths printed last, as it is kept in depths.txt beside this script."""
+    return (HERE / "depths.txt").read_text()
+
+
+LISTS = {"crates": crate_table, "solve": solve_transcript, "session": session_transcript, "gate": gate_rows, "errors": error_table, "depths": depth_table}
+
+
+def with_lists(text):
+    """A document with its lists as they are made from the tree."""
+    return LIST.sub(lambda match: match[1] + LISTS[match[2]]() + match[3], text)
+
+
+def parts_of(document):
+    """The names by which links lead to the parts of a document: its headings, as they are shown."""
+    heads = re.findall(r"^#+ (.*)", re.sub(r"```.*?```", "", document.read_text(), flags=re.S), re.M)
+    shown = (re.sub(r"\[([^]]*)\]\([^)]*\)", r"\1", head).lower() for head in heads)
+    return {re.sub(r"[^\w -]", "", head).strip().replace(" ", "-") for head in shown}
+
+
+def faults(document, words, counted):
+    text = document.read_text()
+    for _, name, _ in LIST.findall(text):
+        if name not in LISTS:
+            yield f"no list {name}"
+            return
+    if with_lists(text) != text:
+        yield "a list isn't what the tree says: run tools/docs/check.py write"
+    for target in re.findall(r"\]\(([^)#\s]+)\)", text):
+        if "://" not in target and not (document.parent / target).exists():
+            yield f"no file {target}"
+    for target, part in re.findall(r"\]\(([^)#\s]*)#([^)\s]+)\)", text):
+        other = document.parent / target if target else document
+        if other.suffix == ".md" and other.exists() and part not in parts_of(other):
+            yield f"no part {target}#{part}"
+    for name, said in FIGURE.findall(text):
+        if counted.get(name) != said:
+            yield f"{name} is {counted.get(name, 'no figure')}, not {said}"
+    prose = re.sub(r"```.*?```", "", text, flags=re.S)
+    for code in re.findall(r"`([^`]+)`", prose):
+        for path in re.findall(r"(?:crates|bench|clients|deploy|docs|examples|release|tools)/[\w./*@-]+", code):
+            if "NAME" in path or "CRATE" in path or "VERSION" in path or path.endswith("/out"):
+                continue
+            if not list(TOP.glob(path.rstrip("/."))):
+                yield f"no path {path}"
+        for word in WORD.findall(re.sub(r"-{1,2}[a-z-]+", "", code)):
+            if word not in words and not re.fullmatch(r"[A-Z]+|[a-h][1-8]|F", word):
+                yield f"no name {word} (in `{code}`)"
+
+
+def head_faults(files, words):
+    """The names in backticks, and those of the examples, in the heads of crates that are gone."""
+    for name in files:
+        if re.fullmatch(r"crates/\w+/src/(lib|main)\.rt", name):
+            head = "\n".join(line[3:] for line in (TOP / name).read_text().splitlines() if line.startswith("//!"))
+            for example in re.findall(r"```text\n(.*?)```", head, flags=re.S):
+                for word in WORD.findall(re.sub(r'//.*|b?"[^"]*"', "", example)):
+                    if word not in words and not re.fullmatch(r"[A-Z]+|[a-h][1-8]|F|x[0-9a-f_]+", word):
+                        yield f"{name}: no name {word} (in the head's example)"
+            for code in re.findall(r"`([^`\n]+)`", re.sub(r"```.*?```", "", head, flags=re.S)):
+                for word in WORD.findall(re.sub(r"-{1,2}[a-z-]+", "", code)):
+                    if word not in words and not re.fullmatch(r"[A-Z]+|[a-h][1-8]|F", word):
+                        yield f"{name}: no name {word} (in `{code}`)"
+
+
+def documents():
+    found = [TOP / "README.md", TOP / "CONTRIBUTING.md", TOP / "CHANGELOG.md", TOP / "clients/README.md", *sorted((TOP / "docs").glob("*.md")), *BY_HAND]
+    return [path for path in found if path.exists()]
+
+
+def is_made(document):
+    return document.read_text().startswith("<!-- Made by")
+
+
+def count_words():
+    total = 0
+    for document in documents():
+        if not is_made(document):
+            count = sum(any(map(str.isalnum, word)) for word in LIST.sub("", document.read_text()).split())  # a table's bar is no word
+            total += count
+            print(f"{count:6} {document.relative_to(TOP)}")
+    print(f"{total:6} words by hand")
+
+
+def write(counted):
+    for document in documents():
+        text = document.read_text()
+        new = with_lists(FIGURE.sub(lambda match: f"<!--n:{match[1]}-->{counted.get(match[1], match[2])}<!---->", text))
+        if new != text:
+            document.write_text(new)
+    for script in MADE:
+        subprocess.run([TOP / script[0], *script[1:]], check=True)
+
+
+def main():
+    words = sys.argv[1:]
+    if words == ["words"]:
+        count_words()
+        return
+    files = tracked()
+    counted = figures(files)
+    if words == ["write"]:
+        write(counted)
+        return
+    names = known(files)
+    bad = 0
+    for document in [pathlib.Path(name).resolve() for name in words] or documents():
+        if is_made(document) and not words:
+            continue
+        for fault in sorted(set(faults(document, names, counted))):
+            print(f"{document.relative_to(TOP)}: {fault}")
+            bad += 1
+    if not words:
+        for fault in sorted({*head_faults(files, names)}):
+            print(fault)
+            bad += 1
+        for script in MADE:
+            bad += subprocess.run([TOP / script[0], *script[1:], "check"], check=False).returncode != 0
+    print(f"documents: {bad} faults")
+    sys.exit(1 if bad else 0)
+
+
+if __name__ == "__main__":
+    main()

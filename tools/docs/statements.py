@@ -1,0 +1,388 @@
+"""Reads the statements of the tree: the definitions of `specs/`, the contracts of public calls, and what a
+contract's names lead to. `promises.py` writes pages of them.
+
+It reads names by the `use` lines of their file, so it needs no prover; what it can't follow it says.
+"""
+import dataclasses
+import pathlib
+import re
+
+TOP = pathlib.Path(__file__).resolve().parent.parent.parent
+CRATES = TOP / "crates"
+NAME = re.compile(r"[A-Za-z_][\w'\-]*")
+# Crates of tests, of rows and of laws about instances: nothing of theirs is a promise.
+TESTING = {"serial_tests", "thread_tests", "server_tests", "site_laws", "promise_uses", "sched_toys", "counted_alloc", "text_rows", "step_texts", "transcripts"}
+DEFINES = re.compile(r"(?:(?:abbrev|unfoldable) pub|pub (?:record|data)) ([^\s:({]+)")
+IMPORT = re.compile(r"(?:pub |ghost )?use ([\w.\-]+)\.\{(.*)\};?$")
+PUBLIC = re.compile(r'pub (?:const |unsafe |extern [" C]*)*fn (\w+)')  # what stands between quotes is blank
+CLAUSE_HEAD = re.compile(r"\b(requires|ensures)(\*?)(?:\s+(\w+))?\s*$")
+
+
+@dataclasses.dataclass
+class Definition:
+    """A definition of `specs/`: its comment and its lines."""
+    crate: str
+    file: str
+    name: str
+    comment: list
+    lines: list
+
+    @property
+    def key(self):
+        return (self.crate, self.file, self.name)
+
+    @property
+    def path(self):
+        return f"crates/{self.crate}/specs/{self.file}.antt"
+
+
+@dataclasses.dataclass
+class Type:
+    """A type or a trait of the code: its doc comment, its text, and how contracts see it."""
+    crate: str
+    path: str
+    name: str
+    kind: str
+    comment: list
+    lines: list
+    imports: dict
+    model: list = dataclasses.field(default_factory=list)
+    met: list = dataclasses.field(default_factory=list)  # traits that it meets, each with its ghost members there
+    invariant: list = dataclasses.field(default_factory=list)
+
+
+@dataclasses.dataclass
+class Call:
+    """A public call: its doc comment, its signature and its clauses."""
+    crate: str
+    path: str
+    owner: str
+    name: str
+    comment: list
+    signature: list
+    clauses: list
+    imports: dict
+    left_out: list = dataclasses.field(default_factory=list)  # the names of the clauses that a page of some doesn't show
+
+    @property
+    def title(self):
+        return f"{self.owner}::{self.name}" if self.owner else self.name
+
+    @property
+    def promised(self):
+        return [clause for clause in self.clauses if clause[0] == "ensures"]
+
+
+def imported(lines):
+    """The names that `use` lines bring in: name to (path, name there)."""
+    found = {}
+    for line in lines:
+        match = IMPORT.match(line.strip())
+        if match and match[1].startswith("Rattle."):
+            for part in match[2].split(","):
+                there, _, here = part.strip().partition(" as ")
+                found[(here or there).strip()] = (match[1].split("."), there.strip())
+    return found
+
+
+def comment_above(lines, start, marks):
+    """The comment lines right above a line, attributes passed over."""
+    found, at = [], start - 1
+    while at >= 0 and (lines[at].strip().startswith(marks) or lines[at].strip().startswith("#[")):
+        if lines[at].strip().startswith(marks):
+            found.insert(0, lines[at].strip())
+        at -= 1
+    return found
+
+
+class Specs:
+    """All definitions of `specs/`, and what their names mean."""
+
+    def __init__(self):
+        self.definitions = {}
+        self.parts = {}  # a constructor's name, by crate and file: its definition
+        self.imports = {}
+        self.crates = {path.name for path in CRATES.iterdir() if path.is_dir()}
+        for path in sorted(CRATES.glob("*/specs/*.antt")):
+            self.read(path)
+
+    def read(self, path):
+        crate, file = path.parent.parent.name, path.stem
+        lines = path.read_text().splitlines()
+        self.imports[crate, file] = imported(lines)
+        current = None
+        for at, line in enumerate(lines):
+            match = DEFINES.match(line.strip())
+            if match and not line.strip().startswith(("--", "use")):
+                current = Definition(crate, file, match[1], comment_above(lines, at, "--"), [line])
+                self.definitions[current.key] = current
+            elif line.strip().startswith("--"):
+                continue
+            elif not line.strip() or line.startswith(("use ", "pub use ", "module ")):
+                current = None
+            elif current:
+                current.lines.append(line)
+                match = re.match(r"\s+([A-Za-z_][\w']*) :", line)
+                if match and current.lines[0].startswith("pub data"):
+                    self.parts[crate, file, match[1]] = current.key
+
+    def at(self, crate, file, name):
+        key = (crate, file, name)
+        return key if key in self.definitions else self.parts.get(key)
+
+    def resolve(self, name, imports, crate=None, file=None):
+        """What a name means: ('spec', key), ('type', crate, name), ('std', path, name) or None."""
+        if crate and (here := self.at(crate, file, name)):
+            return ("spec", here)
+        if name not in imports:
+            return None
+        path, there = imports[name]
+        home = next((part for part in reversed(path) if part in self.crates), None)
+        if "declared" in path:
+            if home is None:
+                return ("std", ".".join(path), there)
+            return ("type", home, path[path.index("declared") + 2] if "TheConstants" not in path else there)
+        if home is None:
+            return ("std", ".".join(path), there)
+        if found := self.at(home, path[-1], there):
+            return ("spec", found)
+        return ("unknown", ".".join(path), there)
+
+    def names_of(self, key):
+        """What a definition's own names mean, in order."""
+        definition = self.definitions[key]
+        text = "\n".join(re.sub(r"--.*", "", line) for line in definition.lines)
+        imports = self.imports[definition.crate, definition.file]
+        for name in dict.fromkeys(NAME.findall(text)):
+            meaning = self.resolve(name, imports, definition.crate, definition.file)
+            if meaning and meaning != ("spec", key):
+                yield meaning
+        yield from signs(text, imports)
+
+    def closure(self, roots):
+        """What these meanings lead to: definitions (lowest first), types, words of the toolchain's library, unknown."""
+        order, types, words, unknown, begun = [], {}, {}, [], set()
+
+        def visit(meaning):
+            kind = meaning[0]
+            if kind == "type":
+                types.setdefault(meaning[1:])
+            elif kind == "std":
+                words.setdefault(meaning[1:])
+            elif kind == "unknown":
+                unknown.append(meaning[1:])
+            elif meaning[1] not in begun:
+                begun.add(meaning[1])
+                for name in self.names_of(meaning[1]):
+                    visit(name)
+                order.append(meaning[1])
+
+        for root in roots:
+            visit(root)
+        return order, list(types), list(words), unknown
+
+
+def signs(text, imports):
+    """The operators of the toolchain's library that a text uses, by their imports."""
+    for name, (path, there) in imports.items():
+        if "◌" in name:
+            parts = [part for part in name.split("◌") if part]
+            if all(part in text for part in parts):
+                yield ("std", ".".join(path), there)
+        elif not NAME.fullmatch(name) and name in text:
+            yield ("std", ".".join(path), there)
+
+
+def blanked(text):
+    """The text with comments, strings and characters blanked, of the same length."""
+    def blank(match):
+        return re.sub(r"[^\n]", " ", match[0])
+    return re.sub(r'//[^\n]*|/\*.*?\*/|b?"(?:\\.|[^"\\])*"|b?\'(?:\\.|[^\'\\])\'', blank, text, flags=re.S)
+
+
+def matching(text, start):
+    """The place behind the brace that closes the one at `start`."""
+    depth = 0
+    for at in range(start, len(text)):
+        if text[at] == "{":
+            depth += 1
+        elif text[at] == "}":
+            depth -= 1
+            if depth == 0:
+                return at + 1
+    return len(text)
+
+
+class Code:
+    """The public calls, types and traits of the crates."""
+
+    def __init__(self, specs):
+        self.specs = specs
+        self.calls = {}
+        self.types = {}
+        self.exports = {}
+        for crate in sorted(specs.crates):
+            root = next((CRATES / crate / "src" / name for name in ("lib.rt", "main.rt") if (CRATES / crate / "src" / name).exists()), None)
+            if root is None:
+                continue
+            self.exports[crate] = self.exported(root)
+            for path in sorted((CRATES / crate / "src").rglob("*.rt")):
+                if "tests" not in path.parts and path.name != "tests.rt":
+                    self.read(crate, path)
+
+    @staticmethod
+    def exported(root):
+        """The names that a crate's root file shows: of `pub use` lines, its own items, and modules that are public."""
+        text = blanked(root.read_text())
+        names = set(re.findall(r"^pub (?:fn|struct|enum|trait|type|const) (\w+)", text, re.M))
+        for match in re.finditer(r"^pub use ([\w:]+)(?:::\{([^}]*)\})?;", text, re.M):
+            for part in (match[2] or match[1].split("::")[-1]).split(","):
+                names.add(part.split(" as ")[-1].strip())
+        modules = set(re.findall(r"^pub mod (\w+)", text, re.M))
+        return names, modules
+
+    def is_shown(self, crate, path, name):
+        names, modules = self.exports[crate]
+        return name in names or path.stem in modules or path.stem in ("lib", "main")
+
+    def read(self, crate, path):
+        text = path.read_text()
+        clear = blanked(text)
+        lines = text.splitlines()
+        shown = str(path.relative_to(TOP))
+        blocks = []  # of impl blocks and traits: their head, where they begin and end
+        for match in re.finditer(r"^(?:unsafe )?(impl\b[^{;]*|pub (?:unsafe )?trait [^{;]*)\{", clear, re.M):
+            blocks.append((" ".join(match[1].split()), match.start(), matching(clear, match.end() - 1)))
+        outer = imported(line for line in self.outside(lines, blocks, text))
+        for head, start, end in blocks:
+            inner = outer | imported(text[start:end].splitlines())
+            if head.startswith("pub"):
+                self.read_trait(crate, shown, head, text, start, end, inner)
+            elif " Model for " in head:
+                self.read_model(crate, head, text[start:end], inner)
+            elif " for " in head:
+                self.read_met(crate, head, text[start:end], inner)
+        for match in re.finditer(r"^pub (struct|enum|type|const) (\w+)", clear, re.M):
+            self.read_type(crate, shown, match, text, clear, outer)
+        for match in PUBLIC.finditer(clear):
+            block = next((block for block in blocks if block[1] <= match.start() < block[2]), None)
+            if block and (block[0].startswith("pub") or " for " in re.sub(r"for<[^>]*>", "", block[0])):
+                continue
+            owner = self.owner_of(block[0]) if block else ""
+            if not self.is_shown(crate, path, owner or match[1]):
+                continue
+            imports = outer | (imported(text[block[1]:block[2]].splitlines()) if block else {})
+            self.read_call(crate, shown, owner, match, text, clear, imports)
+
+    @staticmethod
+    def outside(lines, blocks, text):
+        """The lines that stand outside of all blocks."""
+        at = 0
+        for line in lines:
+            if not any(start <= at < end for _, start, end in blocks):
+                yield line
+            at += len(line) + 1
+
+    @staticmethod
+    def owner_of(head):
+        head = re.sub(r"^impl\s*(<(?:[^<>]|<[^<>]*>)*>)?\s*", "", head)
+        return re.match(r"[\w:]+", head)[0].split("::")[-1]
+
+    def read_call(self, crate, shown, owner, match, text, clear, imports):
+        start = text.rfind("\n", 0, match.start()) + 1
+        at = start
+        clauses, signature_end = [], None
+        while True:
+            brace, semicolon = clear.find("{", at), clear.find(";", at)
+            if brace < 0 or (0 <= semicolon < brace and "[" not in clear[at:semicolon].rsplit("\n", 1)[-1]):
+                end = semicolon if semicolon >= 0 else len(clear)
+                break
+            head = CLAUSE_HEAD.search(clear[at:brace])
+            if not head:
+                end = brace
+                break
+            if signature_end is None:
+                signature_end = at + head.start()
+            close = matching(clear, brace)
+            body = "\n".join(line.strip() for line in text[brace + 1:close - 1].strip().splitlines())
+            note = [line.strip() for line in text[at:at + head.start()].splitlines() if line.strip().startswith("//")]
+            clauses.append((head[1] + head[2], head[3] or "", body, note if clauses or signature_end != at + head.start() else []))
+            at = close
+        signature = text[start:signature_end if signature_end is not None else end].rstrip()
+        lines = text[:start].splitlines()
+        comment = [line.removeprefix("///").strip() for line in comment_above(lines, len(lines), "///")]
+        call = Call(crate, shown, owner, match[1], comment, signature.splitlines(), clauses, imports)
+        self.calls[crate, call.title] = call
+
+    def read_trait(self, crate, shown, head, text, start, end, imports):
+        name = re.search(r"trait (\w+)", head)[1]
+        lines = text[:start].splitlines()
+        comment = [line.removeprefix("///").strip() for line in comment_above(lines, len(lines), "///")]
+        body = [line for line in text[start:end].splitlines() if not line.strip().startswith("ghost use")]
+        self.types[crate, name] = Type(crate, shown, name, "trait", comment, body, imports)
+
+    def read_model(self, crate, head, body, imports):
+        name = re.match(r"[\w:]+", head.split(" Model for ")[1])[0]
+        found = self.types.setdefault((crate, name), Type(crate, "", name, "", [], [], {}))
+        parts = re.split(r"^    ghost ", body, flags=re.M)
+        for part in parts[1:]:
+            part = re.sub(r";\s*\}*\s*$", ";", part.split("\n\n")[0].rstrip())
+            if part.startswith(("Value", "view")):
+                found.model.append("ghost " + part)
+            elif part.startswith("invariant"):
+                found.invariant.append("ghost " + part)
+        found.imports = found.imports | imports
+
+    def read_met(self, crate, head, body, imports):
+        """What an impl of a trait says of the trait's ghost members."""
+        parts = re.split(r"^    ghost (?!use)", body, flags=re.M)[1:]
+        if not parts:
+            return
+        name = (re.search(r"\w+(?=<|$| where)", head.split(" for ")[-1]) or re.search(r"\w+", head.split(" for ")[-1]))[0]
+        found = self.types.setdefault((crate, name), Type(crate, "", name, "", [], [], {}))
+        members = [re.split(r"\n\s*\n|\n    (?=(?:///|#\[|fn|ghost use|//))", part)[0].rstrip() for part in parts]
+        found.met.append([head, *("    ghost " + re.sub(r";\s*\}*\s*$", ";", member) for member in members)])
+        found.imports = found.imports | imports
+
+    def read_type(self, crate, shown, match, text, clear, imports):
+        kind, name = match[1], match[2]
+        start = match.start()
+        brace, semicolon = clear.find("{", start), clear.find(";", start)
+        if kind in ("type", "const") or 0 <= semicolon < brace or brace < 0:
+            end = semicolon + 1
+        else:
+            end = matching(clear, brace)
+        lines = text[:start].splitlines()
+        comment = [line.removeprefix("///").strip() for line in comment_above(lines, len(lines), "///")]
+        body = [line for line in text[start:end].splitlines() if not line.strip().startswith("ghost use")]
+        old = self.types.get((crate, name))
+        self.types[crate, name] = Type(crate, shown, name, kind, comment, body, imports | (old.imports if old else {}), old.model if old else [], old.met if old else [], old.invariant if old else [])
+
+    def meanings(self, call):
+        """What the clauses of a call name: definitions, types, words."""
+        text = "\n".join(body for _, _, body, _ in call.clauses)
+        for name in dict.fromkeys(NAME.findall(text)):
+            if meaning := self.specs.resolve(name, call.imports):
+                yield meaning
+        yield from signs(text, call.imports)
+
+    def type_named(self, name, near):
+        """The type or trait of this name that a file of the crate `near` means."""
+        if (near, name) in self.types:
+            return (near, name)
+        found = [key for key in self.types if key[1] == name and key[0] not in TESTING]
+        return found[0] if len(found) == 1 else None
+
+    def field_types(self, key):
+        """The types and traits of the tree that a type's fields name."""
+        text = re.sub(r"//.*", "", "\n".join(line for line in self.types[key].lines[1:] if not line.strip().startswith("ghost")))
+        if self.types[key].kind == "enum":
+            text = re.sub(r"^\s*[A-Z]\w*", "", text, flags=re.M)
+        return [named for name in dict.fromkeys(re.findall(r"\b[A-Z]\w+\b", text)) if (named := self.type_named(name, key[0]))]
+
+    def signature_types(self, call):
+        """The types and traits that a call's signature names."""
+        text = "\n".join(call.signature) + " " + call.owner
+        for name in dict.fromkeys(re.findall(r"\b[A-Z]\w+\b", text)):
+            if found := self.type_named(name, call.crate):
+                yield found
