@@ -1,0 +1,3 @@
+mod SeatLemmas
+mod HallSteps
+mod Keepings

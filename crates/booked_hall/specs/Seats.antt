@@ -1,0 +1,21 @@
+-- Meaning: who is at a hall, and what each reserves, by the book's grants and by the hall's tenants.
+use Rattle.std.specs.Prelude.{ℕ, List, map}
+use Rattle.tenant_quota.specs.Quota.{Quota}
+use Rattle.sched_rules.specs.Trees.{Tenant}
+use Rattle.site_book.specs.declared.held.Held.{Held}
+
+-- a number, and what it reserves
+abbrev pub Seat : Type 0
+Seat = ℕ × Quota
+
+-- the sessions of a book's grants with what each reserves, in order
+abbrev pub seats_in_book : List Held → List Seat
+seats_in_book grants = map (λ held. (held.session, held.ask)) grants
+
+-- a hall's tenants with what each reserves, in order
+abbrev pub seats_in_hall : List (ℕ × Tenant) → List Seat
+seats_in_hall tenants = map (λ entry. (entry.0, entry.1.reserve)) tenants
+
+-- the number of a seat
+abbrev pub number_of : Seat → ℕ
+number_of seat = seat.0

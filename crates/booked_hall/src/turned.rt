@@ -1,0 +1,12 @@
+use site_book::Refusal;
+
+/// Why a customer is turned away.
+#[derive(Clone, Copy, Debug, PartialEq, Eq)]
+pub enum Turned {
+    /// The book refuses it.
+    ByBook(Refusal),
+    /// All 2^62 numbers of tenants were given.
+    OldTenant,
+    /// There is no memory.
+    OutOfMemory,
+}

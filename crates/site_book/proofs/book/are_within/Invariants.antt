@@ -1,0 +1,7 @@
+use Rattle.std.proofs.Common.{◌≡◌, drop}
+use Rattle.site_book.specs.Books.{are_within}
+use Rattle.site_book.proofs.book.are_within.Given as goal
+
+-- those so far are within, so the rest decides
+abbrev pub invariant-loop-held : goal.invariant-loop-held
+invariant-loop-held l = are_within l.plan l.grants (drop l.held-index l.grants) ≡ are_within l.plan l.grants l.grants

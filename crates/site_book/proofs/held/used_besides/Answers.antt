@@ -1,0 +1,16 @@
+-- The grant at the place is one of the part, or it isn't.
+use Rattle.std.proofs.Common.{sym, ◌∙◌}
+use Rattle.site_book.proofs.BookLemmas.{own-within, own-less, other-same}
+use Rattle.site_book.proofs.held.used_besides.Goals as goal
+
+pub less-requires : goal.less-requires
+less-requires c =
+    own-within c.args.part c.args.grants.now c.args.place c.index-grants-place.result c.with_one.result c.used_in-used.result c.requires.there c.index-grants-place.is (sym c.has.ensures ∙ c.if-has.true) c.used_in-used.ensures.value c.with_one.ensures.value
+
+pub returns-then-has-clause-value : goal.returns-then-has-clause-value
+returns-then-has-clause-value c =
+    own-less c.args.part c.args.grants.now c.args.place c.index-grants-place.result c.with_one.result c.used_in-used.result c.less.result c.requires.there c.index-grants-place.is (sym c.has.ensures ∙ c.if-has.true) c.used_in-used.ensures.value c.with_one.ensures.value c.less.ensures
+
+pub returns-else-has-clause-value : goal.returns-else-has-clause-value
+returns-else-has-clause-value c =
+    other-same c.args.part c.args.grants.now c.args.place c.index-grants-place.result c.used_in-used.result c.requires.there c.index-grants-place.is (sym c.has.ensures ∙ c.if-has.false) c.used_in-used.ensures.value

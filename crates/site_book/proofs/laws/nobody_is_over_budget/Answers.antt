@@ -1,0 +1,12 @@
+use Rattle.site_book.specs.Books.{new_book}
+use Rattle.site_book.specs.Events.{run}
+use Rattle.site_book.proofs.Keepings.{kept-new, kept-few}
+use Rattle.site_book.proofs.RunLemmas.{kept-run, totals-run}
+use Rattle.site_book.proofs.laws.nobody_is_over_budget.Goals as goal
+
+pub returns : goal.returns
+returns c = record {
+  within = λ plan events fit part. (kept-run (new_book plan) events (kept-new plan fit)).within part;
+  totals = λ plan events. totals-run (new_book plan) events;
+  few = λ plan events fit. kept-few (run (new_book plan) events).plan (run (new_book plan) events).grants (kept-run (new_book plan) events (kept-new plan fit));
+}

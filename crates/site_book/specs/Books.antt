@@ -1,0 +1,112 @@
+-- Meaning: what a book holds, why it refuses what it is asked for, and what comes of it.
+use Rattle.std.specs.Prelude.{ℕ, Bool, true, not, ◌&&◌, is_none, List, [], ◌∷◌, ◌++◌, Option, Some, None, if◌then◌else◌}
+use Rattle.tenant_quota.specs.Quota.{Quota}
+use Rattle.site_book.specs.declared.amount.Amount.{Amount}
+use Rattle.site_book.specs.declared.held.Held.{Held}
+use Rattle.site_book.specs.declared.held.Part.{Part}
+use Rattle.site_book.specs.declared.held.Part.TheVariants.{Own, Network, Guests}
+use Rattle.site_book.specs.declared.held.Overrun.{Overrun}
+use Rattle.site_book.specs.declared.refusal.Refusal.{Refusal}
+use Rattle.site_book.specs.declared.refusal.Refusal.TheVariants.{OverBudget, OverNetwork, OverGuests, Gone, Lower, Unfit, Beyond}
+use Rattle.site_book.specs.declared.who.Who.{Who}
+use Rattle.site_book.specs.Names.{network_of}
+use Rattle.site_book.specs.Amounts.{of_one, plus, is_within, is_same}
+use Rattle.site_book.specs.Plans.{PlanOf, limit_of, sums_fit}
+use Rattle.site_book.specs.Grants.{is_in, used, grant_of, without, with_ask, is_lower}
+
+-- the plan, and the grants that are out in the order in which they were opened
+pub record BookOf : Type 0 where
+  pub plan : PlanOf
+  pub grants : List Held
+
+-- a book in which nothing has happened
+abbrev pub new_book : PlanOf → BookOf
+new_book plan = record { plan = plan; grants = [] }
+
+-- what happens at a hall: a session of this number is opened for a customer and reserves this, or is raised to this, or ends; or
+-- another plan comes
+pub data Event : Type 0 where
+  Opens : (who : Who) (session : ℕ) (ask : Quota) → Event
+  Raises : (who : Who) (session : ℕ) (ask : Quota) → Event
+  Closes : (who : Who) (session : ℕ) → Event
+  Replans : (plan : PlanOf) → Event
+
+-- the refusal of the first test that applies
+abbrev pub first_of : List (Bool × Refusal) → Option Refusal
+first_of [] = None
+first_of (test ∷ tests) = if test.0 then Some test.1 else first_of tests
+
+-- the first refusal, or else the next
+abbrev pub or_else : Option Refusal → Option Refusal → Option Refusal
+or_else None next = next
+or_else (Some refusal) next = Some refusal
+
+-- whether so much more than what the part has is beyond what it may have, where the customer is one of it
+abbrev pub is_beyond : PlanOf → Part → Who → Quota → Amount → Bool
+is_beyond plan part who ask has = is_in part who && not (is_within (plus (of_one ask) has) (limit_of plan part))
+
+-- the same of its own budget, that of its wider network and that of all guests, which have so much, in this order
+abbrev pub why_beyond : PlanOf → Who → Quota → Amount → Amount → Amount → Option Refusal
+why_beyond plan who ask own network guests =
+    first_of ((is_beyond plan (Own who) who ask own, OverBudget) ∷ (is_beyond plan (Network (network_of who)) who ask network, OverNetwork) ∷ (is_beyond plan Guests who ask guests, OverGuests) ∷ [])
+
+-- why so much more than what these grants have isn't granted to a customer
+abbrev pub why_over : PlanOf → Who → Quota → List Held → Option Refusal
+why_over plan who ask grants = why_beyond plan who ask (used (Own who) grants) (used (Network (network_of who)) grants) (used Guests grants)
+
+-- why a session isn't raised: it isn't there, it isn't raised by this, or with what it has then a budget is passed
+abbrev pub why_no_raise : PlanOf → Who → ℕ → Quota → List Held → Option Held → Option Refusal
+why_no_raise plan who session ask grants None = Some Gone
+why_no_raise plan who session ask grants (Some held) = if is_lower held.ask ask then Some Lower else why_over plan who ask (without who session grants)
+
+-- whether the part has more than it may have, where the customer is one of it
+abbrev pub is_over : PlanOf → Part → Who → List Held → Bool
+is_over plan part who grants = is_in part who && not (is_within (used part grants) (limit_of plan part))
+
+-- the first part of which the customer is one that has more than it may have
+abbrev pub part_over : PlanOf → List Held → Who → Option Part
+part_over plan grants who =
+    if is_over plan (Own who) who grants then Some (Own who) else if is_over plan (Network (network_of who)) who grants then Some (Network (network_of who)) else if is_over plan Guests who grants then Some Guests else None
+
+-- what there is to say of a grant whose part has more than it may have
+abbrev pub overrun_as : PlanOf → List Held → Held → Option Part → Option Overrun
+overrun_as plan grants held None = None
+overrun_as plan grants held (Some part) =
+    Some (record { who = held.who; session = held.session; part = part; has = used part grants; may = limit_of plan part })
+
+-- by how much a grant's part has more than a plan allows; None where no part of it does
+abbrev pub overrun_of : PlanOf → List Held → Held → Option Overrun
+overrun_of plan grants held = overrun_as plan grants held (part_over plan grants held.who)
+
+-- whether no part of any of these grants has more than the plan allows, of all grants
+abbrev pub are_within : PlanOf → List Held → List Held → Bool
+are_within plan all [] = true
+are_within plan all (held ∷ grants) = is_none (part_over plan all held.who) && are_within plan all grants
+
+-- why another plan doesn't come in: it is of another hall, or its sums don't fit; or what is out is beyond it
+abbrev pub why_not_replan : BookOf → PlanOf → Option Refusal
+why_not_replan book plan =
+    first_of ((not (is_same plan.totals book.plan.totals && sums_fit plan), Unfit) ∷ (not (are_within plan book.grants book.grants), Beyond) ∷ [])
+
+-- the answer to an event: why it is refused, or None where it isn't
+abbrev pub answer_to : BookOf → Event → Option Refusal
+answer_to book (Opens who session ask) = why_over book.plan who ask book.grants
+answer_to book (Raises who session ask) = why_no_raise book.plan who session ask book.grants (grant_of who session book.grants)
+answer_to book (Closes who session) = None
+answer_to book (Replans plan) = why_not_replan book plan
+
+-- the book after an event that wasn't refused
+abbrev pub taken : BookOf → Event → BookOf
+taken book (Opens who session ask) = record book { grants = book.grants ++ record { who = who; session = session; ask = ask } ∷ [] }
+taken book (Raises who session ask) = record book { grants = with_ask who session ask book.grants }
+taken book (Closes who session) = record book { grants = without who session book.grants }
+taken book (Replans plan) = record book { plan = plan }
+
+-- the book after an event of which this was the answer: a refusal changes nothing
+abbrev pub after_answer : BookOf → Event → Option Refusal → BookOf
+after_answer book event None = taken book event
+after_answer book event (Some refusal) = book
+
+-- the book after an event
+abbrev pub after : BookOf → Event → BookOf
+after book event = after_answer book event (answer_to book event)

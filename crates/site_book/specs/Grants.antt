@@ -1,0 +1,54 @@
+-- Meaning: the grants that are out, and what some of them have together.
+use Rattle.std.specs.Prelude.{ℕ, suc, ◌==◌, Bool, true, ◌&&◌, ◌||◌, nat_lt, List, [], ◌∷◌, Option, Some, None, if◌then◌else◌}
+use Rattle.tenant_quota.specs.Quota.{Quota}
+use Rattle.site_book.specs.declared.amount.Amount.{Amount}
+use Rattle.site_book.specs.declared.held.Held.{Held}
+use Rattle.site_book.specs.declared.held.Part.{Part}
+use Rattle.site_book.specs.declared.held.Part.TheVariants.{Own, Network, Guests, All}
+use Rattle.site_book.specs.declared.who.Who.{Who}
+use Rattle.site_book.specs.Names.{same_who, is_guest, network_of}
+use Rattle.site_book.specs.Amounts.{nothing, of_one, plus}
+
+-- whether a session of this customer is one of the part
+abbrev pub is_in : Part → Who → Bool
+is_in (Own who) other = same_who who other
+is_in (Network who) other = is_guest other && same_who who (network_of other)
+is_in Guests other = is_guest other
+is_in All other = true
+
+-- what the grants have together whose customers pass the test
+abbrev pub used_by : (Who → Bool) → List Held → Amount
+used_by test [] = nothing
+used_by test (held ∷ grants) = if test held.who then plus (of_one held.ask) (used_by test grants) else used_by test grants
+
+-- what these grants have together
+abbrev pub used : Part → List Held → Amount
+used part grants = used_by (is_in part) grants
+
+-- whether a grant is that of this session of this customer
+abbrev pub is_held_as : Who → ℕ → Held → Bool
+is_held_as who session held = same_who who held.who && (session == held.session)
+
+-- the place of the first grant of this session; the number of grants where there is none
+abbrev pub place_of : Who → ℕ → List Held → ℕ
+place_of who session [] = 0
+place_of who session (held ∷ grants) = if is_held_as who session held then 0 else suc (place_of who session grants)
+
+-- the first grant of this session; None where there is none
+abbrev pub grant_of : Who → ℕ → List Held → Option Held
+grant_of who session [] = None
+grant_of who session (held ∷ grants) = if is_held_as who session held then Some held else grant_of who session grants
+
+-- the grants without the first of this session
+abbrev pub without : Who → ℕ → List Held → List Held
+without who session [] = []
+without who session (held ∷ grants) = if is_held_as who session held then grants else held ∷ without who session grants
+
+-- the grants, the first of this session having this
+abbrev pub with_ask : Who → ℕ → Quota → List Held → List Held
+with_ask who session ask [] = []
+with_ask who session ask (held ∷ grants) = if is_held_as who session held then record held { ask = ask } ∷ grants else held ∷ with_ask who session ask grants
+
+-- whether a second reservation is no raise of the first: less in segments or nodes, or the same in both
+abbrev pub is_lower : Quota → Quota → Bool
+is_lower now ask = nat_lt ask.segments now.segments || nat_lt ask.nodes now.nodes || ((ask.segments == now.segments) && (ask.nodes == now.nodes))

@@ -1,0 +1,9 @@
+pub mod Names
+pub mod Amounts
+pub mod Plans
+pub mod Grants
+pub mod Books
+pub mod Events
+pub mod Allowed
+pub mod Keeping
+pub mod Rows

@@ -1,0 +1,34 @@
+-- Meaning: what a plan of a hall allows: its named customers, and its guests.
+use Rattle.std.specs.Prelude.{Bool, ◌&&◌, nat_le, List, slice_index_or}
+use Rattle.site_book.specs.declared.amount.Amount.{Amount}
+use Rattle.site_book.specs.declared.held.Part.{Part}
+use Rattle.site_book.specs.declared.held.Part.TheVariants.{Own, Network, Guests, All}
+use Rattle.site_book.specs.declared.who.Who.{Who}
+use Rattle.site_book.specs.declared.who.Who.TheVariants.{Named, V4, V6}
+use Rattle.site_book.specs.Amounts.{nothing, plus, sum_of, is_within}
+
+-- what the hall has for all sessions, the budgets of the named customers, and what each guest, the guests of one wider network and all
+-- guests together may have
+pub record PlanOf : Type 0 where
+  pub totals : Amount
+  pub customers : List Amount
+  pub guest : Amount
+  pub network : Amount
+  pub guests : Amount
+
+-- what a customer may have: a guest as each guest, and one that the plan doesn't name nothing
+abbrev pub budget_of : PlanOf → Who → Amount
+budget_of plan (Named number) = slice_index_or plan.customers number nothing
+budget_of plan (V4 address) = plan.guest
+budget_of plan (V6 network) = plan.guest
+
+-- what some of the sessions may have together
+abbrev pub limit_of : PlanOf → Part → Amount
+limit_of plan (Own who) = budget_of plan who
+limit_of plan (Network who) = plan.network
+limit_of plan Guests = plan.guests
+limit_of plan All = plan.totals
+
+-- whether all sums fit: a hall has 64 sessions at most, and all budgets together are within what it has
+abbrev pub sums_fit : PlanOf → Bool
+sums_fit plan = nat_le plan.totals.sessions 64 && is_within (plus plan.guests (sum_of plan.customers)) plan.totals

@@ -1,0 +1,64 @@
+-- Representation: a small hall, and events at it.
+use Rattle.std.specs.Prelude.{ℕ, List, [], ◌∷◌, map, Option}
+use Rattle.tenant_quota.specs.Quota.{Quota}
+use Rattle.site_book.specs.declared.amount.Amount.{Amount}
+use Rattle.site_book.specs.declared.refusal.Refusal.{Refusal}
+use Rattle.site_book.specs.declared.who.Who.{Who}
+use Rattle.site_book.specs.declared.who.Who.TheVariants.{Named}
+use Rattle.site_book.specs.Plans.{PlanOf}
+use Rattle.site_book.specs.Amounts.{nothing}
+use Rattle.site_book.specs.Books.{Event, Opens, Closes, Replans, new_book, overrun_of}
+use Rattle.site_book.specs.declared.held.Overrun.{Overrun}
+use Rattle.site_book.specs.Events.{answers, run}
+
+abbrev pub amount : ℕ → ℕ → ℕ → Amount
+amount sessions segments nodes = record { sessions = sessions; segments = segments; nodes = nodes }
+
+abbrev pub ask : ℕ → ℕ → Quota
+ask segments nodes = record { segments = segments; nodes = nodes }
+
+-- a hall of 4 sessions, 40 segments and 400 nodes, with one named customer, and guests that may have a session each, of 5 segments and 50
+-- nodes, and two in a wider network
+abbrev pub hall_for : Amount → Amount → PlanOf
+hall_for school guests = record { totals = amount 4 40 400; customers = school ∷ []; guest = amount 1 5 50; network = amount 2 8 90; guests = guests }
+
+-- the school may have two sessions, and all guests two
+abbrev pub small : PlanOf
+small = hall_for (amount 2 20 200) (amount 2 9 100)
+
+abbrev pub school : Who
+school = Named 0
+
+-- the answer to each event there
+abbrev pub told : List Event → List (Option Refusal)
+told events = answers (new_book small) events
+
+-- a hall of 4 sessions, 20 segments and 200 nodes, with two named customers and no guests
+abbrev pub two_for : Amount → Amount → PlanOf
+two_for first second = record { totals = amount 4 20 200; customers = first ∷ second ∷ []; guest = nothing; network = nothing; guests = nothing }
+
+-- the first customer may have all of it in two sessions
+abbrev pub one_sided : PlanOf
+one_sided = two_for (amount 2 20 200) nothing
+
+-- later each may have half of it
+abbrev pub even : PlanOf
+even = two_for (amount 2 10 100) (amount 2 10 100)
+
+-- the first customer opens its two sessions, the other plan is to come in, and the second opens its two
+abbrev pub sold : List Event
+sold =
+    Opens (Named 0) 1 (ask 10 100) ∷ Opens (Named 0) 2 (ask 10 100) ∷ Replans even
+    ∷ Opens (Named 1) 3 (ask 5 50) ∷ Opens (Named 1) 4 (ask 5 50) ∷ []
+
+-- it comes in when the first customer's sessions have ended
+abbrev pub ended : List Event
+ended = Opens (Named 0) 1 (ask 10 100) ∷ Closes (Named 0) 1 ∷ Replans even ∷ Opens (Named 1) 2 (ask 5 50) ∷ Opens (Named 0) 3 (ask 10 100) ∷ []
+
+-- why each event is refused where the first customer may have all
+abbrev pub told_one_sided : List Event → List (Option Refusal)
+told_one_sided events = answers (new_book one_sided) events
+
+-- who is beyond the even plan after these events, and by how much
+abbrev pub beyond_even : List Event → List (Option Overrun)
+beyond_even events = let grants = (run (new_book one_sided) events).grants in map (overrun_of even grants) grants

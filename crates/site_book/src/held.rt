@@ -1,0 +1,161 @@
+ghost use Rattle.std.specs.Prelude.{◌≡◌, ◌+◌, ◌<◌, ◌≤◌, ◌^◌, length, if◌then◌else◌, ◌≢◌, None, Some};
+ghost use Rattle.std.specs.List.{remove};
+ghost use Rattle.std.specs.Vec.{vec_capacity};
+ghost use Rattle.site_book.specs.Amounts.{IsWithin};
+ghost use Rattle.site_book.specs.Grants.{is_in, used, is_held_as, place_of, grant_of, without, with_ask, is_lower};
+
+use crate::amount::Amount;
+use crate::who::Who;
+use tenant_quota::Reserve;
+
+/// A grant that is out: a session's leave to be at the hall.
+#[derive(Clone, Copy, Debug)]
+pub struct Held {
+    /// Whose it is.
+    pub who: Who,
+    /// The number of its session.
+    pub session: u64,
+    /// What its session reserves.
+    pub ask: Reserve,
+}
+
+/// Some of the grants that are out.
+#[derive(Clone, Copy, Debug)]
+pub enum Part {
+    /// Those of a customer.
+    Own(Who),
+    /// Those of the guests of this wider network.
+    Network(Who),
+    /// Those of all guests.
+    Guests,
+    /// All.
+    All,
+}
+
+/// A grant whose part has more than it may have, and by how much.
+#[derive(Clone, Copy, Debug)]
+pub struct Overrun {
+    /// Whose it is.
+    pub who: Who,
+    /// The number of its session.
+    pub session: u64,
+    /// The part.
+    pub part: Part,
+    /// What the part has.
+    pub has: Amount,
+    /// What it may have.
+    pub may: Amount,
+}
+
+impl Part {
+    /// Whether a session of this customer is one of them.
+    pub(crate) fn has(self, other: Who) -> bool
+        ensures { result ≡ is_in self other }
+    {
+        match self {
+            Part::Own(who) => who.is(other),
+            Part::Network(who) => other.is_guest() && who.is(other.network()),
+            Part::Guests => other.is_guest(),
+            Part::All => true,
+        }
+    }
+}
+
+/// The amount with that of a grant more, if it is one of the part.
+fn with_grant(sum: Amount, part: Part, held: &Held) -> Amount
+    requires room_sessions { sum.sessions < 2 ^ 31 }
+    requires room_segments { sum.segments < 2 ^ 63 }
+    requires room_nodes { sum.nodes < 2 ^ 63 }
+    ensures sessions { result.sessions ≡ sum.sessions + (if is_in part held.now.who then 1 else 0) }
+    ensures segments { result.segments ≡ sum.segments + (if is_in part held.now.who then held.now.ask.segments else 0) }
+    ensures nodes { result.nodes ≡ sum.nodes + (if is_in part held.now.who then held.now.ask.nodes else 0) }
+    ensures few_segments { result.segments ≤ sum.segments + 4096 }
+    ensures few_nodes { result.nodes ≤ sum.nodes + 65536 }
+{
+    if part.has(held.who) {
+        sum.with_one(held.ask)
+    } else {
+        sum
+    }
+}
+
+/// What some of the grants have together.
+pub(crate) fn used_in(grants: &[Held], part: Part) -> Amount
+    requires { length grants.now ≤ 64 }
+    ensures value { result ≡ used part grants.now }
+    ensures sessions { result.sessions ≤ 64 }
+    ensures segments { result.segments ≤ 262144 }
+    ensures nodes { result.nodes ≤ 4194304 }
+{
+    let mut sum = Amount::NOTHING;
+    for held in grants {
+        sum = with_grant(sum, part, held);
+    }
+    sum
+}
+
+/// What some of the grants have together without the one at a place.
+pub(crate) fn used_besides(grants: &[Held], place: usize, part: Part) -> Amount
+    requires few { length grants.now ≤ 64 }
+    requires there { place < length grants.now }
+    ensures value { result ≡ used part (remove grants.now place) }
+    ensures within { IsWithin result (record { sessions = 64; segments = 262144; nodes = 4194304 }) }
+{
+    let used = used_in(grants, part);
+    let held = grants[place];
+    if part.has(held.who) {
+        used.less(Amount::NOTHING.with_one(held.ask))
+    } else {
+        used
+    }
+}
+
+/// Whether a grant is that of this session.
+fn is_held_as(held: &Held, who: Who, session: u64) -> bool
+    ensures { result ≡ is_held_as who session held.now }
+{
+    who.is(held.who) && session == held.session
+}
+
+/// The place of the first grant of this session, or the number of grants where there is none.
+pub(crate) fn place_of(grants: &[Held], who: Who, session: u64) -> usize
+    ensures place { result ≡ place_of who session grants.now }
+    ensures within { result ≤ length grants.now }
+{
+    for (place, held) in grants.iter().enumerate() {
+        if is_held_as(held, who, session) {
+            return place;
+        }
+    }
+    grants.len()
+}
+
+/// Takes the first grant of this session out, if there is one.
+pub(crate) fn take_out(grants: &mut Vec<Held>, who: Who, session: u64)
+    ensures grants { grants.new.items ≡ without who session grants.old.items }
+    ensures capacity { vec_capacity grants.old ≤ vec_capacity grants.new }
+{
+    let place = place_of(grants, who, session);
+    if place < grants.len() {
+        grants.remove(place);
+    }
+}
+
+/// Lets the first grant of this session, which is there, have this.
+pub(crate) fn set_ask(grants: &mut Vec<Held>, who: Who, session: u64, ask: Reserve)
+    requires { grant_of who session grants.old.items ≢ None }
+    ensures grants { grants.new.items ≡ with_ask who session ask grants.old.items }
+    ensures capacity { vec_capacity grants.old ≤ vec_capacity grants.new }
+{
+    let place = place_of(grants, who, session);
+    grants[place].ask = ask;
+}
+
+/// Whether the second is no raise of the first: less in segments or nodes, or the same in both.
+pub(crate) fn is_lower(now: Reserve, ask: Reserve) -> bool
+    ensures { result ≡ is_lower now ask }
+{
+    ask.segments() < now.segments()
+        || ask.nodes() < now.nodes()
+        || (ask.segments() == now.segments() && ask.nodes() == now.nodes())
+}
