@@ -102,7 +102,7 @@ def read_crates():
     return group_of, {name: [low for low in used if low in uses] for name, used in uses.items()}
 
 
-TESTS = ("serial_tests", "thread_tests", "definition_tests", "definition_laws", "site_laws", "promise_uses", "sched_toys", "counted_alloc", "text_rows", "step_texts", "transcripts")
+TESTS = ("serial_tests", "thread_tests", "server_tests", "site_laws", "promise_uses", "sched_toys", "counted_alloc", "text_rows", "step_texts", "transcripts")
 
 
 def crates():
@@ -189,7 +189,7 @@ def trust():
     p = Picture("trust", 900, 372)
     rows = (
         ("a promise in words", "README.md, docs/promises", GREEN, "you compare: do the definitions mean these words?"),
-        ("its contract: clauses and definitions", "crates/promises: a page for each", GREEN, "the gate compares the page with the code"),
+        ("its contract: clauses and definitions", "crates/promises: a page each, definitions once", GREEN, "the gate compares these texts with the code"),
         ("contracts of the crates below", "each crate relies only on the crates below", BLUE, "the prover: each body meets its contract"),
         ("bodies, from the protocol to raw memory", "source code with its proofs", BLUE, "the prover: each body is safe"),
         ("toolchain: prover, logic, library, compiler", "rt version; two compilers, compared", YELLOW, "trusted"),
