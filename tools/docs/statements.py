@@ -14,7 +14,7 @@ NAME = re.compile(r"[A-Za-z_][\w'\-]*")
 TESTING = {"serial_tests", "thread_tests", "server_tests", "site_laws", "promise_uses", "sched_toys", "counted_alloc", "text_rows", "step_texts", "transcripts"}
 DEFINES = re.compile(r"(?:(?:abbrev|unfoldable) pub|pub (?:record|data)) ([^\s:({]+)")
 IMPORT = re.compile(r"(?:pub |ghost )?use ([\w.\-]+)\.\{(.*)\};?$")
-PUBLIC = re.compile(r"pub (?:const |unsafe )*fn (\w+)")
+PUBLIC = re.compile(r'pub (?:const |unsafe |extern [" C]*)*fn (\w+)')  # what stands between quotes is blank
 CLAUSE_HEAD = re.compile(r"\b(requires|ensures)(\*?)(?:\s+(\w+))?\s*$")
 
 

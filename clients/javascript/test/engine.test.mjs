@@ -1,7 +1,7 @@
 // The engine: values, faults, what is given up, and that nothing is left.
 import assert from "node:assert/strict";
 import { execFileSync } from "node:child_process";
-import { mkdtempSync, readFileSync, rmSync } from "node:fs";
+import { cpSync, mkdtempSync, readFileSync, rmSync } from "node:fs";
 import { tmpdir } from "node:os";
 import { join } from "node:path";
 import test from "node:test";
@@ -119,7 +119,9 @@ test("a program that forgets to close it ends, and the package as npm packs it i
     } catch {
       return t.diagnostic("npm isn't here");
     }
-    const name = execFileSync("npm", ["pack", "--silent", "--offline", "--pack-destination", folder], { cwd: where }).toString().trim();
+    cpSync(where, join(folder, "clients/javascript"), { recursive: true }); // npm changes what it packs, while other tests read it
+    cpSync(join(where, "../page/engine"), join(folder, "clients/page/engine"), { recursive: true });
+    const name = execFileSync("npm", ["pack", "--silent", "--offline", "--pack-destination", folder], { cwd: join(folder, "clients/javascript") }).toString().trim();
     execFileSync("npm", ["install", "--silent", "--offline", "--no-audit", "--no-fund", "--prefix", folder, join(folder, name)], { cwd: folder });
     assert.equal(run("coluwen", folder), "d3\n");
   } finally {

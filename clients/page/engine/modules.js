@@ -4,7 +4,7 @@ export const MODULES = {
   "binaryen": "wasm-opt version 108",
   "verdict": "logic=proved functions=12 target=wasm64-unknown-unknown sum=dac8208d650f15bf native=nat,char,string logic-built=trusted libraries-built=trusted statements=trusted incremental=trusted",
   "integrity": {
-    "page64.wasm": "sha256-1O2ojO28gH9odgo3a6hswPSLnt0FmAkneuEdq0eHLig=",
-    "page32.wasm": "sha256-WDo6hhOzK5Z9GglhV+yt4kC6A4evpcQxSv7bnTK/LlA="
+    "page64.wasm": "sha256-YUBmoiHGxWT3PgXzBAbh0b3nwvOPTUriGqywgSZ0Yd4=",
+    "page32.wasm": "sha256-IaXXtmT7mEazoEyqsQslgZwAdYYOSKWp7VL4fR7x2Qk="
   }
 };

@@ -285,6 +285,16 @@ def test_what_is_spent() -> None:
     assert [line for _, _, line in stage.sent[before:] if line.startswith("HELLO")] == ["HELLO 1024 65536"]
 
 
+@pytest.mark.parametrize("grain, found", [(0, 0), (3, 3), (5, 5), (6, 6), (9, 6)])
+def test_the_grain_by_probes(grain: int, found: int) -> None:
+    stage = Stage(Model(grain=grain, job=0.01), sessions=1)
+    stage.ask(errand := stage.core.learning())
+    stage.run(30)
+    assert errand.found.grain == found and stage.core.info == errand.found and stage.lines("BYE") == ["BYE"]
+    asked = [int(line.split()[1]) for line in stage.lines("ASK")]
+    assert asked == [*range(2, min(grain + 2, 8) + 1)] * 2 and len(stage.lines("QUOTA")) == len(asked) + 1
+
+
 def test_an_older_question_isn_t_passed_over() -> None:
     """One that needs more than the open sessions have gets a session, though younger ones keep coming."""
     stage = Stage(Model(spent=lambda depth, nodes, jobs: depth == 9 and nodes < 20000), sessions=1)
@@ -339,6 +349,43 @@ def test_lines_that_come_too_fast() -> None:
     stage.ask(late := Question(3, OPENING, timeout=0.5), asked := Errand(ping))
     stage.run(10)
     assert isinstance(late.fault, Late) and asked.ended and not asked.fault and len(stage.lines("CANCEL")) <= 11
+
+
+def test_each_has_a_session_of_its_own_before_any_has_two() -> None:
+    stage = Stage(Model(job=1), sessions=3, ahead=4)
+    stage.ask(Errand(ping))
+    stage.run(1)
+    stage.ask(*(Question(3, POSITIONS[at]) for at in range(3)))
+    stage.run(0.5)
+    asked = [key for _, key, line in stage.sent if line.startswith("ASK")]
+    assert len(asked) == len(set(asked)) == 3
+    stage.ask(*(Question(3, POSITIONS[at]) for at in range(3, 12)))
+    stage.run(0.2)
+    asked = [key for _, key, line in stage.sent if line.startswith("ASK")]
+    assert sorted(asked.count(key) for key in set(asked)) == [4, 4, 4] and stage.most_open == 3
+
+
+def test_silence_is_twice_as_long_each_time() -> None:
+    model = Model(job=100)
+    stage = Stage(model, sessions=1, silence=0.5, outage=20)
+    stage.ask(work := Question(5, OPENING))
+    stage.run(0.2)
+    answer = stage.answer
+    stage.answer = lambda key, line: answer(key, line) if line.startswith("HELLO") else None  # type: ignore[method-assign, assignment]
+    stage.run(60)
+    begun = [at for at, _, line in stage.sent if line.startswith("HELLO")]
+    assert [round(after - before, 1) for before, after in zip(begun[1:], begun[2:])] == [1.0, 2.0, 4.0, 8.0] and isinstance(work.fault, Unreachable)
+    assert "no answer to ASK in 16 s" in str(work.fault)
+
+
+def test_a_job_that_somebody_else_cancelled() -> None:
+    stage = Stage(Model(job=1), sessions=1)
+    stage.ask(work := Question(3, OPENING))
+    stage.run(0.5)
+    peer = next(iter(stage.peers.values()))
+    peer.jobs[0] = (0.0, "CANCELLED", 0)
+    stage.run(1)
+    assert isinstance(work.fault, Broken) and "cancelled by nobody here" in str(work.fault)
 
 
 def test_close() -> None:
@@ -420,4 +467,4 @@ def test_a_wire() -> None:
     wire = Wire()
     wire.send("BYE")
     with pytest.raises(Broken, match="more than 1115 bytes"):
-        wire.receive(b"y" * 1200)
+        wire.receive(b"y" * 1115)

@@ -1,6 +1,7 @@
 """An engine on this computer: values, faults, what becomes of processes that end, hang or answer nonsense, and that none is left.
 
 What the program itself answers is tried where it is built (`program_of`); the rest is tried with a program that does as the test says."""
+import asyncio
 import concurrent.futures
 import os
 import pathlib
@@ -13,7 +14,7 @@ import time
 
 import pytest
 
-from coluwen import Broken, Closed, Engine, FormatError, Late, Position, Result, TooDeep, Unreachable
+from coluwen import AsyncEngine, Broken, Closed, Engine, FormatError, Late, Position, Result, TooDeep, Unreachable
 from coluwen.analyst import Analyst
 from coluwen.engine import Fallback, program_of
 
@@ -285,6 +286,24 @@ def test_what_one_cannot_give_another_one_gives(false: str) -> None:
         assert both.submit(OPENING, 2).cancel()
         assert both.info().sure == 12
     assert first.closed and children() == {}
+
+
+def test_the_same_for_asyncio(false: str) -> None:
+    async def asks() -> None:
+        async with AsyncEngine(1, program=false) as engine:
+            assert (await engine.analyse(OPENING, 3)).score.value == 30
+            assert [outcome.answer.score.value async for outcome in engine.analyse_many([(OPENING, 1), (OPENING, 2)])] == [10, 20]
+            assert len(await engine.analyse_all(OPENING, 2)) == 4
+            with pytest.raises(TimeoutError):
+                async with asyncio.timeout(0.1):
+                    await engine.analyse(WHITE, 12)
+            assert (await engine.analyse(OPENING, 4)).score.value == 40  # so the hanging process is gone
+            assert (await engine.info()).sure == 12 and await engine.ping() >= 0
+        with pytest.raises(Closed):
+            await engine.analyse(OPENING, 1)
+
+    asyncio.run(asks())
+    assert children() == {}
 
 
 def command(module: str, *words: str, false: str, text: str = "", **env: str) -> subprocess.CompletedProcess[str]:

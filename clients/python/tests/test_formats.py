@@ -299,6 +299,27 @@ def test_fixtures(path: pathlib.Path) -> None:
             assert game.result is None or not game.final().is_over or game.final().final_discs("X") == game.result
 
 
+def test_small_things() -> None:
+    assert transcript.narrow("\uff01\uff5e\u3000\u2212\u2010\u2013\u30fc\uff00\uff5f") == "!~ ----\uff00\uff5f"
+    both = coluwen.board.discs_of("X" * 20 + "O" * 20 + "-" * 24)
+    assert [wthor.black_discs(one) for one in (both, coluwen.board.discs_of("X" * 30 + "O" * 20 + "-" * 14), coluwen.board.discs_of("X" * 20 + "O" * 30 + "-" * 14))] == [32, 44, 20]
+    (fault,) = ggf.read("\n(;GM[Go]B[f5];)", "a")
+    assert str(fault) == "a:2:6: this is a game of Go"
+    for text, said in (("8/8/8/3OX3/3XO3/8/8 X", "1:20: the text ends in row 7 behind 8 cells"), ("8/8/8/3OX3/3XO3/8/8/8/8 X", "1:22: there are more than 8 rows"), ("7/8/8/3OX3/3XO3/8/8/8 X", "1:2: row 1 has 7 cells"),
+                       ("8/8/8/3OX3/3XO3/8/8/8 Q", "1:23: 'Q' is no side to move")):
+        with pytest.raises(FormatError, match=re.escape(said)):
+            position.read_fen(text, formats.Place("", 1))
+    data = wthor.write([random_game(1), random_game(2)], 2020)
+    first, second = strictly(wthor.read(data, "a.wtb"))
+    assert [one.place.column for one in (first, second)] == [17, 85] and first.theoretical == (first.result or 0) / 2 + 32
+    for discs, faults in ((64, 0), (65, 1)):
+        cut = data[:4] + b"\1" + data[5:16] + bytes([0, 0, 0, 0, 0, 0, discs, discs]) + bytes([56, 64]) + bytes(58)
+        assert sum(isinstance(one, FormatError) for one in wthor.read(cut)) == faults
+    assert [str(one) for one in formats.games_of(b"x", "a.obf")] == ["a.obf: an .obf has positions, and no games"]
+    assert [formats.kind_of(*one) for one in (("a.OBF", b""), ("a", b"2 (;GM[Othello]"), ("a", b"(;FF[4]GM[2]"), ("a", b'[Event "x"]'), ("a.wtb", b""), ("a", b"f5d6"), ("a.sgf", b""), ("a.pgn", b""))] == [
+        "obf", "ggf", "sgf", "pgn", "wtb", "lines", "sgf", "pgn"]
+
+
 # Whatever comes in, a reader gives games, problems and faults, and no other exception; what was written is read again.
 
 TEXTS = st.one_of(st.text(max_size=80), st.text(alphabet="f5d6c3-XO; ().[]GMBW8\n+:%", max_size=120), st.text(alphabet="-XO .*\n", min_size=60, max_size=90))
@@ -340,10 +361,9 @@ def test_what_is_written_is_read(seed: int, length: int, form: str) -> None:
 
 
 def test_a_great_database() -> None:
-    """100,000 games of a .wtb are a matter of seconds: here a tenth of them, by the processor's time."""
+    """Games are given one after another, and not when all are read."""
     data = wthor.write([random_game(seed) for seed in range(50)], 2020)
     many = data[:4] + (10_000).to_bytes(4, "little") + data[8:16] + data[16:] * 200
-    list(wthor.read(data))
-    begun = time.process_time()
-    assert sum(isinstance(one, formats.Game) for one in wthor.read(many)) == 10_000
-    assert time.process_time() - begun < 5
+    found = wthor.read(many)
+    assert isinstance(first := next(found), formats.Game) and first.place.column == 17
+    assert sum(isinstance(one, formats.Game) for one in found) == 9_999

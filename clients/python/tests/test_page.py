@@ -1,21 +1,18 @@
 """The page's parts without a browser: turns, what is asked once, what is cancelled, what is read, whom it answers."""
-import ast
 import asyncio
 import json
-import pathlib
 import re
 
-import coluwen
 import pytest
 from coluwen import Position, Result
 from coluwen.errors import TooDeep, Unreachable
 from coluwen.page import library as page_library
-from coluwen.page.files import names_of
-from coluwen.page.games import read_games, write_game
+from coluwen.page import web as page_web
+from coluwen.page.files import Site, names_of
 from coluwen.page.library import Library, Turns, steps_of
 from coluwen.page.rooms import Rooms
 from coluwen.page.service import Service, score_of
-from coluwen.page.web import Fault
+from coluwen.page.web import Answer, Fault, Request, head_of, noted, plain, request_of
 from coluwen.score import Entry, Score
 
 OPENING = Position.opening()
@@ -180,63 +177,6 @@ def test_names(host, known):
     assert names_of(host, 8047, {"localhost", "board.example"}) == known
 
 
-SIXTY = "f5d6c3d3c4f4f6g5e3f3g4h5"
-
-
-@pytest.mark.parametrize("text, games, faults", [
-    (SIXTY, [12], 0), ("1. f5 2. d6 3. c3", [3], 0), ("1. f5 d6\n2. c3 d3", [4], 0), ("f5d6c3a1d3", [3], 1), ("f5d6\nf5f6", [2, 2], 0), (OPENING.text, [0], 0), (OPENING.text + "\nf5d6", [2], 0),
-    ("1. f5 d6\n2. c3 a1", [3], 1), ("f5d6\nf5a1\n" + OPENING.text, [2, 1, 0], 1), ("", [], 1), ("bla", [], 1), ("a1", [], 1), ("# a comment\nf5d6", [2], 0),
-])  # fmt: skip
-def test_reading(text, games, faults):
-    found = read_games(text.encode(), "")
-    assert [len(game["moves"].split()) for game in found["games"]] == games and len(found["faults"]) == faults
-
-
-@pytest.mark.parametrize("text, told", [
-    (OPENING.text[1:], "1:1: a position has 64 cells"), (OPENING.text + "; f5:+99;", "1:69: a score of 99 discs"), ("8/8/8/3OX3/3XO3/8/8 X", "1:20: the text ends in row 7"), (OPENING.text + "\n" + OPENING.text[:-1] + "Q", "2:66: 'Q' spells"),
-    ("f5d6\nxx", "2:1: 'xx' is no move"), ("bla", "1:1: 'bla' is no move"),
-])  # fmt: skip
-def test_what_is_wrong_is_said_of_what_it_is(text, told):
-    (fault,) = read_games(text.encode(), "")["faults"]
-    assert f"{fault['line']}:{fault['column']}: {fault['text']}".startswith(told)
-
-
-def sentences():
-    """Each sentence by which the formats say what is wrong, with 7 in the place of what it tells."""
-    source = pathlib.Path(coluwen.__file__).parent
-    for path in (*(source / "formats").glob("*.py"), source / "board.py", source / "page/games.py"):
-        for node in ast.walk(ast.parse(path.read_text())):
-            name = getattr(node.func, "attr", getattr(node.func, "id", "")) if isinstance(node, ast.Call) else ""
-            if name in ("fault", "FormatError") and node.args:
-                for one in (node.args[0].body, node.args[0].orelse) if isinstance(node.args[0], ast.IfExp) else node.args[:1]:
-                    parts = one.values if isinstance(one, ast.JoinedStr) else [one]
-                    text = "".join(str(part.value) if isinstance(part, ast.Constant) else "7" for part in parts)
-                    if re.search("[a-z]", text):  # else it hands on what another says
-                        yield text.removeprefix("game 7: ")
-    yield from (f"move 7, a1: {side} can't play there" for side in ("black", "white"))  # an IllegalMove's
-
-
-def test_each_fault_has_a_german_sentence():
-    """The page says it by the texts `read.`, of which one must have the same English."""
-    texts = json.loads((pathlib.Path(coluwen.__file__).parent / "page/static/texts/texts.json").read_text())
-    english = [both["en"] for name, both in texts.items() if name.startswith("read.")]
-    forms = [re.compile("(.+?)".join(re.escape(part) for part in re.split(r"\{\w+\}", text))) for text in english]
-    found = set(sentences())
-    assert len(found) > 30
-    # names of players are read by the package alone, and the last one hands on an IllegalMove
-    others = {"names are in .jou and .trn files", "its head counts 7 names of 7 bytes, and the file has 7 bytes", "move 7, 7", "7", "7: white can't play there", "7: black can't play there", "7 games stand there, and not one"}
-    assert {text for text in found - others if not any(form.fullmatch(text) for form in forms)} == set()
-    for form, text in zip(forms, english, strict=True):
-        assert any(form.fullmatch(one) for one in found) or text == "game {number}: {text}", text
-
-
-def test_a_written_game_is_read_again():
-    start = OPENING.play("d3")
-    for moves, begin in (("f5d6c3", OPENING), ("", OPENING), ("c5", start)):
-        (game,) = read_games(write_game("ggf", begin.text, moves).encode(), "")["games"]
-        assert game["moves"].replace(" ", "") == moves and game["start"] == begin.text
-
-
 def test_classes():
     async def main():
         rooms = Rooms()
@@ -254,5 +194,102 @@ def test_classes():
             await anext(pupil)
         with pytest.raises(Fault, match="no such class"):
             rooms.find(opened["room"])
+
+    run(main())
+
+
+def test_a_teacher_hears_who_follows_and_whose_hands_are_raised():
+    async def main():
+        rooms = Rooms()
+        opened = rooms.open("here", "#a")
+        with pytest.raises(Fault, match="another teacher"):
+            rooms.pupils(opened["room"], "key")
+        heads = rooms.pupils(opened["room"], opened["key"])
+        assert json.loads(await anext(heads)) == {"followers": 0, "hands": []}
+        pupil = rooms.follow(opened["room"])
+        await anext(pupil)
+        assert json.loads(await anext(heads)) == {"followers": 1, "hands": []}
+        rooms.raise_hand(opened["room"], "one", "Anna", "#b")
+        assert json.loads(await anext(heads)) == {"followers": 1, "hands": [{"name": "Anna", "state": "#b"}]}
+        rooms.raise_hand(opened["room"], "one", "Anna", None)
+        assert json.loads(await anext(heads)) == {"followers": 1, "hands": []}
+        await pupil.aclose()
+        assert json.loads(await anext(heads)) == {"followers": 0, "hands": []}
+        for number in range(150):
+            rooms.raise_hand(opened["room"], str(number), "", "#")
+        assert len(json.loads(await anext(heads))["hands"]) == 100
+        rooms.show(opened["room"], opened["key"], None)
+        with pytest.raises(StopAsyncIteration):
+            await anext(heads)
+
+    run(main())
+
+
+@pytest.mark.parametrize("target, path, query", [("//[", "//[", {}), ("/a%00b?name=%00", "/a\0b", {"name": "\0"}), ("/?a=1#b", "/", {"a": "1"}), ("/http://[::1", "/http://[::1", {})])
+def test_any_target_is_read(target, path, query):
+    found = request_of(f"GET {target} HTTP/1.1\r\nHost: here\r\n\r\n".encode(), "")
+    assert (found.path, found.query, found.target) == (path, query, target)
+
+
+def site():
+    return Site(Service(Library(Engine(), 1), [4], True), lambda host, port: True)
+
+
+def test_an_older_address_leads_on_in_one_line():
+    async def main():
+        answer = await site().answer(Request("GET", "/review?moves=f5\n\rSet-Cookie: a", "/review", {}, {"host": "here"}, ""))
+        assert answer.status == 302 and answer.headers["Location"] == "/?moves=f5%0A%0DSet-Cookie:%20a"
+        assert (await site().answer(Request("GET", "/review?moves=f5d6&depth=4", "/review", {}, {"host": "here"}, ""))).headers["Location"] == "/?moves=f5d6&depth=4"
+
+    run(main())
+    with pytest.raises(ValueError):
+        head_of(Answer(headers={"Location": "/\nA: b"}), close=True)
+
+
+def test_the_page_and_its_engine_are_served():
+    async def main():
+        for path, kind in (("/", "text/html; charset=utf-8"), ("/js/main.js", "text/javascript; charset=utf-8"), ("/engine/page64.wasm", "application/wasm")):
+            answer = await site().answer(Request("GET", path, path, {}, {"host": "here"}, ""))
+            assert answer.status == 200 and answer.kind == kind and answer.body
+        told = await site().answer(Request("GET", "/about.json", "/about.json", {}, {"host": "here"}, ""))
+        assert json.loads(told.body) == {"service": True, "depths": [4], "places": 1, "settled": True, "addresses": []}
+
+    run(main())
+
+
+def test_without_a_server_there_are_classes():
+    async def main():
+        alone = Site(Service(None, [], True), lambda host, port: True)
+        told = await alone.answer(Request("GET", "/about.json", "/about.json", {}, {"host": "here"}, ""))
+        assert json.loads(told.body) == {"service": True, "depths": [], "places": 0, "settled": True, "addresses": []}
+        question, kind = json.dumps({"position": OPENING.text, "depth": 4}).encode(), {"host": "here", "content-type": "application/json"}
+        with pytest.raises(Fault, match="the page has its own"):
+            await alone.answer(Request("POST", "/analyse", "/analyse", {}, kind, "", question))
+        assert (await alone.answer(Request("POST", "/class", "/class", {}, kind, "", b'{"state": "#"}'))).status == 200
+
+    run(main())
+
+
+def test_the_log_is_one_line_in_the_common_form(caplog):
+    page_web.LOG.propagate = True
+    page_web.LOG.setLevel("INFO")
+    noted("10.0.0.1", 'GET /"\n HTTP/1.1', Answer(404, body=b"12345"))
+    (line,) = caplog.messages
+    assert re.fullmatch(r'10\.0\.0\.1 - - \[\d\d/\w{3}/\d{4}:\d\d:\d\d:\d\d \+0000\] "GET /\\x22\\x0a HTTP/1\.1" 404 5', line)
+    assert plain("a\0\\b") == "a\\x00\\x5cb"
+
+
+def test_what_goes_wrong_here_is_a_500():
+    async def main():
+        async def broken(request):
+            raise KeyError("no such thing")
+
+        server = await (web := page_web.Web(broken, lambda method, path: 0)).start("127.0.0.1", 0)
+        reader, writer = await asyncio.open_connection(*server.sockets[0].getsockname())
+        writer.write(b"GET /\0%00 HTTP/1.1\r\nHost: here\r\nConnection: close\r\n\r\n")
+        assert (await reader.read()).startswith(b"HTTP/1.1 500 ")
+        writer.close()
+        server.close()
+        await web.end()
 
     run(main())

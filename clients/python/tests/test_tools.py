@@ -122,10 +122,14 @@ def test_what_is_looked_for_is_stopped_by_a_ping() -> None:
         process.stdin.flush()
         while not any(line.startswith("ASK 4") for line in server.heard):
             time.sleep(0.01)
-        process.stdin.write("ping 1\nquit\n")
+        process.stdin.write("ping 1\n")
         process.stdin.flush()
-        assert process.stdout.read().splitlines()[-1] == "pong 1" and process.wait(20) == 0
-        assert any(line.startswith("CANCEL") for line in server.heard)
+        while process.stdout.readline() != "pong 1\n":
+            pass
+        while not any(line.startswith("CANCEL") for line in server.heard):
+            time.sleep(0.01)
+        process.stdin.close()
+        assert process.wait(20) == 0 and process.stdout.read() == ""
 
 
 def test_review() -> None:

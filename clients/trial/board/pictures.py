@@ -1,17 +1,39 @@
-"""The pictures of docs/: a game in its analysis, in German by night, and on a narrow screen."""
-from stand import KNOWN
+"""The pictures of docs/pictures: first look, mid-game, mistakes, phone, class, print; with ImageMagick, where it is here, in fewer colours."""
+import shutil
+import subprocess
 
-GAME = "f5d6c3d3c4f4f6g5e3f3g4h5g6g3h6f7"
+from browsers import opened
+from stand import GAME, page, whole_game
+
+MIDDLE = f"moves={GAME}&at=11&black=Anna&white=Bo"
 
 
-def make(browser, address, folder):
+def make(address, port, folder):
     folder.mkdir(exist_ok=True)
-    views = (("board-game", 1060, 900, "en", "light", "at=10"), ("board-night", 1060, 900, "de", "dark", "at=12"), ("board-narrow", 320, 900, "en", "light", "at=11"))
-    for name, width, height, language, scheme, at in views:
-        with browser.page(width=width, height=height, language=language, scheme=scheme) as shown:
-            exact = "&exact=1" if name == "board-game" else ""
-            shown.open(f"{address}#moves={GAME[:24]}(b3){GAME[24:]}&{at}&depth=6{exact}")
-            shown.until("the whole game", KNOWN, 600)
-            shown.evaluate("document.activeElement.blur(); scrollTo(0, 0)")
+    whole = whole_game(6)
+    views = (("board-first", (1280, 800), "en", "light", "", "moves"), ("board-middle", (1280, 800), "en", "dark", MIDDLE, "moves"), ("board-mistakes", (1280, 800), "en", "light", f"moves={whole}&at=52", "mistakes"),
+             ("board-phone", (390, 844), "de", "light", MIDDLE, "moves"))  # fmt: skip
+    for name, size, language, scheme, state, tab in views:
+        with opened("chromium", language, scheme, size) as shown:
+            shown.open(f"{address}#{state}")
+            shown.known(600)
+            shown.tab(tab)
+            shown.evaluate("document.activeElement.blur()")
             shown.picture(folder / f"{name}.png")
-            print(f"{folder / name}.png")
+    with page(port, "--address", "0.0.0.0", "--name", "board.school.example") as (_, service), opened("chromium", size=(1280, 800)) as shown:
+        shown.open(f"{service.replace('0.0.0.0', '127.0.0.1')}#{MIDDLE}")
+        shown.known(600)
+        shown.tab("class")
+        shown.until("a class can be opened", "!document.getElementById('class-open').hidden")
+        shown.click("#class-open")
+        shown.until("the code", "document.querySelector('#class-code svg')")
+        shown.picture(folder / "board-class.png")
+    with opened("chromium", size=(900, 1270)) as shown:
+        shown.open(f"{address}#moves={whole}&at=52&black=Anna&white=Bo&date=2026-11-27&event=Cup")
+        shown.known(600)
+        shown.evaluate("window.dispatchEvent(new Event('beforeprint'))")
+        shown.scheme("light", "print")
+        shown.picture(folder / "board-print.png")
+    if shutil.which("convert"):
+        for path in folder.glob("board-*.png"):
+            subprocess.run(["convert", path, "+dither", "-colors", "128", "-define", "png:compression-level=9", f"PNG8:{path}"], check=True)

@@ -1,11 +1,14 @@
 """What the trials of the board share: servers and pages that they start, and what a page of the browser shows."""
 import contextlib
+import functools
+import http.server
 import json
 import os
 import pathlib
 import random
 import subprocess
 import sys
+import threading
 import urllib.error
 import urllib.request
 
@@ -18,19 +21,42 @@ from patience import until  # noqa: E402
 from stage import check, fail, free_port  # noqa: E402, F401
 
 OPENING = Position.opening()
+PAGE = TOP / "clients/page"
 PATIENT = ("--silence", 30)  # of a page: on a busy machine an answer may take more than 1.5 seconds
 SQUARES = "[...document.querySelectorAll('.square')]"
 CELLS = SQUARES + ".map((one) => { const disc = one.querySelector('.disc'); return !disc ? '-' : disc.classList.contains('black') ? 'X' : 'O' }).join('')"
 NAMES = "Object.fromEntries(" + SQUARES + ".map((one) => [one.dataset.square, one.getAttribute('aria-label')]))"
-ROWS = "[...document.querySelectorAll('#moves tbody tr[data-ply]')].map((row) => [...row.cells].map((cell) => cell.innerText.trim()))"
-KNOWN = "document.documentElement.dataset.known === 'yes'"  # all that is wanted now
-TEXT = "decodeURIComponent(new URLSearchParams(location.hash.slice(1)).get('moves') ?? '')"
+SCORES = "Object.fromEntries(" + SQUARES + ".filter((one) => one.querySelector('.score')).map((one) => [one.dataset.square, one.querySelector('.score').textContent]))"
+TEXT = "(new URLSearchParams(location.hash.slice(1)).get('moves') ?? '')"
+HERE = "(document.querySelector('#moves [aria-current] .what')?.textContent ?? '')"
+GAME = "f5d6c3d3c4f4f6g5e3f3g4h5g6g3h6f7"
+
+
+class Quiet(http.server.SimpleHTTPRequestHandler):
+    """The page's files, and nothing said of it."""
+
+    def log_message(self, *words):
+        pass
+
+
+@contextlib.contextmanager
+def files(port=0):
+    """The page's files by a web server that knows nothing of them; gives its address."""
+    server = http.server.ThreadingHTTPServer(("127.0.0.1", port), functools.partial(Quiet, directory=PAGE))
+    server.daemon_threads = True
+    thread = threading.Thread(target=server.serve_forever, daemon=True)
+    thread.start()
+    try:
+        yield f"http://127.0.0.1:{server.server_port}/"
+    finally:
+        server.shutdown()
+        server.server_close()
 
 
 @contextlib.contextmanager
 def page(port, *words, https=False):
     """The page's program; gives its process and address."""
-    command = [sys.executable, "-m", "coluwen.page", "--port", 0, *PATIENT, *words, "127.0.0.1", port]
+    command = [sys.executable, "-m", "coluwen.page", "--port", 0, "--log", "", *PATIENT, *words, "--server", f"127.0.0.1:{port}"]
     surroundings = os.environ | {"PYTHONPATH": str(SOURCE), "PYTHONDONTWRITEBYTECODE": "1"}
     process = subprocess.Popen([*map(str, command)], stdout=subprocess.PIPE, text=True, env=surroundings)
     with stage.ended_after(process), process.stdout:
@@ -43,7 +69,7 @@ def page(port, *words, https=False):
 
 
 def about(address):
-    return json.loads(asked(f"{address}about")[1])
+    return json.loads(asked(f"{address}about.json")[1])
 
 
 def asked(address, body=None, method=None, headers=None):
@@ -114,3 +140,8 @@ def worded(score):
 def play(shown, moves):
     for move in moves:
         shown.click(f'[data-square="{move}"]')
+
+
+def whole_game(seed):
+    """The moves of a random game to its end, as a text."""
+    return "".join(move for move, _ in random_moves(seed, 70))

@@ -322,7 +322,6 @@ class Core:
         self.closed = True
         for work in [*self._all_waiting(), *self._too_deep]:
             self._end(work, fault=Closed("the client was closed"))
-        self._waiting.clear()
         for session in list(self._sessions.values()):
             if session.is_idle:
                 self._bye(session, now)
@@ -654,10 +653,10 @@ class Core:
     def _next_for(self, session: _Session) -> Work | None:
         """What a session takes next: the oldest that waits, if it suits. It makes place for an older one that no session is for."""
         if session.flights:
-            coming = sum(not other.is_ready for other in self._sessions.values())
+            spare = sum(not other.is_ready or other.is_idle for other in self._sessions.values())
             if len(session.flights) >= self.options.ahead or session.flights[0].question.alone:
                 return None
-            if not self._is_full and not self._pause or coming and coming >= sum(1 for _ in self._all_waiting()):
+            if not self._is_full and not self._pause or spare and spare >= sum(1 for _ in self._all_waiting()):
                 return None
         for work in self._oldest():
             if session.suits(work, self.levels):

@@ -1,12 +1,13 @@
 """The analysis board for browsers on this host, or for a class: http://127.0.0.1:8047/
 
-Values come from the server of --server, with --tls over TLS, or where none is named from this computer's own engine. For a class, `--address 0.0.0.0` lets other
-hosts of the network in, and `--certificate FILE` (certificate and key) has their browsers speak https. They name this host by its address,
-by its own name, or by one that --name gives; any other name is refused, so that no foreign page reads this one.
+The page has values by an engine in the browser; deeper ones come from a server of `othello serve`, where --server (or COLUWEN_SERVER) names
+one. For a class, `--address 0.0.0.0` lets other hosts of the network in, and `--certificate FILE` (certificate and key) has their browsers
+speak https. They name this host by its address, by its own name, or by one that --name gives; any other name is refused, so that no foreign
+page reads this one.
 
 So many questions as --sessions says are with the server at once; who comes when all are taken waits in turn, and is told how many are
-before. Where the server can't be reached at the beginning, one line says so within 2 seconds, and the status is 1; where it is lost later
-the page says so and asks again.
+before. Where the server that was named can't be reached at the beginning, one line says so within 2 seconds, and the status is 1; where it
+is lost later the page says so and asks again.
 """
 from __future__ import annotations
 
@@ -14,6 +15,7 @@ import argparse
 import asyncio
 import contextlib
 import functools
+import ipaddress
 import signal
 import socket
 import ssl
@@ -27,11 +29,10 @@ from ..tools import command as commands
 from .files import Site, names_of
 from .library import Library
 from .service import Service
-from .web import Limits, Web
+from .web import Limits, Web, log_to
 
 NAME = "coluwen-page"
 LEAST = 4  # plies, of the first step
-WITHOUT_SERVER = 8  # plies that are offered where this computer's own engine searches
 
 
 def offered(info: Info, most: int) -> list[int]:
@@ -46,37 +47,66 @@ def options() -> argparse.ArgumentParser:
     words.add_argument("--address", default="127.0.0.1", help="of which address; 0.0.0.0 for browsers of other hosts (127.0.0.1)")
     words.add_argument("--name", action="append", default=[], help="a name that browsers have for this host")
     words.add_argument("--certificate", metavar="FILE", help="certificate and key, by which browsers speak https")
-    words.add_argument("--most-depth", type=int, help=f"offer no more plies (as many as the server's grain lets through; without a server {WITHOUT_SERVER})")
+    words.add_argument("--most-depth", type=int, default=DEEPEST, help="offer no more plies (as many as the server's grain lets through)")
     words.add_argument("--sessions", type=int, default=4, help="how many sessions of the server are used at once; others wait (4)")
     words.add_argument("--connections", type=int, default=Limits.connections, help="of browsers at once (%(default)s)")
+    words.add_argument("--log", metavar="FILE", default="-", help="where a line for each request is written, in the common log format (standard error); '' for nowhere")
     words.add_argument("--per-address", type=int, default=Limits.per_address, help="of these for one address (%(default)s)")
     return words
 
 
+def addresses_of(asked: argparse.Namespace, port: int) -> list[str]:
+    """By which addresses browsers of other hosts come in: the names that were given, and this host's own; none where only this host is let in."""
+    try:
+        if ipaddress.ip_address(asked.address).is_loopback:
+            return []
+    except ValueError:
+        pass  # a name
+    hosts = [*asked.name, *([asked.address] if asked.address not in ("0.0.0.0", "::") else own_addresses())]
+    return [f"http{'s' * bool(asked.certificate)}://{f'[{host}]' if ':' in host else host}:{port}/" for host in hosts]
+
+
+def own_addresses() -> list[str]:
+    """The address by which this host speaks to others; no packet is sent for that."""
+    found = []
+    for family, other in ((socket.AF_INET, "192.0.2.1"), (socket.AF_INET6, "2001:db8::1")):
+        with contextlib.suppress(OSError), socket.socket(family, socket.SOCK_DGRAM) as one:
+            one.connect((other, 9))
+            found.append(str(one.getsockname()[0]))
+    return found
+
+
 async def serve(asked: argparse.Namespace) -> None:
     """Serves the page until it is ended."""
+    if not commands.names_server(asked):
+        await serve_by(asked, Service(None, [], True))
+        return
+    async with AsyncEngine(analyst=commands.analyst_of(asked, NAME, patience=0, sessions=max(asked.sessions, 1))) as client:
+        await client.ping()
+        service = Service(Library(client, client.parallel), [LEAST])
+        learning = asyncio.ensure_future(learn(service, client, asked.most_depth))
+        try:
+            await serve_by(asked, service)
+        finally:
+            learning.cancel()
+
+
+async def serve_by(asked: argparse.Namespace, service: Service) -> None:
     context = None
     if asked.certificate:
         context = ssl.create_default_context(ssl.Purpose.CLIENT_AUTH)
         context.load_cert_chain(asked.certificate)
-    analyst = commands.analyst_of(asked, NAME, patience=0, sessions=max(asked.sessions, 1))
-    async with AsyncEngine(analyst=analyst) as client:
-        await client.ping()
-        service = Service(Library(client, client.parallel), [LEAST])
-        names = {"localhost", socket.gethostname(), *asked.name}
-        site = Site(service, functools.partial(names_of, names=names))
-        web = Web(site.answer, service.most, Limits(connections=asked.connections, per_address=asked.per_address))
-        server = await web.start(asked.address, asked.port, context)
-        port = server.sockets[0].getsockname()[1]
-        site.port = port
-        print(f"http{'s' * bool(context)}://{asked.address}:{port}/", flush=True)
-        learning = asyncio.ensure_future(learn(service, client, asked.most_depth or (DEEPEST if commands.names_server(asked) else WITHOUT_SERVER)))
-        stop = asyncio.Event()
-        for number in (signal.SIGINT, signal.SIGTERM):
-            asyncio.get_running_loop().add_signal_handler(number, stop.set)
-        async with server:
-            await stop.wait()
-        learning.cancel()
+    site = Site(service, functools.partial(names_of, names={"localhost", socket.gethostname(), *asked.name}))
+    web = Web(site.answer, service.most, Limits(connections=asked.connections, per_address=asked.per_address))
+    server = await web.start(asked.address, asked.port, context)
+    site.port = server.sockets[0].getsockname()[1]
+    service.addresses = addresses_of(asked, site.port)
+    print(f"http{'s' * bool(context)}://{asked.address}:{site.port}/", flush=True)
+    stop = asyncio.Event()
+    for number in (signal.SIGINT, signal.SIGTERM):
+        asyncio.get_running_loop().add_signal_handler(number, stop.set)
+    async with server:
+        await stop.wait()
         await web.end()
 
 
@@ -92,4 +122,5 @@ async def learn(service: Service, client: AsyncClient, most: int) -> None:
 def command(words: Sequence[str] | None = None) -> int:
     """The command `coluwen-page`; its exit status."""
     asked = options().parse_args(words)
+    log_to(asked.log)
     return commands.run(NAME, lambda: asyncio.run(serve(asked)))

@@ -4,21 +4,26 @@ from __future__ import annotations
 import hashlib
 import ipaddress
 import pathlib
+import urllib.parse
 from collections.abc import Callable, Iterable
 
 from .service import Service
 from .web import Answer, Fault, Request
 
-KINDS = {"html": "text/html", "css": "text/css", "js": "text/javascript", "json": "application/json", "svg": "image/svg+xml"}
+KINDS = {"html": "text/html", "css": "text/css", "js": "text/javascript", "json": "application/json", "svg": "image/svg+xml", "wasm": "application/wasm"}
 
-
-FOLDER = pathlib.Path(__file__).parent / "static"
+QUERY = "!$&'()*+,;=:@/?%-._~"  # the signs of a query that stay as they are
 
 
 def texts() -> dict[str, tuple[str, bytes]]:
     """The page's files by their paths, with their kinds."""
-    found = sorted(one for one in FOLDER.rglob("*") if one.suffix[1:] in KINDS)
-    return {f"/{one.relative_to(FOLDER).as_posix()}": (f"{KINDS[one.suffix[1:]]}; charset=utf-8", one.read_bytes()) for one in found}
+    here = pathlib.Path(__file__).resolve()
+    top = here.parent / "static"
+    if not top.is_dir():
+        top = here.parents[4] / "page"  # of a checkout
+    found = sorted(one for one in top.rglob("*") if one.suffix[1:] in KINDS and one.name != "about.json")
+    kinds = {suffix: kind if suffix == "wasm" else f"{kind}; charset=utf-8" for suffix, kind in KINDS.items()}
+    return {f"/{one.relative_to(top).as_posix()}": (kinds[one.suffix[1:]], one.read_bytes()) for one in found}
 
 
 def names_of(host: str, port: int, names: Iterable[str]) -> bool:
@@ -50,7 +55,7 @@ class Site:
             return self.file(request)
         if request.path == "/review":  # the older page's address of a game
             _, _, query = request.target.partition("?")
-            return Answer(302, headers={"Location": f"/?{query}" if query else "/"})
+            return Answer(302, headers={"Location": f"/?{urllib.parse.quote(query, safe=QUERY)}" if query else "/"})
         answer = await self.service.answer(request)
         if answer is None:
             raise Fault(404, "path", "there is no such page")

@@ -2,10 +2,11 @@
 
     POST /analyse  {"position": 66 letters, "depth": 8, "exact": "all" or ["f5", ..], "steps": true}    lines of JSON, as things
                    become known; without steps the greatest depth alone is asked
-    GET  /about    {"depths": [4, 6, 8], "sure": 8, "places": 8, "settled": true}
-    POST /read     the bytes of a text or file; ?name= gives its name                     {"games": [..], "faults": [..]}
-    POST /write    {"format": "ggf", "start": .., "moves": "f5d6.."}                      {"text": ..}
-    POST /class    and POST, GET /class/ROOM: a teacher's board and those who follow it
+    GET  /about.json   {"service": true, "depths": [4, 6, 8], "places": 8, "settled": true, "addresses": ["http://192.168.1.5:8047/"]}
+    POST /class        and POST, GET /class/ROOM: a teacher's board and those who follow it; POST /class/ROOM/pupils: who these are;
+                       POST /class/ROOM/hand: one of them raises a hand
+
+The page itself reads and writes games, and knows values by an engine in the browser; deeper ones it asks here.
 
 Scores are seen by the player to move: {"sign": "=", "points": -3}, or at the game's end {"sign": "=", "discs": 10, "empty": 1}, where the
 empty squares are counted to the winner; without `empty` they aren't known, and not counted.
@@ -21,16 +22,13 @@ from typing import Any
 
 from .._core import DEEPEST
 from ..board import PASS, Position
-from ..errors import ColuwenError, FormatError, Refused, TooDeep
+from ..errors import ColuwenError, Refused, TooDeep
 from ..score import EXACT, Score
-from . import games
 from .library import Found, Library, Told, steps_of
 from .rooms import Rooms
 from .web import Answer, Fault, Request
 
-LONGEST_FILE = 8 << 20  # bytes of an import: a year of a database of games has some two million
-LONGEST_QUESTION = 16384
-FILES_AT_ONCE = 2
+LONGEST_QUESTION = 65536  # bytes: a game with variations and comments
 Events = asyncio.Queue[dict[str, Any] | None]  # None is the last
 
 
@@ -59,12 +57,18 @@ def telling(events: Events, **more: object) -> Told:
 
 
 class Service:
-    """Answers the page's questions from a library of what is known."""
+    """Answers the page's questions from a library of what is known; without one there are classes alone."""
 
-    def __init__(self, library: Library, depths: list[int], settled: bool = False):
-        self.library, self.depths, self.settled = library, depths, settled
+    def __init__(self, library: Library | None, depths: list[int], settled: bool = False):
+        self.known, self.depths, self.settled = library, depths, settled
+        self.addresses: list[str] = []  # by which browsers of other hosts come in
         self.rooms = Rooms()
-        self.reading = asyncio.Semaphore(FILES_AT_ONCE)
+
+    @property
+    def library(self) -> Library:
+        if not self.known:
+            raise Fault(404, "server", "no server gives values here; the page has its own")
+        return self.known
 
     @property
     def deepest(self) -> int:
@@ -73,15 +77,11 @@ class Service:
     async def answer(self, request: Request) -> Answer | None:
         """The answer of one of the paths above; None where it is none of them."""
         path = request.path
-        if path == "/about" and self.allowed(request, "GET"):
-            return Answer.json({"depths": self.depths, "places": self.library.turns.places, "settled": self.settled})
-        if path == "/analyse" and self.allowed(request, "POST"):
+        if path == "/about.json" and self.allowed(request, "GET"):
+            places = self.known.turns.places if self.known else 0
+            return Answer.json({"service": True, "depths": self.depths, "places": places, "settled": self.settled, "addresses": self.addresses})
+        if path == "/analyse" and self.allowed(request, "POST") and self.library:
             return Answer(kind="application/x-ndjson", lines=self.analyse(*self.question_of(request.json())))
-        if path == "/read" and self.allowed(request, "POST"):
-            async with self.reading:
-                return Answer.json(await games.read(request.body, request.query.get("name", "")[:200]))
-        if path == "/write" and self.allowed(request, "POST"):
-            return Answer.json({"text": self.written(request.json())})
         if path == "/class" or path.startswith("/class/"):
             return self.of_class(request, path.removeprefix("/class").removeprefix("/"))
         return None
@@ -93,9 +93,7 @@ class Service:
 
     def most(self, method: str, path: str) -> int:
         """How many bytes a request's body may have."""
-        if method != "POST":
-            return 0
-        return LONGEST_FILE if path.startswith("/read") else LONGEST_QUESTION
+        return LONGEST_QUESTION if method == "POST" else 0
 
     # /analyse
 
@@ -191,22 +189,22 @@ class Service:
             worth = Score(-behind.result.score.value, EXACT, result.score.ends and result.depth >= result.position.empties or behind.result.score.ends, result.position.side)
             events.put_nowait({"kind": "exact", "depth": result.depth, "move": move, "score": score_of(worth, behind.empty)})
 
-    # /write, /class
-
-    def written(self, asked: Any) -> str:
-        if not isinstance(asked, dict) or not all(isinstance(asked.get(name), str) for name in ("format", "start", "moves")):
-            raise Fault(400, "write", "a game has a format, a start and moves")
-        try:
-            return games.write_game(asked["format"], asked["start"], asked["moves"])
-        except (FormatError, ValueError) as fault:
-            raise Fault(400, "write", str(fault)) from None
+    # /class
 
     def of_class(self, request: Request, room: str) -> Answer:
         if not room:
             self.allowed(request, "POST")
             return Answer.json(self.rooms.open(request.address, state_of(request.json())))
-        if not re.fullmatch("[a-z0-9]{1,32}", room):
+        room, _, what = room.partition("/")
+        if not re.fullmatch("[a-z0-9]{1,32}", room) or what not in ("", "pupils", "hand"):
             raise Fault(404, "class", "there is no such class")
+        if what:
+            self.allowed(request, "POST")
+            asked = request.json()
+            if what == "pupils":
+                return Answer(kind="application/x-ndjson", lines=self.rooms.pupils(room, asked.get("key") if isinstance(asked, dict) else None))
+            self.rooms.raise_hand(room, *hand_of(asked))
+            return Answer.json({})
         if request.method == "POST":
             asked = request.json()
             self.rooms.show(room, asked.get("key") if isinstance(asked, dict) else None, state_of(asked, ends=True))
@@ -223,3 +221,13 @@ def state_of(asked: Any, ends: bool = False) -> str | None:
     if not isinstance(state, str) or len(state) > LONGEST_QUESTION:
         raise Fault(400, "state", "a class has a state")
     return state
+
+
+def hand_of(asked: Any) -> tuple[str, str, str | None]:
+    """Whose hand is raised, by what name, and the state of that board; None lowers it."""
+    if not isinstance(asked, dict) or not all(isinstance(asked.get(name), str) for name in ("pupil", "name")):
+        raise Fault(400, "hand", "a hand is a pupil's, who has a name")
+    pupil, name = asked["pupil"], asked["name"]
+    if not 1 <= len(pupil) <= 40 or len(name) > 40:
+        raise Fault(400, "hand", "a pupil and a name have at most 40 letters")
+    return pupil, name, state_of(asked, ends=True)

@@ -2,6 +2,9 @@
 
 A handler is given a `Request` and gives an `Answer`, whose body is bytes, or lines that are sent as they come. While lines are sent the
 connection is watched: where the browser leaves, the generator of lines is closed at once, and so is what it waits for.
+
+Why not aiohttp: the one of Debian has no time within which a request's head must come, so that a few slow hosts would hold all places of a
+class, and no limit for one address; both would have to be put beneath it, and are most of what stands here. The package needs nothing else.
 """
 from __future__ import annotations
 
@@ -11,20 +14,24 @@ import contextlib
 import dataclasses
 import http
 import json
+import logging
 import ssl
+import sys
+import time
 import urllib.parse
 from collections.abc import AsyncGenerator, Awaitable, Callable
 from typing import Any
 
 SECURITY = {
-    "Content-Security-Policy": "default-src 'none'; script-src 'self'; style-src 'self'; img-src 'self'; connect-src 'self'; base-uri 'none'; "
-    "form-action 'none'; frame-ancestors 'none'; require-trusted-types-for 'script'; trusted-types 'none'",
+    "Content-Security-Policy": "default-src 'none'; script-src 'self' 'wasm-unsafe-eval'; style-src 'self'; img-src 'self'; connect-src 'self'; base-uri 'none'; "
+    "form-action 'none'; frame-ancestors 'none'; require-trusted-types-for 'script'; trusted-types engine offline",
     "X-Content-Type-Options": "nosniff",
     "X-Frame-Options": "DENY",
     "Referrer-Policy": "no-referrer",
     "Cross-Origin-Opener-Policy": "same-origin",
     "Cross-Origin-Resource-Policy": "same-origin",
 }
+LOG = logging.getLogger("coluwen.page")  # a line for each request, in the common log format, and what went wrong
 HEARTBEAT = 5.0  # seconds after which an empty line is sent where there is none, so that a host that is gone is noticed
 
 
@@ -139,6 +146,7 @@ class Web:
         try:
             request = await self.read(reader, address, first=number == 0)
         except Fault as fault:  # what follows can't be told from its body
+            noted(address, "-", said(fault))
             await self.write(writer, head_of(said(fault), close=True))
             return False
         close = request.headers.get("connection", "").lower() == "close"
@@ -146,6 +154,10 @@ class Web:
             answer = await self.handler(request)
         except Fault as fault:
             answer = said(fault)
+        except Exception:
+            LOG.exception("%s %s", request.method, plain(request.target))
+            answer = said(Fault(500, "fault", "something went wrong here"))
+        noted(address, f"{request.method} {request.target} HTTP/1.1", answer)
         if answer.lines is not None:
             await self.stream(reader, writer, answer)
             return False
@@ -237,9 +249,30 @@ def request_of(head: bytes, address: str) -> Request:
         headers[name] = value.strip()
     if parts[2] != "HTTP/1.1":
         headers["connection"] = "close"
-    split = urllib.parse.urlsplit(parts[1])
-    query = dict(urllib.parse.parse_qsl(split.query, max_num_fields=50)) if split.query.count("&") < 50 else {}
-    return Request(parts[0], parts[1], urllib.parse.unquote(split.path), query, headers, address)
+    path, _, query = parts[1].partition("#")[0].partition("?")
+    words = dict(urllib.parse.parse_qsl(query)) if query.count("&") < 50 else {}
+    return Request(parts[0], parts[1], urllib.parse.unquote(path), words, headers, address)
+
+
+def plain(text: str) -> str:
+    """A text that somebody sent, in a line of the log."""
+    return "".join(letter if letter.isascii() and letter.isprintable() and letter not in '"\\' else f"\\x{ord(letter):02x}" for letter in text[:1000])
+
+
+def noted(address: str, request: str, answer: Answer) -> None:
+    """Writes a request to the log, in the common log format; lines that are yet to be sent have no length."""
+    length = "-" if answer.lines is not None or not answer.body else str(len(answer.body))
+    LOG.info('%s - - [%s] "%s" %d %s', address or "-", time.strftime("%d/%b/%Y:%H:%M:%S +0000", time.gmtime()), plain(request), answer.status, length)
+
+
+def log_to(file: str) -> None:
+    """Has the log written into a file; `-` is standard error, and without a name there is none."""
+    if file == "-":
+        LOG.addHandler(logging.StreamHandler(sys.stderr))
+    elif file:
+        LOG.addHandler(logging.FileHandler(file))
+    LOG.setLevel(logging.INFO if file else logging.CRITICAL)
+    LOG.propagate = False
 
 
 def said(fault: Fault) -> Answer:
@@ -256,5 +289,7 @@ def head_of(answer: Answer, close: bool, bare: bool = False) -> bytes:
         headers["Content-Length"] = str(len(answer.body))
     if close:
         headers["Connection"] = "close"
+    if any("\r" in value or "\n" in value for value in headers.values()):
+        raise ValueError("a header has one line")
     lines = [f"HTTP/1.1 {answer.status} {http.HTTPStatus(answer.status).phrase}", *(f"{name}: {value}" for name, value in headers.items())]
     return ("\r\n".join(lines) + "\r\n\r\n").encode("latin-1") + (b"" if bare or answer.lines else answer.body)

@@ -213,6 +213,7 @@ const UNIT: u32 = 32;
 
 /// How many bytes a place of a journal takes, and one for a long entry.
 const PLACE: u32 = 8;
+
 const LONG_PLACE: u32 = 48;
 
 /// What the hall shows of its first tenant and of its storage.

@@ -20,6 +20,7 @@ const UNIT: u32 = 32;
 
 /// How many bytes a place of a journal takes, and one for a long entry.
 const PLACE: u32 = 8;
+
 const LONG_PLACE: u32 = 48;
 
 /// Gives one line a call, and the ballast back before one of them.

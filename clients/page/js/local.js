@@ -1,0 +1,75 @@
+// Values from the proved engine in this browser, and the rules: positions in, scores out.
+
+import { PASS, moduleName } from "../engine/module.js";
+import { Engine } from "../engine/pool.js";
+import { SQUARES, after, count, isOver, legal, result, settled, useEngine, wordsOf } from "./rules.js";
+import { isEnd, scoreOf } from "./scores.js";
+
+/** The engine is another's; here it speaks of positions. */
+export class Local {
+  constructor() {
+    Object.assign(this, { engine: null, fault: null, module: "" });
+  }
+
+  /** Begins it, from its folder or, in a page of one file, from that file (`BUNDLE`). Whether it runs here; where it doesn't, `fault` says why. */
+  async begin() {
+    try {
+      this.module = globalThis.BUNDLE ? "page32.wasm" : moduleName();
+      this.engine = await Engine.start(globalThis.BUNDLE);
+      useEngine(this.engine.rules);
+    } catch (fault) {
+      this.fault = fault;
+    }
+    return Boolean(this.engine);
+  }
+
+  /** All moves of a position, so many plies deep, each exactly: {depth, score, best, table, ends}. Given up with the signal. */
+  async table(position, depth, signal) {
+    const moves = legal(position), ends = depth >= count(position, "-");
+    const values = await Promise.all(moves.map((at) => this.moveValue(position, at, depth, signal)));
+    const table = new Map(moves.map((at, number) => [SQUARES[at], scoreOf(values[number], ends)]));
+    const most = Math.max(...values), best = SQUARES[moves[firstBest(moves, values, most)]];
+    return { depth, score: scoreOf(most, ends), best, table, ends, line: [best] };
+  }
+
+  /** What a move is worth to the player who makes it. */
+  async moveValue(position, at, depth, signal) {
+    const { value } = await this.engine.ask(...wordsOf(position), depth, { choice: at, signal });
+    return value;
+  }
+
+  /** The best choice of a position so many plies deep. */
+  async best(position, depth, signal) {
+    const { choice } = await this.engine.ask(...wordsOf(position), depth, { signal });
+    return choice === null || choice === PASS ? "" : SQUARES[choice];
+  }
+
+  /** The line of best moves behind a move, to its depth; and how many squares stay empty where it ends the game with this score. */
+  async line(position, found, signal) {
+    const line = [found.best];
+    let here = settled(after(position, SQUARES.indexOf(found.best))).position;
+    for (let left = found.depth - 1; left > 0 && !isOver(here) && line.length < 12; left -= 1) {
+      const move = await this.best(here, left, signal);
+      line.push(move);
+      here = settled(after(here, SQUARES.indexOf(move))).position;
+    }
+    const { discs, empty } = result(here), own = position[65] === "X" ? discs : -discs;
+    return { line, empty: isOver(here) && isEnd(found.score) && found.score.discs === own ? empty : undefined };
+  }
+
+  stop() {
+    this.engine?.stop();
+  }
+}
+
+const CORNERS = [0, 7, 56, 63];
+
+/** Of the moves of the greatest value the first in the engine's order: corners, then the others from a1 on. */
+function firstBest(moves, values, most) {
+  const order = (at) => (CORNERS.includes(at) ? CORNERS.indexOf(at) : 4 + at);
+  let found = -1;
+  moves.forEach((at, number) => {
+    if (values[number] === most && (found < 0 || order(at) < order(moves[found]))) found = number;
+  });
+  return found;
+}

@@ -1,0 +1,85 @@
+"""A class in the browser: the teacher's board is followed by its link; hands are raised; a page's service behind another web server."""
+import shutil
+import socket
+import subprocess
+
+from browsers import opened
+from service import NGINX
+from stand import CELLS, HERE, PAGE, TEXT, asked, check, free_port, page, stage, until
+
+
+def try_class(address, name):
+    """A pupil looks alone and follows again, raises a hand and is looked at; a class ends; no other teaches it."""
+    with opened(name) as teacher, opened("chromium", "de", size=(390, 844)) as one:
+        teacher.open(f"{address}#moves=f5d6c3&at=3&depth=4")
+        teacher.tab("class")
+        teacher.until("a class can be opened", "!document.getElementById('class-open').hidden")
+        teacher.click("#class-open")
+        teacher.until("the link", "document.querySelector('#class-link a')")
+        check("Only this computer reaches" in teacher.text("#class-help"), f"a link that leads nowhere isn't told: {teacher.text('#class-help')}")
+        link = teacher.evaluate("document.querySelector('#class-link a').href")
+        one.open(link)
+        one.until("the teacher's game", f"{TEXT} === 'f5d6c3'")
+        check("Lehrkraft" in one.text("#class-told"), "a pupil isn't told")
+        teacher.until("who follows", "document.getElementById('class-count').textContent === '1 follows.'")
+        teacher.evaluate("document.querySelector('[data-square=d3]').click()")
+        one.until("the teacher's move", f"{TEXT} === 'f5d6c3d3'")
+        check(one.evaluate(CELLS) == teacher.evaluate(CELLS), "a pupil sees another board")
+        one.evaluate("document.querySelector('[data-square=c4]').click()")
+        check("allein" in one.text("#class-told"), f"a pupil who plays: {one.text('#class-told')}")
+        one.tab("class")
+        one.fill("#pupil-name", "Anna <b>")
+        one.click("#hand")
+        teacher.until("a hand", "document.querySelector('#class-hands li')?.textContent.includes('Anna <b> raises a hand')")
+        teacher.click("#class-hands button")
+        teacher.until("the pupil's board", f"{TEXT} === 'f5d6c3d3c4'")
+        one.click("#class-again")
+        one.until("the teacher's game again", f"{HERE} === 'c4'")
+        teacher.evaluate("location.reload()")
+        teacher.until("the class after the page was loaded again", "document.documentElement?.dataset.ready === 'yes' && document.querySelector('#class-link a')")
+        teacher.evaluate("document.getElementById('first').click()")
+        one.until("the teacher's start after that", f"{HERE} === ''")
+        room = link.split("follow=")[1]
+        check(asked(f"{address}class/{room}", {"key": "x" * 32, "state": "#moves=f5"})[0] == 403 and asked(f"{address}class/{room}/pupils", {"key": "x"})[0] == 403, "anybody teaches this class")
+        teacher.tab("class")
+        teacher.click("#class-close")
+        one.until("the end of the class", "document.getElementById('class-told').textContent.includes('zu Ende')")
+        check(asked(f"{address}class/{room}")[0] == 404, "a class that has ended is there")
+
+
+def try_host(port):
+    """Where other hosts are let in, the link has this host's address, and there is a code for it."""
+    with page(port, "--address", "0.0.0.0", "--name", "board.example") as (_, address), opened("chromium") as teacher:
+        teacher.open(address.replace("0.0.0.0", "127.0.0.1"))
+        teacher.tab("class")
+        teacher.until("a class can be opened", "!document.getElementById('class-open').hidden")
+        teacher.click("#class-open")
+        teacher.until("the link", "document.querySelector('#class-link a')")
+        link = teacher.text("#class-link a")
+        check(link.startswith("http://board.example:") and teacher.evaluate("document.querySelector('#class-code svg')?.getAttribute('aria-label').includes('board.example')"), f"the link {link}")
+
+
+def try_behind(port, folder):
+    """The files by another web server, and the service beside them."""
+    home, own = free_port(), free_port()
+    (folder / "nginx.conf").write_text(NGINX.format(folder=folder, port=home, files=PAGE, page=own))
+    with page(port, "--port", own, "--name", "127.0.0.1"), opened("chromium") as shown:
+        process = subprocess.Popen(["nginx", "-c", folder / "nginx.conf", "-p", folder])
+        with stage.ended_after(process):
+            until("nginx", lambda: not socket.socket().connect_ex(("127.0.0.1", home)), 20)
+            shown.open(f"http://127.0.0.1:{home}/board/#moves=f5d6&depth=4")
+            shown.known()
+            shown.tab("class")
+            shown.until("a class can be opened", "!document.getElementById('class-open').hidden")
+            shown.click("#class-open")
+            shown.until("a class", "document.querySelector('#class-link a')")
+    print("board: its files by nginx, and the service beside them")
+
+
+def try_all(service, port, folder, name):
+    try_class(service, name)
+    if name == "chromium":
+        try_host(port)
+        if shutil.which("nginx"):
+            try_behind(port, folder)
+    print(f"board: {name}: a class follows its teacher, and raises hands")
