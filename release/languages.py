@@ -54,8 +54,19 @@ def make(tree, out, epoch):
     around = dict(os.environ, SOURCE_DATE_EPOCH=str(epoch))
     subprocess.run([tree / "clients/java/build", "jars", out, *program], check=True, env=around)
     subprocess.run([PYTHON, tree / "clients/python/build", "packages", out], check=True, env=around, stdout=subprocess.DEVNULL)
+    settle(out / f"coluwen-{about['version']}.tar.gz", epoch)
     if program:
         subprocess.run([PYTHON, HERE / "wheel.py", "make", tree, out, *program], check=True, env=around, stdout=subprocess.DEVNULL)
+
+
+def settle(path, epoch):
+    """The times of an sdist are the commit's."""
+    data = io.BytesIO()
+    with tarfile.open(path) as old, tarfile.open(fileobj=data, mode="w", format=tarfile.USTAR_FORMAT) as new:
+        for entry in old:
+            entry.mtime, entry.uid, entry.gid, entry.uname, entry.gname, entry.pax_headers = epoch, 0, 0, "", "", {}
+            new.addfile(entry, old.extractfile(entry) if entry.isfile() else None)
+    path.write_bytes(gzip.compress(data.getvalue(), 9, mtime=0))
 
 
 def pack_npm(tree, target, names, epoch):
