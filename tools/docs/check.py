@@ -1,13 +1,14 @@
 #!/usr/bin/env python3
-"""Checks the documents: README.md, CONTRIBUTING.md, CHANGELOG.md, clients/README.md, docs/*.md and the pages of promises
+"""Checks the documents: README.md, CONTRIBUTING.md, CHANGELOG.md, SECURITY.md, clients/README.md, docs/*.md and the pages of promises
 that are written by hand. Every link, also to a part of a document, and every path leads somewhere; every name in backticks,
 also in the heads of crates and their examples, is there in code, definitions or scripts (a comment or another document shows nothing); every
-counted figure and every list is what the tree says (so the transcripts are those of the texts that the gate plays); and
-docs/promises and docs/pictures are what their scripts write.
+counted figure, list and excerpt is what the tree says (so the transcripts are those of the texts that ./gate plays); docs/promises and
+docs/pictures are what their scripts write. Of every other document (README.md of a folder) the links are checked, and everywhere the
+version, which is that of VERSION, with the date that CHANGELOG.md has for it. A reader's page has 1,200 words at most, all others together 18,000.
 
 usage: tools/docs/check.py [FILE..]     (all where none is named)
        tools/docs/check.py write        writes the counted figures, the pages of promises and the tables anew
-       tools/docs/check.py words        prints the words of each document that is written by hand
+       tools/docs/check.py words        prints the words of each document that is written by hand: what has a letter or a digit, without what is made
 
 A counted figure stands in a document as `<!--n:NAME-->123<!---->`, which shows as 123; `figures` below has the names. A list that
 is made stands between `<!--made:NAME-->` and `<!--/made-->`; `LISTS` below has the names, and `words` leaves it out.
@@ -22,9 +23,20 @@ TOP = HERE.parent.parent
 sys.path.insert(0, str(HERE))
 WORD = re.compile(r"[A-Za-z_][A-Za-z0-9_]*")
 FIGURE = re.compile(r"<!--n:([\w:.-]+)-->(.*?)<!---->")
-LIST = re.compile(r"(<!--made:(\w+)-->\n).*?(<!--/made-->)", re.S)
+LIST = re.compile(r"(<!--made:([\w:,-]+)-->\n).*?(<!--/made-->)", re.S)
 PROMISES = TOP / "docs/promises"
 BY_HAND = [PROMISES / "HOW-TO-READ.md", PROMISES / "WHAT-IS-ASSUMED.md"]
+READERS = [TOP / f"docs/{name}.md" for name in ("SITE", "TESTER", "TEACHER", "PROGRAMMER", "SCEPTIC", "MAINTAINER")]
+MOST, MOST_FOR_A_READER = 18_000, 1_200  # words
+VERSIONED = {  # where the version stands beside VERSION itself; in documents it stands in the names of a release's files
+    "crates/command_line/src/commands.rt": r'const VERSION: &str = "(.*?)"',
+    "crates/othello_gate/src/running.rt": r'"othello_gate (.*?)\\n"',
+    "crates/server_tests/src/tests/servers/commands.rt": r'"othello (\d.*?)\\n"',
+    "clients/python/src/coluwen/__init__.py": r'__version__ = "(.*?)"',
+    "clients/javascript/package.json": r'"version": "(.*?)"',
+    "clients/java/pom.xml": r"<artifactId>coluwen</artifactId>\s*<version>(.*?)</version>",
+    "CITATION.cff": r"^version: (.*)$",
+}
 MADE = [["tools/docs/promises.py"], ["docs/pictures/draw.py"]]
 # Names of the toolchain, its library, the system and other tools, which the tree need not say.
 FOREIGN = set("""A B N T P Q S D K k n s t d r w x y z f g j rt sh check try lib gate test doc fmt lemma tidy must plant fail core
@@ -173,12 +185,33 @@ def depth_table():
     return (HERE / "depths.txt").read_text()
 
 
-LISTS = {"crates": crate_table, "solve": solve_transcript, "session": session_transcript, "gate": gate_rows, "errors": error_table, "depths": depth_table}
+def excerpt(page, names):
+    """The call of a page of promises, with these clauses alone: what is left out is `..`."""
+    return chosen(re.search(r"```rust\n(.*?)```", (PROMISES / f"{page}.md").read_text(), re.S)[1], names)
+
+
+def contract(crate, call):
+    """The contract of a call, as promises.py prints it."""
+    told = subprocess.run([HERE / "promises.py", "contracts", crate], check=True, capture_output=True, text=True).stdout
+    return chosen(re.search(rf"^`{call}` .*?```rust\n(.*?)```", told, re.M | re.S)[1], "")
+
+
+def chosen(text, names):
+    head, *clauses = re.split(r"^(?=    (?:requires|ensures) )", text, flags=re.M)
+    kept = [clause if not names or clause.split()[1] in names.split(",") else "    ..\n" for clause in clauses]
+    return "```text\n" + head + "".join(clause for at, clause in enumerate(kept) if clause != "    ..\n" or kept[at - 1 : at] != [clause]) + "```\n"
+
+
+LISTS = {"crates": crate_table, "solve": solve_transcript, "session": session_transcript, "gate": gate_rows, "errors": error_table, "depths": depth_table, "excerpt": excerpt, "contract": contract}
 
 
 def with_lists(text):
     """A document with its lists as they are made from the tree."""
-    return LIST.sub(lambda match: match[1] + LISTS[match[2]]() + match[3], text)
+    def made(match):
+        name, *words = match[2].split(":")
+        return match[1] + LISTS[name](*words) + match[3]
+
+    return LIST.sub(made, text)
 
 
 def parts_of(document):
@@ -188,21 +221,45 @@ def parts_of(document):
     return {re.sub(r"[^\w -]", "", head).strip().replace(" ", "-") for head in shown}
 
 
-def faults(document, words, counted):
-    text = document.read_text()
-    for _, name, _ in LIST.findall(text):
-        if name not in LISTS:
-            yield f"no list {name}"
-            return
-    if with_lists(text) != text:
-        yield "a list isn't what the tree says: run tools/docs/check.py write"
+def link_faults(document, text):
+    """Links that lead nowhere, and files of a release by another version than this one's."""
     for target in re.findall(r"\]\(([^)#\s]+)\)", text):
         if "://" not in target and not (document.parent / target).exists():
             yield f"no file {target}"
     for target, part in re.findall(r"\]\(([^)#\s]*)#([^)\s]+)\)", text):
         other = document.parent / target if target else document
-        if other.suffix == ".md" and other.exists() and part not in parts_of(other):
+        if not other.exists() or other.suffix == ".md" and part not in parts_of(other):
             yield f"no part {target}#{part}"
+    for said in re.findall(r"(?:coluwen[-_]|<version>)(\d+\.\d+\.\d+)", text):
+        if said != version():
+            yield f"version {said}, where VERSION has {version()}"
+
+
+def version():
+    return (TOP / "VERSION").read_text().strip()
+
+
+def version_faults():
+    """Where another version stands, or another date of it."""
+    for name, pattern in VERSIONED.items():
+        for said in re.findall(pattern, (TOP / name).read_text(), re.M) or ["none"]:
+            if said != version():
+                yield f"{name}: version {said}, where VERSION has {version()}"
+    dated = re.search(rf"^## {re.escape(version())} \((\d{{4}}-\d\d-\d\d)\)$", (TOP / "CHANGELOG.md").read_text(), re.M)
+    cited = re.search(r"^date-released: (.*)$", (TOP / "CITATION.cff").read_text(), re.M)
+    if not dated or not cited or dated[1] != cited[1]:
+        yield f"CHANGELOG.md has no date of {version()} that is CITATION.cff's"
+
+
+def faults(document, words, counted):
+    text = document.read_text()
+    for _, name, _ in LIST.findall(text):
+        if name.split(":")[0] not in LISTS:
+            yield f"no list {name}"
+            return
+    if with_lists(text) != text:
+        yield "a list isn't what the tree says: run tools/docs/check.py write"
+    yield from link_faults(document, text)
     for name, said in FIGURE.findall(text):
         if counted.get(name) != said:
             yield f"{name} is {counted.get(name, 'no figure')}, not {said}"
@@ -234,7 +291,7 @@ def head_faults(files, words):
 
 
 def documents():
-    found = [TOP / "README.md", TOP / "CONTRIBUTING.md", TOP / "CHANGELOG.md", TOP / "clients/README.md", *sorted((TOP / "docs").glob("*.md")), *BY_HAND]
+    found = [TOP / "README.md", TOP / "CONTRIBUTING.md", TOP / "CHANGELOG.md", TOP / "SECURITY.md", TOP / "clients/README.md", *sorted((TOP / "docs").glob("*.md")), *BY_HAND]
     return [path for path in found if path.exists()]
 
 
@@ -242,30 +299,36 @@ def is_made(document):
     return document.read_text().startswith("<!-- Made by")
 
 
+def words_in(document):
+    """What has a letter or a digit (a table's bar has none), without what is made."""
+    return sum(any(map(str.isalnum, word)) for word in LIST.sub("", document.read_text()).split())
+
+
 def count_words():
-    total = 0
-    for document in documents():
-        if not is_made(document):
-            count = sum(any(map(str.isalnum, word)) for word in LIST.sub("", document.read_text()).split())  # a table's bar is no word
-            total += count
-            print(f"{count:6} {document.relative_to(TOP)}")
-    print(f"{total:6} words by hand")
+    """The words of each document by hand, and of all but the readers' pages; and the faults of those that have too many."""
+    counts = {document: words_in(document) for document in documents() if not is_made(document)}
+    total = sum(count for document, count in counts.items() if document not in READERS)
+    faults = [f"{page.relative_to(TOP)}: {counts[page]} words, and {MOST_FOR_A_READER} at most" for page in READERS if counts[page] > MOST_FOR_A_READER]
+    return counts, total, faults + ([f"{total} words by hand, and {MOST} at most"] if total > MOST else [])
 
 
 def write(counted):
+    for script in MADE:  # first, as documents quote what they make
+        subprocess.run([TOP / script[0], *script[1:]], check=True)
     for document in documents():
         text = document.read_text()
         new = with_lists(FIGURE.sub(lambda match: f"<!--n:{match[1]}-->{counted.get(match[1], match[2])}<!---->", text))
         if new != text:
             document.write_text(new)
-    for script in MADE:
-        subprocess.run([TOP / script[0], *script[1:]], check=True)
 
 
 def main():
     words = sys.argv[1:]
     if words == ["words"]:
-        count_words()
+        counts, total, _ = count_words()
+        for document, count in counts.items():
+            print(f"{count:6} {document.relative_to(TOP)}{' (a page for a reader)' if document in READERS else ''}")
+        print(f"{total:6} words by hand beside the readers' pages")
         return
     files = tracked()
     counted = figures(files)
@@ -281,7 +344,9 @@ def main():
             print(f"{document.relative_to(TOP)}: {fault}")
             bad += 1
     if not words:
-        for fault in sorted({*head_faults(files, names)}):
+        others = [TOP / name for name in files if name.endswith(".md") and not name.startswith("docs/") and TOP / name not in documents()]
+        linked = [f"{other.relative_to(TOP)}: {fault}" for other in others for fault in link_faults(other, other.read_text())]
+        for fault in sorted({*head_faults(files, names), *linked, *version_faults(), *count_words()[2]}):
             print(fault)
             bad += 1
         for script in MADE:

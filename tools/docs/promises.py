@@ -273,7 +273,7 @@ class Pages:
 
     def index(self, words):
         out = [MADE, "# The promises, a page each", "",
-               "A promise is the contract of a public call. Each page shows one: the call with its clauses, and the names of the definitions that they reach; [definitions](definitions.md) has every definition that any of them reaches, once, lowest first. Begin with [how to read a promise](HOW-TO-READ.md), then [no tenant is disturbed](no-tenant-is-disturbed.md). [What is assumed](WHAT-IS-ASSUMED.md) lists what you have to trust, and the [glossary](../GLOSSARY.md) explains the terms. If a clause, a definition or the meaning of a name changes, so does one of these texts, and the gate fails in its first seconds until they are made again: so a reviewer sees the change.", "",
+               "A promise is the contract of a public call. Each page shows one: the call with its clauses, and the names of the definitions that they reach; [definitions](definitions.md) has every definition that any of them reaches, once, lowest first. Begin with [how to read a promise](HOW-TO-READ.md), then [no tenant is disturbed](no-tenant-is-disturbed.md). [What is assumed](WHAT-IS-ASSUMED.md) lists what you have to trust, and the [glossary](../GLOSSARY.md) explains the terms. If a clause, a definition or the meaning of a name changes, so does one of these texts, and `./gate` fails in its first seconds until they are made again: so a reviewer sees the change.", "",
                "| Page | Call | Promise | Definitions | Lines |", "|---|---|---|---|---|"]
         for page, call, sentence, definitions, lines, _ in self.counts:
             out.append(f"| [{page.replace('-', ' ')}]({page}.md) | `{call}` | {sentence.replace('|', chr(92) + '|')} | {definitions} | {lines} |")
