@@ -35,7 +35,7 @@ def try_class(address, name):
         teacher.until("the pupil's board", f"{TEXT} === 'f5d6c3d3c4'")
         one.click("#class-again")
         one.until("the teacher's game again", f"{HERE} === 'c4'")
-        teacher.evaluate("location.reload()")
+        teacher.driver.refresh()
         teacher.until("the class after the page was loaded again", "document.documentElement?.dataset.ready === 'yes' && document.querySelector('#class-link a')")
         teacher.evaluate("document.getElementById('first').click()")
         one.until("the teacher's start after that", f"{HERE} === ''")
