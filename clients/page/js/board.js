@@ -13,10 +13,10 @@ const widths = new Map();
 let paper = null;
 
 /** How wide a text of a square is, in letters' heights, as the browser measures it. */
-function widthOf(text, style) {
+function widthOf(text, family) {
   if (!widths.has(text)) {
     paper ??= document.createElement("canvas").getContext("2d");
-    paper.font = `600 100px ${style.fontFamily}`;
+    paper.font = `600 100px ${family}`;
     widths.set(text, paper.measureText(text).width / 100);
   }
   return widths.get(text);
@@ -78,18 +78,19 @@ export class Board {
    * names a square that is pointed at, `tinted` says whether squares are tinted.
    */
   show({ position, last = "", next = "", table = new Map(), best = "", line = [], setting = false, hint = "", tinted = true }) {
-    const free = new Set(setting ? [] : legal(position)), style = (this.style ??= getComputedStyle(this.element));
+    const free = new Set(setting ? [] : legal(position)), family = (this.family ??= getComputedStyle(this.element).fontFamily); // asked once, as each asking lays out the page
     let widest = LEAST_WIDTH;
     SQUARES.forEach((name, at) => {
       const score = free.has(at) ? table.get(name) : undefined, text = score ? brief(score) : "";
-      if (text) widest = Math.max(widest, widthOf(text, style));
+      if (text) widest = Math.max(widest, widthOf(text, family));
       const square = { name, cell: position[at], legal: free.has(at), score, text, last: name === last, next: name === next, best: name === best, hint: name === hint, setting };
       square.tint = tinted && score ? tintOf(table.get(best), score) : null;
       const sign = JSON.stringify(square);
       if (this.signs[at] !== sign) this.showSquare(this.squares[at], square);
       this.signs[at] = sign;
     });
-    this.element.style.setProperty("--widest", widest.toFixed(3));
+    if (widest !== this.widest) this.element.style.setProperty("--widest", widest.toFixed(3));
+    this.widest = widest;
     this.showLine(line.filter((move) => SQUARES.includes(move)).slice(0, ARROWS));
   }
 

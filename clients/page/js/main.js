@@ -40,6 +40,8 @@ function showBoard() {
   const { current } = tree(), position = app.setting ? tree().start : current.position;
   app.veiled = quiz.hides || program.hides;
   const known = app.setting || app.veiled ? undefined : analyst.of(position), values = $("show-values").checked;
+  if (known && !timed) performance.mark("values"); // when there were some for the first time
+  timed ||= Boolean(known);
   board.show({
     position,
     last: app.setting ? "" : current.move,
@@ -102,7 +104,7 @@ function want() {
   }
 }
 
-let drawing = false, listed = 0;
+let drawing = false, timed = false, listed = 0;
 /** Something was learnt: it is shown with the next picture, once however much it is, and the lists less often. */
 function learnt() {
   if (drawing) return;
