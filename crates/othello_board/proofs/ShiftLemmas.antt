@@ -23,7 +23,7 @@ holds_below (suc n) test all s below =
     ]
 
 -- a word shifted right and left, bit by bit
-bit_at-right : (x k t : ℕ) → bit_at (x / 2 ^ k) t ≡ bit_at x (t + k)
+pub bit_at-right : (x k t : ℕ) → bit_at (x / 2 ^ k) t ≡ bit_at x (t + k)
 bit_at-right x k t =
     let back : t + k - k ≡ t = omega arith in
     sym (ap (λ n. bit_at n (t + k)) (sym (div-add-mod' x (2 ^ k)))

@@ -2,7 +2,6 @@
 ghost use Rattle.std.specs.Prelude.{◌≡◌, ◌<◌, ℕ, IfSome};
 ghost use Rattle.std.specs.Int.{bit_at};
 
-use super::rays::RAYS;
 use super::sides::{above, below, left_of, right_of};
 
 /// A direction on the board. North is towards row 1, west towards column a.
@@ -19,9 +18,8 @@ pub enum Direction {
 }
 
 impl Direction {
-    ghost use Rattle.othello_board.specs.Rules.{step, ray};
-    ghost use Rattle.othello_board.specs.Words.{bits_of};
-    ghost use Rattle.othello_board.specs.Shifts.{number_of, opposite, rises, slid_from, bit_there};
+    ghost use Rattle.othello_board.specs.Rules.{step};
+    ghost use Rattle.othello_board.specs.Shifts.{opposite, slid_from, bit_there};
 
     /// The next square in this direction, or none at the edge.
     pub fn step(self, square: u8) -> Option<u8>
@@ -56,37 +54,6 @@ impl Direction {
             Direction::West => Direction::East,
             Direction::NorthWest => Direction::SouthEast,
         }
-    }
-
-    /// Whether the squares of a ray in this direction rise in number.
-    #[inline(always)]
-    pub(crate) fn rises(self) -> bool
-        ensures { result ≡ rises self }
-    {
-        match self {
-            Direction::East | Direction::SouthEast | Direction::South | Direction::SouthWest =>
-                true,
-            Direction::North | Direction::NorthEast | Direction::West | Direction::NorthWest =>
-                false,
-        }
-    }
-
-    /// Its number, clockwise from north: 0 to 7.
-    #[inline(always)]
-    fn number(self) -> usize
-        ensures value { result ≡ number_of self }
-        ensures within { result < 8 }
-    {
-        self as usize
-    }
-
-    /// All squares from this one to the edge in this direction, this one left out, as bits.
-    #[inline(always)]
-    pub(crate) fn ray(self, square: u8) -> u64
-        requires { square < 64 }
-        ensures { result ≡ bits_of (ray self square) }
-    {
-        RAYS[square as usize][self.number()]
     }
 
     /// All squares of a word moved one step in this direction, by one shift. The rows count as one line:
