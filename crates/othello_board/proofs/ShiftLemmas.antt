@@ -6,7 +6,7 @@ use borrow.Author.Tests.{ltb-true, leb-true}
 use Rattle.std.proofs.lemmas.Nat.{div-add-mod', mod_below, pow_pos}
 use Rattle.std.proofs.lemmas.Bool.Decides.{eqb_tells}
 use Rattle.std.proofs.lemmas.Nat.Bits.{bit_at-zero, bit_at_above, bit_at_cat_low, bit_at_cat_high}
-use Rattle.othello_board.specs.Shifts.{bit_there}
+use Rattle.othello_board.proofs.Shifts.{bit_there}
 
 -- a test that holds below n
 abbrev pub all_below : ℕ → (ℕ → Bool) → Bool

@@ -72,18 +72,9 @@ impl Board {
         ensures { result ≡ bits_of (flips (cells self) square) }
     {
         let Board { own, opp, .. } = self;
-        let [
-            east,
-            south_east,
-            south,
-            south_west,
-            west,
-            north_west,
-            north,
-            north_east,
-        ] = RAYS[square as usize];
-        let above = rising(own, opp, east, south_east, south, south_west);
-        let below = falling(own, opp, west, north_west, north, north_east);
+        let rays = &RAYS[square as usize];
+        let above = rising(own, opp, rays[0], rays[1], rays[2], rays[3]);
+        let below = falling(own, opp, rays[4], rays[5], rays[6], rays[7]);
         let [first, second, third, fourth] = (above | below).to_array();
         first | second | (third | fourth)
     }

@@ -7,9 +7,9 @@ use Rattle.othello_board.specs.declared.directions.Direction.{Direction}
 use Rattle.othello_board.specs.declared.directions.Direction.TheVariants.{North, NorthEast, East, SouthEast, South, SouthWest, West, NorthWest}
 use Rattle.othello_board.specs.Rules.{run, is_legal, squares, is_nil}
 use Rattle.othello_board.specs.Words.{cells_of, bits_of}
-use Rattle.othello_board.specs.Shifts.{opposite, slid_from, bit_there}
+use Rattle.othello_board.proofs.Shifts.{opposite, slid_from, bit_there}
 use Rattle.othello_board.proofs.ShiftLemmas.{slid_up, slid_down}
-use Rattle.othello_moves.specs.Inner.{bit_of}
+use Rattle.othello_moves.proofs.Inner.{bit_of}
 use Rattle.othello_moves.specs.Lanes.{raised, lowered, reached}
 use Rattle.othello_moves.proofs.LeadLemmas.{inside, inside_bit, middle_bit, paired, paired_bit, led, led_one, led_more, led_two_more, start_bit, starts_bit, max_of_tests, legal_bit, word_of_passing}
 
