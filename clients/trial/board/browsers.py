@@ -1,9 +1,7 @@
 """Both browsers by selenium: Chromium by Debian's chromedriver, and Firefox by its own protocol, Marionette, as Debian has no geckodriver."""
 import base64
 import contextlib
-import html
 import json
-import os
 import pathlib
 import re
 import shutil
@@ -11,7 +9,6 @@ import socket
 import subprocess
 import tempfile
 import time
-import urllib.parse
 
 from patience import until
 from selenium import webdriver
@@ -90,13 +87,17 @@ class Shown:
         """Opens an address as if nothing had been open, and waits for the page."""
         self.driver.get("about:blank")
         if self.frame:
-            width, height = self.frame
-            text = f'<body style="margin:0"><iframe style="border:0;width:{width}px;height:{height}px" src="{html.escape(address)}"></iframe>'
-            self.driver.get(f"data:text/html,{urllib.parse.quote(text)}")
+            origin = "/".join(address.split("/")[:3])
+            self.driver.get(f"{origin}/none")  # (a frame of another origin is given nothing to keep)
+            script = """const one = document.createElement("iframe"); document.body.style.margin = 0; document.body.replaceChildren(one);
+              Object.assign(one.style, { border: 0, width: `${arguments[1][0]}px`, height: `${arguments[1][1]}px` }); one.src = arguments[0];"""
+            self.driver.execute_script(script, address, self.frame)
             self.driver.switch_to.frame(0)
         else:
             self.driver.get(address)
         self.until("the page", "document.documentElement?.dataset.ready === 'yes'", 60)
+        if self.frame:
+            self.driver.execute_script("window.focus()")  # keys are for the frame
 
     def says(self, where, name, **words):
         """Whether a text of the page stands somewhere: in an element, or in a text."""
@@ -181,17 +182,10 @@ def below(root):
     return found
 
 
-def main_thread(process):
-    """Milliseconds of a processor that a process' first thread has had."""
+def main_thread(process, which=0):
+    """Milliseconds for which a process' first thread has had a processor, or (1) has waited for one."""
     with contextlib.suppress(OSError):
-        return int(pathlib.Path(f"/proc/{process}/schedstat").read_text().split()[0]) / 1e6
-    return 0
-
-
-def whole(process):
-    """The same of all its threads, also those that have ended."""
-    with contextlib.suppress(OSError):
-        return sum(map(int, pathlib.Path(f"/proc/{process}/stat").read_text().rpartition(")")[2].split()[11:13])) * 1000 / os.sysconf("SC_CLK_TCK")
+        return int(pathlib.Path(f"/proc/{process}/schedstat").read_text().split()[which]) / 1e6
     return 0
 
 

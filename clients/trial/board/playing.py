@@ -10,13 +10,21 @@ ARROW = {"Left": "\ue012", "Up": "\ue013", "Right": "\ue014", "Down": "\ue015", 
 
 def try_moves(shown, address):
     """Each position of a game is the one of the Python package's rules, by a module's rules and by the page's own."""
+    def same(move, position):
+        legal = sorted(name for name, told in shown.evaluate(NAMES).items() if shown.says(told, "square.legal"))
+        check(shown.evaluate(CELLS) == position.cells and legal == sorted(settled(position).squares()), f"{shown.name}: the position behind {move}")
+
     for seed in (1, 4):
         shown.open(f"{address}#depth=2")
         shown.check("#game", False)
         for move, position in random_moves(seed, 24):
             play(shown, [move])
-            legal = sorted(name for name, told in shown.evaluate(NAMES).items() if shown.says(told, "square.legal"))
-            check(shown.evaluate(CELLS) == position.cells and legal == sorted(settled(position).squares()), f"{shown.name}: the position behind {move}")
+            same(move, position)
+    game = random_moves(2, 70)  # both players pass near its end
+    shown.open(f"{address}#moves={''.join(move for move, _ in game)}&at=50&depth=2")
+    for move, position in game[50:]:
+        shown.press(ARROW["Right"])
+        same(move, position)
 
 
 def try_tree(shown, address):

@@ -4,7 +4,7 @@ Other programs may have this machine's processors, so what the page takes is mea
 """
 import statistics
 
-from browsers import below, main_thread, opened, whole
+from browsers import main_thread, opened
 from stand import FORMS, check, chosen, play, whole_game
 
 MOVES = ("f5", "d6", "c3", "d3", "c4", "f4", "f6", "g5", "e3", "f3", "g4", "h5")
@@ -19,10 +19,10 @@ FIRST = "performance.getEntriesByName('values')[0]?.startTime"
 AT_ONCE, SHIFT, FIRST_VALUES = 50, 0.1, 500
 
 
-def try_shifts(name, address):
+def try_shifts(name, address, forms=FORMS):
     """Each part keeps its place while a game is played; Chromium also counts all shifts, those behind a click with the others."""
     counted = []
-    for width, height, language, scheme in FORMS:
+    for width, height, language, scheme in forms:
         with opened(name, language, scheme, (width, height)) as shown:
             if name == "chromium":
                 shown.driver.execute_cdp_cmd("Page.addScriptToEvaluateOnNewDocument", {"source": SHIFTS})
@@ -35,12 +35,12 @@ def try_shifts(name, address):
                 check(not moved, f"{name} at {width}: behind {move or 'all moves'} these jump: {moved}, from {there}")
             counted.append(shown.evaluate("window.shifts ?? 0"))
             check(counted[-1] < SHIFT, f"layout shift {counted[-1]:.3f} after 12 moves at {width}")
-    print(f"board: {name}: nothing jumps at {len(FORMS)} widths" + (f"; layout shift {max(counted):.4f} at most" if name == "chromium" else ""))
+    print(f"board: {name}: nothing jumps at {len(forms)} widths" + (f"; layout shift {max(counted):.4f} at most" if name == "chromium" else ""))
 
 
-def try_clicks(name, address):
+def try_clicks(name, address, forms=FORMS):
     slowest = {}
-    for width, height, language, scheme in FORMS:
+    for width, height, language, scheme in forms:
         with opened(name, language, scheme, (width, height)) as shown:
             shown.open(f"{address}#moves={whole_game(3)}&at=0&depth=4")
             shown.known()
@@ -58,20 +58,21 @@ def try_clicks(name, address):
 
 
 def try_first(name, address):
-    """The first values behind the first paint; where others have the processors, what all of the page has taken of them up to then."""
+    """The first values behind the first paint, without the time in which the page waited for a processor that others had."""
     with opened(name) as shown:
-        taken = []
+        shown.open(f"{address}#depth=2")
+        renderer, taken = shown.renderer(), []
         for _ in range(6):
-            before = {one: whole(one) for one in below(shown.root)}
+            before = main_thread(renderer, 1)
             shown.open(f"{address}#moves=f5d6c3&depth=2")
             shown.until("a value", FIRST)
-            used = max((whole(one) - before.get(one, 0) for one in below(shown.root)), default=0)
-            taken.append((shown.evaluate(f"{FIRST} - performance.getEntriesByName('first-contentful-paint')[0].startTime"), used))
-        soon, (_, least) = min(taken)[0], min(taken, key=lambda one: one[1])
-        check(soon < FIRST_VALUES or least < FIRST_VALUES, f"{name}: first values {soon:.0f} ms behind the first paint, with {least:.0f} ms of a processor")
-        print(f"board: {name}: first values {soon:.0f} ms behind the first paint; the page takes {least:.0f} ms of a processor from its address on")
+            behind = shown.evaluate(f"{FIRST} - performance.getEntriesByName('first-contentful-paint')[0].startTime")
+            taken.append((behind - min(main_thread(renderer, 1) - before, behind / 2), behind))
+        soon, clock = min(taken)
+        check(soon < FIRST_VALUES, f"{name}: first values {soon:.0f} ms behind the first paint, {clock:.0f} by the clock")
+        print(f"board: {name}: first values {soon:.0f} ms behind the first paint, {clock:.0f} by the clock")
 
 
 def try_all(address, name, only=""):
     for trial in chosen(only, try_shifts, try_clicks, try_first):
-        trial(name, address)
+        trial(name, address, **{"forms": FORMS[3:4]} if only and trial is not try_first else {})
