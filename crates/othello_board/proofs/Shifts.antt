@@ -1,5 +1,5 @@
 -- Representation: directions as the words of bits see them.
-use Rattle.std.specs.Prelude.{ℕ, ◌+◌, ◌-◌, nat_lt, Bool, true, false, if◌then◌else◌, Option, Some, None}
+use Rattle.std.specs.Prelude.{ℕ, ◌+◌, ◌-◌, nat_lt, if◌then◌else◌, Option, Some, None}
 use Rattle.std.specs.Int.{bit_at}
 use Rattle.othello_board.specs.declared.directions.Direction.{Direction}
 use Rattle.othello_board.specs.declared.directions.Direction.TheVariants.{North, NorthEast, East, SouthEast, South, SouthWest, West, NorthWest}
@@ -15,29 +15,10 @@ opposite SouthWest = NorthEast
 opposite West = East
 opposite NorthWest = SouthEast
 
--- the number of a direction, clockwise from north
-abbrev pub number_of : Direction → ℕ
-number_of North = 0
-number_of NorthEast = 1
-number_of East = 2
-number_of SouthEast = 3
-number_of South = 4
-number_of SouthWest = 5
-number_of West = 6
-number_of NorthWest = 7
-
 -- bit s of a word for Some s, and 0 for None
 abbrev pub bit_there : ℕ → Option ℕ → ℕ
 bit_there word None = 0
 bit_there word (Some s) = bit_at word s
-
--- whether a step in a direction leads to a greater square
-abbrev pub rises : Direction → Bool
-rises East = true
-rises SouthEast = true
-rises South = true
-rises SouthWest = true
-rises _ = false
 
 -- t - k, or None where t is less than k
 abbrev pub less_by : ℕ → ℕ → Option ℕ
