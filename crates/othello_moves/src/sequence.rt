@@ -37,10 +37,11 @@ impl Choices {
         ensures { result ≡ choices (cells board) }
     {
         let own = moves(board);
+        let is_stuck = own == 0;
         Choices {
             corners: own & CORNERS,
             others: own & !CORNERS,
-            passes: own == 0 && moves(board.swap()) != 0,
+            passes: is_stuck && moves(board.swap()) != 0,
         }
     }
 
