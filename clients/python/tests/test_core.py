@@ -10,7 +10,7 @@ import hypothesis
 import hypothesis.strategies as st
 import pytest
 from coluwen import Broken, Closed, Late, Refused, TooDeep, Unreachable
-from coluwen._core import Core, Ended, Errand, Found, Open, Options, Question, Send, Shut, Told, Wire, Work, ping
+from coluwen._core import Core, Ended, Errand, Found, Info, Open, Options, Question, Send, Shut, Told, Wire, Work, ping
 from told import value_of
 
 OPENING = "---------------------------OX------XO--------------------------- X"
@@ -468,3 +468,144 @@ def test_a_wire() -> None:
     wire.send("BYE")
     with pytest.raises(Broken, match="more than 1115 bytes"):
         wire.receive(b"y" * 1115)
+
+
+class Hand:
+    """A core, moved by hand: what happens is said, and what is done is read as texts."""
+
+    def __init__(self, **options: Any):
+        self.core, self.now, self.ended = Core(Options("here", **options)), 0.0, list[Work]()
+
+    def does(self) -> list[str]:
+        found = []
+        for event in self.core.events():
+            if isinstance(event, Ended):
+                self.ended.append(event.work)
+            elif isinstance(event, (Open, Shut, Send)):
+                found.append(f"{type(event).__name__.lower()} {event.key}" if not isinstance(event, Send) else f"{event.key} {event.data.decode().strip()}")
+        return found
+
+    def ask(self, work: Work) -> list[str]:
+        self.core.ask(work, self.now)
+        return self.does()
+
+    def hear(self, key: int, *lines: str) -> list[str]:
+        """Answers of a session one after another; what is done at last. A session that is opened is welcomed first."""
+        for line in lines:
+            self.core.received(key, line.encode() + (b"\n" if line else b""), self.now)
+            last = self.does()
+        return last
+
+    def opens(self, key: int) -> list[str]:
+        self.core.opened(key, self.now)
+        (hello,) = self.does()
+        return self.hear(key, hello.replace(f"{key} HELLO", "WELCOME"))
+
+    def waits(self, seconds: float) -> list[str]:
+        """Until so much later; all that is done meanwhile."""
+        end, found = self.now + seconds, list[str]()
+        while (due := self.core.next_tick()) is not None and due <= end:
+            self.now = max(self.now, due)
+            self.core.tick(self.now)
+            found += self.does()
+        self.now = end
+        return found
+
+
+@pytest.mark.parametrize("how", ["the other side ends", "silence"])
+def test_a_session_that_ends_without_an_answer_is_over(how: str) -> None:
+    hand = Hand(sessions=1)
+    assert hand.ask(Question(2, OPENING)) == ["open 1"] and hand.opens(1) == [f"1 ASK 2 {OPENING}"]
+    assert hand.hear(1, "JOB 1") == ["1 GET 1"]
+    hand.hear(1, "DONE 1 5 d3", "TABLE 1 d3=5")
+    hand.core.close(hand.now)
+    assert hand.does() == ["1 BYE"] and not hand.core.has_ended
+    assert (hand.hear(1, "") if how == "the other side ends" else hand.waits(2)) == ["shut 1"]
+    assert hand.core.has_ended
+
+
+def test_trouble_is_over_with_those_who_had_it() -> None:
+    for model, options, least in ((Model(), {"outage": 0}, 1.0), (Model(most=0), {"patience": 5}, 4.9)):
+        model.away = [(0, 10**6)] if model.most else []
+        stage = Stage(model, **options)
+        for begin in (0.0, 100.0):  # the second question has as long as the first
+            stage.run(begin - stage.now)
+            stage.ask(Question(2, OPENING))
+            stage.run(60)
+            when, work = stage.ended[-1]
+            assert isinstance(work.fault, (Unreachable, Refused)) and begin + least <= when <= begin + least + 2, (begin, when)
+        assert len(stage.ended) == 2
+
+
+def test_a_session_with_jobs_takes_no_errand_and_none_that_goes_alone() -> None:
+    hand = Hand(sessions=1, ahead=3)
+    hand.ask(Question(2, OPENING))
+    hand.opens(1)
+    errand = Errand(ping)
+    assert hand.hear(1, "JOB 1") == ["1 GET 1"] and hand.ask(errand) == [] and hand.hear(1, "PENDING 1") == []
+    assert hand.waits(0.0002) == ["1 GET 1"]
+    assert hand.hear(1, "DONE 1 5 d3") == ["1 TABLE 1"] and hand.hear(1, "TABLE 1 d3=5") == ["1 QUOTA"]
+    hand.hear(1, "QUOTA 1 2 3")
+    assert errand.ended and not errand.fault
+
+
+def test_what_is_refused_to_a_session_in_use() -> None:
+    """A session that has had its 256 jobs is left; one whose room is used up is raised, and left at the greatest."""
+    for number, wanted in ((10, "1 RESERVE 512 16384"), (11, "1 RESERVE 512 16384"), (13, "1 BYE")):
+        hand = Hand(sessions=1)
+        hand.ask(Question(2, OPENING))
+        hand.ask(Question(3, OPENING))
+        hand.opens(1)
+        hand.hear(1, "JOB 1")
+        assert hand.hear(1, "DONE 1 5 d3", "TABLE 1 d3=5") == [f"1 ASK 3 {OPENING}"]
+        assert hand.hear(1, f"ERR {number}")[:1] == [wanted]
+        for raised in ("512 16384", "1024 32768", "1024 65536"):
+            if number != 13:
+                assert hand.hear(1, f"RESERVED {raised}") == [f"1 ASK 3 {OPENING}"]
+                last = hand.hear(1, f"ERR {number}")
+        assert number == 13 or last[:1] == ["1 BYE"]
+        assert not any(work.fault for work in hand.ended)
+
+
+def test_what_a_look_is_refused_for() -> None:
+    hand = Hand(sessions=1)
+    hand.ask(Question(2, OPENING))
+    hand.opens(1)
+    assert hand.hear(1, "JOB 1") == ["1 GET 1"] and hand.hear(1, "ERR 31") == []
+    assert hand.waits(0.09) == [] and hand.waits(0.02) == ["1 GET 1"]  # too fast: later, and the job is kept
+    assert hand.hear(1, "ERR 17") == ["shut 1", "open 2"]  # no such job: this session can't be believed
+    assert hand.opens(2) == [f"2 ASK 2 {OPENING}"] and not hand.ended
+
+
+def test_behind_a_spent_job_a_session_ends() -> None:
+    hand = Hand(sessions=1)
+    hand.ask(Question(2, OPENING))
+    hand.ask(Question(9, OPENING))
+    hand.opens(1)
+    hand.hear(1, "JOB 1", "DONE 1 5 d3", "TABLE 1 d3=5", "JOB 2")
+    assert hand.hear(1, "SPENT 2")[:1] == ["1 BYE"]
+    opened = [line for line in hand.hear(1, "BYE") + hand.waits(1) if line.startswith("open")]
+    assert opened == ["open 2"]
+    hand.ask(Question(3, OPENING))
+    assert hand.opens(2) == [f"2 ASK 9 {OPENING}"]  # alone, in a session with the most that there is
+    assert hand.hear(2, "JOB 1", "SPENT 1")[:1] == ["2 BYE"]
+
+
+def test_what_is_reserved_by_hand_knows_no_depth() -> None:
+    hand = Hand(sessions=1, segments=64, nodes=100)
+    hand.core.info = Info(4)
+    hand.ask(question := Question(9, OPENING))
+    hand.opens(1)
+    hand.hear(1, "JOB 1", "SPENT 1")
+    assert isinstance(question.fault, TooDeep) and (question.fault.depth, question.fault.greatest) == (9, 0)
+
+
+def test_what_an_errand_is_refused_for() -> None:
+    hand = Hand(sessions=1)
+    errand = Errand(ping)
+    hand.ask(errand)
+    assert hand.opens(1) == ["1 QUOTA"]
+    hand.hear(1, "ERR 31")
+    assert not errand.ended and hand.waits(0.09) == [] and hand.waits(0.02) == ["1 QUOTA"]
+    hand.hear(1, "ERR 28")
+    assert isinstance(errand.fault, Refused) and errand.fault.number == 28

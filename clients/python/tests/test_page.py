@@ -2,16 +2,18 @@
 import asyncio
 import json
 import re
+import types
 
 import pytest
 from coluwen import Position, Result
-from coluwen.errors import TooDeep, Unreachable
+from coluwen.errors import Refused, TooDeep, Unreachable
 from coluwen.page import library as page_library
+from coluwen.page import rooms as page_rooms
 from coluwen.page import web as page_web
 from coluwen.page.files import Site, names_of
 from coluwen.page.library import Library, Turns, steps_of
 from coluwen.page.rooms import Rooms
-from coluwen.page.service import Service, score_of
+from coluwen.page.service import Service, hand_of, score_of, state_of
 from coluwen.page.web import Answer, Fault, Request, head_of, noted, plain, request_of
 from coluwen.score import Entry, Score
 
@@ -55,6 +57,7 @@ def test_steps():
     near = Position("X" * 40 + "O" * 19 + "-" * 5, "X")
     assert steps_of(near, 12) == [4, 5]
     assert steps_of(Position("X" * 64, "O"), 4) == [0]
+    assert [steps_of(Position("X" * 63 + "-", "O"), 4), steps_of(OPENING, 14), steps_of(OPENING, 4)] == [[1], [4, 6, 8, 10, 12], [4]]
 
 
 def test_each_is_asked_once_for_all_who_wait():
@@ -291,5 +294,399 @@ def test_what_goes_wrong_here_is_a_500():
         writer.close()
         server.close()
         await web.end()
+
+    run(main())
+
+
+# What a question, a class and a hand are.
+
+NEAR = Position("X" * 40 + "O" * 12 + "-" * 12, "X")  # 12 empty squares
+
+
+@pytest.mark.parametrize("asked, status, code", [
+    ([], 400, "position"), ({}, 400, "position"), ({"position": 5}, 400, "position"), ({"position": OPENING.text + " " * 200}, 400, "position"), ({"position": "x"}, 400, "position"),
+    ({"position": OPENING.text}, 400, "depth"), ({"position": OPENING.text, "depth": True}, 400, "depth"), ({"position": OPENING.text, "depth": "4"}, 400, "depth"),
+    ({"position": OPENING.text, "depth": 0}, 400, "depth"), ({"position": OPENING.text, "depth": 9}, 400, "depth"), ({"position": OPENING.text, "depth": 13}, 400, "depth"),
+    ({"position": NEAR.text, "depth": 13}, 400, "depth"), ({"position": OPENING.text, "depth": 4, "exact": "d3"}, 400, "exact"), ({"position": OPENING.text, "depth": 4, "exact": ["a1"]}, 400, "exact"),
+    ({"position": OPENING.text, "depth": 4, "exact": [3]}, 400, "exact"), ({"position": OPENING.text, "depth": 4, "steps": 1}, 400, "steps"),
+])  # fmt: skip
+def test_what_is_no_question(asked, status, code):
+    with pytest.raises(Fault) as fault:
+        Service(Library(Engine(), 1), [4, 6, 8], True).question_of(asked)
+    assert (fault.value.status, fault.value.code) == (status, code)
+
+
+def test_what_is_a_question():
+    service = Service(Library(Engine(), 1), [4, 6, 8], True)
+    moves = OPENING.legal_moves()
+    assert service.question_of({"position": OPENING.text, "depth": 8}) == (OPENING, 8, [], True)
+    assert service.question_of({"position": OPENING.text + " " * 134, "depth": 1, "exact": "all", "steps": False}) == (OPENING, 1, moves, False)
+    assert service.question_of({"position": OPENING.text, "depth": 1, "exact": moves[:2]})[2] == moves[:2]
+    assert [service.question_of({"position": NEAR.text, "depth": depth})[1] for depth in (9, 12)] == [9, 12]  # to the end
+    learning = Service(Library(Engine(), 1), [4])
+    assert learning.question_of({"position": OPENING.text, "depth": 4})[1] == 4
+    for depth, status in ((5, 503), (12, 503), (13, 400)):
+        with pytest.raises(Fault) as fault:
+            learning.question_of({"position": OPENING.text, "depth": depth})
+        assert fault.value.status == status
+
+
+def request(method, path, asked=None, **headers):
+    return Request(method, path, path, {}, {"content-type": "application/json", **headers}, "10.0.0.7", json.dumps(asked).encode())
+
+
+def test_the_services_paths():
+    async def main():
+        service = Service(Library(Engine(), 3), [4], True)
+        assert service.most("POST", "/class") == 65536 and service.most("GET", "/class") == 0
+        assert await service.answer(request("GET", "/other")) is None
+        for method, path in (("POST", "/about.json"), ("GET", "/analyse"), ("GET", "/class"), ("GET", "/class/a/pupils"), ("GET", "/class/a/hand"), ("PUT", "/class/a")):
+            with pytest.raises(Fault) as fault:
+                await service.answer(request(method, path))
+            assert fault.value.status == 405, path
+        for path in ("/class/A", "/class/" + "a" * 33, "/class/a/other", "/class/b/"):
+            with pytest.raises(Fault) as fault:
+                await service.answer(request("GET", path))
+            assert (fault.value.status, fault.value.code) == (404, "class")
+        told = await service.answer(request("POST", "/analyse", {"position": OPENING.text, "depth": 4, "steps": False}))
+        assert told.kind == "application/x-ndjson" and [json.loads(line)["kind"] async for line in told.lines] == ["searching", "step", "done"]
+        opened = json.loads((await service.answer(request("POST", "/class", {"state": "#a"}))).body)
+        room, key = opened["room"], opened["key"]
+        assert re.fullmatch("[a-z2-9]{10}", room) and service.rooms.rooms[room].address == "10.0.0.7" and len(key) == 32
+        follows = await service.answer(request("GET", f"/class/{room}"))
+        assert follows.kind == "application/x-ndjson" and json.loads(await anext(follows.lines)) == {"state": "#a"}
+        pupils = await service.answer(request("POST", f"/class/{room}/pupils", {"key": key}))
+        assert pupils.kind == "application/x-ndjson" and json.loads(await anext(pupils.lines)) == {"followers": 1, "hands": []}
+        for asked in ({}, [key], {"key": key[:-1]}, {"key": 5}):
+            with pytest.raises(Fault) as fault:
+                await service.answer(request("POST", f"/class/{room}/pupils", asked))
+            assert (fault.value.status, fault.value.code) == (403, "key")
+        assert (await service.answer(request("POST", f"/class/{room}/hand", {"pupil": "p", "name": "Anna", "state": "#b"}))).body == b"{}"
+        assert json.loads(await anext(pupils.lines))["hands"] == [{"name": "Anna", "state": "#b"}]
+        assert (await service.answer(request("POST", f"/class/{room}", {"key": key, "state": "#c"}))).body == b"{}"
+        assert json.loads(await anext(follows.lines)) == {"state": "#c"}
+        await service.answer(request("POST", f"/class/{room}", {"key": key, "state": None}))
+        assert json.loads(await anext(follows.lines)) == {"state": None}
+        with pytest.raises(Fault, match="no such class"):
+            await service.answer(request("GET", f"/class/{room}"))
+
+    run(main())
+
+
+@pytest.mark.parametrize("asked, ends, wanted", [
+    ({"state": "#a"}, False, "#a"), ({"state": ""}, False, ""), ({"state": "a" * 65536}, False, "a" * 65536), ({"state": None}, True, None), ({}, True, None), ({"state": None}, False, 400),
+    ([], True, 400), ({"state": 5}, True, 400), ({"state": "a" * 65537}, True, 400),
+])  # fmt: skip
+def test_states(asked, ends, wanted):
+    if wanted == 400:
+        with pytest.raises(Fault) as fault:
+            state_of(asked, ends)
+        assert (fault.value.status, fault.value.code) == (400, "state")
+    else:
+        assert state_of(asked, ends) == wanted
+
+
+@pytest.mark.parametrize("asked, is_one", [
+    ({"pupil": "p", "name": "", "state": "#"}, True), ({"pupil": "p" * 40, "name": "n" * 40, "state": None}, True), ({"pupil": "", "name": "n", "state": "#"}, False),
+    ({"pupil": "p" * 41, "name": "n", "state": "#"}, False), ({"pupil": "p", "name": "n" * 41, "state": "#"}, False), ({"pupil": "p", "state": "#"}, False), ({"name": "n", "state": "#"}, False), ([], False),
+])  # fmt: skip
+def test_hands(asked, is_one):
+    if is_one:
+        assert hand_of(asked) == (asked["pupil"], asked["name"], asked["state"])
+        return
+    with pytest.raises(Fault) as fault:
+        hand_of(asked)
+    assert (fault.value.status, fault.value.code) == (400, "hand")
+
+
+def test_so_many_classes(monkeypatch):
+    now = [1000.0]
+    monkeypatch.setattr(page_rooms, "time", types.SimpleNamespace(monotonic=lambda: now[0]))
+
+    async def main():
+        rooms = Rooms()
+        first = rooms.open("a", "#")
+        now[0] += 1
+        for _ in range(9):
+            rooms.open("a", "#")
+        for address in ("a", "b"):
+            if address == "a":
+                with pytest.raises(Fault) as fault:
+                    rooms.open("a", "#")
+                assert (fault.value.status, fault.value.code) == (429, "classes")
+            else:
+                rooms.open("b", "#")
+        for number in range(189):
+            rooms.open(str(number), "#")
+        assert len(rooms.rooms) == 200
+        with pytest.raises(Fault, match="too many classes"):
+            rooms.open("c", "#")
+        follower = rooms.follow(first["room"])
+        assert json.loads(await anext(follower)) == {"state": "#"}
+        now[0] += 4 * 3600 - 1  # the first one, and it alone, shows nothing for four hours; at that moment it isn't over yet
+        with pytest.raises(Fault):
+            rooms.open("c", "#")
+        now[0] += 0.5
+        rooms.open("c", "#")
+        assert json.loads(await anext(follower)) == {"state": None} and first["room"] not in rooms.rooms and len(rooms.rooms) == 200
+
+    run(main())
+
+
+def test_what_shows_something_is_no_idle_class(monkeypatch):
+    now = [1000.0]
+    monkeypatch.setattr(page_rooms, "time", types.SimpleNamespace(monotonic=lambda: now[0]))
+
+    async def main():
+        rooms = Rooms()
+        opened = rooms.open("a", "#")
+        now[0] += 3 * 3600
+        rooms.show(opened["room"], opened["key"], "#b")
+        now[0] += 3 * 3600
+        rooms.open("b", "#")
+        assert rooms.find(opened["room"]).state == "#b"
+        await asyncio.sleep(0.01)
+        assert not rooms.telling
+
+    run(main())
+
+
+def test_so_many_follow(monkeypatch):
+    async def main():
+        rooms = Rooms()
+        opened = rooms.open("a", "#")
+        followers = [rooms.follow(opened["room"]) for _ in range(400)]
+        for one in followers:
+            await anext(one)
+        with pytest.raises(Fault) as fault:
+            rooms.follow(opened["room"])
+        assert (fault.value.status, fault.value.code) == (429, "followers")
+        await followers[0].aclose()
+        await anext(rooms.follow(opened["room"]))
+
+    run(main())
+    with pytest.raises(Fault) as fault:
+        Rooms().find("none")
+    assert (fault.value.status, fault.value.code) == (404, "class")
+
+
+def test_a_raised_hand_is_the_latest():
+    async def main():
+        rooms = Rooms()
+        opened = rooms.open("here", "#a")
+        heads = rooms.pupils(opened["room"], opened["key"])
+        await anext(heads)
+        for pupil in ("one", "two", "one"):
+            rooms.raise_hand(opened["room"], pupil, pupil, f"#{pupil}")
+        assert [hand["name"] for hand in json.loads(await anext(heads))["hands"]] == ["two", "one"]
+        with pytest.raises(Fault):
+            rooms.raise_hand("none", "one", "", "#")
+
+    run(main())
+
+
+# The library.
+
+
+class Book:
+    """Values that are given: by position and depth a value, whether it is the end's, and the best move; or a fault."""
+
+    def __init__(self, rows):
+        self.rows, self.asked = rows, []
+
+    async def analyse(self, position, depth):
+        self.asked.append((position.text, depth))
+        row = self.rows.get((position.text, depth), TooDeep(depth, 0))
+        if isinstance(row, Exception):
+            raise row
+        value, ends, best, *table = row
+        return Result(position, depth, Score(value, "=", ends, position.side), best, tuple(Entry(move, Score(worth, sign, ends, position.side)) for move, sign, worth in table))
+
+
+LAST = Position.parse("-" * 50 + "XO" + "-" * 12 + " X")  # c7 ends it, with 61 squares empty
+AFTER = LAST.play("a7") if "a7" in LAST.legal_moves() else LAST.play(LAST.legal_moves()[0])
+
+
+def test_the_line_to_the_end_is_followed():
+    move = LAST.legal_moves()[0]
+
+    async def main():
+        over = Book({(LAST.text, 4): (6000, True, move), (AFTER.text, 3): (-6000, True, None)})
+        found = await Library(over, 1).find(LAST, 4, lambda _: None)
+        assert (found.line, found.empty, AFTER.is_over) == ((move,), AFTER.empties, True) and over.asked == [(LAST.text, 4), (AFTER.text, 3)]
+        for rows in ({(LAST.text, 4): (6000, True, move)}, {(LAST.text, 4): (6000, True, move), (AFTER.text, 3): (-4000, True, None)}):  # too deep, or another value
+            found = await Library(Book(rows), 1).find(LAST, 4, lambda _: None)
+            assert (found.line, found.empty) == ((move,), None)
+        found = await Library(Book({(LAST.text, 4): (6000, True, None)}), 1).find(LAST, 4, lambda _: None)
+        assert (found.line, found.empty) == ((), None)
+        found = await Library(Book({(LAST.text, 4): (5, False, move)}), 1).find(LAST, 4, lambda _: None)
+        assert (found.line, found.empty) == ((), None)
+
+    run(main())
+
+
+def test_a_pass_takes_no_ply():
+    place = Position.parse("XO" + "-" * 62 + " O")
+    after = place.play("pass")
+    last = after.play("c1")
+
+    async def main():
+        book = Book({(place.text, 4): (-6000, True, "pass"), (after.text, 4): (6000, True, "c1"), (last.text, 3): (-6000, True, None)})
+        found = await Library(book, 1).find(place, 4, lambda _: None)
+        assert (found.line, found.empty) == (("pass", "c1"), 61)
+        told = await lines_of(Service(Library(book, 1), [4], True), place, 4, ["pass"])
+        assert [line["kind"] for line in told if line["kind"] != "searching"] == ["step", "done"]
+
+    run(main())
+
+
+def test_so_many_are_kept():
+    async def main():
+        engine = Engine()
+        library = Library(engine, 1, most=2)
+        for depth in (1, 2, 1, 3):  # 2 is the one that wasn't used for longest
+            await library.find(OPENING, depth, lambda _: None)
+        assert [depth for _, depth in library.kept] == [1, 3] and library.asked == 3 and library.known(OPENING, 2) is None
+        await library.find(OPENING, 1, lambda _: None)
+        assert len(engine.asked) == 3 and library.cancelled == 0 and not library.flights
+
+    run(main())
+
+
+def test_a_full_server_is_asked_again_and_another_refusal_told(monkeypatch):
+    monkeypatch.setattr(page_library, "FIRST_PAUSE", 0.001)
+    monkeypatch.setattr(page_library, "LONGEST_PAUSE", 0.003)
+
+    async def main():
+        engine, told = Engine(), []
+        engine.faults = [Refused(number) for number in (10, 11, 14, 19)]
+        await Library(engine, 1).find(OPENING, 4, told.append)
+        assert [(event["kind"], event.get("again")) for event in told if event["kind"] != "searching"] == [("full", 0.001), ("full", 0.002), ("full", 0.003), ("full", 0.003)]
+        engine.faults = [Refused(30)]
+        library = Library(engine, 1)
+        with pytest.raises(Refused):
+            await library.find(OPENING, 4, told.append)
+        assert not library.flights and library.turns.taken == 0
+        engine.faults = [Refused(30)]
+        lines = await lines_of(Service(Library(engine, 1), [4], True), OPENING, 4)
+        assert [(line["kind"], line.get("code")) for line in lines] == [("searching", None), ("fault", "server")]
+
+    run(main())
+
+
+def test_who_comes_later_hears_what_was_told_last():
+    async def main():
+        engine = Engine(free=False)
+        library, heard = Library(engine, 1), [[], []]
+        first = asyncio.ensure_future(library.find(OPENING, 4, heard[0].append))
+        await asyncio.sleep(0.01)
+        second = asyncio.ensure_future(library.find(OPENING, 4, heard[1].append))
+        third = asyncio.ensure_future(library.find(OPENING, 5, heard[1].append))
+        await asyncio.sleep(0.01)
+        assert heard[1] == [{"kind": "searching"}, {"kind": "waiting", "ahead": 1}]
+        first.cancel()
+        await asyncio.sleep(0.01)
+        assert library.cancelled == 0
+        engine.go.set()
+        await asyncio.gather(second, third)
+        assert library.cancelled == 0
+
+    run(main())
+
+
+def test_a_place_that_comes_with_the_end_is_passed_on():
+    async def main():
+        turns = Turns(1)
+        told = [[], []]
+
+        async def hold(number):
+            async with turns.turn(told[number].append):
+                pass
+
+        async with turns.turn(lambda _: None):
+            waits = [asyncio.ensure_future(hold(number)) for number in range(2)]
+            await asyncio.sleep(0)
+        waits[0].cancel()  # it has the place already, and hasn't run
+        await asyncio.gather(*waits, return_exceptions=True)
+        assert waits[0].cancelled() and not waits[1].cancelled() and turns.taken == 0 and not turns.waiting
+
+    run(main())
+
+
+def test_what_is_left_is_given_up():
+    async def main():
+        engine = Engine(free=False)
+        service = Service(Library(engine, 1), [4], True)
+        lines = service.analyse(OPENING, 4, [])
+        assert json.loads(await anext(lines))["kind"] == "searching"
+        await lines.aclose()
+        await asyncio.sleep(0.01)
+        assert engine.given_up == [(OPENING.text, 4)] and not service.known.flights
+
+    run(main())
+
+
+def test_steps_that_are_known_are_not_told_again():
+    async def main():
+        engine = Engine()
+        service = Service(Library(engine, 1), [4, 6, 8], True)
+        first = await lines_of(service, OPENING, 8)
+        assert [line["depth"] for line in first if line["kind"] == "step"] == [4, 6, 8] and all(line["depth"] for line in first if line["kind"] == "searching")
+        assert [line["depth"] for line in await lines_of(service, OPENING, 8) if line["kind"] == "step"] == [8]
+        step = first[1]
+        assert step == {"kind": "step", "depth": 4, "ends": False, "score": {"sign": "=", "points": 4}, "best": "d3", "line": ["d3"],
+                        "table": {"d3": {"sign": "=", "points": 4}, "c4": {"sign": "<", "points": 3}, "f5": {"sign": "<", "points": 2}, "e6": {"sign": "<", "points": 1}}}
+
+    run(main())
+
+
+def test_exact_values_at_the_end_count_the_empty_squares():
+    place = Position.parse("-" * 48 + "OX--" + "OX--" + "-" * 8 + " O")
+    moves = place.legal_moves()
+
+    async def main():
+        behind = {move: place.play(move) for move in moves}
+        rows = {(place.text, 4): (2000, True, moves[0], (moves[0], "=", 2000), *((move, "=", 2000) for move in moves[1:]))}
+        rows |= {(after.text, 3): (-2000, True, None) for after in behind.values()}
+        told = await lines_of(Service(Library(Book(rows), 1), [4], True), place, 4, moves)
+        assert [line["move"] for line in told if line["kind"] == "exact"] == moves[1:]
+        assert all(line["score"]["discs"] == 1 and line["depth"] == 4 for line in told if line["kind"] == "exact")
+        rows[place.text, 4] = (5, False, moves[0], (moves[0], "=", 5), *((move, "=", 4) for move in moves[1:]))  # exact already, and no end: nothing is asked
+        told = await lines_of(Service(Library(Book(rows), 1), [4], True), place, 4, moves)
+        assert [line for line in told if line["kind"] == "exact"] == []
+        rows[place.text, 4] = (5, False, moves[0], (moves[0], "=", 5), *((move, "<", 4) for move in moves[1:]))
+        rows |= {(after.text, 3): (5, False, None) for after in list(behind.values())[1:2]}  # the others are too deep
+        for after in list(behind.values())[2:]:
+            del rows[after.text, 3]
+        told = await lines_of(Service(Library(Book(rows), 1), [4], True), place, 4, moves)
+        assert [(line["move"], line["score"]) for line in told if line["kind"] == "exact"] == [(moves[1], {"sign": "=", "points": -5})]
+
+    run(main())
+
+
+# Files.
+
+
+def test_files_and_their_tags():
+    async def main():
+        page = site()
+        page.port = 8047
+        answer = await page.answer(Request("GET", "/style.css", "/style.css", {}, {"host": "here"}, ""))
+        tag = answer.headers["ETag"]
+        assert answer.status == 200 and re.fullmatch('"[0-9a-f]{20}"', tag) and answer.headers["Cache-Control"] == "no-cache"
+        again = await page.answer(Request("HEAD", "/style.css", "/style.css", {}, {"host": "here", "if-none-match": tag}, ""))
+        assert (again.status, again.body, again.headers["ETag"]) == (304, b"", tag)
+        for method, path, status in (("POST", "/style.css", 405), ("GET", "/none", 404)):
+            with pytest.raises(Fault) as fault:
+                await page.answer(Request(method, path, path, {}, {"host": "here"}, ""))
+            assert fault.value.status == status
+        old = await page.answer(Request("GET", "/review", "/review", {}, {"host": "here"}, ""))
+        assert (old.status, old.headers["Location"]) == (302, "/")
+        asked = []
+        named = Site(Service(None, [], True), lambda host, port: asked.append((host, port)))
+        named.port = 8047
+        with pytest.raises(Fault) as fault:
+            await named.answer(Request("GET", "/", "/", {}, {"host": "a"}, ""))
+        assert fault.value.status == 403 and asked == [("a", 8047)]
 
     run(main())

@@ -174,6 +174,27 @@ IsSearching-real alpha beta v all left best choice s none some =
 pub IsSearching-next : {X : Type 0} (alpha beta : ℤ) (v : X → ℤ) (all left : List X) (best : ℤ) (choice : Option X) (c : X) (rest : List X) → IsSearching alpha beta v all left best choice → left ≡ c ∷ rest → Contains all c
 IsSearching-next alpha beta v all left best choice c rest s next = next_chosen all s.taken left rest c s.split next
 
+-- the same where nobody asks for the choice
+pub record Searched {X : Type 0} (alpha beta : ℤ) (v : X → ℤ) (all left : List X) (best : ℤ) : Type 0 where
+  pub choice : Option X
+  pub searching : IsSearching alpha beta v all left best choice
+
+pub Searched-turn : {X : Type 0} (alpha beta : ℤ) (v : X → ℤ) (all left : List X) (best : ℤ) (c : X) (rest : List X) (floor low high score value new_best : ℤ) →
+    Searched alpha beta v all left best → left ≡ c ∷ rest → floor ≡ int_max alpha best → low ≡ neg_ℤ beta → high ≡ neg_ℤ floor → IsBound low high score value → v c ≡ neg_ℤ value →
+    negsuc 127999 ≤ℤ score → score ≤ℤ pos 128000 → new_best ≡ int_max best (neg_ℤ score) → new_best <ℤ beta → Searched alpha beta v all rest new_best
+Searched-turn alpha beta v all left best c rest floor low high score value new_best s next floor_is low_is high_is bound worth least greatest is new_below =
+    by_lt_z best (neg_ℤ score)
+    (λ better. record {
+      choice = Some c;
+      searching = IsSearching-turn alpha beta v all left best s.choice c rest floor low high score value new_best (Some c) s.searching next floor_is low_is high_is bound worth least greatest
+          (λ same. (omega (arith, ints, clamps), refl)) (λ under. absurd (omega (arith, ints))) new_below;
+    })
+    (λ under. record {
+      choice = s.choice;
+      searching = IsSearching-turn alpha beta v all left best s.choice c rest floor low high score value new_best s.choice s.searching next floor_is low_is high_is bound worth least greatest
+          (λ better. absurd (omega (arith, ints))) (λ same. (omega (arith, ints, clamps), refl)) new_below;
+    })
+
 -- the value itself is a bound of it, whatever the window
 pub exact_bound : (alpha beta score value : ℤ) → value ≡ score → IsBound alpha beta score value
 exact_bound alpha beta score value same = grind arith

@@ -13,7 +13,8 @@
 //!
 //! What makes it true, between two choices of a position: no choice taken so far is worth more than the
 //! best score, and where that is above alpha, it is just what the first choice that has it is worth
-//! (`IsBestOf` of `proofs/WindowLemmas.antt`). The position after a choice is searched through the
+//! (`IsBestOf` of `proofs/WindowLemmas.antt`). Below the first position nobody asks for the choice, so it isn't kept
+//! there: two functions, one for the first position and one for all below it, with one invariant. The position after a choice is searched through the
 //! window from `-beta` to `-max(alpha, best)`, and a score of at least beta ends the position. Nothing
 //! is kept between two searches, no memory is taken, and the depth falls at each ply.
 //!

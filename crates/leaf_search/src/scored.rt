@@ -1,5 +1,6 @@
 //! What a search of a position gives.
 ghost use Rattle.std.specs.Prelude.{◌≡◌, ◌<ℤ◌, ◌≤ℤ◌, ◌+◌, ◌-◌, ◌^◌, ℤ, neg_ℤ, min};
+ghost use Rattle.std.specs.Int.{int_max};
 ghost use Rattle.othello_eval.specs.Values.{IsWithin};
 
 use othello_eval::othello_moves::Choice;
@@ -31,7 +32,7 @@ impl Scored {
 
     /// Adds the result of searching the position after `choice`, seen by the opponent. Where its negated score is
     /// above the score here, that and the choice replace the ones here. The counts of positions are added.
-    pub(crate) fn take_in(&mut self, choice: Choice, child: Scored)
+    pub(crate) fn take_in(&mut self, choice: Choice, child: Counted)
         requires { IsWithin 128000 child.score }
         ensures better { self.old.score <ℤ neg_ℤ child.score → (self.new.score ≡ neg_ℤ child.score) × (self.new.choice ≡ Some choice) }
         ensures kept { neg_ℤ child.score ≤ℤ self.old.score → (self.new.score ≡ self.old.score) × (self.new.choice ≡ self.old.choice) }
@@ -41,6 +42,39 @@ impl Scored {
         if -child.score > self.score {
             self.score = -child.score;
             self.choice = Some(choice);
+        }
+    }
+}
+
+/// What a search of a position below the first one gives: nobody asks for its choice.
+#[derive(Clone, Copy)]
+pub(crate) struct Counted {
+    /// The score, seen by the player to move.
+    pub score: i32,
+    /// How many positions were entered, the first included.
+    pub visited: u64,
+}
+
+impl Counted {
+    /// The result of entering one position: this score, and one position visited.
+    #[inline(always)]
+    pub(crate) fn entered(score: i32) -> Counted
+        ensures { result ≡ record { score = score; visited = 1 } }
+    {
+        Counted { score, visited: 1 }
+    }
+
+    /// With the result of searching the position after another choice, seen by the opponent: the greater score, and the
+    /// sum of the counts.
+    #[inline(always)]
+    pub(crate) fn with(self, child: Counted) -> Counted
+        requires { IsWithin 128000 child.score }
+        ensures score { result.score ≡ int_max self.score (neg_ℤ child.score) }
+        ensures visited { result.visited ≡ min (self.visited + child.visited) (2 ^ 64 - 1) }
+    {
+        Counted {
+            score: self.score.max(-child.score),
+            visited: self.visited.saturating_add(child.visited),
         }
     }
 }

@@ -1,12 +1,12 @@
 //! The search of a position and all that is entered below it.
-ghost use Rattle.std.specs.Prelude.{◌≡◌, ◌<◌, ◌≤◌, ◌<ℤ◌, ◌≤ℤ◌, IfSome, Contains, neg_ℤ, length};
+ghost use Rattle.std.specs.Prelude.{◌≡◌, ◌<◌, ◌≤◌, ◌<ℤ◌, ◌≤ℤ◌, IfSome, Contains, neg_ℤ};
 ghost use Rattle.othello_board.specs.Words.{cells};
 ghost use Rattle.othello_eval.specs.othello_moves.Choices.{choices};
-ghost use Rattle.othello_eval.specs.Values.{IsWithin};
+ghost use Rattle.othello_eval.specs.Values.{IsWithin, discs_value, weights};
 ghost use Rattle.othello_eval.specs.Minimax.{minimax, best_choice};
 ghost use Rattle.leaf_search.specs.Bounds.{IsBound};
 
-use super::scored::Scored;
+use super::scored::{Counted, Scored};
 use super::window::{INF, Window};
 use othello_board::Board;
 use othello_eval::othello_moves::{Choices, Mobility, plies};
@@ -30,7 +30,11 @@ pub fn search(board: Board, depth: u8, alpha: i32, beta: i32) -> Scored
     ensures within { IsWithin 128000 result.score }
     ensures chosen { IfSome result.choice (Contains (choices (cells board))) }
 {
-    search_below(Weighed::of(board), depth, Window { alpha, beta })
+    let weighed = Weighed::of(board);
+    if depth > 0 {
+        return best_of(weighed, depth, Window { alpha, beta });
+    }
+    Scored::entered(entered(weighed))
 }
 
 /// Searches a board to a depth of 0 to 12 plies through the full window, in which every value lies: the
@@ -45,43 +49,76 @@ pub fn search_full(board: Board, depth: u8) -> Scored
     search(board, depth, -INF, INF)
 }
 
-/// Searches one position, and what has to be entered below it. Within `best_of` it is no call: most positions are
-/// leaves, which have none below them.
-#[cycle(search)]
+/// The value of a position at depth 0.
 #[inline(always)]
-fn search_below(weighed: Weighed, depth: u8, window: Window) -> Scored
-    ensures bound { IsBound window.alpha window.beta result.score (minimax depth (cells weighed.board)) }
-    ensures choice { window.alpha <ℤ result.score → result.score <ℤ window.beta → result.choice ≡ best_choice depth (cells weighed.board) }
-    ensures within { IsWithin 128000 result.score }
-    ensures chosen { IfSome result.choice (Contains (choices (cells weighed.board))) }
+fn entered(weighed: Weighed) -> i32
+    ensures value { result ≡ minimax 0 (cells weighed.board) }
+    ensures within { IsWithin 128000 result }
 {
     let mobility = Mobility::of(weighed.board);
     if mobility.is_over() {
-        return Scored::entered(final_value(weighed.board));
+        return final_value(weighed.board);
     }
-    if depth == 0 {
-        return Scored::entered(weighed.eval(mobility));
-    }
-    best_of(weighed, Choices::of(mobility), depth, window)
+    weighed.eval(mobility)
 }
 
 /// Searches the positions after the choices of a board in order, to a depth of 1 or more, until one has
-/// a score of at least beta.
-#[cycle(search)]
-fn best_of(weighed: Weighed, mut left: Choices, depth: u8, window: Window) -> Scored
-    requires choices { left ≡ choices (cells weighed.board) }
-    requires some { 0 < length left }
-    requires deep { 0 < depth }
+/// a score of at least beta, and says which choice was best.
+fn best_of(weighed: Weighed, depth: u8, window: Window) -> Scored
+    requires { 0 < depth }
     ensures bound { IsBound window.alpha window.beta result.score (minimax depth (cells weighed.board)) }
     ensures choice { window.alpha <ℤ result.score → result.score <ℤ window.beta → result.choice ≡ best_choice depth (cells weighed.board) }
     ensures within { IsWithin 128000 result.score }
     ensures chosen { IfSome result.choice (Contains (choices (cells weighed.board))) }
 {
+    let mut left = Choices::new(weighed.board);
+    if left.is_empty() {
+        return Scored::entered(final_value(weighed.board));
+    }
     let mut best = Scored::entered(-INF);
     while let Some(choice) = left.pop_first() {
-        let below = depth - plies(choice) as u8;
-        let child = search_below(weighed.after(choice), below, window.of_child(&best));
+        let rest = depth - plies(choice) as u8;
+        let child = search_below(weighed.after(choice), rest, window.of_child(best.score));
         best.take_in(choice, child);
+        if best.score >= window.beta {
+            return best;
+        }
+    }
+    best
+}
+
+/// Searches one position below the first, and what has to be entered below it. Within `score_of` it is no call: most
+/// positions are leaves, which have none below them.
+#[cycle(search)]
+#[inline(always)]
+fn search_below(weighed: Weighed, depth: u8, window: Window) -> Counted
+    ensures bound { IsBound window.alpha window.beta result.score (minimax depth (cells weighed.board)) }
+    ensures within { IsWithin 128000 result.score }
+{
+    if depth > 0 {
+        return score_of(weighed.board, weighed.discs, depth, window);
+    }
+    Counted::entered(entered(weighed))
+}
+
+/// As `best_of`, without the choice. The board and the value of its discs are handed on by themselves, in registers.
+#[cycle(search)]
+fn score_of(board: Board, discs: i32, depth: u8, window: Window) -> Counted
+    requires weighed { discs ≡ discs_value (cells board) weights }
+    requires deep { 0 < depth }
+    ensures bound { IsBound window.alpha window.beta result.score (minimax depth (cells board)) }
+    ensures within { IsWithin 128000 result.score }
+{
+    let mut left = Choices::new(board);
+    if left.is_empty() {
+        return Counted::entered(final_value(board));
+    }
+    let weighed = Weighed { board, discs };
+    let mut best = Counted::entered(-INF);
+    while let Some(choice) = left.pop_first() {
+        let below = depth - plies(choice) as u8;
+        let child = search_below(weighed.after(choice), below, window.of_child(best.score));
+        best = best.with(child);
         if best.score >= window.beta {
             return best;
         }

@@ -3,8 +3,6 @@ ghost use Rattle.std.specs.Prelude.{◌≡◌, ◌<ℤ◌, ◌≤ℤ◌, neg_ℤ
 ghost use Rattle.std.specs.Int.{int_max};
 ghost use Rattle.leaf_search.specs.declared.window.TheConstants.{INF};
 
-use super::scored::Scored;
-
 /// A bound that no score reaches: the window from `-INF` to `INF` is the full one.
 pub const INF: i32 = 200_000;
 
@@ -21,15 +19,16 @@ pub(crate) struct Window {
 
 impl Window {
     /// The window in which to search the position after the next choice, seen by the opponent, where `best` is the
-    /// best result so far: from `-beta` to `-max(alpha, best.score)`, since only a score above both still counts.
-    pub(crate) fn of_child(self, best: &Scored) -> Window
-        requires { best.now.score <ℤ self.beta }
+    /// best score so far: from `-beta` to `-max(alpha, best)`, since only a score above both still counts.
+    #[inline(always)]
+    pub(crate) fn of_child(self, best: i32) -> Window
+        requires { best <ℤ self.beta }
         ensures alpha { result.alpha ≡ neg_ℤ self.beta }
-        ensures beta { result.beta ≡ neg_ℤ (int_max self.alpha best.now.score) }
+        ensures beta { result.beta ≡ neg_ℤ (int_max self.alpha best) }
     {
         Window {
             alpha: -self.beta,
-            beta: -self.alpha.max(best.score),
+            beta: -self.alpha.max(best),
         }
     }
 }

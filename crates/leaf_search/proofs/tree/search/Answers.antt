@@ -1,8 +1,24 @@
-use Rattle.std.proofs.Common.{IfSome, Contains, subst}
-use Rattle.othello_board.specs.declared.boards.Board.{Board}
+use Rattle.std.proofs.Common.{◌≡◌, sym, ◌∙◌, ap, subst, arith}
+use Rattle.std.specs.Prelude.{IfSome, Contains}
+use Rattle.std.proofs.lemmas.Int.{ints}
 use Rattle.othello_board.specs.Words.{cells}
 use Rattle.othello_eval.specs.othello_moves.Choices.{choices}
+use Rattle.othello_eval.specs.Minimax.{minimax}
+use Rattle.othello_eval.proofs.MinimaxLemmas.{best_choice-leaf}
+use Rattle.leaf_search.specs.declared.scored.Scored.{Scored}
+use Rattle.leaf_search.proofs.WindowLemmas.{exact_bound}
 use Rattle.leaf_search.proofs.tree.search.Goals as goal
 
-pub returns-clause-chosen : goal.returns-clause-chosen
-returns-clause-chosen c = subst (λ (b : Board). IfSome c.search_below.result.choice (Contains (choices (cells b)))) c.of.ensures c.search_below.ensures.chosen
+pub returns-then-depth-gt0-clause-chosen : goal.returns-then-depth-gt0-clause-chosen
+returns-then-depth-gt0-clause-chosen c = subst (λ b. IfSome c.best_of.result.choice (Contains (choices (cells b)))) c.of-weighed.ensures c.best_of.ensures.chosen
+
+pub returns-clause-bound : goal.returns-clause-bound
+returns-clause-bound c =
+    let none : c.args.depth ≡ 0 = omega arith in
+    let score_is : c.entered.result ≡ c.entered-2.result.score = omega (arith, ints, ap (λ (s : Scored). s.score) c.entered-2.ensures) in
+    exact_bound _ _ _ _ (ap (λ d. minimax d (cells c.args.board)) none ∙ ap (λ b. minimax 0 (cells b)) (sym c.of-weighed.ensures) ∙ sym c.entered.ensures.value ∙ score_is)
+
+pub returns-clause-choice : goal.returns-clause-choice
+returns-clause-choice c higher lower =
+    let none : c.args.depth ≡ 0 = omega arith in
+    rw (c.entered-2.ensures, none) (sym (best_choice-leaf (cells c.args.board)))

@@ -1,0 +1,30 @@
+use Rattle.std.proofs.Common.{◌≡◌, ◌↔◌, Bool, IsTrue, true, false, [], sym, ◌∙◌, ap, arith}
+use Rattle.std.proofs.lemmas.Int.{ints}
+use Rattle.othello_board.specs.declared.boards.Board.{Board}
+use Rattle.othello_board.specs.Words.{cells}
+use Rattle.othello_eval.specs.othello_moves.Choices.{choices}
+use Rattle.othello_eval.specs.Minimax.{minimax}
+use Rattle.othello_eval.proofs.BestLemmas.{minimax_leaf_there}
+use Rattle.othello_eval.proofs.MinimaxLemmas.{minimax-over}
+use Rattle.leaf_search.proofs.tree.entered.Goals as goal
+
+-- where the game is over
+pub returns-then-is_over-clause-value : goal.returns-then-is_over-clause-value
+returns-then-is_over-clause-value c =
+    let value : c.final_value.result ≡ minimax 0 (cells c.args.weighed.board) =
+    c.final_value.ensures.value
+    ∙ sym (minimax-over 0 (cells c.args.weighed.board) (ap (λ b. choices (cells b)) (sym c.of-mobility.ensures) ∙ c.is_over.ensures.0 c.if-is_over.true)) in
+    omega (arith, ints, value)
+
+-- where it goes on
+goes_on : (board b : Board) (over : Bool) → b ≡ board → IsTrue over ↔ (choices (cells b) ≡ []) → over ≡ false → choices (cells board) ≡ [] → ⊥
+goes_on board b over same exactly denied none =
+    let told : over ≡ true = exactly.1 (ap (λ x. choices (cells x)) same ∙ none) in
+    cc
+
+pub returns-clause-value : goal.returns-clause-value
+returns-clause-value c =
+    let value : c.eval.result ≡ minimax 0 (cells c.args.weighed.board) =
+    c.eval.ensures.value
+    ∙ sym (minimax_leaf_there (cells c.args.weighed.board) (goes_on c.args.weighed.board c.of-mobility.result.board c.is_over.result c.of-mobility.ensures c.is_over.ensures c.if-is_over.false)) in
+    omega (arith, ints, value)
