@@ -1,7 +1,10 @@
 // The page's parts without a browser: formats, trees, scores, what is judged, openings, QR codes. `node --test clients/page/test.mjs`
 import assert from "node:assert/strict";
+import childProcess from "node:child_process";
 import crypto from "node:crypto";
 import fs from "node:fs";
+import os from "node:os";
+import path from "node:path";
 import test from "node:test";
 import { read, written } from "./js/address.js";
 import { stepsOf } from "./js/analyst.js";
@@ -172,6 +175,25 @@ test("the rules by the module are those of the page", async () => {
     for (const [position, squares] of own) assert.equal(rules.legal(...wordsOf(position)), squares.reduce((word, at) => word | (1n << BigInt(at)), 0n));
   }
   useEngine(null);
+});
+
+test("a byte of a module that changed is noticed, also where nothing is built", () => {
+  const folder = fs.mkdtempSync(path.join(os.tmpdir(), "page")), copy = path.join(folder, "clients/page");
+  const checked = () => childProcess.spawnSync("/usr/bin/python3", [path.join(copy, "build"), "--check"], { env: { PATH: "/nowhere" }, encoding: "utf8" });
+  try {
+    fs.cpSync(new URL("engine", import.meta.url), path.join(copy, "engine"), { recursive: true });
+    fs.copyFileSync(new URL("build", import.meta.url), path.join(copy, "build"));
+    assert.equal(checked().status, 0, checked().stderr);
+    for (const name of ["page32.wasm", "page64.wasm"]) {
+      const file = path.join(copy, "engine", name), bytes = fs.readFileSync(file), at = bytes.length >> 1;
+      fs.writeFileSync(file, bytes.map((byte, place) => (place === at ? byte ^ 1 : byte)));
+      const { status, stderr } = checked();
+      assert.ok(status === 1 && stderr.includes(`${name} has another sum`), stderr);
+      fs.writeFileSync(file, bytes);
+    }
+  } finally {
+    fs.rmSync(folder, { recursive: true });
+  }
 });
 
 test("a QR code has the size of its version, its finders and one dark module", () => {

@@ -1,6 +1,7 @@
 // Has the browser keep the page, where it is served, so that it opens without a network too.
 
 const SCRIPT = "offline.js";
+const SERVICE = /\/(about\.json|analyse|class)(\/|$)/; // what isn't kept
 
 /** The script's address, as a page that requires trusted types may name it: this one alone. */
 function trusted() {
@@ -18,9 +19,10 @@ export async function keepPage() {
   try {
     await navigator.serviceWorker.register(trusted());
     await navigator.serviceWorker.ready;
-    const loaded = performance.getEntriesByType("resource").map(({ name }) => name).filter((name) => name.startsWith(new URL(".", document.baseURI).href) && !name.includes("/class") && !name.includes("/analyse"));
+    const here = new URL(".", document.baseURI).href, asked = performance.getEntriesByType("resource").map(({ name }) => name);
+    const files = asked.filter((name) => name.startsWith(here) && !SERVICE.test(new URL(name).pathname));
     const kept = await caches.open("board");
-    await kept.addAll([...new Set([new URL(".", document.baseURI).href, ...loaded])]);
+    await kept.addAll([...new Set([here, ...files])]);
   } catch {
     // the page works all the same
   }

@@ -56,8 +56,8 @@ export class Told {
     const { app, analyst } = this, state = analyst.stateOf(position);
     if (!$("analyse").checked) return t("state.off");
     if (app.stopped) return t("state.stopped");
-    if (state?.kind === "fault") return t("state.fault", { text: state.text ?? "" });
     if (analyst.local.fault && !analyst.service.length) return t("fault.engine", { text: analyst.local.fault.message });
+    if (state?.kind === "fault") return t("state.fault", { text: state.text ?? "" });
     if (!analyst.local.engine && !analyst.service.length && !known) return isOver(position) ? "" : t("state.begins");
     if (state?.kind === "waiting") return t("state.waiting", { n: state.ahead });
     if (state && state.kind !== "searching") return t(`state.${state.kind}`, { n: Math.ceil(state.again ?? 1) });

@@ -3,7 +3,7 @@ import shutil
 import subprocess
 
 from browsers import opened
-from stand import GAME, NAMES, PAGE, SCORES, TOP, check, chosen, files, free_port, random_moves, settled, whole_game, worths
+from stand import GAME, NAMES, PAGE, SCORES, TEXT, TOP, check, chosen, files, free_port, play, random_moves, settled, until, whole_game, worths
 
 
 def brief(value, ends):
@@ -49,6 +49,22 @@ def try_again(name):
     print(f"board: {name}: without its server, once it was loaded")
 
 
+def try_changed(name, folder):
+    """A module one byte of which was changed isn't run: the page says so, and the board goes on without values."""
+    copy = folder / f"changed-{name}"
+    shutil.copytree(PAGE, copy)
+    for path in copy.glob("engine/*.wasm"):
+        data = bytearray(path.read_bytes())
+        data[len(data) // 2] ^= 1
+        path.write_bytes(data)
+    with files(folder=copy) as address, opened(name) as shown:
+        shown.open(f"{address}#moves={GAME}&depth=2")
+        until("the fault", lambda: shown.says("#state", "fault.engine"))
+        play(shown, [shown.evaluate("document.querySelector('.square.legal').dataset.square")])
+        check(shown.evaluate(SCORES) == {} and len(shown.evaluate(TEXT)) == len(GAME) + 2, f"{name}: values of a changed module: {shown.evaluate(SCORES)}")
+    print(f"board: {name}: a changed module isn't run")
+
+
 def try_made():
     """board.html is what the script makes of the files."""
     check(subprocess.run([PAGE / "bundle", "--check"], check=False).returncode == 0, "board.html isn't up to date")
@@ -56,5 +72,5 @@ def try_made():
 
 
 def try_all(folder, name, only=""):
-    for trial in chosen(only, try_made, try_file, try_again):
-        trial(*{try_made: (), try_file: (name, folder), try_again: (name,)}[trial])
+    for trial in chosen(only, try_made, try_file, try_again, try_changed):
+        trial(*{try_made: (), try_again: (name,)}.get(trial, (name, folder)))

@@ -86,6 +86,13 @@ def try_reading(shown, address, folder):
         shown.click("#fresh")
         shown.click("#import")
         check(shown.text("#names") == "Anna – Bo, 2026-11-27, 4" and shown.evaluate(TEXT) == GAME[:16], f"{shown.name}: {kind}: {shown.text('#names')}")
+    shown.driver.execute_script("window.saved = []; const given = URL.createObjectURL; URL.createObjectURL = (one) => { saved.push([one.type, one.size]); return given.call(URL, one); }")
+    for kind, many in (("svg", 1), ("png", 2), ("wtb", 5)):
+        shown.fill("#save-as", kind)
+        shown.click("#save")
+        shown.until(kind, f"window.saved.length === {many}")
+    kinds = shown.evaluate("window.saved.map(([kind, size]) => kind.split('/')[1] + (size > 15 ? '' : ' ' + size))")
+    check(kinds == ["svg+xml", "png", *["octet-stream"] * 3], f"{shown.name}: saved: {kinds}")
     for number, text in enumerate((whole, GAME)):
         (folder / f"{number}.txt").write_text(text)
     if shown.name == "chromium":

@@ -37,16 +37,20 @@ GAME = "f5d6c3d3c4f4f6g5e3f3g4h5g6g3h6f7"
 
 
 class Quiet(http.server.SimpleHTTPRequestHandler):
-    """The page's files, and nothing said of it."""
+    """The page's files, of which the browser's cache keeps nothing, and nothing said of it."""
+
+    def end_headers(self):
+        self.send_header("Cache-Control", "no-store")
+        super().end_headers()
 
     def log_message(self, *words):
         pass
 
 
 @contextlib.contextmanager
-def files(port=0):
+def files(port=0, folder=PAGE):
     """The page's files by a web server that knows nothing of them; gives its address."""
-    server = http.server.ThreadingHTTPServer(("127.0.0.1", port), functools.partial(Quiet, directory=PAGE))
+    server = http.server.ThreadingHTTPServer(("127.0.0.1", port), functools.partial(Quiet, directory=folder))
     server.daemon_threads = True
     thread = threading.Thread(target=server.serve_forever, daemon=True)
     thread.start()
