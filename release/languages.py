@@ -4,7 +4,7 @@
 usage: release/languages.py make TREE OUT    (of the tree of a release's archive, or a checkout; times by SOURCE_DATE_EPOCH)
        release/languages.py try OUT          (OUT: a release; what isn't installed here is skipped and named)
 
-Where TREE/othello is a program, and no script, a wheel and the jar have it in themselves. `try` installs each from OUT alone, by `pip install`, by
+Where TREE has programs, as an archive does, a wheel has them in itself, and the jar the one for x86-64-v2. `try` installs each from OUT alone, by `pip install`, by
 `npm install ./..tgz` and by Maven without a registry (Debian's packages), and runs the first program of its README with a server of the archive.
 """
 import contextlib
@@ -50,13 +50,13 @@ def make(tree, out, epoch):
     pack_npm(tree, out / f"{about['name']}-{about['version']}.tgz", about["files"], epoch)
     if f"  <version>{about['version']}</version>" not in (tree / "clients/java/pom.xml").read_text() or about["version"] != (tree / "VERSION").read_text().strip():
         fail("VERSION, package.json and pom.xml have other versions")
-    program = [tree / "othello"] if (tree / "othello").read_bytes()[:4] == b"\x7fELF" else []  # a checkout has a script there
+    programs = [path for cpu in ("x86-64-v2", "x86-64-v3") if (path := tree / "programs" / cpu / "othello").exists()]
     around = dict(os.environ, SOURCE_DATE_EPOCH=str(epoch))
-    subprocess.run([tree / "clients/java/build", "jars", out, *program], check=True, env=around)
+    subprocess.run([tree / "clients/java/build", "jars", out, *programs[:1]], check=True, env=around)
     subprocess.run([PYTHON, tree / "clients/python/build", "packages", out], check=True, env=around, stdout=subprocess.DEVNULL)
     settle(out / f"coluwen-{about['version']}.tar.gz", epoch)
-    if program:
-        subprocess.run([PYTHON, HERE / "wheel.py", "make", tree, out, *program], check=True, env=around, stdout=subprocess.DEVNULL)
+    if programs:
+        subprocess.run([PYTHON, HERE / "wheel.py", "make", tree, out, *programs], check=True, env=around, stdout=subprocess.DEVNULL)
 
 
 def settle(path, epoch):
