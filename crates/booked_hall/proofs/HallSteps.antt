@@ -14,10 +14,16 @@ use Rattle.sched_rules.specs.Trees.{Tenant, admitted_with}
 use Rattle.sched_rules.specs.Lone.{Outcome, lone, lone_step, is_lower}
 use Rattle.sched_rules.specs.Runs.{tenant_of, answer_of}
 use Rattle.sched_rules.specs.Cores.{CoreState, tenant_in, with_outcome, reservations_in, is_full, is_beyond, step_result, shared_with}
-use Rattle.sched_rules.specs.Headline.{AreNumbersGiven, IsOneStep}
+use Rattle.sched_rules.specs.Headline.{AreNumbersGiven, IsOneStep, is_admission}
 use Rattle.sched_rules.proofs.Isolation.{IsTaken, step-taken, shared-after-taken}
 use Rattle.sched_laws.proofs.Shaped.{by-kinds, unless-passed}
 use Rattle.booked_hall.specs.Booked.{is_within_seat}
+
+-- a step within its seat is no admission
+pub no-admission : {A : Type 0} (step : StepOf A) → is_within_seat step ≡ true → is_admission step ≡ false
+no-admission (Admit n q) within = absurd cc
+no-admission (AdmitMore n q) within = absurd cc
+no-admission _ within = refl
 
 module _ {I A : Type 0} (functions : Functions I A) where
   -- a step that was taken

@@ -1,4 +1,5 @@
-ghost use Rattle.std.specs.Prelude.{◌≡◌, ◌≤◌, [], true, None};
+ghost use Rattle.std.specs.Prelude.{◌≡◌, ◌≢◌, ◌≤◌, [], true, None, Err};
+ghost use Rattle.sched_rules.specs.declared.refusal.Refusal.TheVariants.{OutOfMemory};
 ghost use Rattle.hall.specs.jamboree_core.Replies.{IsSearch};
 ghost use Rattle.hall.specs.Halls.{IsDecided};
 ghost use Rattle.site_book.specs.Books.{taken, why_not_replan, Replans};
@@ -87,12 +88,14 @@ impl<A: Allocator + Clone> BookedHall<A> {
         leave(&mut self.hall, &mut self.book, who, number)
     }
 
-    /// Offers the hall a step that neither begins nor ends a tenant, nor raises what it reserves. The book stays as it is.
+    /// Offers the hall a step that neither begins nor ends a tenant, nor raises what it reserves. The book stays as it is, and it is
+    /// never refused for want of memory.
     pub fn offer(&mut self, step: &Step<Jamboree>) -> StepAnswer
         requires search { IsSearch step.now }
         requires within { is_within_seat step.now ≡ true }
         ensures hall { IsDecided self.old.hall step.now result self.new.hall }
         ensures book { self.new.book ≡ self.old.book }
+        ensures memory { result ≢ Err OutOfMemory }
     {
         self.hall.offer(step)
     }

@@ -1,1 +1,1 @@
-mod ComingLemmas
+pub mod ComingLemmas

@@ -28,16 +28,16 @@ pub struct Comer {
     /// What it is to reserve.
     pub ask: Reserve,
     /// The time.
-    pub now: u64,
+    pub at: u64,
     /// How long a guest may say nothing, where another comes.
     pub most: u64,
 }
 
 /// What comes of one who asks for a session at a hall that has these grants and sessions.
-pub fn what_comes_of(plan: &Plan, grants: &[Held], roll: &[Present], comer: Comer) -> Coming
+pub fn what_comes_of(plan: &Plan, grants: &[Held], roll: &[Present], comer: &Comer) -> Coming
     requires few { length grants.now ≤ 64 }
     requires alike { length grants.now ≡ length roll.now }
-    ensures { result ≡ coming plan.now grants.now roll.now comer.who comer.ask comer.now comer.most }
+    ensures { result ≡ coming plan.now grants.now roll.now comer.now.who comer.now.ask comer.now.at comer.now.most }
 {
     let Some(refusal) = why_over(plan, grants, comer.who, comer.ask) else {
         return Coming::Enters;
@@ -50,12 +50,12 @@ pub fn what_comes_of(plan: &Plan, grants: &[Held], roll: &[Present], comer: Come
         grants,
         roll,
         Leaver::Idle {
-            now: comer.now,
+            now: comer.at,
             most: comer.most,
         },
     );
     let why = why_over(plan, busy.as_slice(), comer.who, comer.ask);
-    unless_idle(refusal, why, idlest(roll, comer.now, comer.most))
+    unless_idle(refusal, why, idlest(roll, comer.at, comer.most))
 }
 
 /// Whether the idlest guest is to end for one who is refused, by why it is refused though all idle ones have gone.

@@ -18,8 +18,8 @@
 //!
 //! ```text
 //! let mut roll = Roll::new();
-//! what_comes_of(&plan, book.grants(), roll.entries(), comer)              // Coming::Enters
-//! roll.enter(comer.who, 1, comer.now);                                    // and the book opens session 1
+//! what_comes_of(&plan, book.grants(), roll.entries(), &comer)             // Coming::Enters
+//! roll.enter(comer.who, 1, comer.at);                                     // and the book opens session 1
 //! roll.mark(Whom::One(1), Mark::Spoke(now));
 //! roll.mark(Whom::Each(Part::Guests), Mark::Told(Told::ByOperator));
 //! roll.leave(comer.who, 1);                                               // and the book closes it

@@ -1,9 +1,11 @@
 ghost use Rattle.std.specs.Prelude.{◌≡◌, ◌+◌, ◌≤◌, ◌<◌, ◌++◌, ◌∷◌, [], length, if◌then◌else◌};
+ghost use Rattle.site_roll.specs.Comings.{told_by};
 ghost use Rattle.site_roll.specs.Rolls.{idler, idlest, marked_all, newcomer, remaining, without_present};
 
+use crate::coming::told_by;
 use crate::present::{Leaver, Mark, Present, Whom};
 use arrayvec::ArrayVec;
-use site_book::{Held, Who};
+use site_book::{Held, Plan, Who};
 use std::marker::Model;
 
 /// The most sessions of a hall.
@@ -63,6 +65,15 @@ impl Roll {
         ensures { self.new ≡ marked_all whom mark self.old }
     {
         self.entries = marked(self.entries.as_slice(), whom, mark);
+    }
+
+    /// Tells those to end that don't stay under another plan, where these are their grants.
+    pub fn tell_by(&mut self, plan: &Plan, grants: &[Held])
+        requires few { length grants.now ≤ 64 }
+        requires alike { length grants.now ≡ length self.old }
+        ensures { self.new ≡ told_by plan.now [] grants.now self.old }
+    {
+        self.entries = told_by(plan, grants, self.entries.as_slice());
     }
 }
 

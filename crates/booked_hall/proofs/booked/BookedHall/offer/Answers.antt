@@ -2,6 +2,7 @@ use Rattle.std.proofs.Common.{subst}
 use Rattle.hall.specs.Halls.{IsDecided}
 use Rattle.booked_hall.specs.Booked.{BookedOf}
 use Rattle.booked_hall.proofs.Keepings.{booked-step}
+use Rattle.booked_hall.proofs.HallSteps.{no-admission}
 use Rattle.booked_hall.proofs.booked.BookedHall.offer.Goals as goal
 
 pub invariant_of-self : goal.invariant_of-self
@@ -13,3 +14,6 @@ pub returns-clause-hall : goal.returns-clause-hall
 returns-clause-hall g c =
     let answer = c.offer.ensures in
     subst (λ (b : BookedOf). IsDecided b.hall c.args.step.now c.offer.result c.offer.new.self) c.self.view_is (record { one = answer.one; taken = answer.taken; refused = answer.refused; count = answer.count })
+
+pub returns-clause-memory : goal.returns-clause-memory
+returns-clause-memory g c = c.offer.ensures.memory (no-admission c.args.step.now c.requires.within)
