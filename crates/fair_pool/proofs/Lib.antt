@@ -1,0 +1,2 @@
+pub mod PickLemmas
+pub mod StepLemmas

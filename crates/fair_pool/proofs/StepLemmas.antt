@@ -1,0 +1,30 @@
+-- What a worker offers is a worker's step.
+use Rattle.std.proofs.Common.{◌≡◌, ℕ, true, false, ◌==◌, if◌then◌else◌, Some, IfSome, sym, subst, refl}
+use Rattle.sched_rules.specs.declared.step.StepOf.{StepOf}
+use Rattle.sched_rules.specs.declared.step.StepOf.TheVariants.{Take, Steal}
+use Rattle.hall.specs.jamboree_rules.declared.leaf.LeafAnswer.{LeafAnswer}
+use Rattle.pool_rules.specs.declared.turn.Action.{Action}
+use Rattle.pool_rules.specs.declared.turn.Action.TheVariants.{Get, Run, Bring, TakeIn, Finish}
+use Rattle.pool_rules.specs.declared.turn.Holding.{Holding}
+use Rattle.pool_rules.specs.declared.turn.Holding.TheVariants.{Nothing, Next, Computing, GivingUp}
+use Rattle.pool_rules.specs.Turns.{step_of, offered}
+use Rattle.hall.specs.Journals.{is_worker_step}
+
+-- for each action
+worker-step_of : (worker : ℕ) (action : Action) → is_worker_step (step_of worker action) ≡ true
+worker-step_of worker (Get task) = elim (task.home == worker) as (λ own. is_worker_step {A = LeafAnswer} (if own then Take worker task.frame else Steal worker task.home task.frame) ≡ true) [ true ↦ refl | false ↦ refl ]
+worker-step_of worker (Run frame) = refl
+worker-step_of worker (Bring frame answer) = refl
+worker-step_of worker (TakeIn frame) = refl
+worker-step_of worker (Finish frame) = refl
+
+-- for all that it may hold
+worker-offered : (worker : ℕ) (holding : Holding) → IfSome (offered worker holding) (λ step. is_worker_step step ≡ true)
+worker-offered worker Nothing = tt
+worker-offered worker (Next action) = worker-step_of worker action
+worker-offered worker (Computing frame leaf) = tt
+worker-offered worker (GivingUp action) = refl
+
+-- so the step that is offered is one
+pub offers_a_worker_step : (worker : ℕ) (holding : Holding) (step : StepOf LeafAnswer) → Some step ≡ offered worker holding → is_worker_step step ≡ true
+offers_a_worker_step worker holding step same = subst (λ offer. IfSome offer (λ step. is_worker_step step ≡ true)) (sym same) (worker-offered worker holding)

@@ -1,0 +1,6 @@
+use Rattle.std.proofs.Common.{◌≡◌}
+use Rattle.fair_pool.specs.Picks.{seen_up_to}
+use Rattle.fair_pool.proofs.picks.see_all.Given as goal
+
+abbrev pub invariant-loop-place : goal.invariant-loop-place
+invariant-loop-place g l = l.shares ≡ seen_up_to l.hall.shared l.place l.initial.shares

@@ -1,0 +1,6 @@
+use Rattle.std.proofs.Common.{◌≡◌}
+use Rattle.task_deques.specs.Deals.{posts}
+use Rattle.fair_pool.proofs.worker.run_worker.Given as goal
+
+abbrev pub invariant-loop : goal.invariant-loop
+invariant-loop g l = posts l.hands.ends ≡ posts l.initial.hands.ends

@@ -1,0 +1,4 @@
+pub use Rattle.hall.specs as hall
+pub mod Picks
+pub mod Rhythms
+pub mod Works

@@ -1,0 +1,45 @@
+//! Which frame of a hall comes next, by who was served least.
+ghost use Rattle.std.specs.Prelude.{◌≡◌, IfSome, IfNone};
+ghost use Rattle.fair_pool.specs.Picks.{seen_all, IsFairTask, IsNoTask};
+
+use fair_share::FairShare;
+use hall::Hall;
+use std::alloc::Allocator;
+use task_deques::pool_rules::Task;
+
+/// How many places there are for tenants.
+const PLACES: usize = 64;
+
+/// Sees of all tenants whether they have a ready frame.
+#[tactic(auto, using(crate::proofs::PickLemmas::seen_more, crate::proofs::PickLemmas::seen_none))]
+fn see_all<A: Allocator>(hall: &Hall<A>, shares: &mut FairShare)
+    ensures { shares.new ≡ seen_all hall.now.shared shares.old }
+{
+    for place in 0..PLACES {
+        let newest = hall.core().newest_ready(shares.tenant_at(place));
+        shares.see(place, newest.is_some());
+    }
+}
+
+/// The task that comes next: the newest ready frame of a tenant of a customer that none with a ready frame was served less than, and
+/// of its networks and tenants likewise. The frame isn't taken, and nobody is charged. None where no tenant that shares has one.
+pub fn fair_task<A: Allocator>(hall: &Hall<A>, shares: &mut FairShare) -> Option<Task>
+    ensures seen { shares.new ≡ seen_all hall.now.shared shares.old }
+    ensures task { IfSome result (IsFairTask hall.now.shared shares.new) }
+    ensures none { IfNone result (IsNoTask hall.now.shared shares.new) }
+{
+    see_all(hall, shares);
+    let place = shares.pick()?;
+    let tenant = shares.tenant_at(place);
+    match hall.core().newest_ready(tenant) {
+        Some((frame, home)) => Some(Task { frame, home }),
+        None => None,
+    }
+}
+
+/// The tenant was served so much more, if it is one that shares.
+pub fn charge(shares: &mut FairShare, tenant: u64, amount: u64) {
+    if let Some(place) = shares.place_of(tenant) {
+        shares.charge(place, amount);
+    }
+}
