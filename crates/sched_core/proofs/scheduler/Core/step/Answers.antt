@@ -1,6 +1,6 @@
 use Rattle.sched_core.proofs.Stepping.{kept-still, fits-still, stays-on_err}
 use Rattle.sched_core.proofs.Fitting.{kept-fitting}
-use Rattle.sched_core.proofs.scheduler.Core.step_as.Goals as goal
+use Rattle.sched_core.proofs.scheduler.Core.step.Goals as goal
 
 pub invariant_of-self : goal.invariant_of-self
 invariant_of-self g c =
