@@ -10,8 +10,8 @@ use line_io::{
     Answer, FromReader, FromWriter, Line, LineFault, Sink, Source, answer_lines,
     known_runs_are_exact,
 };
-use lone_search::leaf_search::search_full;
-use lone_search::solve_by_core;
+use crate::leaf_search::search_full;
+use crate::solve_by_core;
 use sched_rules::Refusal;
 use std::alloc::{AllocError, Allocator};
 use std::io::{Read, Write};

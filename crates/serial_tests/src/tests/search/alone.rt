@@ -5,7 +5,7 @@ use super::{heap_of, holds, holds_at, opening};
 use counted_alloc::Counted;
 use frame_tree::FrameId;
 use linked_list_allocator::LocalHeap;
-use lone_search::{Searched, Way, search_within, solve_by_core};
+use solve_engine::{Searched, Way, search_within, solve_by_core};
 use othello_eval::Valued;
 use othello_moves::Choice;
 use pool_rules::{Action, Holding, Task, Turn};
