@@ -6,7 +6,7 @@ use Rattle.sched_rules.specs.declared.act.Continuation.{Continuation}
 use Rattle.sched_rules.specs.declared.act.Continuation.TheVariants.{Grow, Spawn, Go, Wait, Compute, Return}
 use Rattle.step_texts.specs.declared.reader.ReaderAnswer.{ReaderAnswer}
 use Rattle.sched_rules.specs.Functions.{Functions}
-use Rattle.sched_toys.specs.Toys.{word_at, toy}
+use Rattle.toys.specs.Toys.{word_at, toy}
 
 -- the act that stores this and then does that
 abbrev pub act_with_stores : List (ℕ × ℕ) → Continuation → Act

@@ -7,7 +7,7 @@
 //! played again by one `run` on a new core, and the steps of each tenant that were taken once more on a core of its own:
 //! each is answered as before, and each tenant reads the same (the headline, tried).
 //!
-//! The procedures are the toys of `sched_toys`, `Jamboree`, and one more for lists that are drawn from a seed, [`Reader`],
+//! The procedures are the toys of `toys`, `Jamboree`, and one more for lists that are drawn from a seed, [`Reader`],
 //! whose frames do what their words say, so that a list of steps meets every act there is: it grows, opens children, waits,
 //! computes, goes on for ever, and asks for what can't be done. Word 0 has a frame's acts as the digits of
 //! an octal number, the lowest first, each taken off when it is done; word 1 has those of its children; an

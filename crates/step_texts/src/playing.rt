@@ -7,10 +7,10 @@ use crate::reader::Reader;
 use crate::reading::tenant_of;
 use crate::stage::{Played, play_row, tell};
 use crate::values::{FromWords, Input};
-use counted_alloc::Counted;
+use toys::Counted;
 use jamboree::Jamboree;
 use sched_core::{Config, Core, DidOf, Procedure, Refusal, Step};
-use sched_toys::{Chain, Fan, Spin};
+use toys::{Chain, Fan, Spin};
 use std::alloc::{AllocError, Allocator, Global};
 use text_rows::{Place, Row, Scene, Tally, option, small_option};
 

@@ -2,7 +2,7 @@
 use crate::reader::ReaderPlay;
 use jamboree::Jamboree;
 use sched_core::Procedure;
-use sched_toys::{ChainPlay, FanPlay, SpinPlay, Toy};
+use toys::{ChainPlay, FanPlay, SpinPlay, Toy};
 
 /// A procedure that can be made again and again.
 pub trait Made: Procedure + Drop + Sized {

@@ -1,7 +1,7 @@
 //! The procedure Reader: a frame does what its words say.
 use cactus_stack::Words;
 use sched_core::{Act, Continuation, GivenWords, InletAct, Stores};
-use sched_toys::{Play, Toy, ToyAnswer, word};
+use toys::{Play, Toy, ToyAnswer, word};
 
 /// A place that no frame has: a store there can't be done.
 const NOWHERE: usize = 128;

@@ -4,7 +4,7 @@ use crate::looks::look;
 use crate::plain_core::{foretell, step as do_step};
 use crate::reading::{may_call_allocator, read_step};
 use crate::values::{FromWords, Input};
-use counted_alloc::Counted;
+use toys::Counted;
 use sched_core::{Core, Procedure, Step, StepOf};
 use std::alloc::{AllocError, Allocator, Global};
 use text_rows::{Place, Row, Tally};

@@ -4,7 +4,7 @@ ghost use Rattle.std.specs.Prelude.{◌≤◌};
 use crate::reader::ReaderAnswer;
 use jamboree::{Leaf, LeafAnswer};
 use othello_board::Board;
-use sched_toys::FanAnswer;
+use toys::FanAnswer;
 use std::alloc::AllocError;
 use text_rows::Words;
 

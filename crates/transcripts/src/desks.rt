@@ -7,7 +7,7 @@ ghost use Rattle.std.specs.Prelude.{◌≡◌, ◌≤◌};
 use crate::crew::Crew;
 use crate::guests::House;
 use crate::sessions::Stage;
-use counted_alloc::Counted;
+use toys::Counted;
 use desk::{Config, Desk, DeskLedger, Hall, PARTS, Worker};
 use std::alloc::{AllocError, Allocator, Global};
 use std::marker::Brand;

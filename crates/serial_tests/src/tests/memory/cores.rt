@@ -2,9 +2,9 @@ ghost use Rattle.std.specs.Prelude.{◌<◌};
 
 use crate::tests::memory::plain_core::{free_segments, left, made, run, step as do_step};
 use crate::tests::memory::{config_of, heap_of, holds, most_of, reserve_of};
-use counted_alloc::Counted;
+use toys::Counted;
 use sched_core::{Config, Core, DidOf, Step, StepOf};
-use sched_toys::Fan;
+use toys::Fan;
 use std::alloc::{Allocator, Global};
 use std::process::Abort;
 use tenant_quota::{Left, Reserve};

@@ -2,7 +2,7 @@
 ghost use Rattle.std.specs.Prelude.{◌≤◌};
 
 use super::{heap_of, holds, holds_at, opening};
-use counted_alloc::Counted;
+use toys::Counted;
 use frame_tree::FrameId;
 use linked_list_allocator::LocalHeap;
 use solve_engine::{Searched, Way, search_within, solve_by_core};

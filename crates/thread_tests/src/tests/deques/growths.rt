@@ -3,7 +3,7 @@ ghost use Rattle.std.specs.Prelude.{◌<◌};
 
 use super::*;
 use crate::tests::{holds, holds_of};
-use counted_alloc::Counted;
+use toys::Counted;
 use linked_list_allocator::LocalHeap;
 use std::process::Abort;
 
