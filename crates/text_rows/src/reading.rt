@@ -1,9 +1,9 @@
 //! Steps, read from texts.
+use crate::Words;
 use crate::values::FromWords;
 use frame_tree::FrameId;
 use sched_core::{GivenWords, StepOf, Worker};
 use tenant_quota::Reserve;
-use text_rows::Words;
 
 /// The step that a text says; None where it says none. Frames are written `TENANT.SERIAL`:
 ///

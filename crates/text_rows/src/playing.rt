@@ -7,12 +7,11 @@ use crate::reader::Reader;
 use crate::reading::tenant_of;
 use crate::stage::{Played, play_row, tell};
 use crate::values::{FromWords, Input};
-use toys::Counted;
+use crate::{Place, Row, Scene, Tally, option, small_option};
 use jamboree::Jamboree;
 use sched_core::{Config, Core, DidOf, Procedure, Refusal, Step};
-use toys::{Chain, Fan, Spin};
 use std::alloc::{AllocError, Allocator, Global};
-use text_rows::{Place, Row, Scene, Tally, option, small_option};
+use toys::{Chain, Counted, Fan, Spin};
 
 /// A core, by its totals and its procedure's grain, and which of its growths is refused (0: none).
 #[derive(Clone, Copy)]

@@ -1,11 +1,11 @@
 //! What is read of a core, as texts.
+use crate::Words;
 use crate::answered::draw_frame;
 use crate::reading::read_frame;
 use cactus_stack::Words as FrameWords;
 use frame_tree::{FrameId, State};
 use sched_core::{Core, Job, Procedure};
 use std::alloc::{AllocError, Allocator};
-use text_rows::Words;
 
 /// What is said where there is nothing.
 const NONE: &str = "none";

@@ -4,10 +4,10 @@ use crate::looks::look;
 use crate::plain_core::{foretell, step as do_step};
 use crate::reading::{may_call_allocator, read_step};
 use crate::values::{FromWords, Input};
-use toys::Counted;
+use crate::{Place, Row, Tally};
 use sched_core::{Core, Procedure, Step, StepOf};
 use std::alloc::{AllocError, Allocator, Global};
-use text_rows::{Place, Row, Tally};
+use toys::Counted;
 
 /// Steps, what each was answered, and the line of each.
 #[derive(Drop)]

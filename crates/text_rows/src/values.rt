@@ -1,12 +1,12 @@
 //! Answers and inputs as words.
 ghost use Rattle.std.specs.Prelude.{◌≤◌};
 
+use crate::Words;
 use crate::reader::ReaderAnswer;
 use jamboree::{Leaf, LeafAnswer};
 use othello_board::Board;
-use toys::FanAnswer;
 use std::alloc::AllocError;
-use text_rows::Words;
+use toys::FanAnswer;
 
 /// An answer that a computation gave, as the words of a text have it.
 pub trait FromWords: Sized {
