@@ -4,7 +4,7 @@
 usage: release/languages.py make TREE OUT    (of the tree of a release's archive, or a checkout; times by SOURCE_DATE_EPOCH)
        release/languages.py try OUT          (OUT: a release; what isn't installed here is skipped and named)
 
-Where TREE/othello is a program, and no script, a wheel and the jar have it in themselves. `try` installs each from OUT alone, by `pip install`, by
+Where TREE is no checkout, its program `othello` (and `othello-v3`) lies in the wheel for this platform and in the jar. `try` installs each from OUT alone, by `pip install`, by
 `npm install ./..tgz` and by Maven without a registry (Debian's packages), and runs the first program of its README with a server of the archive.
 """
 import contextlib
@@ -22,7 +22,6 @@ import tarfile
 import tempfile
 import time
 
-HERE = pathlib.Path(__file__).resolve().parent
 PYTHON = "/usr/bin/python3"  # Debian's, with python3-setuptools, python3-wheel and python3-pip
 MAVEN = pathlib.Path("/usr/share/maven-repo")  # of Debian's packages
 PLUGINS = ("install", "compiler", "resources")
@@ -50,13 +49,11 @@ def make(tree, out, epoch):
     pack_npm(tree, out / f"{about['name']}-{about['version']}.tgz", about["files"], epoch)
     if f"  <version>{about['version']}</version>" not in (tree / "clients/java/pom.xml").read_text() or about["version"] != (tree / "VERSION").read_text().strip():
         fail("VERSION, package.json and pom.xml have other versions")
-    program = [tree / "othello"] if (tree / "othello").read_bytes()[:4] == b"\x7fELF" else []  # a checkout has a script there
+    programs = [path for path in (tree / "othello", tree / "othello-v3") if path.is_file() and not (tree / "crates").exists()]  # a checkout has a script there
     around = dict(os.environ, SOURCE_DATE_EPOCH=str(epoch))
-    subprocess.run([tree / "clients/java/build", "jars", out, *program], check=True, env=around)
-    subprocess.run([PYTHON, tree / "clients/python/build", "packages", out], check=True, env=around, stdout=subprocess.DEVNULL)
+    subprocess.run([tree / "clients/java/build", "jars", out, *programs], check=True, env=around)
+    subprocess.run([PYTHON, tree / "clients/python/build", "packages", out, *programs], check=True, env=around, stdout=subprocess.DEVNULL)
     settle(out / f"coluwen-{about['version']}.tar.gz", epoch)
-    if program:
-        subprocess.run([PYTHON, HERE / "wheel.py", "make", tree, out, *program], check=True, env=around, stdout=subprocess.DEVNULL)
 
 
 def settle(path, epoch):
@@ -103,6 +100,9 @@ def server(out, folder):
         process.wait()
 
 
+WITHOUT_NET = ("unshare", "--net") if os.geteuid() == 0 else ()  # what installs has no network
+
+
 def run(*words, where, **more):
     done = subprocess.run([*map(str, words)], cwd=where, capture_output=True, text=True, check=False, timeout=600, env=dict(os.environ, **more))
     if done.returncode:
@@ -119,19 +119,36 @@ def check_said(what, text):
         fail(f"the first program of {what} says {text!r}")
 
 
+ENGINE = """
+from coluwen import Engine, Position
+with Engine(2) as engine:
+    print(engine.analyse(Position.opening(), 6).best, engine.program)
+"""
+
+
 def try_pip(out, folder, address):
-    """`pip install` of the wheel without an index; the first program of the README in the archive."""
-    wheel = min(out.glob("coluwen-*.whl"), key=lambda path: "none-any" not in path.name)
-    run(PYTHON, "-m", "pip", "install", "--quiet", "--no-index", "--no-deps", "--target", folder / "site", wheel, where=folder)
+    """`pip install` of the wheel into a new environment, without an index; the first program of the README in the archive; a value without a server, by the
+    wheel's own program; a command."""
+    wheel = min(out.glob("coluwen-*.whl"), key=lambda path: "none-any" in path.name)
+    run(PYTHON, "-m", "venv", "--without-pip", folder / "venv", where=folder)
+    run(*WITHOUT_NET, PYTHON, "-m", "pip", "--python", folder / "venv/bin/python", "install", "--quiet", "--no-index", wheel, where=folder)
     with tarfile.open(next(out.glob("*-x86_64.tar.gz"))) as archive:
         readme = next(archive.extractfile(entry).read().decode() for entry in archive if entry.name.endswith("clients/python/README.md"))
     (folder / "first.py").write_text(first_program(readme, "python"))
-    check_said("Python's wheel", run(PYTHON, "first.py", where=folder, COLUWEN_URL=address, PYTHONPATH=str(folder / "site")))
+    python = folder / "venv/bin/python"
+    check_said("Python's wheel", run(python, "first.py", where=folder, COLUWEN_URL=address))
+    best, _, program = run(python, "-c", ENGINE, where=folder, PATH="/usr/bin:/bin", COLUWEN_URL="").strip().partition(" ")
+    if best != "d3" or not program.startswith(f"{folder}/venv/lib"):
+        fail(f"without a server the wheel says {best!r} by {program!r}")
+    said = run(folder / "venv/bin/coluwen-review", "--depth", "1", "f5d6", where=folder, COLUWEN_URL=address)
+    if "f5" not in said:
+        fail(f"the wheel's coluwen-review says {said!r}")
+    print(f"pip: a first value by the wheel's own {pathlib.Path(program).name}")
 
 
 def try_npm(out, folder, address):
     """`npm install` of the tgz in an empty folder; the first program of the README that was installed."""
-    run("npm", "install", "--offline", "--no-audit", "--no-fund", "--cache", f"{folder}/npm", next(out.glob("*.tgz")), where=folder)
+    run(*WITHOUT_NET, "npm", "install", "--offline", "--no-audit", "--no-fund", "--cache", f"{folder}/npm", next(out.glob("*.tgz")), where=folder)
     installed = folder / "node_modules/coluwen"
     (folder / "first.mjs").write_text(first_program((installed / "README.md").read_text(), "js"))
     check_said("npm's package", run("node", "first.mjs", where=folder, COLUWEN_URL=address))
@@ -145,7 +162,7 @@ def try_maven(out, folder, address):
         if not (out / f"coluwen-{version}{suffix}").is_file():
             fail(f"there is no coluwen-{version}{suffix}")
     (folder / "settings.xml").write_text(SETTINGS)
-    maven = ("mvn", "-q", "-B", "-s", folder / "settings.xml", f"-Dmaven.repo.local={folder}/m2")
+    maven = (*WITHOUT_NET, "mvn", "-q", "-B", "-s", folder / "settings.xml", f"-Dmaven.repo.local={folder}/m2")
     run(*maven, "org.apache.maven.plugins:maven-install-plugin:install-file", f"-Dfile={jar}", f"-DpomFile={jar.with_suffix('.pom')}", f"-Dsources={out}/coluwen-{version}-sources.jar", f"-Djavadoc={out}/coluwen-{version}-javadoc.jar", where=folder)
     source = folder / "src/main/java/First.java"
     source.parent.mkdir(parents=True)

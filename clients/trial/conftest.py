@@ -1,4 +1,5 @@
-"""Trials of the clients with servers: `pytest clients/trial` (-k WORD for some, --junitxml FILE for a report). The variable OTHELLO names the program; else
+"""Trials of the clients with servers and engines: `pytest clients/trial` (-k WORD for some, --timeout SECONDS, --junitxml FILE for a report; --positions, --endings and
+--deepest for more than the smallest trial of engines: 2000, 300 and 8 for a release). The variable OTHELLO names the program; else
 `./othello --ready` gives the proved one, or builds an unproved one, which checks memory as it runs and is some 80 times slower."""
 from __future__ import annotations
 
@@ -6,15 +7,43 @@ import contextlib
 import functools
 import os
 import pathlib
+import random
 import signal
 import subprocess
 import sys
-from collections.abc import Iterator
+import time
+from collections.abc import Callable, Iterator
 
 import pytest
 
 TOP = pathlib.Path(__file__).resolve().parents[2]
 sys.path[:0] = [str(TOP / "clients" / "python" / "src"), str(TOP / "clients" / "python" / "tests")]
+from coluwen import Board, Position  # noqa: E402
+
+
+def pytest_addoption(parser: pytest.Parser) -> None:
+    for name, number, about in (("positions", 60, "of games, at each depth"), ("endings", 20, "searched to the end"), ("deepest", 4, "plies")):
+        parser.addoption(f"--{name}", type=int, default=number, help=f"how many {about}, in trials of engines")
+
+
+def positions(count: int, seed: int, least: int = 8, most: int = 50) -> list[Position]:
+    """Positions of random games."""
+    chance, found = random.Random(seed), list[Position]()
+    while len(found) < count:
+        board = Board()
+        for _ in range(chance.randint(least, most)):
+            if not board.is_over:
+                board = board.push(chance.choice(board.legal))
+        found.append(board.position)
+    return found
+
+
+def until(holds: Callable[[], object], seconds: float, what: str) -> None:
+    """Waits for something, by a clock of its own."""
+    end = time.monotonic() + seconds
+    while not holds():
+        assert time.monotonic() < end, f"{what}: not within {seconds} s"
+        time.sleep(0.02)
 
 
 @functools.cache

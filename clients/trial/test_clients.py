@@ -4,9 +4,9 @@ from __future__ import annotations
 import asyncio
 import contextlib
 import csv
+import json
 import os
 import pathlib
-import random
 import shutil
 import signal
 import socket
@@ -19,23 +19,11 @@ from collections.abc import Iterator
 
 import pytest
 from coluwen import AsyncClient, Board, Client, Done, Late, Position, Refused, Result, Session, TooDeep, Unreachable, formats
-from conftest import TOP, Othello, served, solved
+from conftest import TOP, Othello, positions, served, solved, until
 
 BIN = TOP / "clients" / "bin"
 FIXTURES = TOP / "clients" / "python" / "tests" / "fixtures"
 OPENING = Position.opening()
-
-
-def positions(count: int, seed: int, least: int = 8, most: int = 50) -> list[Position]:
-    """Positions of random games."""
-    chance, found = random.Random(seed), list[Position]()
-    while len(found) < count:
-        board = Board()
-        for _ in range(chance.randint(least, most)):
-            if not board.is_over:
-                board = board.push(chance.choice(board.legal))
-        found.append(board.position)
-    return found
 
 
 def answer_of(result: Result) -> tuple[int, str]:
@@ -72,6 +60,50 @@ def test_values(server: Othello) -> None:
         with pytest.raises(Refused) as fault:
             session.ask_line(f"13 {OPENING}")
         assert fault.value.number == 27
+
+
+JAVASCRIPT = """
+import { connect, Position } from "%(clients)s/javascript/src/index.mjs";
+const client = connect(), lines = %(lines)s;
+for await (const { question, result, fault } of client.analyseMany(lines.map(([depth, text]) => [Position.parse(text), depth])))
+  console.log(fault ? String(fault) : `${result.score.value} ${result.best ?? "-"}`);
+await client.close();
+"""
+JAVA = """
+import coluwen.Client;
+import coluwen.Position;
+import java.util.Scanner;
+class Trial {
+  public static void main(String[] words) {
+    try (var client = Client.connect(); var lines = new Scanner(System.in)) {
+      while (lines.hasNextLine()) {
+        var line = lines.nextLine();
+        var found = client.analyse(Position.parse(line.substring(line.indexOf(' ') + 1)), Integer.parseInt(line.substring(0, line.indexOf(' '))));
+        System.out.println(found.score().value() + " " + found.best().orElse("-"));
+      }
+    }
+  }
+}
+"""
+
+
+@pytest.mark.parametrize("language", ["javascript", "java"])
+def test_values_of_the_other_languages(server: Othello, tmp_path: pathlib.Path, language: str) -> None:
+    lines = [f"{depth} {position}" for position in positions(12, 9) for depth in range(4)]
+    env = dict(os.environ, COLUWEN_URL=f"othello://{server.address}?silence=20")
+    if language == "javascript":
+        if not shutil.which("node"):
+            pytest.skip("node isn't here")
+        script = JAVASCRIPT % {"clients": TOP / "clients", "lines": json.dumps([[int(line[0]), line[2:]] for line in lines])}
+        words = ["node", "--input-type=module", "-e", script]
+    else:
+        if not shutil.which("javac"):
+            pytest.skip("javac isn't here")
+        subprocess.run(["javac", "-d", tmp_path, *(TOP / "clients/java/src/main/java/coluwen").glob("*.java")], check=True)
+        (tmp_path / "Trial.java").write_text(JAVA)
+        words = ["java", "-cp", str(tmp_path), str(tmp_path / "Trial.java")]
+    found = subprocess.run(words, input="".join(f"{line}\n" for line in lines), capture_output=True, text=True, timeout=250, env=env, check=False)
+    assert found.stdout.splitlines() == [f"{value} {move}" for value, move in solved(lines)], found.stderr
 
 
 def test_what_a_line_is_refused_for(server: Othello) -> None:
@@ -116,10 +148,7 @@ def test_a_batch_outlives_a_server(tmp_path: pathlib.Path) -> None:
     with served("--sessions", "1000", "--segments", "65536", "--nodes", "4194304") as server:
 
         def disturb() -> None:
-            for _ in range(600):
-                time.sleep(0.05)
-                if (tmp_path / "r.csv").exists() and (tmp_path / "r.csv").read_text().count("\n") > 20:
-                    break
+            until(lambda: (tmp_path / "r.csv").exists() and (tmp_path / "r.csv").read_text().count("\n") > 20, 200, "the first rows")
             server.say(signal.SIGSTOP)
             time.sleep(3)
             server.say(signal.SIGCONT)

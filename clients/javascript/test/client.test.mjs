@@ -299,14 +299,3 @@ test("a session's lines", () => having(() => sound(), {}, async (_, heard, port)
   const refused = await having(() => () => "ERR 30\n", {}, async (__, ___, other) => assert.rejects(Session.open({ host: "127.0.0.1", port: other, segments: 1, nodes: 1, token: "x" }), Refused));
   assert.equal(refused, undefined);
 }));
-
-test("a server", { skip: !process.env.COLUWEN_PORT }, async () => {
-  const client = new Client({ port: Number(process.env.COLUWEN_PORT), silence: 20_000 });
-  try {
-    const found = await client.analyse(OPENING, 4);
-    assert.deepEqual([found.score.value, found.best], [-4, "d3"]);
-    assert.ok((await client.analyseAll(OPENING, 4)).every(({ score }) => score.value === -4));
-  } finally {
-    await client.close();
-  }
-});

@@ -4,7 +4,7 @@ export const MODULES = {
   "binaryen": "wasm-opt version 108",
   "verdict": "logic=proved functions=12 target=wasm64-unknown-unknown sum=dac8208d650f15bf native=nat,char,string logic-built=trusted libraries-built=trusted statements=trusted incremental=trusted",
   "integrity": {
-    "page64.wasm": "sha256-YUBmoiHGxWT3PgXzBAbh0b3nwvOPTUriGqywgSZ0Yd4=",
-    "page32.wasm": "sha256-IaXXtmT7mEazoEyqsQslgZwAdYYOSKWp7VL4fR7x2Qk="
+    "page64.wasm": "sha256-FkUf8UOofnhJfikhJqNJ5TLo3EMWX5Yk+2XDgF5i1f8=",
+    "page32.wasm": "sha256-wOkg5CO7y/3HdKGKyASYgzB4UoDEIpmOG6acgozrPro="
   }
 };

@@ -4,13 +4,14 @@
 import { Changes, FIELDS, read, startOf, written } from "./address.js";
 import { TO_THE_END } from "./analyst.js";
 import { turnText } from "./board.js";
-import { $ } from "./dom.js";
+import { $, say } from "./dom.js";
 import { START, count, isOver, sideOf } from "./rules.js";
 import { t } from "./texts.js";
 import { Tree, treeOf } from "./tree.js";
 
 const DEPTH = 10; // of the position that is looked at, where nothing else is wished
 const GAME_DEPTH = 8; // of the whole game, at most
+const SEEN = 5000; // milliseconds for which what was said is seen
 
 export class App {
   constructor() {
@@ -119,10 +120,16 @@ export class App {
     for (const view of this.views) view();
   }
 
-  /** Says what was done. Values have a region of their own, so that a quick one doesn't take this sentence away before it is read. */
+  /**
+   * Says what was done; it is seen for a while where the board doesn't show it anyhow. Values have a region of their own, so that a quick
+   * one doesn't take this sentence away before it is read.
+   */
   tell(text) {
     $("live").textContent = text;
     $("live-value").textContent = "";
+    say($("toast"), text === this.where() ? "" : text);
+    clearTimeout(this.seen);
+    this.seen = setTimeout(() => say($("toast"), ""), SEEN);
   }
 
   /** Where one is, in words. */

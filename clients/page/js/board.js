@@ -13,10 +13,10 @@ const widths = new Map();
 let paper = null;
 
 /** How wide a text of a square is, in letters' heights, as the browser measures it. */
-function widthOf(text, style) {
+function widthOf(text, family) {
   if (!widths.has(text)) {
     paper ??= document.createElement("canvas").getContext("2d");
-    paper.font = `600 100px ${style.fontFamily}`;
+    paper.font = `600 100px ${family}`;
     widths.set(text, paper.measureText(text).width / 100);
   }
   return widths.get(text);
@@ -48,7 +48,8 @@ export class Board {
     const edge = (text) => made("span", { class: "edge", "aria-hidden": "true" }, text);
     this.element.append(edge(""), ...[..."abcdefgh"].map(edge));
     for (let row = 0; row < 8; row += 1) this.element.append(edge(String(row + 1)), ...this.squares.slice(8 * row, 8 * row + 8));
-    this.element.append(this.arrows);
+    const points = [[2, 2], [6, 2], [2, 6], [6, 6]].map(([x, y]) => shape("circle", { class: "point", cx: x, cy: y, r: 0.07 }));
+    this.element.append(shape("svg", { class: "arrows", viewBox: "0 0 8 8", "aria-hidden": "true" }, ...points), this.arrows);
   }
 
   /** The square that Tab reaches. */
@@ -77,18 +78,19 @@ export class Board {
    * names a square that is pointed at, `tinted` says whether squares are tinted.
    */
   show({ position, last = "", next = "", table = new Map(), best = "", line = [], setting = false, hint = "", tinted = true }) {
-    const free = new Set(setting ? [] : legal(position)), style = (this.style ??= getComputedStyle(this.element));
+    const free = new Set(setting ? [] : legal(position)), family = (this.family ??= getComputedStyle(this.element).fontFamily); // asked once, as each asking lays out the page
     let widest = LEAST_WIDTH;
     SQUARES.forEach((name, at) => {
       const score = free.has(at) ? table.get(name) : undefined, text = score ? brief(score) : "";
-      if (text) widest = Math.max(widest, widthOf(text, style));
+      if (text) widest = Math.max(widest, widthOf(text, family));
       const square = { name, cell: position[at], legal: free.has(at), score, text, last: name === last, next: name === next, best: name === best, hint: name === hint, setting };
       square.tint = tinted && score ? tintOf(table.get(best), score) : null;
       const sign = JSON.stringify(square);
       if (this.signs[at] !== sign) this.showSquare(this.squares[at], square);
       this.signs[at] = sign;
     });
-    this.element.style.setProperty("--widest", widest.toFixed(3));
+    if (widest !== this.widest) this.element.style.setProperty("--widest", widest.toFixed(3));
+    this.widest = widest;
     this.showLine(line.filter((move) => SQUARES.includes(move)).slice(0, ARROWS));
   }
 
@@ -127,17 +129,24 @@ export class Board {
   }
 }
 
-/** An arrow between two squares' middles, and its number at its head. */
+/** An arrow between two squares' middles, bent so that it leaves their values free, and its number at its head. */
 function arrow([x, y], [toX, toY], number) {
-  const length = Math.hypot(toX - x, toY - y), [right, down] = [(toX - x) / length, (toY - y) / length];
-  const [fromX, fromY, headX, headY] = [x + 0.38 * right, y + 0.38 * down, toX - 0.34 * right, toY - 0.34 * down];
-  const head = [[headX, headY], [headX - 0.2 * right + 0.1 * down, headY - 0.2 * down - 0.1 * right], [headX - 0.2 * right - 0.1 * down, headY - 0.2 * down + 0.1 * right]];
+  const length = Math.hypot(toX - x, toY - y), bend = Math.min(0.2 * length, 0.55) / length;
+  const [midX, midY] = [(x + toX) / 2 - bend * (toY - y), (y + toY) / 2 + bend * (toX - x)];
+  const [fromX, fromY] = toward(x, y, midX, midY, 0.4), [tipX, tipY] = toward(toX, toY, midX, midY, 0.36), [backX, backY] = toward(tipX, tipY, midX, midY, 0.2);
+  const [wideX, wideY] = [(backY - tipY) / 2, (tipX - backX) / 2], n = (one) => one.toFixed(3);
   return [
-    shape("path", { class: "shaft", d: `M${fromX} ${fromY}L${headX - 0.15 * right} ${headY - 0.15 * down}` }),
-    shape("path", { class: "head", d: `M${head.map((one) => one.join(" ")).join("L")}z` }),
+    shape("path", { class: "shaft", d: `M${n(fromX)} ${n(fromY)}Q${n(midX)} ${n(midY)} ${n(backX)} ${n(backY)}` }),
+    shape("path", { class: "head", d: `M${n(tipX)} ${n(tipY)}L${n(backX + wideX)} ${n(backY + wideY)}L${n(backX - wideX)} ${n(backY - wideY)}z` }),
     shape("circle", { class: "knob", cx: toX + 0.33, cy: toY + 0.33, r: 0.14 }),
     shape("text", { x: toX + 0.33, y: toY + 0.4, "text-anchor": "middle" }, String(number)),
   ];
+}
+
+/** The place so far from one place on the way to another. */
+function toward(x, y, toX, toY, far) {
+  const length = Math.hypot(toX - x, toY - y) || 1;
+  return [x + (far * (toX - x)) / length, y + (far * (toY - y)) / length];
 }
 
 /** Whose turn it is, and how many discs there are, in words. */

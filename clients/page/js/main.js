@@ -28,6 +28,7 @@ import { GLYPHS } from "./tree.js";
 const { t } = texts;
 const SHOWN = ["show-values", "show-tints", "show-line", "show-bar"]; // what of the analysis is shown
 const DEPTHS = [2, 4, 6, 8, 10, 12]; // that the engine here looks
+const KEPT_AFTER = 3000; // milliseconds, as the first values come before
 const LISTS = 120; // milliseconds after which the lists are drawn again while values come in
 
 const app = new App(), local = new Local(), analyst = new Analyst(local, learnt), tree = () => app.tree;
@@ -39,6 +40,8 @@ function showBoard() {
   const { current } = tree(), position = app.setting ? tree().start : current.position;
   app.veiled = quiz.hides || program.hides;
   const known = app.setting || app.veiled ? undefined : analyst.of(position), values = $("show-values").checked;
+  if (known && !timed) performance.mark("values"); // when there were some for the first time
+  timed ||= Boolean(known);
   board.show({
     position,
     last: app.setting ? "" : current.move,
@@ -101,7 +104,7 @@ function want() {
   }
 }
 
-let drawing = false, listed = 0;
+let drawing = false, timed = false, listed = 0;
 /** Something was learnt: it is shown with the next picture, once however much it is, and the lists less often. */
 function learnt() {
   if (drawing) return;
@@ -268,6 +271,7 @@ async function meet() {
 }
 
 async function begin() {
+  const engine = local.begin(); // while the page is made
   const search = new URLSearchParams(location.search);
   $("language").value = texts.speak([...search.getAll("lang"), ...(kept("language") ? [kept("language")] : []), ...navigator.languages]);
   texts.fill(document);
@@ -291,13 +295,13 @@ async function begin() {
   offer([]);
   files.showFaults();
   document.documentElement.dataset.ready = "yes";
-  await local.begin();
+  await engine;
   if (local.engine) say($("computed"), [t("computed.local", { module: local.module }), local.module === "page32.wasm" ? t("computed.lowered") : ""].join(" "));
   app.show();
   await meet();
   follow(state);
   setTimeout(named); // the names are made before the first click needs them
-  keepPage();
+  setTimeout(keepPage, KEPT_AFTER);
 }
 
 begin();

@@ -1,21 +1,20 @@
 """Both browsers by selenium: Chromium by Debian's chromedriver, and Firefox by its own protocol, Marionette, as Debian has no geckodriver."""
 import base64
 import contextlib
-import html
 import json
 import pathlib
+import re
 import shutil
 import socket
 import subprocess
 import tempfile
 import time
-import urllib.parse
 
 from patience import until
 from selenium import webdriver
 from selenium.common.exceptions import WebDriverException
 from selenium.webdriver.chrome.service import Service
-from stand import fail, free_port
+from stand import fail, free_port, said
 
 FIREFOX_PREFS = {"intl.accept_languages": "{language}", "layout.css.prefers-color-scheme.content-override": "{scheme}", "marionette.port": "{port}", "browser.shell.checkDefaultBrowser": False,
                  "datareporting.policy.dataSubmissionEnabled": False, "app.update.enabled": False, "browser.startup.page": 0, "dom.disable_beforeunload": True}  # fmt: skip
@@ -81,20 +80,29 @@ def chromium(language):
 class Shown:
     """A page in a browser: what trials do with it and ask of it."""
 
-    def __init__(self, driver, name):
-        self.driver, self.name, self.frame = driver, name, None
+    def __init__(self, driver, name, language, root):
+        self.driver, self.name, self.language, self.frame, self.root = driver, name, language, None, root
 
     def open(self, address):
         """Opens an address as if nothing had been open, and waits for the page."""
         self.driver.get("about:blank")
         if self.frame:
-            width, height = self.frame
-            text = f'<body style="margin:0"><iframe style="border:0;width:{width}px;height:{height}px" src="{html.escape(address)}"></iframe>'
-            self.driver.get(f"data:text/html,{urllib.parse.quote(text)}")
+            origin = "/".join(address.split("/")[:3])
+            self.driver.get(f"{origin}/none")  # (a frame of another origin is given nothing to keep)
+            script = """const one = document.createElement("iframe"); document.body.style.margin = 0; document.body.replaceChildren(one);
+              Object.assign(one.style, { border: 0, width: `${arguments[1][0]}px`, height: `${arguments[1][1]}px` }); one.src = arguments[0];"""
+            self.driver.execute_script(script, address, self.frame)
             self.driver.switch_to.frame(0)
         else:
             self.driver.get(address)
         self.until("the page", "document.documentElement?.dataset.ready === 'yes'", 60)
+        if self.frame:
+            self.driver.execute_script("window.focus()")  # keys are for the frame
+
+    def says(self, where, name, **words):
+        """Whether a text of the page stands somewhere: in an element, or in a text."""
+        text = self.text(where) if where.startswith("#") else where
+        return re.search(said(self.language, name, **words), text) is not None
 
     def evaluate(self, script):
         return self.driver.execute_script(f"return ({script})")
@@ -151,8 +159,34 @@ class Shown:
         """What the browser complained of since it was asked last; Firefox tells nobody."""
         return [line["message"] for line in self.driver.get_log("browser") if line["level"] in ("SEVERE", "WARNING")] if self.name == "chromium" else []
 
+    def renderer(self):
+        """The process that draws the page: its first thread is the one that is busy while the page is."""
+        kinds = {one: pathlib.Path(f"/proc/{one}/cmdline").read_bytes() for one in below(self.root)}
+        before = {one: main_thread(one) for one, words in kinds.items() if b"--type=renderer" in words or b"-contentproc" in words}
+        self.evaluate("(() => { const begun = performance.now(); while (performance.now() - begun < 500); })()")
+        return max(before, key=lambda one: main_thread(one) - before[one])
+
     def known(self, seconds=240):
         self.until("all values", "document.documentElement.dataset.known === 'yes'", seconds)
+
+
+def below(root):
+    """The processes that one has begun, and theirs."""
+    parents = {}
+    for place in pathlib.Path("/proc").glob("[0-9]*/stat"):
+        with contextlib.suppress(OSError):
+            parents[int(place.parent.name)] = int(place.read_text().rpartition(")")[2].split()[1])
+    found = {root}
+    while more := {one for one, parent in parents.items() if parent in found} - found:
+        found |= more
+    return found
+
+
+def main_thread(process, which=0):
+    """Milliseconds for which a process' first thread has had a processor, or (1) has waited for one."""
+    with contextlib.suppress(OSError):
+        return int(pathlib.Path(f"/proc/{process}/schedstat").read_text().split()[which]) / 1e6
+    return 0
 
 
 def names():
@@ -166,7 +200,7 @@ def opened(name, language="en", scheme="light", size=(1280, 900)):
     with tempfile.TemporaryDirectory(ignore_cleanup_errors=True) as folder:
         process, driver = firefox(folder, language, scheme) if name == "firefox" else (None, chromium(language))
         try:
-            shown = Shown(driver, name)
+            shown = Shown(driver, name, language, process.pid if process else driver.service.process.pid)
             shown.size(*size)
             shown.scheme(scheme)
             yield shown

@@ -1,11 +1,13 @@
 """A class in the browser: the teacher's board is followed by its link; hands are raised; a page's service behind another web server."""
+import asyncio
+import json
 import shutil
 import socket
 import subprocess
 
 from browsers import opened
-from service import NGINX
-from stand import CELLS, HERE, PAGE, TEXT, asked, check, free_port, page, stage, until
+from service import NGINX, place_of
+from stand import CELLS, HERE, PAGE, TEXT, asked, check, chosen, fail, free_port, page, stage, until
 
 
 def try_class(address, name):
@@ -35,7 +37,7 @@ def try_class(address, name):
         teacher.until("the pupil's board", f"{TEXT} === 'f5d6c3d3c4'")
         one.click("#class-again")
         one.until("the teacher's game again", f"{HERE} === 'c4'")
-        teacher.evaluate("location.reload()")
+        teacher.driver.refresh()
         teacher.until("the class after the page was loaded again", "document.documentElement?.dataset.ready === 'yes' && document.querySelector('#class-link a')")
         teacher.evaluate("document.getElementById('first').click()")
         one.until("the teacher's start after that", f"{HERE} === ''")
@@ -45,6 +47,64 @@ def try_class(address, name):
         teacher.click("#class-close")
         one.until("the end of the class", "document.getElementById('class-told').textContent.includes('zu Ende')")
         check(asked(f"{address}class/{room}")[0] == 404, "a class that has ended is there")
+
+
+async def heard(address, room, states, key=None):
+    """What a follower of a class is told, or with its key the teacher, to the end: lines are put into a list. The status where it is refused."""
+    host, port = place_of(address)
+    reader, writer = await asyncio.open_connection(host, port)
+    body = json.dumps({"key": key}).encode() if key else b""
+    head = f"{f'POST /class/{room}/pupils' if key else f'GET /class/{room}'} HTTP/1.1\r\nHost: {host}:{port}\r\nConnection: close\r\n"
+    writer.write(f"{head}Content-Type: application/json\r\nContent-Length: {len(body)}\r\n\r\n".encode() + body)
+    try:
+        status = int((await reader.readline()).split()[1])
+        async for line in reader:
+            if status == 200 and line.startswith(b"{"):
+                states.append(json.loads(line))
+        return status
+    finally:
+        writer.close()
+
+
+async def crowd(address, many):
+    def post(path, body):
+        return asyncio.to_thread(asked, f"{address}class{path}", body)
+
+    async def until_all(what, holds):
+        for _ in range(6000):
+            if holds():
+                return
+            await asyncio.sleep(0.01)
+        fail(f"a crowd: {what}")
+
+    room, key = json.loads((await post("", {"state": "0"}))[1]).values()
+    told, teacher = [[] for _ in range(many)], []
+    hears = asyncio.ensure_future(heard(address, room, teacher, key))
+    follow = [asyncio.ensure_future(heard(address, room, states)) for states in told]
+    await until_all("not all follow", lambda: teacher and teacher[-1]["followers"] == many)
+    check(await heard(address, room, []) == 429, "one more than a class holds is let in")
+    for number in range(1, 41):
+        check((await post(f"/{room}", {"key": key, "state": str(number)}))[0] == 200, "the teacher isn't heard")
+    await until_all("not all see the last state", lambda: all(states[-1]["state"] == "40" for states in told))
+    numbers = [[int(state["state"]) for state in states] for states in told]
+    check(all(one == sorted(set(one)) for one in numbers), "states come twice, or out of order")
+    hands = await asyncio.gather(*(post(f"/{room}/hand", {"pupil": f"p{number}", "name": f"Pupil {number}", "state": "#"}) for number in range(120)))
+    check(all(status == 200 for status, *_ in hands), "a hand isn't raised")
+    await until_all("the hands", lambda: len(teacher[-1]["hands"]) == 100)
+    for one in follow[: many // 2]:
+        one.cancel()
+    await until_all("half of them leave", lambda: teacher[-1]["followers"] == many - many // 2)
+    await post(f"/{room}", {"key": key, "state": None})
+    check(set(await asyncio.gather(*follow[many // 2 :])) == {200} and all(states[-1]["state"] is None for states in told[many // 2 :]), "the end isn't told to all")
+    hears.cancel()
+
+
+def try_crowd(port):
+    """A class of 400, which is as many as one holds: each sees the last state, all hear the end."""
+    with page(port, "--connections", 600, "--per-address", 600) as (process, address):
+        asyncio.run(asyncio.wait_for(crowd(address, 400), 300))
+        check(asked(f"{address}about.json")[0] == 200, "the page has ended with its class")
+    print("board: a class of 400 sees each last state, and its end")
 
 
 def try_host(port):
@@ -76,10 +136,10 @@ def try_behind(port, folder):
     print("board: its files by nginx, and the service beside them")
 
 
-def try_all(service, port, folder, name):
-    try_class(service, name)
-    if name == "chromium":
-        try_host(port)
-        if shutil.which("nginx"):
-            try_behind(port, folder)
+def try_all(service, port, folder, name, only=""):
+    for trial in chosen(only, try_class, try_crowd, try_host, try_behind):
+        if trial is try_class:
+            trial(service, name)
+        elif name == "chromium" and (trial is not try_behind or shutil.which("nginx")):
+            trial(*(port, folder) if trial is try_behind else (port,))
     print(f"board: {name}: a class follows its teacher, and raises hands")

@@ -6,7 +6,7 @@ Guidelines 2.2, level AA, by its number.
 import itertools
 
 from browsers import opened
-from stand import GAME, check, fail
+from stand import GAME, check, chosen, fail
 
 WIDTHS = (320, 360, 390, 412, 768, 1280, 1920)
 HEIGHTS = {320: 640, 360: 740, 390: 844, 412: 915, 768: 1024, 1280: 800, 1920: 1080}
@@ -91,11 +91,11 @@ def try_values(shown, width):
         check(least >= (7 if len(chosen) == 4 else 7.8), f"{shown.name} at {width}: letters of {least} pixels")
 
 
-def try_browser(name, address):
+def try_browser(name, address, short=False):
     faults = []
-    for scheme, language in itertools.product(("light", "dark"), ("en", "de")):
+    for scheme, language in (("light", "en"),) if short else itertools.product(("light", "dark"), ("en", "de")):
         with opened(name, language, scheme) as shown:
-            for width in WIDTHS if scheme == "light" else (320, 390, 1280, 1920):
+            for width in (320, 1920) if short else WIDTHS if scheme == "light" else (320, 390, 768, 1280, 1920):
                 shown.size(width, HEIGHTS[width])
                 shown.open(f"{address}#moves={GAME}(h7)&at=11&black=Anna&white=Bo&depth=4")
                 if shown.evaluate("innerWidth") != width:
@@ -161,6 +161,6 @@ def try_print(name, address):
     print("board: the sheet for print")
 
 
-def try_all(address, name):
-    try_browser(name, address)
-    try_print(name, address)
+def try_all(address, name, only=""):
+    for trial in chosen(only, try_browser, try_print):
+        trial(name, address, **{"short": True} if only == "try_browser" else {})

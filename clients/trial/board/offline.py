@@ -3,7 +3,7 @@ import shutil
 import subprocess
 
 from browsers import opened
-from stand import GAME, NAMES, PAGE, SCORES, TOP, check, files, free_port, random_moves, settled, whole_game, worths
+from stand import GAME, NAMES, PAGE, SCORES, TOP, check, chosen, files, free_port, random_moves, settled, whole_game, worths
 
 
 def brief(value, ends):
@@ -55,9 +55,6 @@ def try_made():
     check(subprocess.run(["node", "--test", PAGE / "test.mjs"], check=False, cwd=TOP, stdout=subprocess.DEVNULL).returncode == 0, "clients/page/test.mjs")
 
 
-def try_all(folder, name):
-    if name == "chromium":
-        try_made()
-    try_file(name, folder)
-    if name == "chromium":
-        try_again(name)
+def try_all(folder, name, only=""):
+    for trial in chosen(only, try_made, try_file, try_again):
+        trial(*{try_made: (), try_file: (name, folder), try_again: (name,)}[trial])

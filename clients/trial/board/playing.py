@@ -2,21 +2,29 @@
 import tempfile
 import pathlib
 
-from browsers import opened
-from stand import CELLS, GAME, HERE, NAMES, SCORES, TEXT, check, play, random_moves, settled, whole_game
+from browsers import main_thread, opened
+from stand import CELLS, FORMS, GAME, HERE, NAMES, SCORES, TEXT, check, chosen, play, random_moves, settled, until, whole_game
 
 ARROW = {"Left": "\ue012", "Up": "\ue013", "Right": "\ue014", "Down": "\ue015", "Home": "\ue011", "End": "\ue010", "PageUp": "\ue00e", "Enter": "\ue007", "Tab": "\ue004"}
 
 
 def try_moves(shown, address):
     """Each position of a game is the one of the Python package's rules, by a module's rules and by the page's own."""
+    def same(move, position):
+        legal = sorted(name for name, told in shown.evaluate(NAMES).items() if shown.says(told, "square.legal"))
+        check(shown.evaluate(CELLS) == position.cells and legal == sorted(settled(position).squares()), f"{shown.name}: the position behind {move}")
+
     for seed in (1, 4):
         shown.open(f"{address}#depth=2")
         shown.check("#game", False)
         for move, position in random_moves(seed, 24):
             play(shown, [move])
-            legal = sorted(name for name, told in shown.evaluate(NAMES).items() if ", legal" in told)
-            check(shown.evaluate(CELLS) == position.cells and legal == sorted(settled(position).squares()), f"{shown.name}: the position behind {move}")
+            same(move, position)
+    game = random_moves(2, 70)  # both players pass near its end
+    shown.open(f"{address}#moves={''.join(move for move, _ in game)}&at=50&depth=2")
+    for move, position in game[50:]:
+        shown.press(ARROW["Right"])
+        same(move, position)
 
 
 def try_tree(shown, address):
@@ -103,7 +111,7 @@ def try_markup(shown, address):
 def try_shelf(shown, address):
     shown.open(f"{address}#moves=f5d6c3&at=3&black=Anna&depth=2")
     shown.tab("files")
-    check("Keep puts" in shown.text("#shelf"), f"{shown.name}: an empty shelf says what to do")
+    check(shown.says("#shelf", "shelf.none"), f"{shown.name}: an empty shelf says what to do")
     shown.fill("#shelf-name", "First")
     shown.click("#shelf-keep")
     shown.click("#fresh")
@@ -112,7 +120,7 @@ def try_shelf(shown, address):
     shown.click("#shelf li button")
     check(shown.evaluate(TEXT) == "f5d6c3" and "Anna" in shown.text("#names"), f"{shown.name}: the shelf")
     shown.click("#shelf li button:nth-child(2)")
-    check("Keep puts" in shown.text("#shelf"), f"{shown.name}: the shelf isn't emptied")
+    check(shown.says("#shelf", "shelf.none"), f"{shown.name}: the shelf isn't emptied")
 
 
 def try_program(shown, address):
@@ -127,7 +135,7 @@ def try_program(shown, address):
     shown.click("#hint")
     shown.until("a hint", "document.querySelectorAll('.square.hint').length === 1")
     shown.click("#take-back")
-    check(shown.evaluate("document.querySelectorAll('.disc').length") == 4 and "program, level 4" in shown.text("#names"), f"{shown.name}: taken back")
+    check(shown.evaluate("document.querySelectorAll('.disc').length") == 4 and shown.says("#names", "play.program.name", n=4), f"{shown.name}: taken back")
     shown.fill("#play-side", "O")
     shown.click("#play-begin")
     shown.until("the program's first move", "document.querySelectorAll('.disc').length === 5")
@@ -143,31 +151,38 @@ def try_quiz(shown, address):
     rows = shown.evaluate("[...document.querySelectorAll('.mistake')].map((one) => one.dataset.sign)")
     marks = [row.split()[0] for row in rows if row.startswith("?")]
     check(len(marks) > 3 and marks == sorted(marks, key=len, reverse=True), f"{shown.name}: the order of mistakes: {marks}")
-    points = [row for row in rows if " points at depth" in row]
+    points = [row for row in rows if shown.says(row, "mistakes.row.points")]
     check(points and rows[-len(points):] == points, f"{shown.name}: points stand among discs")
     shown.tab("play")
     shown.click("#quiz-begin")
-    check(shown.evaluate(SCORES) == {} and "Question 1 of" in shown.text("#quiz-told"), f"{shown.name}: a question: {shown.text('#quiz-told')}")
+    check(shown.evaluate(SCORES) == {} and shown.says("#quiz-told", "quiz.ask", n=1), f"{shown.name}: a question: {shown.text('#quiz-told')}")
     discs = shown.evaluate("document.querySelectorAll('.disc').length")
     shown.click(".square.legal")
     check(shown.evaluate("document.querySelectorAll('.disc').length") == discs and shown.evaluate(f"Object.keys({SCORES}).length"), f"{shown.name}: an answer")
-    check(" of 1 right" in shown.text("#quiz-told"), f"{shown.name}: {shown.text('#quiz-told')}")
+    check(shown.says("#quiz-told", "quiz.score", n=1), f"{shown.name}: {shown.text('#quiz-told')}")
     shown.click("#quiz-next")
-    check("Question 2 of" in shown.text("#quiz-told"), f"{shown.name}: the next question")
+    check(shown.says("#quiz-told", "quiz.ask", n=2), f"{shown.name}: the next question")
 
 
 def try_stop(shown, address):
     shown.open(f"{address}#moves={whole_game(8)[:60]}&depth=12")
     shown.until("something to stop", "document.getElementById('stop').getAttribute('aria-disabled') === 'false'")
-    taken = shown.evaluate("(() => { const begun = performance.now(); document.getElementById('stop').click(); return performance.now() - begun })()")
-    check("Stopped" in shown.text("#state") and taken < 50, f"{shown.name}: stop takes {taken}")
+    renderer = shown.renderer()
+    before = main_thread(renderer)
+    shown.evaluate("document.getElementById('stop').click()")
+    taken = main_thread(renderer) - before
+    check(shown.says("#state", "state.stopped") and taken < 50, f"{shown.name}: stop takes {taken} ms of a processor")
     shown.click("#stop")
-    shown.until("it goes on", "!document.getElementById('state').textContent.includes('Stopped')")
+    until("it goes on", lambda: not shown.says("#state", "state.stopped"))
 
 
-def try_all(address, name):
-    with opened(name) as shown, tempfile.TemporaryDirectory() as folder:
-        for trial in (try_moves, try_tree, try_notes, try_shelf, try_program, try_quiz, try_stop, try_markup):
-            trial(shown, address)
-        try_reading(shown, address, pathlib.Path(folder))
-    print(f"board: {name}: moves, variations, notes, addresses, formats, shelf, program, questions, stop")
+def try_all(address, name, only=""):
+    """Each in both browsers and at each width, by day or by night, in one language or the other."""
+    trials = chosen(only, try_moves, try_tree, try_notes, try_shelf, try_program, try_quiz, try_stop, try_markup, try_reading)
+    for at, (width, height, language, scheme) in enumerate(FORMS):
+        if only and at != 3:
+            continue  # (one that is named alone is tried at one width)
+        with opened(name, language, scheme, (width, height)) as shown, tempfile.TemporaryDirectory() as folder:
+            for trial in trials:
+                trial(shown, address, *([pathlib.Path(folder)] if trial is try_reading else []))
+    print(f"board: {name}: moves, variations, notes, addresses, formats, shelf, program, questions, stop, at {len(FORMS)} widths")

@@ -7,7 +7,7 @@ import urllib.error
 import urllib.request
 
 from coluwen.board import Position
-from stand import OPENING, analysed, asked, check, page, stage, until
+from stand import OPENING, analysed, asked, check, chosen, page, stage, until
 
 
 def place_of(address):
@@ -155,14 +155,13 @@ def try_classes(address):
     check(asked(f"{address}class", {"state": "#"})[0] == 429, "one address opens any number of classes")
 
 
-def try_all(service):
-    try_policy(service)
-    try_names(service)
-    try_refusals(service)
-    try_sizes(service)
-    print("board: its policy, names, refusals and limits")
+def try_all(service, only=""):
+    for trial in chosen(only, try_policy, try_names, try_refusals, try_sizes):
+        trial(service)
     with stage.server("--sessions", "20", "--grain", "4") as (_, port):
-        try_connections(port)
-        with page(port) as (_, its):
-            try_classes(its)
-    print("board: connections and classes are limited")
+        for _ in chosen(only, try_connections):
+            try_connections(port)
+        for _ in chosen(only, try_classes):
+            with page(port) as (_, its):
+                try_classes(its)
+    print("board: its policy, names, refusals and limits; connections and classes are limited")

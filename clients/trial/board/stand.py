@@ -6,6 +6,7 @@ import json
 import os
 import pathlib
 import random
+import re
 import subprocess
 import sys
 import threading
@@ -21,7 +22,10 @@ from patience import until  # noqa: E402
 from stage import check, fail, free_port  # noqa: E402, F401
 
 OPENING = Position.opening()
-PAGE = TOP / "clients/page"
+PAGE = pathlib.Path(os.environ.get("COLUWEN_FILES", TOP / "clients/page"))
+# Widths, heights, languages and schemes: each width by day or by night, in one language or the other.
+FORMS = ((320, 640, "de", "dark"), (390, 844, "en", "light"), (768, 1024, "de", "light"), (1280, 900, "en", "dark"), (1920, 1080, "de", "dark"))
+TABLE = json.loads((PAGE / "js/table.js").read_text().partition("TABLE = ")[2].rstrip().rstrip(";").replace("},\n}", "}\n}"))
 PATIENT = ("--silence", 30)  # of a page: on a busy machine an answer may take more than 1.5 seconds
 SQUARES = "[...document.querySelectorAll('.square')]"
 CELLS = SQUARES + ".map((one) => { const disc = one.querySelector('.disc'); return !disc ? '-' : disc.classList.contains('black') ? 'X' : 'O' }).join('')"
@@ -66,6 +70,20 @@ def page(port, *words, https=False):
         if not https:
             until("how deep the server looks", lambda: about(address)["settled"], 600)
         yield process, address
+
+
+def said(language, name, **words):
+    """A text of the page in a language, as a pattern: what of its words isn't given may be anything."""
+    text = TABLE[name][language]
+    if isinstance(text, dict):
+        text = text["one" if words.get("n") == 1 else "other"]
+    parts = re.split(r"\{(\w+)\}", text)
+    return "".join(re.escape(part) if at % 2 == 0 else re.escape(str(words[part])) if part in words else ".*" for at, part in enumerate(parts))
+
+
+def chosen(only, *trials):
+    """The trials of a part that are wanted: all, or the one of that name."""
+    return [trial for trial in trials if only in ("", trial.__name__)]
 
 
 def about(address):

@@ -1,5 +1,5 @@
 //! The search of a position and all that is entered below it.
-ghost use Rattle.std.specs.Prelude.{◌≡◌, ◌<◌, ◌≤◌, ◌<ℤ◌, ◌≤ℤ◌, IfSome, Contains, neg_ℤ, length};
+ghost use Rattle.std.specs.Prelude.{◌≡◌, ◌<◌, ◌≤◌, ◌<ℤ◌, ◌≤ℤ◌, IfSome, Contains, neg_ℤ};
 ghost use Rattle.othello_board.specs.Words.{cells};
 ghost use Rattle.othello_eval.specs.othello_moves.Choices.{choices};
 ghost use Rattle.othello_eval.specs.Values.{IsWithin};
@@ -55,28 +55,30 @@ fn search_below(weighed: Weighed, depth: u8, window: Window) -> Scored
     ensures within { IsWithin 128000 result.score }
     ensures chosen { IfSome result.choice (Contains (choices (cells weighed.board))) }
 {
+    if depth > 0 {
+        return best_of(weighed, depth, window);
+    }
     let mobility = Mobility::of(weighed.board);
     if mobility.is_over() {
         return Scored::entered(final_value(weighed.board));
     }
-    if depth == 0 {
-        return Scored::entered(weighed.eval(mobility));
-    }
-    best_of(weighed, Choices::of(mobility), depth, window)
+    Scored::entered(weighed.eval(mobility))
 }
 
 /// Searches the positions after the choices of a board in order, to a depth of 1 or more, until one has
 /// a score of at least beta.
 #[cycle(search)]
-fn best_of(weighed: Weighed, mut left: Choices, depth: u8, window: Window) -> Scored
-    requires choices { left ≡ choices (cells weighed.board) }
-    requires some { 0 < length left }
-    requires deep { 0 < depth }
+fn best_of(weighed: Weighed, depth: u8, window: Window) -> Scored
+    requires { 0 < depth }
     ensures bound { IsBound window.alpha window.beta result.score (minimax depth (cells weighed.board)) }
     ensures choice { window.alpha <ℤ result.score → result.score <ℤ window.beta → result.choice ≡ best_choice depth (cells weighed.board) }
     ensures within { IsWithin 128000 result.score }
     ensures chosen { IfSome result.choice (Contains (choices (cells weighed.board))) }
 {
+    let mut left = Choices::new(weighed.board);
+    if left.is_empty() {
+        return Scored::entered(final_value(weighed.board));
+    }
     let mut best = Scored::entered(-INF);
     while let Some(choice) = left.pop_first() {
         let below = depth - plies(choice) as u8;

@@ -1,12 +1,11 @@
 -- The end of a run: the first square of a ray that isn't opposing, found in a list and in a word.
-use Rattle.std.proofs.Common.{◌≡◌, ◌≢◌, ℕ, zero, suc, ◌+◌, ◌-◌, ◌*◌, ◌/◌, ◌%◌, ◌^◌, ◌<◌, ◌≤◌, Bool, true, false, cond, not, ◌||◌, eqb, ltb, nat_eq, List, [], ◌∷◌, ◌++◌, Some, None, unwrap_or, bit_and, bit_or, min, max, ◌⊎◌, inl, inr, refl, sym, ap, ap₂, subst, ◌∙◌, arith, w64, add-one}
+use Rattle.std.proofs.Common.{◌≡◌, ◌≢◌, ℕ, zero, suc, ◌+◌, ◌-◌, ◌*◌, ◌/◌, ◌%◌, ◌^◌, ◌<◌, ◌≤◌, Bool, true, false, cond, ◌||◌, eqb, ltb, List, [], ◌∷◌, ◌++◌, Some, None, unwrap_or, bit_and, bit_or, min, max, ◌⊎◌, inl, inr, refl, sym, ap, ap₂, ◌∙◌, arith, w64, add-one}
 use Rattle.std.specs.Int.{bit_at}
 use Rattle.std.specs.List.{list_all}
 use Rattle.std.specs.Option.{option_map}
-use mir.Val.{bool_byte}
-use Rattle.std.proofs.lemmas.Bool.{eqb-true, ltb-true, eq-eqb, ne_eqb, and_from, cases_lt, and_parts}
+use Rattle.std.proofs.lemmas.Bool.{eqb-true, ltb-true, eq-eqb, and_from, cases_lt, and_parts}
 use Rattle.std.proofs.lemmas.Bool.Decides.{eqb_tells}
-use Rattle.std.proofs.lemmas.Nat.{and_comm, and_le_l, le_or_l, div-add-mod', mod_below, one_shl, pow_pos, pow_below}
+use Rattle.std.proofs.lemmas.Nat.{and_comm, and_le_l, le_or_l, or_lt, shr_le, div-add-mod', mod_below, pow_pos, pow_below}
 use Rattle.std.proofs.lemmas.Nat.Bits.{and_pow, bit_at_and, bit_at_or, bit_at_not, bit_at-lt, bit_at-zero, bit_at-pow_same, bit_at-pow_other, bit_at_above, bit_at_ones, bit_at_ones_above, bit_at_cat_low, bit_at_cat_high, bit_at_mask_inside, bit_at_mask_below, same_from_bits_below}
 use Rattle.std.proofs.Math.Nat.{pow-suc, mul_comm}
 use Rattle.std.proofs.Math.Pow.{pow_mono}
@@ -16,7 +15,9 @@ use Rattle.othello_board.specs.Rules.{cell_at, led_by, outflanked, is_among}
 use Rattle.othello_board.specs.Words.{cells_of, bits_of}
 use Rattle.othello_board.proofs.BitLemmas.{apart, bit_at-bits_of, bits_of-append}
 use Rattle.othello_board.proofs.CellLemmas.{bit_cases, own_here, opp_here, empty_here}
-use Rattle.othello_board.proofs.RayLemmas.{comes, ordered}
+use Rattle.othello_board.specs.Runs.{negated, others, rising_run, lowered_to, falling_run}
+use Rattle.othello_board.proofs.RayLemmas.{comes, ordered, falls_to, falls_by}
+use Rattle.othello_board.proofs.ShiftLemmas.{bit_at-right}
 
 -- ---- in a list
 
@@ -199,23 +200,6 @@ and_negated x k neg fits k_below set lower neg_fits is =
     positive zero e = absurd (omega (arith, e, bit_at-zero k))
     positive (suc x) e = omega arith
 
--- the highest bit of a number between two powers
-pub highest : (y k : ℕ) → 2 ^ k ≤ y → y < 2 * 2 ^ k → bit_at y k ≡ 1
-highest y k h1 h2 = grind arith
-
-pub highest_is : (y k stop : ℕ) → 2 ^ k ≤ y → y < 2 * 2 ^ k → bit_at y stop ≡ 1 → ((i : ℕ) → stop < i → bit_at y i ≡ 0) → k ≡ stop
-highest_is y k stop low high set above =
-    elim (eqb_tells k stop) [
-      | inl same ↦ same.1
-      | inr other ↦ absurd (elim (order k stop other.1) [
-        | inl under ↦ omega (arith, set, bit_at_above y (k + 1) stop (omega (arith, pow_twice k)) (omega arith))
-        | inr over ↦ omega (arith, highest y k low high, above k over)
-      ])
-    ]
-  where
-    order : (a b : ℕ) → (a ≡ b → ⊥) → (a < b) ⊎ (b < a)
-    order a b ne = grind arith
-
 -- ---- the run of a ray with a stop: the words of the squares before it and after it, bit by bit
 
 abbrev joined : ℕ → ℕ → ℕ → ℕ
@@ -260,33 +244,33 @@ rising_kept before stop after fits stop_below under over =
           omega (arith, no_before, bit_at_ones_above stop i high)
     ])
 
-rising_end : (ray before stop own_bit end from : ℕ) → stop < 64 → own_bit < 2 → end ≡ own_bit * 2 ^ stop → from ≡ bool_byte (not (nat_eq end 0)) → bit_and ray (2 ^ stop - 1) ≡ before
-    → bit_and ray ((end + (2 ^ 64 - from)) % 2 ^ 64) ≡ cond (eqb own_bit 1) before 0
-rising_end ray before stop zero end from below few is test kept =
-    let none : end ≡ 0 = omega (arith, is) in
-    let step : from ≡ 0 = test ∙ ap (λ n. bool_byte (not (nat_eq n 0))) none in
-    and_none ray ((end + (2 ^ 64 - from)) % 2 ^ 64) (omega (arith, none, step))
-rising_end ray before stop (suc zero) end from below few is test kept =
+rising_end : (ray before stop own_bit end : ℕ) → own_bit < 2 → end ≡ own_bit * 2 ^ stop → bit_and ray (2 ^ stop - 1) ≡ before
+    → bit_and ray (end - 1) ≡ cond (eqb own_bit 1) before 0
+rising_end ray before stop zero end few is kept = and_none ray (end - 1) (omega (arith, is))
+rising_end ray before stop (suc zero) end few is kept =
     let one : end ≡ 2 ^ stop = omega (arith, is) in
-    let some : end ≢ 0 = λ none. omega (arith, one, pow_pos stop) in
-    let step : from ≡ 1 = test ∙ ap (λ b. bool_byte (not b)) (ne_eqb end 0 some) in
-    ap (bit_and ray) (omega (arith, one, step, pow_pos stop, pow_below stop 64 below)) ∙ kept
-rising_end ray before stop (suc (suc n)) end from below few is test kept = absurd (omega arith)
+    ap (λ n. bit_and ray (n - 1)) one ∙ kept
+rising_end ray before stop (suc (suc n)) end few is kept = absurd (omega arith)
 
-pub rising_run : (own opp before stop after neg from : ℕ) → joined before stop after < 2 ^ 64 → opp < 2 ^ 64 → stop < 64 → bit_at opp stop ≡ 0
+negated_sum : (x : ℕ) → x < 2 ^ 64 → (negated x + x) % 2 ^ 64 ≡ 0
+negated_sum x fits = omega arith
+
+negated_fits : (x : ℕ) → negated x < 2 ^ 64
+negated_fits x = mod_below (0 + (2 ^ 64 - x)) (2 ^ 64) (omega arith)
+
+rising_stop : (own opp before stop after : ℕ) → joined before stop after < 2 ^ 64 → opp < 2 ^ 64 → stop < 64 → bit_at opp stop ≡ 0
     → ((i : ℕ) → bit_at before i ≡ 1 → bit_at opp i ≡ 1) → ((i : ℕ) → bit_at before i ≡ 1 → i < stop) → ((i : ℕ) → bit_at after i ≡ 1 → stop < i)
-    → neg < 2 ^ 64 → (neg + bit_and (joined before stop after) (2 ^ 64 - 1 - opp)) % 2 ^ 64 ≡ 0
-    → from ≡ bool_byte (not (nat_eq (bit_and (bit_and (bit_and (joined before stop after) (2 ^ 64 - 1 - opp)) neg) own) 0))
-    → bit_and (joined before stop after) ((bit_and (bit_and (bit_and (joined before stop after) (2 ^ 64 - 1 - opp)) neg) own + (2 ^ 64 - from)) % 2 ^ 64) ≡ cond (set_in own stop) before 0
-rising_run own opp before stop after neg from fits opp_fits below other opposing under over neg_fits negated test =
+    → rising_run own opp (joined before stop after) ≡ cond (set_in own stop) before 0
+rising_stop own opp before stop after fits opp_fits below other opposing under over =
     let ray = joined before stop after in
-    let others = bit_and ray (2 ^ 64 - 1 - opp) in
-    let lowest : bit_and others neg ≡ 2 ^ stop =
-    and_negated others stop neg (omega (arith, and_le_l ray (2 ^ 64 - 1 - opp))) below (stop_bit before stop after opp opp_fits below other)
+    let rest = others opp ray in
+    let rest_fits : rest < 2 ^ 64 = omega (arith, and_le_l ray (2 ^ 64 - 1 - opp)) in
+    let lowest : bit_and rest (negated rest) ≡ 2 ^ stop =
+    and_negated rest stop (negated rest) rest_fits below (stop_bit before stop after opp opp_fits below other)
     (λ i low. before_bit before stop after opp i opp_fits (omega arith) (opposing i) (clear_bit after i (λ set. omega (arith, over i set))) (λ e. omega arith))
-    neg_fits negated in
-    rising_end ray before stop (bit_at own stop) (bit_and (bit_and others neg) own) from below (bit_at-lt own stop)
-    (ap (λ n. bit_and n own) lowest ∙ own_end own stop) test (rising_kept before stop after fits below under over)
+    (negated_fits rest) (negated_sum rest rest_fits) in
+    rising_end ray before stop (bit_at own stop) (bit_and (bit_and rest (negated rest)) own) (bit_at-lt own stop)
+    (ap (λ n. bit_and n own) lowest ∙ own_end own stop) (rising_kept before stop after fits below under over)
 
 -- falling: the bits above the end
 falling_kept : (before stop after : ℕ) → joined before stop after < 2 ^ 64 → stop < 64 → ((i : ℕ) → bit_at before i ≡ 1 → stop < i) → ((i : ℕ) → bit_at after i ≡ 1 → i < stop)
@@ -312,39 +296,111 @@ pow_most stop below = omega (arith, pow_twice stop, pow_half stop below)
     pow_half k below = let most : k ≤ 63 = omega arith in pow_mono most
 
 falling_end : (ray before stop own_bit end neg : ℕ) → stop < 64 → own_bit < 2 → end ≡ own_bit * 2 ^ stop → neg < 2 ^ 64 → (neg + end) % 2 ^ 64 ≡ 0 → bit_and ray (2 ^ 64 - 2 ^ (stop + 1)) ≡ before
-    → bit_and ray (neg * 2 % 2 ^ 64) ≡ cond (eqb own_bit 1) before 0
+    → bit_and ray (neg * 2 ^ 1 % 2 ^ 64) ≡ cond (eqb own_bit 1) before 0
 falling_end ray before stop zero end neg below few is fits negated kept =
     let none : neg ≡ 0 = omega (arith, is, negated) in
-    and_none ray (neg * 2 % 2 ^ 64) (omega (arith, none))
+    and_none ray (neg * 2 ^ 1 % 2 ^ 64) (omega (arith, none))
 falling_end ray before stop (suc zero) end neg below few is fits negated kept =
     let one : end ≡ 2 ^ stop = omega (arith, is) in
     let rest : neg ≡ 2 ^ 64 - 2 ^ stop = omega (arith, one, negated, pow_pos stop, pow_below stop 64 below) in
     ap (bit_and ray) (omega (arith, rest, pow_twice stop, pow_pos stop, pow_most stop below)) ∙ kept
 falling_end ray before stop (suc (suc n)) end neg below few is fits negated kept = absurd (omega arith)
 
-pub falling_run : (own opp before stop after k neg : ℕ) → joined before stop after < 2 ^ 64 → opp < 2 ^ 64 → stop < 64 → bit_at opp stop ≡ 0
+-- falling: the one of the others that no other one lies beyond
+half_bit : (x k t : ℕ) (f : ℕ → ℕ) → ((i : ℕ) → bit_at x i ≡ f i) → bit_at (x / 2 ^ k) t ≡ f (t + k)
+half_bit x k t f bits = bit_at-right x k t ∙ bits (t + k)
+
+abbrev two_at : (ℕ → ℕ) → ℕ → ℕ → ℕ
+two_at f k t = max (f t) (f (t + k))
+
+abbrev four_at : (ℕ → ℕ) → ℕ → ℕ → ℕ
+four_at f k t = max (two_at f k t) (two_at f k (t + k + k))
+
+abbrev eight_at : (ℕ → ℕ) → ℕ → ℕ → ℕ
+eight_at f k t = max (four_at f k t) (four_at f k (t + k + k + k + k))
+
+lowered_bit : (word k t : ℕ) → bit_at (lowered_to k word) t ≡ eight_at (bit_at word) k t
+lowered_bit word k t =
+    let two = bit_or word (word / 2 ^ k) in
+    let four = bit_or two (two / 2 ^ k / 2 ^ k) in
+    let two_bit : (i : ℕ) → bit_at two i ≡ two_at (bit_at word) k i =
+    λ i. bit_at_or word (word / 2 ^ k) i ∙ ap (max (bit_at word i)) (bit_at-right word k i) in
+    let four_bit : (i : ℕ) → bit_at four i ≡ four_at (bit_at word) k i =
+    λ i. bit_at_or two (two / 2 ^ k / 2 ^ k) i
+    ∙ ap₂ max (two_bit i) (bit_at-right (two / 2 ^ k) k i ∙ half_bit two k (i + k) (two_at (bit_at word) k) two_bit) in
+    bit_at_or four (four / 2 ^ k / 2 ^ k / 2 ^ k / 2 ^ k) t
+    ∙ ap₂ max (four_bit t)
+    (bit_at-right (four / 2 ^ k / 2 ^ k / 2 ^ k) k t
+    ∙ bit_at-right (four / 2 ^ k / 2 ^ k) k (t + k)
+    ∙ bit_at-right (four / 2 ^ k) k (t + k + k)
+    ∙ half_bit four k (t + k + k + k) (four_at (bit_at word) k) four_bit)
+
+lowered_fits : (k x : ℕ) → x < 2 ^ 64 → lowered_to k x / 2 ^ k < 2 ^ 64
+lowered_fits k x fits =
+    let two = bit_or x (x / 2 ^ k) in
+    let four = bit_or two (two / 2 ^ k / 2 ^ k) in
+    let two_fits : two < 2 ^ 64 = or_lt 64 x (x / 2 ^ k) fits (omega (arith, shr_le x k)) in
+    let four_fits : four < 2 ^ 64 = or_lt 64 two (two / 2 ^ k / 2 ^ k) two_fits (omega (arith, shr_le two k, shr_le (two / 2 ^ k) k)) in
+    let eight_fits : lowered_to k x < 2 ^ 64 =
+    or_lt 64 four (four / 2 ^ k / 2 ^ k / 2 ^ k / 2 ^ k) four_fits
+    (omega (arith, shr_le four k, shr_le (four / 2 ^ k) k, shr_le (four / 2 ^ k / 2 ^ k) k, shr_le (four / 2 ^ k / 2 ^ k / 2 ^ k) k)) in
+    omega (arith, shr_le (lowered_to k x) k)
+
+none_beyond : (f : ℕ → ℕ) (k t : ℕ) → ((i : ℕ) → t ≤ i → f i ≡ 0) → eight_at f k t ≡ 0
+none_beyond f k t none =
+    omega (arith, none t (omega arith), none (t + k) (omega arith), none (t + k + k) (omega arith), none (t + k + k + k) (omega arith), none (t + k + k + k + k) (omega arith), none (t + k + k + k + k + k) (omega arith), none (t + k + k + k + k + k + k) (omega arith), none (t + k + k + k + k + k + k + k) (omega arith))
+
+some_beyond : (f : ℕ → ℕ) (k t s : ℕ) → ((i : ℕ) → f i < 2) → f s ≡ 1 → falls_to k s t ≡ true → eight_at f k (t + k) ≡ 1
+some_beyond f k t s few set falls = grind arith
+
+pub falling_stop : (own opp before stop after k : ℕ) → joined before stop after < 2 ^ 64 → opp < 2 ^ 64 → stop < 64 → 0 < k → bit_at opp stop ≡ 0
     → ((i : ℕ) → bit_at before i ≡ 1 → bit_at opp i ≡ 1) → ((i : ℕ) → bit_at before i ≡ 1 → stop < i) → ((i : ℕ) → bit_at after i ≡ 1 → i < stop)
-    → 2 ^ k ≤ bit_or (bit_and (joined before stop after) (2 ^ 64 - 1 - opp)) 1 → bit_or (bit_and (joined before stop after) (2 ^ 64 - 1 - opp)) 1 < 2 * 2 ^ k
-    → neg < 2 ^ 64 → (neg + bit_and (bit_and (1 * 2 ^ k % 2 ^ 64) (joined before stop after)) own) % 2 ^ 64 ≡ 0
-    → bit_and (joined before stop after) (neg * 2 % 2 ^ 64) ≡ cond (set_in own stop) before 0
-falling_run own opp before stop after k neg fits opp_fits below other opposing over under low high neg_fits negated =
+    → ((i : ℕ) → bit_at after i ≡ 1 → falls_to k stop i ≡ true)
+    → falling_run k own opp (joined before stop after) ≡ cond (set_in own stop) before 0
+falling_stop own opp before stop after k fits opp_fits below some other opposing over under falls =
     let ray = joined before stop after in
-    let others = bit_and ray (2 ^ 64 - 1 - opp) in
-    let set = stop_bit before stop after opp opp_fits below other in
-    let k_is : k ≡ stop =
-    highest_is (bit_or others 1) k stop low high
-    (bit_at_or others 1 stop ∙ omega (arith, set, bit_at-lt 1 stop))
-    (λ i above.
-    let none : bit_at others i ≡ 0 = elim (cases_lt i 64) [
+    let rest = others opp ray in
+    let rest_fits : rest < 2 ^ 64 = omega (arith, and_le_l ray (2 ^ 64 - 1 - opp)) in
+    let set : bit_at rest stop ≡ 1 = stop_bit before stop after opp opp_fits below other in
+    let none : (i : ℕ) → stop < i → bit_at rest i ≡ 0 =
+    λ i above. elim (cases_lt i 64) [
       | inl i_below ↦ before_bit before stop after opp i opp_fits i_below (opposing i) (clear_bit after i (λ there. omega (arith, under i there))) (λ e. omega arith)
-      | inr beyond ↦ bit_at_above others 64 i (omega (arith, and_le_l ray (2 ^ 64 - 1 - opp))) beyond
+      | inr beyond ↦ bit_at_above rest 64 i rest_fits beyond
     ] in
-    bit_at_or others 1 i ∙ omega (arith, none, bit_at_above 1 1 i (omega arith) (omega arith))) in
-    let there : bit_at ray stop ≡ 1 = joined_bit before stop after stop ∙ omega (arith, bit_at-pow_same stop, bit_at-lt before stop, bit_at-lt after stop) in
-    let one : bit_and (1 * 2 ^ k % 2 ^ 64) ray ≡ 2 ^ stop =
-    ap (λ n. bit_and n ray) (one_shl k 64 (omega (arith, k_is)) ∙ ap (λ n. 2 ^ n) k_is) ∙ own_end ray stop ∙ omega (arith, ap (λ b. b * 2 ^ stop) there) in
-    falling_end ray before stop (bit_at own stop) (bit_and (bit_and (1 * 2 ^ k % 2 ^ 64) ray) own) neg below (bit_at-lt own stop)
-    (ap (λ n. bit_and n own) one ∙ own_end own stop) neg_fits negated (falling_kept before stop after fits below over under)
+    let lower = lowered_to k rest / 2 ^ k in
+    let in_after : (i : ℕ) → i < stop → bit_at rest i ≡ 1 → bit_at after i ≡ 1 =
+    λ i low there.
+    let no_before = clear_bit before i (λ h. omega (arith, over i h)) in
+    omega (arith, there, other_bit ray opp i opp_fits (omega arith), joined_bit before stop after i, no_before, bit_at-pow_other stop i (λ e. omega arith), bit_at-lt after i) in
+    let lower_fits : lower < 2 ^ 64 = lowered_fits k rest rest_fits in
+    let lower_bit : (i : ℕ) → bit_at lower i ≡ eight_at (bit_at rest) k (i + k) = λ i. bit_at-right (lowered_to k rest) k i ∙ lowered_bit rest k (i + k) in
+    let lower_case : (i : ℕ) → i < stop → min (bit_at rest i) (1 - bit_at lower i) ≡ 0 =
+    λ i low. elim (bit_cases (bit_at rest i) (bit_at-lt rest i)) [
+      | inl clear ↦ omega (arith, clear)
+      | inr there ↦
+          let hit : bit_at lower i ≡ 1 = lower_bit i ∙ some_beyond (bit_at rest) k i stop (bit_at-lt rest) set (falls i (in_after i low there)) in
+          omega (arith, hit)
+    ] in
+    let last : bit_and rest (2 ^ 64 - 1 - lower) ≡ 2 ^ stop =
+    same_from_bits_below 64 (bit_and rest (2 ^ 64 - 1 - lower)) (2 ^ stop) (omega (arith, and_le_l rest (2 ^ 64 - 1 - lower))) (pow_below stop 64 below) (λ i i_below.
+    other_bit rest lower i lower_fits i_below
+    ∙ elim (order i stop) [
+      | inl low ↦ omega (arith, bit_at-pow_other stop i (λ e. omega arith), bit_at-lt rest i, lower_case i low)
+      | inr more ↦ elim more [
+        | inl same ↦
+            let here : bit_at rest i ≡ 1 = ap (bit_at rest) same ∙ set in
+            let no_lower : bit_at lower i ≡ 0 = lower_bit i ∙ none_beyond (bit_at rest) k (i + k) (λ j le. none j (omega arith)) in
+            omega (arith, here, no_lower, ap (bit_at (2 ^ stop)) same ∙ bit_at-pow_same stop)
+        | inr high ↦ omega (arith, bit_at-pow_other stop i (λ e. omega arith), none i high)
+      ]
+    ]) in
+    let end = bit_and (bit_and rest (2 ^ 64 - 1 - lower)) own in
+    let end_is : end ≡ bit_at own stop * 2 ^ stop = ap (λ n. bit_and n own) last ∙ own_end own stop in
+    let end_fits : end < 2 ^ 64 = omega (arith, and_le_l (bit_and rest (2 ^ 64 - 1 - lower)) own, and_le_l rest (2 ^ 64 - 1 - lower)) in
+    falling_end ray before stop (bit_at own stop) end (negated end) below (bit_at-lt own stop) end_is (negated_fits end) (negated_sum end end_fits) (falling_kept before stop after fits below over under)
+  where
+    order : (i k : ℕ) → (i < k) ⊎ ((i ≡ k) ⊎ (k < i))
+    order i k = grind arith
 
 -- ---- a ray of opposing discs alone
 
@@ -357,25 +413,18 @@ nothing_other ray opp fits opp_fits all =
       | inr set ↦ omega (arith, all i set, bit_at-zero i)
     ])
 
-pub rising_none : (own opp ray neg from : ℕ) → ray < 2 ^ 64 → opp < 2 ^ 64 → ((i : ℕ) → bit_at ray i ≡ 1 → bit_at opp i ≡ 1)
-    → from ≡ bool_byte (not (nat_eq (bit_and (bit_and (bit_and ray (2 ^ 64 - 1 - opp)) neg) own) 0))
-    → bit_and ray ((bit_and (bit_and (bit_and ray (2 ^ 64 - 1 - opp)) neg) own + (2 ^ 64 - from)) % 2 ^ 64) ≡ 0
-rising_none own opp ray neg from fits opp_fits all test = grind (arith, nothing_other, and_none)
+none_and : (n m : ℕ) → n ≡ 0 → bit_and n m ≡ 0
+none_and n m none = and_comm n m ∙ and_none m n none
 
-pub falling_none : (own opp ray k neg : ℕ) → ray < 2 ^ 64 → opp < 2 ^ 64 → bit_and own opp ≡ 0 → ((i : ℕ) → bit_at ray i ≡ 1 → bit_at opp i ≡ 1)
-    → 2 ^ k ≤ bit_or (bit_and ray (2 ^ 64 - 1 - opp)) 1 → bit_or (bit_and ray (2 ^ 64 - 1 - opp)) 1 < 2 * 2 ^ k
-    → neg < 2 ^ 64 → (neg + bit_and (bit_and (1 * 2 ^ k % 2 ^ 64) ray) own) % 2 ^ 64 ≡ 0
-    → bit_and ray (neg * 2 % 2 ^ 64) ≡ 0
-falling_none own opp ray k neg fits opp_fits disjoint all low high neg_fits negated =
-    let one : bit_or (bit_and ray (2 ^ 64 - 1 - opp)) 1 ≡ 1 = ap (λ n. bit_or n 1) (nothing_other ray opp fits opp_fits all) in
-    let k_is : k ≡ 0 = highest_is (bit_or (bit_and ray (2 ^ 64 - 1 - opp)) 1) k 0 low high (ap (λ n. bit_at n 0) one) (λ i above. ap (λ n. bit_at n i) one ∙ bit_at_above 1 1 i (omega arith) (omega arith)) in
-    let end : bit_and (bit_and (1 * 2 ^ k % 2 ^ 64) ray) own ≡ 0 = ap (λ n. bit_and (bit_and (1 * 2 ^ n % 2 ^ 64) ray) own) k_is ∙ ap (λ n. bit_and n own) (own_end ray 0) ∙ by_bit (bit_cases (bit_at ray 0) (bit_at-lt ray 0)) in
-    let none : neg ≡ 0 = omega (arith, end, negated) in
-    and_none ray _ (omega (arith, none))
-  where
-    by_bit : (bit_at ray 0 ≡ 0) ⊎ (bit_at ray 0 ≡ 1) → bit_and (bit_at ray 0 * 2 ^ 0) own ≡ 0
-    by_bit (inl clear) = ap (λ b. bit_and (b * 2 ^ 0) own) clear
-    by_bit (inr set) = ap (λ b. bit_and (b * 2 ^ 0) own) set ∙ own_end own 0 ∙ omega (arith, apart own opp 0 disjoint, all 0 set, bit_at-lt own 0)
+rising_none : (own opp ray : ℕ) → others opp ray ≡ 0 → rising_run own opp ray ≡ 0
+rising_none own opp ray none =
+    let end : bit_and (bit_and (others opp ray) (negated (others opp ray))) own ≡ 0 = none_and _ own (none_and (others opp ray) _ none) in
+    and_none ray _ (omega (arith, end))
+
+falling_none : (k own opp ray : ℕ) → others opp ray ≡ 0 → falling_run k own opp ray ≡ 0
+falling_none k own opp ray none =
+    let end : bit_and (bit_and (others opp ray) (2 ^ 64 - 1 - lowered_to k (others opp ray) / 2 ^ k)) own ≡ 0 = none_and _ own (none_and (others opp ray) _ none) in
+    and_none ray _ (ap (λ n. negated n * 2 ^ 1 % 2 ^ 64) end)
 
 -- ---- a run, by its ray
 
@@ -387,6 +436,7 @@ pub record Parts (opp : ℕ) (up : Bool) (ray : List ℕ) : Type 0 where
   pub before : List ℕ
   pub stop : ℕ
   pub after : List ℕ
+  pub split : ray ≡ before ++ stop ∷ after
   pub word : bits_of ray ≡ joined (bits_of before) stop (bits_of after)
   pub below : stop < 64
   pub other : bit_at opp stop ≡ 0
@@ -403,6 +453,7 @@ parts_of opp up ray order st =
       before = st.before;
       stop = st.stop;
       after = st.after;
+      split = st.split;
       word = ap bits_of st.split ∙ bits_of-append st.before (st.stop ∷ st.after);
       below = h.below;
       other = st.other;
@@ -430,42 +481,35 @@ whole_or_parts opp up ray order =
       | inr st ↦ inr (parts_of opp up ray order st)
     ]
 
--- what the code computes where a ray rises, and where it falls
-abbrev pub rising_word : ℕ → ℕ → ℕ → ℕ → ℕ → ℕ
-rising_word own opp ray neg from = bit_and ray ((bit_and (bit_and (bit_and ray (2 ^ 64 - 1 - opp)) neg) own + (2 ^ 64 - from)) % 2 ^ 64)
-
-pub rising : (own opp ray neg from : ℕ) (squares : List ℕ) → ray ≡ bits_of squares → ordered true squares ≡ true → ray < 2 ^ 64 → opp < 2 ^ 64 → bit_and own opp ≡ 0
-    → neg < 2 ^ 64 → (neg + bit_and ray (2 ^ 64 - 1 - opp)) % 2 ^ 64 ≡ 0
-    → from ≡ bool_byte (not (nat_eq (bit_and (bit_and (bit_and ray (2 ^ 64 - 1 - opp)) neg) own) 0))
-    → rising_word own opp ray neg from ≡ bits_of (unwrap_or (outflanked (cells_of own opp) squares) [])
-rising own opp ray neg from squares is order fits opp_fits disjoint neg_fits negated test =
+pub rising : (own opp ray : ℕ) (squares : List ℕ) → ray ≡ bits_of squares → ordered true squares ≡ true → ray < 2 ^ 64 → opp < 2 ^ 64 → bit_and own opp ≡ 0
+    → rising_run own opp ray ≡ bits_of (unwrap_or (outflanked (cells_of own opp) squares) [])
+rising own opp ray squares is order fits opp_fits disjoint =
     elim (whole_or_parts opp true squares order) [
-      | inl w ↦ rising_none own opp ray neg from fits opp_fits (λ i set. w.opposing i (ap (λ n. bit_at n i) (sym is) ∙ set)) test ∙ sym (w.run own disjoint)
+      | inl w ↦ rising_none own opp ray (nothing_other ray opp fits opp_fits (λ i set. w.opposing i (ap (λ n. bit_at n i) (sym is) ∙ set))) ∙ sym (w.run own disjoint)
       | inr p ↦
           let word : ray ≡ joined (bits_of p.before) p.stop (bits_of p.after) = is ∙ p.word in
-          let word_fits : joined (bits_of p.before) p.stop (bits_of p.after) < 2 ^ 64 = omega (arith, word) in
-          ap (λ r. rising_word own opp r neg from) word
-          ∙ rising_run own opp (bits_of p.before) p.stop (bits_of p.after) neg from word_fits opp_fits p.below p.other p.opposing
-          (λ i set. ltb-true i p.stop (p.earlier i set)) (λ i set. ltb-true p.stop i (p.later i set)) neg_fits
-          (ap (λ r. (neg + bit_and r (2 ^ 64 - 1 - opp)) % 2 ^ 64) (sym word) ∙ negated)
-          (test ∙ ap (λ r. bool_byte (not (nat_eq (bit_and (bit_and (bit_and r (2 ^ 64 - 1 - opp)) neg) own) 0))) word)
+          ap (rising_run own opp) word
+          ∙ rising_stop own opp (bits_of p.before) p.stop (bits_of p.after) (omega (arith, word)) opp_fits p.below p.other p.opposing
+          (λ i set. ltb-true i p.stop (p.earlier i set)) (λ i set. ltb-true p.stop i (p.later i set))
           ∙ sym (p.run own disjoint)
     ]
 
-pub falling : (own opp ray k neg : ℕ) (squares : List ℕ) → ray ≡ bits_of squares → ordered false squares ≡ true → ray < 2 ^ 64 → opp < 2 ^ 64 → bit_and own opp ≡ 0
-    → 2 ^ k ≤ bit_or (bit_and ray (2 ^ 64 - 1 - opp)) 1 → bit_or (bit_and ray (2 ^ 64 - 1 - opp)) 1 < 2 * 2 ^ k
-    → neg < 2 ^ 64 → (neg + bit_and (bit_and (1 * 2 ^ k % 2 ^ 64) ray) own) % 2 ^ 64 ≡ 0
-    → bit_and ray (neg * 2 % 2 ^ 64) ≡ bits_of (unwrap_or (outflanked (cells_of own opp) squares) [])
-falling own opp ray k neg squares is order fits opp_fits disjoint low high neg_fits negated =
+falls_after : (k : ℕ) (before : List ℕ) (stop : ℕ) (after : List ℕ) → falls_by k (before ++ stop ∷ after) ≡ true → list_all (falls_to k stop) after ≡ true
+falls_after k [] stop after falls = (and_parts (list_all (falls_to k stop) after) (falls_by k after) falls).0
+falls_after k (s ∷ before) stop after falls =
+    falls_after k before stop after (and_parts (list_all (falls_to k s) (before ++ stop ∷ after)) (falls_by k (before ++ stop ∷ after)) falls).1
+
+pub falling : (k own opp ray : ℕ) (squares : List ℕ) → 0 < k → ray ≡ bits_of squares → ordered false squares ≡ true → falls_by k squares ≡ true → ray < 2 ^ 64 → opp < 2 ^ 64 → bit_and own opp ≡ 0
+    → falling_run k own opp ray ≡ bits_of (unwrap_or (outflanked (cells_of own opp) squares) [])
+falling k own opp ray squares some is order falls fits opp_fits disjoint =
     elim (whole_or_parts opp false squares order) [
-      | inl w ↦ falling_none own opp ray k neg fits opp_fits disjoint (λ i set. w.opposing i (ap (λ n. bit_at n i) (sym is) ∙ set)) low high neg_fits negated ∙ sym (w.run own disjoint)
+      | inl w ↦ falling_none k own opp ray (nothing_other ray opp fits opp_fits (λ i set. w.opposing i (ap (λ n. bit_at n i) (sym is) ∙ set))) ∙ sym (w.run own disjoint)
       | inr p ↦
           let word : ray ≡ joined (bits_of p.before) p.stop (bits_of p.after) = is ∙ p.word in
-          let word_fits : joined (bits_of p.before) p.stop (bits_of p.after) < 2 ^ 64 = omega (arith, word) in
-          let others : bit_or (bit_and ray (2 ^ 64 - 1 - opp)) 1 ≡ bit_or (bit_and (joined (bits_of p.before) p.stop (bits_of p.after)) (2 ^ 64 - 1 - opp)) 1 = ap (λ r. bit_or (bit_and r (2 ^ 64 - 1 - opp)) 1) word in
-          ap (λ r. bit_and r (neg * 2 % 2 ^ 64)) word
-          ∙ falling_run own opp (bits_of p.before) p.stop (bits_of p.after) k neg word_fits opp_fits p.below p.other p.opposing
-          (λ i set. ltb-true p.stop i (p.earlier i set)) (λ i set. ltb-true i p.stop (p.later i set)) (subst (λ n. 2 ^ k ≤ n) others low) (subst (λ n. n < 2 * 2 ^ k) others high) neg_fits
-          (ap (λ r. (neg + bit_and (bit_and (1 * 2 ^ k % 2 ^ 64) r) own) % 2 ^ 64) (sym word) ∙ negated)
+          let after_falls = falls_after k p.before p.stop p.after (ap (falls_by k) (sym p.split) ∙ falls) in
+          ap (falling_run k own opp) word
+          ∙ falling_stop own opp (bits_of p.before) p.stop (bits_of p.after) k (omega (arith, word)) opp_fits p.below some p.other p.opposing
+          (λ i set. ltb-true p.stop i (p.earlier i set)) (λ i set. ltb-true i p.stop (p.later i set))
+          (λ i set. bits_all (falls_to k p.stop) p.after i after_falls set)
           ∙ sym (p.run own disjoint)
     ]

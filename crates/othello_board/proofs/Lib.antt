@@ -7,3 +7,4 @@ pub mod ShiftLemmas
 pub mod StepLemmas
 pub mod RayLemmas
 pub mod EndLemmas
+pub mod Shifts

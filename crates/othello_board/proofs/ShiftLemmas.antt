@@ -6,7 +6,7 @@ use borrow.Author.Tests.{ltb-true, leb-true}
 use Rattle.std.proofs.lemmas.Nat.{div-add-mod', mod_below, pow_pos}
 use Rattle.std.proofs.lemmas.Bool.Decides.{eqb_tells}
 use Rattle.std.proofs.lemmas.Nat.Bits.{bit_at-zero, bit_at_above, bit_at_cat_low, bit_at_cat_high}
-use Rattle.othello_board.specs.Shifts.{bit_there}
+use Rattle.othello_board.proofs.Shifts.{bit_there}
 
 -- a test that holds below n
 abbrev pub all_below : ℕ → (ℕ → Bool) → Bool
@@ -23,7 +23,7 @@ holds_below (suc n) test all s below =
     ]
 
 -- a word shifted right and left, bit by bit
-bit_at-right : (x k t : ℕ) → bit_at (x / 2 ^ k) t ≡ bit_at x (t + k)
+pub bit_at-right : (x k t : ℕ) → bit_at (x / 2 ^ k) t ≡ bit_at x (t + k)
 bit_at-right x k t =
     let back : t + k - k ≡ t = omega arith in
     sym (ap (λ n. bit_at n (t + k)) (sym (div-add-mod' x (2 ^ k)))

@@ -3,7 +3,7 @@ use Rattle.std.proofs.Common.{◌≡◌, ℕ, suc, ◌<◌, Bool, true, false, �
 use Rattle.std.specs.Option.{option_map}
 use Rattle.othello_board.specs.declared.directions.Direction.{Direction}
 use Rattle.othello_board.specs.Rules.{step, squares_beside}
-use Rattle.othello_board.specs.Shifts.{opposite}
+use Rattle.othello_board.proofs.Shifts.{opposite}
 use Rattle.othello_board.proofs.ShiftLemmas.{all_below, holds_below}
 
 -- a step leads to a square of the board, and a step in the other direction leads back

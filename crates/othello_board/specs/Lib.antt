@@ -1,4 +1,4 @@
 pub mod Rules
 pub mod Words
 pub mod Rows
-pub mod Shifts
+pub mod Runs

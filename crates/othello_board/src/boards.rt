@@ -2,7 +2,9 @@
 ghost use Rattle.std.specs.Prelude.{◌≡◌, ◌≢◌, ◌↔◌, ◌<◌, ◌==◌, IsSome, IfSome, IsTrue, bit_and, count_by};
 
 use super::cells::Cell;
-use super::directions::Direction;
+use super::rays::RAYS;
+use super::runs::{falling, rising};
+use std::simd::prelude::*;
 
 /// A board, seen by the player to move.
 #[derive(Clone, Copy, Debug, PartialEq, Eq)]
@@ -15,7 +17,7 @@ pub struct Board {
 }
 
 impl Board {
-    ghost use Rattle.othello_board.specs.Rules.{cell_at, exchanged, run, flips, is_legal, played, is_own_cell, is_opp_cell};
+    ghost use Rattle.othello_board.specs.Rules.{cell_at, exchanged, flips, is_legal, played, is_own_cell, is_opp_cell};
     ghost use Rattle.othello_board.specs.Words.{cells, bits_of};
 
     /// The board of these discs; None where some bit is set in both words.
@@ -63,41 +65,22 @@ impl Board {
         (self.own.count_ones(), self.opp.count_ones())
     }
 
-    /// The discs that a disc of the mover on this square outflanks in one direction, as bits: those of the ray before
-    /// its nearest square that isn't opposing, if an own disc stands there; else 0. That nearest square has the lowest
-    /// bit where the ray rises in number, else the highest.
-    #[inline(always)]
-    fn run(self, square: u8, direction: Direction) -> u64
-        requires { square < 64 }
-        ensures { result ≡ bits_of (run (cells self) square direction) }
-    {
-        let ray = direction.ray(square);
-        let others = ray & !self.opp;
-        if direction.rises() {
-            let end = others & others.wrapping_neg() & self.own;
-            ray & end.wrapping_sub(u64::from(end != 0))
-        } else {
-            let end = 1 << (others | 1).ilog2() & ray & self.own;
-            ray & end.wrapping_neg() << 1
-        }
-    }
-
     /// The discs that a disc of the mover on this square outflanks, as bits; 0 where none.
+    #[inline(always)]
     pub fn flips(self, square: u8) -> u64
         requires { square < 64 }
         ensures { result ≡ bits_of (flips (cells self) square) }
     {
-        self.run(square, Direction::North)
-            | self.run(square, Direction::NorthEast)
-            | self.run(square, Direction::East)
-            | self.run(square, Direction::SouthEast)
-            | self.run(square, Direction::South)
-            | self.run(square, Direction::SouthWest)
-            | self.run(square, Direction::West)
-            | self.run(square, Direction::NorthWest)
+        let Board { own, opp, .. } = self;
+        let rays = &RAYS[square as usize];
+        let above = rising(own, opp, rays[0], rays[1], rays[2], rays[3]);
+        let below = falling(own, opp, rays[4], rays[5], rays[6], rays[7]);
+        let [first, second, third, fourth] = (above | below).to_array();
+        first | second | (third | fourth)
     }
 
     /// The board after the mover sets a disc on this square, where that is legal, seen by the opponent.
+    #[inline(always)]
     pub fn play(self, square: u8) -> Board
         requires on_board { square < 64 }
         requires legal { IsTrue (is_legal (cells self) square) }

@@ -1,8 +1,6 @@
 //! The 8 directions in which a move can outflank discs.
-ghost use Rattle.std.specs.Prelude.{◌≡◌, ◌<◌, ℕ, IfSome};
-ghost use Rattle.std.specs.Int.{bit_at};
+ghost use Rattle.std.specs.Prelude.{◌≡◌, ◌<◌, IfSome};
 
-use super::rays::RAYS;
 use super::sides::{above, below, left_of, right_of};
 
 /// A direction on the board. North is towards row 1, west towards column a.
@@ -19,9 +17,7 @@ pub enum Direction {
 }
 
 impl Direction {
-    ghost use Rattle.othello_board.specs.Rules.{step, ray};
-    ghost use Rattle.othello_board.specs.Words.{bits_of};
-    ghost use Rattle.othello_board.specs.Shifts.{number_of, opposite, rises, slid_from, bit_there};
+    ghost use Rattle.othello_board.specs.Rules.{step};
 
     /// The next square in this direction, or none at the edge.
     pub fn step(self, square: u8) -> Option<u8>
@@ -38,73 +34,6 @@ impl Direction {
             Direction::SouthWest => left_of(below(square)?),
             Direction::West => left_of(square),
             Direction::NorthWest => left_of(above(square)?),
-        }
-    }
-
-    /// The opposite direction.
-    #[inline(always)]
-    pub fn opposite(self) -> Direction
-        ensures { result ≡ opposite self }
-    {
-        match self {
-            Direction::North => Direction::South,
-            Direction::NorthEast => Direction::SouthWest,
-            Direction::East => Direction::West,
-            Direction::SouthEast => Direction::NorthWest,
-            Direction::South => Direction::North,
-            Direction::SouthWest => Direction::NorthEast,
-            Direction::West => Direction::East,
-            Direction::NorthWest => Direction::SouthEast,
-        }
-    }
-
-    /// Whether the squares of a ray in this direction rise in number.
-    #[inline(always)]
-    pub(crate) fn rises(self) -> bool
-        ensures { result ≡ rises self }
-    {
-        match self {
-            Direction::East | Direction::SouthEast | Direction::South | Direction::SouthWest =>
-                true,
-            Direction::North | Direction::NorthEast | Direction::West | Direction::NorthWest =>
-                false,
-        }
-    }
-
-    /// Its number, clockwise from north: 0 to 7.
-    #[inline(always)]
-    fn number(self) -> usize
-        ensures value { result ≡ number_of self }
-        ensures within { result < 8 }
-    {
-        self as usize
-    }
-
-    /// All squares from this one to the edge in this direction, this one left out, as bits.
-    #[inline(always)]
-    pub(crate) fn ray(self, square: u8) -> u64
-        requires { square < 64 }
-        ensures { result ≡ bits_of (ray self square) }
-    {
-        RAYS[square as usize][self.number()]
-    }
-
-    /// All squares of a word moved one step in this direction, by one shift. The rows count as one line:
-    /// a square that leaves the board on the left or the right comes in on the other side, so a caller masks
-    /// those columns. One that leaves it at the top or the bottom is gone.
-    #[inline(always)]
-    pub fn slide(self, squares: u64) -> u64
-        ensures { (t : ℕ) → t < 64 → bit_at result t ≡ bit_there squares (slid_from self t) }
-    {
-        match self {
-            Direction::North => squares >> 8,
-            Direction::NorthEast => squares >> 7,
-            Direction::East => squares << 1,
-            Direction::SouthEast => squares << 9,
-            Direction::South => squares << 8,
-            Direction::SouthWest => squares << 7,
-            Direction::West => squares >> 1,
-            Direction::NorthWest => squares >> 9,
         }
     }
 }

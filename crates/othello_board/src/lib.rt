@@ -6,10 +6,10 @@
 //! true is that the two words share no bit. What a move flips is said over the list of cells by
 //! `specs/Rules.antt`, with the rules of the World Othello Federation and no bit in sight.
 //!
-//! All squares of a word slide one step in a direction by one shift ([`Direction::slide`]), across the
-//! sides of the board too: callers mask the columns where that matters. [`Board::flips`] reads the ray of
-//! a square from a table of words: the run ends at the nearest square of the ray that isn't opposing,
-//! which is one count of zeros, and what lies before it is flipped where that square is the mover's.
+//! [`Board::flips`] reads the rays of a square from a table of words: a run ends at the nearest square of the ray that
+//! isn't opposing, and what lies before it is flipped where that square is the mover's. It finds four runs at a time, in
+//! the lanes of one vector: one form for the directions in which squares rise in number, and one for the others
+//! (`specs/Runs.antt`; `proofs/EndLemmas.antt` says that both are the run of the rules).
 //!
 //! Why it is so:
 //!
@@ -30,6 +30,7 @@ mod cells;
 mod directions;
 mod rays;
 pub mod rows;
+mod runs;
 mod sides;
 
 pub use boards::Board;

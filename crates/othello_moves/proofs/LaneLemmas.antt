@@ -1,15 +1,15 @@
 -- The words of the lanes, and the legal squares that they make.
-use Rattle.std.proofs.Common.{◌≡◌, ℕ, ◌-◌, ◌*◌, ◌^◌, ◌<◌, Bool, not, ◌||◌, filter, bit_and, bit_or, min, max, refl, sym, ap, ap₂, ◌∙◌, arith}
+use Rattle.std.proofs.Common.{◌≡◌, ℕ, ◌-◌, ◌*◌, ◌^◌, ◌<◌, Bool, not, ◌||◌, filter, bit_and, bit_or, max, refl, ap, ap₂, ◌∙◌, arith}
 use Rattle.std.specs.Int.{bit_at}
 use Rattle.std.proofs.lemmas.Nat.{or_lt, and_le_l, and_le_r, mod_below, shr_le}
-use Rattle.std.proofs.lemmas.Nat.Bits.{bit_at_and, bit_at_or, bit_at-lt, bit_at_ones, same_from_bits}
+use Rattle.std.proofs.lemmas.Nat.Bits.{bit_at_and, bit_at_or, bit_at_ones, same_from_bits}
 use Rattle.othello_board.specs.declared.directions.Direction.{Direction}
 use Rattle.othello_board.specs.declared.directions.Direction.TheVariants.{North, NorthEast, East, SouthEast, South, SouthWest, West, NorthWest}
 use Rattle.othello_board.specs.Rules.{run, is_legal, squares, is_nil}
 use Rattle.othello_board.specs.Words.{cells_of, bits_of}
-use Rattle.othello_board.specs.Shifts.{opposite, slid_from, bit_there}
+use Rattle.othello_board.proofs.Shifts.{opposite, slid_from, bit_there}
 use Rattle.othello_board.proofs.ShiftLemmas.{slid_up, slid_down}
-use Rattle.othello_moves.specs.Inner.{bit_of, is_inner}
+use Rattle.othello_moves.proofs.Inner.{bit_of}
 use Rattle.othello_moves.specs.Lanes.{raised, lowered, reached}
 use Rattle.othello_moves.proofs.LeadLemmas.{inside, inside_bit, middle_bit, paired, paired_bit, led, led_one, led_more, led_two_more, start_bit, starts_bit, max_of_tests, legal_bit, word_of_passing}
 
@@ -48,15 +48,8 @@ lowered_fits : (k x : ℕ) → x < 2 ^ 64 → lowered k x < 2 ^ 64
 lowered_fits k x h = omega (arith, shr_le x k)
 
 -- the opposing discs that may stand inside a run: all, or those of columns b to g
-inside_all : (own opp : ℕ) (d : Direction) → bit_and own opp ≡ 0 → ((t : ℕ) → bit_of (is_inner d t) ≡ 1) → (t : ℕ) → t < 64 → bit_at opp t ≡ bit_of (inside (cells_of own opp) d t)
-inside_all own opp d disjoint all t below =
-    let ones : bit_at 18446744073709551615 t ≡ 1 = bit_at_ones 64 t below in
-    every (bit_at opp t) (bit_at 18446744073709551615 t) (bit_at-lt opp t) ones
-    ∙ sym (bit_at_and opp 18446744073709551615 t)
-    ∙ inside_bit own opp 18446744073709551615 d disjoint (λ u u_below. bit_at_ones 64 u u_below ∙ sym (all u)) t below
-  where
-    every : (a b : ℕ) → a < 2 → b ≡ 1 → a ≡ min a b
-    every a b h e = omega arith
+abbrev all_discs : ℕ → ℕ
+all_discs opp = bit_and opp 18446744073709551615
 
 abbrev inner_discs : ℕ → ℕ
 inner_discs opp = bit_and opp 0x7e7e_7e7e_7e7e_7e7e
@@ -71,21 +64,22 @@ turned_lines x y = same_from_bits _ _ (λ i. rw (bit_at_or x y i, bit_at_or y x 
 
 pub both_lines : (own opp : ℕ) → own < 2 ^ 64 → opp < 2 ^ 64 → bit_and own opp ≡ 0
     → bit_and (bit_or
-    (bit_or (bit_or (reached (lowered 8) own opp) (reached (raised 8) own opp)) (bit_or (reached (lowered 7) own (inner_discs opp)) (reached (raised 7) own (inner_discs opp))))
+    (bit_or (bit_or (reached (lowered 8) own (all_discs opp)) (reached (raised 8) own (all_discs opp))) (bit_or (reached (lowered 7) own (inner_discs opp)) (reached (raised 7) own (inner_discs opp))))
     (bit_or (bit_or (reached (lowered 1) own (inner_discs opp)) (reached (raised 1) own (inner_discs opp))) (bit_or (reached (lowered 9) own (inner_discs opp)) (reached (raised 9) own (inner_discs opp)))))
     (2 ^ 64 - 1 - bit_or own opp)
     ≡ bits_of (filter (is_legal (cells_of own opp)) squares)
 both_lines own opp own_fits opp_fits disjoint =
     let board = cells_of own opp in
     let inner = inner_discs opp in
-    let s = reached (lowered 8) own opp in
-    let n = reached (raised 8) own opp in
+    let s = reached (lowered 8) own (all_discs opp) in
+    let n = reached (raised 8) own (all_discs opp) in
     let sw = reached (lowered 7) own inner in
     let ne = reached (raised 7) own inner in
     let e = reached (lowered 1) own inner in
     let w = reached (raised 1) own inner in
     let se = reached (lowered 9) own inner in
     let nw = reached (raised 9) own inner in
+    let all_fit : all_discs opp < 2 ^ 64 = omega (arith, and_le_l opp 18446744073709551615) in
     let inner_fits : inner < 2 ^ 64 = omega (arith, and_le_l opp 0x7e7e_7e7e_7e7e_7e7e) in
     let all = bit_or (bit_or (bit_or s n) (bit_or sw ne)) (bit_or (bit_or e w) (bit_or se nw)) in
     let empty = 2 ^ 64 - 1 - bit_or own opp in
@@ -101,18 +95,28 @@ both_lines own opp own_fits opp_fits disjoint =
     (λ t below. legal_bit own opp all t own_fits opp_fits below
     (ap (λ x. bit_at x t) by_order
     ∙ starts_bit (run board t) n ne e se s sw w nw t
-    (lane (raised 8) opp North (λ x h. slid_up x 8 (slid_from South) refl) (raised_fits 8) opp_fits (inside_all own opp North disjoint (λ u. refl)) t below)
+    (lane (raised 8) (all_discs opp) North (λ x h. slid_up x 8 (slid_from South) refl) (raised_fits 8) all_fit (inside_bit own opp 18446744073709551615 North disjoint (λ u u_below. bit_at_ones 64 u u_below)) t below)
     (up 7 NorthEast (λ x. slid_up x 7 (slid_from SouthWest) refl) (inside_bit own opp 0x7e7e_7e7e_7e7e_7e7e NorthEast disjoint middle_bit) t below)
     (down 1 East (λ x h. slid_down x 1 (slid_from West) refl h) (inside_bit own opp 0x7e7e_7e7e_7e7e_7e7e East disjoint middle_bit) t below)
     (down 9 SouthEast (λ x h. slid_down x 9 (slid_from NorthWest) refl h) (inside_bit own opp 0x7e7e_7e7e_7e7e_7e7e SouthEast disjoint middle_bit) t below)
-    (lane (lowered 8) opp South (λ x h. slid_down x 8 (slid_from North) refl h) (lowered_fits 8) opp_fits (inside_all own opp South disjoint (λ u. refl)) t below)
+    (lane (lowered 8) (all_discs opp) South (λ x h. slid_down x 8 (slid_from North) refl h) (lowered_fits 8) all_fit (inside_bit own opp 18446744073709551615 South disjoint (λ u u_below. bit_at_ones 64 u u_below)) t below)
     (down 7 SouthWest (λ x h. slid_down x 7 (slid_from NorthEast) refl h) (inside_bit own opp 0x7e7e_7e7e_7e7e_7e7e SouthWest disjoint middle_bit) t below)
     (up 1 West (λ x. slid_up x 1 (slid_from East) refl) (inside_bit own opp 0x7e7e_7e7e_7e7e_7e7e West disjoint middle_bit) t below)
     (up 9 NorthWest (λ x. slid_up x 9 (slid_from SouthEast) refl) (inside_bit own opp 0x7e7e_7e7e_7e7e_7e7e NorthWest disjoint middle_bit) t below)))
 
+-- each lane without the squares that are taken
+parted : (x y e : ℕ) → bit_or (bit_and x e) (bit_and y e) ≡ bit_and (bit_or x y) e
+parted x y e =
+    same_from_bits _ _ (λ i. rw (bit_at_or (bit_and x e) (bit_and y e) i, bit_at_and x e i, bit_at_and y e i, bit_at_and (bit_or x y) e i, bit_at_or x y i) (omega arith))
+
+pub by_lanes : (own opp : ℕ) → own < 2 ^ 64 → opp < 2 ^ 64 → bit_and own opp ≡ 0
+    → bit_or
+    (bit_and (bit_or (bit_or (reached (lowered 8) own (all_discs opp)) (reached (raised 8) own (all_discs opp))) (bit_or (reached (lowered 7) own (inner_discs opp)) (reached (raised 7) own (inner_discs opp)))) (2 ^ 64 - 1 - bit_or own opp))
+    (bit_and (bit_or (bit_or (reached (lowered 1) own (inner_discs opp)) (reached (raised 1) own (inner_discs opp))) (bit_or (reached (lowered 9) own (inner_discs opp)) (reached (raised 9) own (inner_discs opp)))) (2 ^ 64 - 1 - bit_or own opp))
+    ≡ bits_of (filter (is_legal (cells_of own opp)) squares)
+by_lanes own opp own_fits opp_fits disjoint =
+    parted _ _ (2 ^ 64 - 1 - bit_or own opp) ∙ both_lines own opp own_fits opp_fits disjoint
+
 -- the same for the opponent, where the words are named the other way round
 pub and_turned : (x y : ℕ) → bit_and x y ≡ bit_and y x
 and_turned x y = same_from_bits _ _ (λ i. rw (bit_at_and x y i, bit_at_and y x i) (omega arith))
-
-pub or_turned : (x y : ℕ) → bit_or x y ≡ bit_or y x
-or_turned x y = turned_lines x y

@@ -12,13 +12,13 @@ use Rattle.othello_board.specs.declared.directions.Direction.{Direction}
 use Rattle.othello_board.specs.declared.directions.Direction.TheVariants.{North, NorthEast, East, SouthEast, South, SouthWest, West, NorthWest}
 use Rattle.othello_board.specs.Rules.{step, squares_beside, outflanked, led_by, cell_at, run, flips, directions, is_legal, squares, is_among, is_own_cell, is_opp_cell, is_empty_cell, is_nil}
 use Rattle.othello_board.specs.Words.{cells_of, bits_of}
-use Rattle.othello_board.specs.Shifts.{opposite, slid_from, bit_there}
+use Rattle.othello_board.proofs.Shifts.{opposite, slid_from, bit_there}
 use Rattle.othello_board.proofs.BitLemmas.{apart, bit_at-bits_of}
 use Rattle.othello_board.proofs.CellLemmas.{cell_at-cells_of, bit_cases}
 use Rattle.othello_board.proofs.ShiftLemmas.{all_below, holds_below}
 use Rattle.othello_board.proofs.StepLemmas.{step_back, beside_edge, beside_next}
 use Rattle.othello_moves.proofs.BitLemmas.{is_among-filter, is_square}
-use Rattle.othello_moves.specs.Inner.{bit_of, has_both_sides, is_inner}
+use Rattle.othello_moves.proofs.Inner.{bit_of, has_both_sides, is_inner}
 
 -- the next n squares beside a square in a direction begin with opposing discs, or none, and then a disc of the mover
 abbrev pub goes_on : ℕ → List Cell → Direction → ℕ → Bool

@@ -6,3 +6,4 @@ pub mod AllowedLemmas
 pub mod LeadLemmas
 pub mod DescentLemmas
 pub mod LaneLemmas
+pub mod Inner

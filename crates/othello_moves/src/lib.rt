@@ -10,13 +10,12 @@
 //!
 //! The word of legal squares spreads, for each direction, over opposing discs by runs of 1, 2, 4 and 6
 //! (`proofs/LeadLemmas.antt`), within the squares that may stand inside a run, so that no ray wraps around
-//! the board (`specs/Inner.antt`). For both players at once it does so in lanes of one vector, two directions for each
-//! player at a time; a lane is the same word (`proofs/LaneLemmas.antt`).
+//! the board (`proofs/Inner.antt`). It does so in the lanes of one vector (`proofs/LaneLemmas.antt`): four directions at
+//! a time for one player, or two for each player.
 //!
 //! Why it is so:
 //!
-//! - `Mobility`, `Choices::of` and `move_count` exist for speed: a leaf finds both sides' legal squares once,
-//!   for three uses. `Choices` is no `Iterator`, as its model is the list of choices left.
+//! - `Mobility` and `move_count` exist for speed: a leaf finds both sides' legal squares once, for three uses. `Choices` is no `Iterator`, as its model is the list of choices left.
 //! - `Choice::Square(64)` can be written; contracts exclude it where it matters.
 //!
 //! ```text

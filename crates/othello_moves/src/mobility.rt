@@ -4,7 +4,7 @@ ghost use Rattle.othello_board.specs.Rules.{squares, exchanged, is_legal};
 ghost use Rattle.othello_board.specs.Words.{cells, bits_of};
 ghost use Rattle.othello_moves.specs.Choices.{choices};
 
-use super::lanes::both_moves;
+use super::legal::both_moves;
 use othello_board::Board;
 
 /// A board with the legal squares of the mover and of the opponent, each as one word.

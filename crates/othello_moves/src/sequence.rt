@@ -3,7 +3,6 @@ ghost use Rattle.std.specs.Prelude.{◌≡◌, ◌↔◌, ◌∷◌, [], IsTrue,
 
 use super::choices::Choice;
 use super::legal::moves;
-use super::mobility::Mobility;
 use othello_board::Board;
 use std::marker::Model;
 
@@ -42,18 +41,6 @@ impl Choices {
             corners: own & CORNERS,
             others: own & !CORNERS,
             passes: own == 0 && moves(board.swap()) != 0,
-        }
-    }
-
-    /// All choices of a board whose legal squares are known.
-    #[inline(always)]
-    pub fn of(mobility: Mobility) -> Choices
-        ensures { result ≡ choices (cells mobility.board) }
-    {
-        Choices {
-            corners: mobility.own & CORNERS,
-            others: mobility.own & !CORNERS,
-            passes: mobility.own == 0 && mobility.opp != 0,
         }
     }
 

@@ -10,7 +10,7 @@ use Rattle.othello_board.specs.Words.{cells, cells_of}
 use Rattle.othello_board.proofs.BitLemmas.{apart}
 use Rattle.othello_board.proofs.CellLemmas.{bit_cases, cell_at-cells_of}
 use Rattle.othello_moves.specs.declared.choices.Choice.{Choice}
-use Rattle.othello_moves.specs.Inner.{bit_of}
+use Rattle.othello_moves.proofs.Inner.{bit_of}
 use Rattle.othello_moves.proofs.LeadLemmas.{word_of_passing}
 use Rattle.page_engine.specs.leaf_search.othello_eval.Values.{IsWithin}
 use Rattle.page_engine.specs.Codes.{choice_code, with_code, own_word, opp_word}

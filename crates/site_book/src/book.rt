@@ -58,6 +58,13 @@ impl Book {
         &self.grants
     }
 
+    /// The plan by which it goes.
+    pub fn plan(&self) -> &Plan
+        ensures { result.now ≡ self.now.plan }
+    {
+        &self.plan
+    }
+
     /// What some of the grants that are out have together.
     pub fn used(&self, part: Part) -> Amount
         ensures { result ≡ used part self.now.grants }
@@ -188,6 +195,17 @@ fn why_beyond(
         return Some(Refusal::OverGuests);
     }
     None
+}
+
+/// Why so much more than what these grants have isn't granted to a customer by a plan; None where nothing forbids it.
+pub fn why_over(plan: &Plan, grants: &[Held], who: Who, ask: Reserve) -> Option<Refusal>
+    requires { length grants.now ≤ 64 }
+    ensures { result ≡ why_over plan.now who ask grants.now }
+{
+    let own = used_in(grants, Part::Own(who));
+    let network = used_in(grants, Part::Network(who.network()));
+    let guests = used_in(grants, Part::Guests);
+    why_beyond(plan, who, ask, own, network, guests)
 }
 
 /// Why a customer's session of this number isn't raised to this.

@@ -19,6 +19,20 @@ pub struct Held {
     pub ask: Reserve,
 }
 
+// Only for the free places of an `ArrayVec`, which need some value.
+impl Default for Held {
+    fn default() -> Held {
+        match Reserve::new(1, 1) {
+            Some(ask) => Held {
+                who: Who::Named(0),
+                session: 0,
+                ask,
+            },
+            None => unreachable!(),
+        }
+    }
+}
+
 /// Some of the grants that are out.
 #[derive(Clone, Copy, Debug)]
 pub enum Part {
@@ -49,7 +63,7 @@ pub struct Overrun {
 
 impl Part {
     /// Whether a session of this customer is one of them.
-    pub(crate) fn has(self, other: Who) -> bool
+    pub fn has(self, other: Who) -> bool
         ensures { result ≡ is_in self other }
     {
         match self {

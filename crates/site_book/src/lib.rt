@@ -48,7 +48,7 @@ pub mod rows;
 mod who;
 
 pub use amount::Amount;
-pub use book::Book;
+pub use book::{Book, why_over};
 pub use held::{Held, Overrun, Part};
 pub use plan::Plan;
 pub use refusal::Refusal;

@@ -58,21 +58,20 @@ def program_of(named: str | None = None) -> tuple[str, str]:
 
 
 def programs_here() -> list[str]:
-    """Where the program may be, the first to be tried first."""
-    own, crates = HERE.parent / "program", HERE.parents[min(4, len(HERE.parents) - 1)] / "crates"
-    fast = [own / "othello-avx2"] if has_avx2() else []
-    built = [crates / "othello_server/out/othello_server", crates / "othello_server/out/unproved/othello"]
-    there = [str(path) for path in (*fast, own / "othello", *built) if os.access(path, os.X_OK)]
+    """Where the program may be, the first to be tried first: beside `othello` may lie `othello-v3`, built for processors with AVX2."""
+    own, built = HERE.parent / "program", HERE.parents[min(4, len(HERE.parents) - 1)] / "crates/othello_server/out"
+    fast = [own / "othello-v3"] if runs_v3() else []
+    there = [str(path) for path in (*fast, own / "othello", built / "othello_server", built / "unproved/othello") if os.access(path, os.X_OK)]
     return [found, *there] if (found := shutil.which("othello")) else there
 
 
-def has_avx2() -> bool:
-    """Whether this computer runs the program that is built for AVX2."""
+def runs_v3(about: str = "/proc/cpuinfo") -> bool:
+    """Whether this computer's processor is an x86-64-v3."""
     try:
-        flags = re.search("^flags.*", pathlib.Path("/proc/cpuinfo").read_text(), re.MULTILINE)
+        flags = re.search("^flags.*", pathlib.Path(about).read_text(), re.MULTILINE)
     except OSError:
         return False
-    return flags is not None and {"avx2", "bmi1", "bmi2", "fma", "movbe"} <= set(flags[0].split())
+    return flags is not None and {"avx2", "bmi1", "bmi2", "f16c", "fma", "abm", "movbe"} <= set(flags[0].split())
 
 
 @functools.cache

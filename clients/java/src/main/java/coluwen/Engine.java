@@ -107,7 +107,8 @@ public final class Engine implements Analyst {
 
     static synchronized Optional<String> program() {
       if (copy == null) {
-        try (var packed = Engine.class.getResourceAsStream("program/othello")) {
+        var isFast = Engine.class.getResource("program/othello-v3") != null && runsV3();
+        try (var packed = Engine.class.getResourceAsStream(isFast ? "program/othello-v3" : "program/othello")) {
           if (packed == null) return copy = Optional.empty();
           var folder = Files.createTempDirectory("coluwen-");
           var file = folder.resolve("othello");
@@ -120,6 +121,16 @@ public final class Engine implements Analyst {
         }
       }
       return copy;
+    }
+
+    /** Whether this computer's processor is an x86-64-v3, for which the package may have a program of its own. */
+    private static boolean runsV3() {
+      try (var lines = Files.lines(Path.of("/proc/cpuinfo"))) {
+        var flags = lines.filter(line -> line.startsWith("flags")).findFirst().orElse("").split("\\s+");
+        return List.of(flags).containsAll(List.of("avx2", "bmi1", "bmi2", "f16c", "fma", "abm", "movbe"));
+      } catch (IOException fault) {
+        return false;
+      }
     }
   }
 

@@ -290,16 +290,4 @@ class ClientTest {
       assertEquals("BYE", server.heard.get(server.heard.size() - 1));
     }
   }
-
-  /** With the property {@code coluwen.port}: a server of {@code othello serve}. */
-  @Test
-  void aServerAnswers() {
-    var port = Integer.getInteger("coluwen.port", 0);
-    org.junit.jupiter.api.Assumptions.assumeTrue(port != 0);
-    try (var client = Client.builder().port(port).silence(Duration.ofSeconds(20)).build()) {
-      var found = client.analyse(OPENING, 4);
-      assertEquals("-4 d3", found.score().value() + " " + found.best().orElseThrow());
-      assertTrue(client.analyseAll(OPENING, 4).stream().allMatch(entry -> entry.score().isExact() && entry.score().value() == -4));
-    }
-  }
 }

@@ -1,0 +1,268 @@
+"""Engines with the program itself: Python's, by its processes; the page's, as WebAssembly, in node and in each browser that is here, over http under a strict
+Content-Security-Policy and from a file. Values and moves are compared with `othello solve`; a search that is given up ends at once."""
+from __future__ import annotations
+
+import base64
+import concurrent.futures
+import http.server
+import json
+import os
+import pathlib
+import re
+import shutil
+import signal
+import subprocess
+import tempfile
+import threading
+from typing import Any
+
+import pytest
+from conftest import TOP, positions, program
+from coluwen import Analyst, Engine, FormatError, Position, Result
+from coluwen.board import OTHER, PASS, SQUARES
+
+OPENING = Position.opening()
+ENGINE = TOP / "clients/page/engine"
+POLICY = ("default-src 'none'; script-src 'self' 'wasm-unsafe-eval'; style-src 'self'; img-src 'self'; connect-src 'self'; worker-src 'self'; base-uri 'none'; form-action 'none'; "
+          "frame-ancestors 'none'; require-trusted-types-for 'script'; trusted-types engine")
+LONG = Position.parse("--------X--------XOOOOO---XOX-----OOXO----XOOOO--XXX---O--X----- X")  # many seconds at depth 12
+AT_ONCE = 64
+PATIENCE = 1800  # seconds that a browser may take for all
+KINDS = {".js": "text/javascript", ".wasm": "application/wasm", ".html": "text/html; charset=utf-8", ".json": "application/json"}
+# What the page and node do: answers in the order of the questions, then how soon a given-up search is over and the next is answered.
+ASKER = """
+async function answered(engine, questions, long) {
+  const found = [];
+  for (let at = 0; at < questions.length; at += %(at_once)d) {
+    const part = questions.slice(at, at + %(at_once)d);
+    found.push(...(await Promise.all(part.map(([own, opp, depth]) => engine.ask(BigInt(own), BigInt(opp), depth).then(({ value, choice }) => [value, choice], (fault) => [String(fault)])))));
+  }
+  const wait = (ms) => new Promise((done) => setTimeout(done, ms)), stops = [];
+  for (let turn = 0; turn < 5; turn += 1) {
+    const stop = new AbortController(), all = Array.from({ length: engine.places }, () => engine.ask(BigInt(long[0]), BigInt(long[1]), 12, { signal: stop.signal }).then(() => "answered", (fault) => fault.name));
+    await wait(150);
+    const began = performance.now();
+    stop.abort();
+    const ends = await Promise.all(all), over = performance.now() - began;
+    await engine.ask(BigInt(questions[0][0]), BigInt(questions[0][1]), 1);
+    stops.push([ends.every((end) => end === "AbortError"), over, performance.now() - began]);
+  }
+  return { found, stops };
+}
+""" % {"at_once": AT_ONCE}
+PAGE = """import { Engine } from "./engine/pool.js";
+import { moduleName } from "./engine/module.js";
+%s
+(async () => {
+  let told;
+  try {
+    const { questions, long, workers } = await (await fetch("questions.json")).json();
+    told = { ...(await answered(await Engine.start({ workers }), questions, long)), module: moduleName() };
+  } catch (fault) { told = { fault: String(fault) }; }
+  await fetch("answers", { method: "POST", body: JSON.stringify(told) });
+})();
+""" % ASKER
+NODE = """import { readFileSync } from "node:fs";
+import { Worker } from "node:worker_threads";
+import { Rules } from "%(engine)s/module.js";
+import { Engine } from "%(engine)s/pool.js";
+%(asker)s
+const { questions, long, workers } = JSON.parse(readFileSync(0, "utf8")), bytes = readFileSync("%(engine)s/page32.wasm");
+const begin = () => {
+  const worker = new Worker("%(engine)s/worker.js", { execArgv: [] }), hand = { postMessage: (told) => worker.postMessage(told), terminate: () => worker.terminate() };
+  worker.on("message", (data) => hand.onmessage({ data })).on("error", (fault) => hand.onerror(fault));
+  return hand;
+};
+const engine = new Engine(await Rules.load(bytes), begin, bytes, workers);
+process.stdout.write(JSON.stringify({ ...(await answered(engine, questions, long)), module: "page32.wasm" }));
+engine.close();
+"""
+
+
+def children() -> set[int]:
+    """The processes that this one has begun and not waited for."""
+    found = set()
+    for place in pathlib.Path("/proc").glob("[0-9]*/stat"):
+        try:
+            words = place.read_text().rpartition(")")[2].split()
+        except OSError:
+            continue
+        if int(words[1]) == os.getpid():
+            found.add(int(place.parent.name))
+    return found
+
+
+@pytest.fixture(autouse=True)
+def named(monkeypatch: pytest.MonkeyPatch) -> None:
+    monkeypatch.setenv("COLUWEN_OTHELLO", program())
+
+
+def test_it_is_an_analyst_whose_values_are_the_programs() -> None:
+    with Engine(2) as engine:
+        assert isinstance(engine, Analyst)
+        result = engine.analyse(OPENING, 2)
+        assert (result.score.value, result.best, result.depth, result.position) == (-4, "d3", 2, OPENING)
+        assert [str(entry) for entry in result.table] == ["d3=-4", "c4<-4", "f5<-4", "e6<-4"]
+        assert engine.analyse(OPENING.text, 0).best is None
+        assert engine.info().sure == 12
+        assert [(entry.move, entry.score.value) for entry in engine.analyse_all(OPENING, 2)] == [("d3", -4), ("c4", -4), ("f5", -4), ("e6", -4)]
+        after = OPENING.play("f5").play("d6")
+        best = engine.analyse(after, 5)
+        values = engine.analyse_all(after, 5)
+        assert values[0].score.value == best.score.value and best.best in [entry.move for entry in values if entry.score.value == best.score.value]
+
+
+def test_many_of_any_depth_are_answered_in_order_with_their_faults() -> None:
+    asked = [(OPENING, 3), ("nonsense", 3), (OPENING.play("d3"), 2), (OPENING, 13)]
+    with Engine(3) as engine:
+        outcomes = list(engine.analyse_many(asked))
+    assert [outcome.number for outcome in outcomes] == [0, 1, 2, 3]
+    assert [type(outcome.answer).__mro__[1 if index % 2 else 0] for index, outcome in enumerate(outcomes)] == [Result, FormatError, Result, FormatError]
+
+
+def test_ten_thousand_positions_while_processes_are_killed() -> None:
+    game, asked = OPENING, list[Position]()
+    while len(asked) < 10000:
+        asked.append(game)
+        moves = game.legal_moves()
+        game = game.play(moves[len(asked) * 7 % len(moves)]) if moves else OPENING.play(OPENING.legal_moves()[len(asked) % 4])
+    killed, over = 0, threading.Event()
+
+    def kill() -> None:
+        nonlocal killed
+        while not over.wait(0.05):
+            for pid in children() - before:
+                os.kill(pid, signal.SIGKILL)
+                killed += 1
+                break
+
+    before = children()
+    with Engine(4) as engine:
+        wanted = {place: engine.analyse(place, 1) for place in set(asked[:50])}
+        killer = threading.Thread(target=kill)
+        killer.start()
+        try:
+            outcomes = list(engine.analyse_many(asked, 1))
+        finally:
+            over.set()
+            killer.join()
+    assert [outcome.question for outcome in outcomes] == asked
+    assert all(isinstance(outcome.answer, Result) for outcome in outcomes)
+    assert killed > 2
+    assert all((wanted[place].score, wanted[place].best) == (outcome.answer.score, outcome.answer.best) for place, outcome in zip(asked[:50], outcomes))
+    assert children() == before
+
+
+def one_file(questions: dict[str, Any], back: str) -> str:
+    """A page that has all in itself, as board.html has: a classic script, and the worker's text for a Blob."""
+    scripts = [re.sub(r"^(import .*|export (?=const|function|async|class))", "", (ENGINE / name).read_text(), flags=re.M) for name in ("modules.js", "module.js", "pool.js")]
+    start = f"""(async () => {{ let told; try {{
+      const bytes = Uint8Array.from(atob({json.dumps(base64.b64encode((ENGINE / "page32.wasm").read_bytes()).decode())}), (letter) => letter.charCodeAt(0));
+      const {{ questions, long, workers }} = {json.dumps(questions)};
+      const engine = await Engine.start({{ bytes, script: {json.dumps((ENGINE / "worker.js").read_text())}, workers }});
+      told = {{ ...(await answered(engine, questions, long)), module: "page32.wasm" }}; }} catch (fault) {{ told = {{ fault: String(fault) }}; }}
+      await fetch({json.dumps(back)}, {{ method: "POST", mode: "no-cors", body: JSON.stringify(told) }}); }})();"""
+    return "<!doctype html><meta charset=utf-8><script>\n" + "\n".join([*scripts, ASKER, start]).replace("</script", "<\\/script") + "\n</script>"
+
+
+class Asker(http.server.BaseHTTPRequestHandler):
+    """Gives the page, and takes its answers."""
+
+    server: Any
+
+    def do_GET(self) -> None:
+        name = self.path.partition("?")[0].lstrip("/") or "index.html"
+        self.server.asked.append(name)
+        body = self.server.files.get(name) or ((ENGINE / name.removeprefix("engine/")).read_bytes() if re.fullmatch(r"engine/[a-z0-9]+\.(js|wasm)", name) else None)
+        self.send_response(200 if body else 404)
+        self.send_header("Content-Type", KINDS.get(pathlib.Path(name).suffix, "text/plain"))
+        self.send_header("Content-Security-Policy", POLICY)
+        self.end_headers()
+        self.wfile.write(body or b"")
+
+    def do_POST(self) -> None:
+        self.server.told = json.loads(self.rfile.read(int(self.headers["Content-Length"])))
+        self.send_response(204)
+        self.end_headers()
+        self.server.is_told.set()
+
+    def log_message(self, *_: object) -> None:
+        pass
+
+
+def by_browser(name: str, questions: dict[str, Any], is_file: bool) -> dict[str, Any]:
+    """What a browser's page answers."""
+    server: Any = http.server.ThreadingHTTPServer(("127.0.0.1", 0), Asker)
+    server.asked, server.told, server.is_told = [], None, threading.Event()
+    here = f"http://127.0.0.1:{server.server_address[1]}/"
+    server.files = {"index.html": b'<!doctype html><meta charset=utf-8><title>engine</title><script type="module" src="page.js"></script>', "page.js": PAGE.encode(), "questions.json": json.dumps(questions).encode()}
+    threading.Thread(target=server.serve_forever, daemon=True).start()
+    with tempfile.TemporaryDirectory(ignore_cleanup_errors=True) as folder:
+        page = pathlib.Path(folder) / "page.html"
+        page.write_text(one_file(questions, f"{here}answers"))
+        address = page.as_uri() if is_file else here
+        if name == "chromium":
+            words = ["chromium", "--headless=new", "--no-sandbox", "--disable-gpu", "--disable-dev-shm-usage", f"--user-data-dir={folder}/profile", "--remote-debugging-port=0", address]
+        else:
+            words = ["firefox-esr", "--headless", "--no-remote", "--profile", f"{folder}/profile", address]
+            os.mkdir(f"{folder}/profile")
+        browser = subprocess.Popen(words, stdin=subprocess.DEVNULL, stdout=subprocess.DEVNULL, stderr=subprocess.DEVNULL, start_new_session=True, env={**os.environ, "HOME": folder})
+        try:
+            server.is_told.wait(PATIENCE)
+        finally:
+            os.killpg(browser.pid, 15)
+            browser.wait()
+            server.shutdown()
+    if not server.told:
+        return {"fault": f"{name} told nothing in {PATIENCE} s; it asked for {server.asked}"}
+    told: dict[str, Any] = server.told
+    return told
+
+
+def words_of(position: Position) -> tuple[str, str]:
+    own = sum(1 << at for at, cell in enumerate(position.cells) if cell == position.side)
+    other = sum(1 << at for at, cell in enumerate(position.cells) if cell == OTHER[position.side])
+    return str(own), str(other)
+
+
+def by_node(questions: dict[str, Any]) -> dict[str, Any]:
+    script = NODE % {"engine": ENGINE, "asker": ASKER}
+    told = subprocess.run(["node", "--input-type=module", "-e", script], input=json.dumps(questions), capture_output=True, text=True, check=False, timeout=PATIENCE)
+    return json.loads(told.stdout) if told.returncode == 0 else {"fault": told.stderr[-500:]}  # type: ignore[no-any-return]
+
+
+@pytest.fixture(scope="module")
+def questions(request: pytest.FixtureRequest) -> list[tuple[Position, int]]:
+    count, endings, deepest = (request.config.getoption(f"--{name}") for name in ("positions", "endings", "deepest"))
+    asked = [(position, depth) for position in positions(count, 84, 0, 60) for depth in range(1, deepest + 1)]
+    return asked + [(position, max(position.empties, 1)) for position in positions(endings, 85, 48, 60)]
+
+
+@pytest.fixture(scope="module")
+def expected(questions: list[tuple[Position, int]]) -> list[list[int | None]]:
+    """What the program answers, by four of its processes."""
+
+    def part(first: int) -> list[str]:
+        lines = "".join(f"{depth} {position.text}\n" for position, depth in questions[first::4])
+        return subprocess.run([program(), "solve", "--visited"], input=lines, capture_output=True, text=True, check=True).stdout.splitlines()
+
+    found: list[list[int | None]] = [[] for _ in questions]
+    with concurrent.futures.ThreadPoolExecutor(4) as threads:
+        for first, told in enumerate(threads.map(part, range(4))):
+            found[first::4] = [[int(value), None if move == "-" else 64 if move == PASS else SQUARES.index(move)] for value, move, _ in map(str.split, told)]
+    return found
+
+
+@pytest.mark.parametrize("where", ["node", "chromium", "chromium-file", "firefox-esr", "firefox-esr-file"])
+def test_the_pages_engine(where: str, questions: list[tuple[Position, int]], expected: list[list[int | None]]) -> None:
+    name = where.removesuffix("-file")
+    if not shutil.which(name):
+        pytest.skip(f"{name} isn't here")
+    sent = {"questions": [[*words_of(position), depth] for position, depth in questions], "long": words_of(LONG), "workers": 4}
+    told = by_node(sent) if name == "node" else by_browser(name, sent, where.endswith("-file"))
+    assert "fault" not in told, told["fault"]
+    differ = [f"{depth} {position}: {one}, and the program has {other}" for (position, depth), one, other in zip(questions, told["found"], expected, strict=True) if one != other]
+    assert not differ, differ[:5]
+    stops = told["stops"]
+    print(f"{where}: {len(expected)} agree, by {told['module']}; a search that is given up is over after {max(stop[1] for stop in stops):.1f} ms, the next is answered after {max(stop[2] for stop in stops):.1f}")
+    assert all(stop[0] for stop in stops) and min(stop[1] for stop in stops) < 50  # (of five: the others may wait for a busy machine)

@@ -1,0 +1,2 @@
+mod WaitLemmas
+mod LeadLemmas

@@ -1,0 +1,5 @@
+pub mod Accounts
+pub mod Lines
+pub mod Waits
+pub mod Shares
+pub mod Rows
