@@ -20,3 +20,5 @@ pub mod UpToAborted
 pub mod TreeLaws
 pub mod TreeChanges
 pub mod TreeValues
+pub mod Tenants
+mod FoundTree

@@ -6,3 +6,5 @@ pub mod Readies
 pub mod Rows
 pub mod SlotStores
 pub mod TreeLaws
+pub mod Tables
+pub mod Ending

@@ -138,7 +138,7 @@ impl<A: Allocator + Clone> Hall<A> {
             StepOf::Admit(_, _) | StepOf::AdmitMore(_, _) => self.admit(step),
             StepOf::Leave(number) => self.leave(*number),
             StepOf::Submit(number, _, _) | StepOf::Cancel(number, _) => {
-                self.go_on::<0>(*number, step)
+                self.go_on(*number, step)
             }
             StepOf::Take(_, name)
             | StepOf::Steal(_, _, name)
@@ -146,7 +146,7 @@ impl<A: Allocator + Clone> Hall<A> {
             | StepOf::Answer(_, name, _)
             | StepOf::Inlet(_, name)
             | StepOf::Finish(_, name)
-            | StepOf::Spend(name) => self.go_on::<2>(name.tenant, step),
+            | StepOf::Spend(name) => self.go_on(name.tenant, step),
         }
     }
 
@@ -206,9 +206,9 @@ impl<A: Allocator + Clone> Hall<A> {
     }
 
     /// Offers the core a step other than an Admit, an AdmitMore or a Leave. Where it is taken, it is written in
-    /// its tenant's journal. For workers' steps there is an instance of its own (`CALLER`, see `Core::step_as`).
+    /// its tenant's journal.
     #[inline(always)]
-    fn go_on<const CALLER: u8>(&mut self, number: u64, step: &Step<Jamboree>) -> StepAnswer
+    fn go_on(&mut self, number: u64, step: &Step<Jamboree>) -> StepAnswer
         requires search { IsSearch step.now }
         requires is_appended { is_appended step.now ≡ true }
         requires raises_not { raise_in step.now ≡ None }
@@ -216,7 +216,7 @@ impl<A: Allocator + Clone> Hall<A> {
         ensures decided { IsDecided self.old step.now result self.new }
         ensures memory { result ≢ Err OutOfMemory }
     {
-        let answer = self.core.step_as::<CALLER>(step);
+        let answer = self.core.step(step);
         if answer.is_ok() {
             write(&self.index, &mut self.journals, number, step);
             self.count += 1;

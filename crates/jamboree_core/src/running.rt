@@ -37,8 +37,7 @@ pub fn step_search<A: Allocator + Clone>(
     // Where the core's jobs are searches, only a Submit can be refused with BadAct.
     ensures bad_act { (origins : ℕ → List (List ℕ)) → CoreSearches origins core.old.shared → submits step.now ≡ [] → result ≢ Err BadAct }
 {
-    // In line, for `lone_search`, which knows the kind of each of its steps.
-    core.step_as::<1>(step)
+    core.step(step)
 }
 
 /// Offers a list of steps to a core of searches, one after the other, and appends one answer for each. The vector

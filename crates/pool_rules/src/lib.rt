@@ -1,7 +1,7 @@
 //! What a worker does next, as values: no thread, no deque, no hall.
 //!
 //! The workers of a pool are driven by it, and so is the one worker of a search that has a core to itself
-//! (`lone_search`). A worker has a frame or is without one. What it holds is a [`Holding`]; from that follows
+//! (`solve_engine`). A worker has a frame or is without one. What it holds is a [`Holding`]; from that follows
 //! the step that it offers to the hall, and from the hall's answer what it holds next and whether its
 //! step made a frame ready, which is then a [`Task`] of its own ([`Holding::turned`]). The table of
 //! that is `specs/Turns.antt`, read aloud: a task is taken or stolen, a running frame advances, one

@@ -1,14 +1,14 @@
 -- What the definitions of `promises` come to, part by part, and what holds of a value that there is.
-use Rattle.std.proofs.Common.{◌≡◌, ◌≢◌, ◌⊎◌, ℕ, List, true, Option, Some, None, Result, Ok, Err, refl, inl, inr, ap, ◌∙◌, subst}
+use Rattle.std.proofs.Common.{◌≡◌, ◌≢◌, ◌⊎◌, ℕ, List, true, Option, Some, None, Result, Ok, Err, inl, inr, ap, ◌∙◌}
 use Rattle.std.specs.Prelude.{IfOk, IfSome}
 use Rattle.sched_rules.specs.declared.refusal.Refusal.{Refusal}
 use Rattle.sched_rules.specs.declared.refusal.Refusal.TheVariants.{Busy}
 use Rattle.sched_rules.specs.declared.step.StepOf.TheVariants.{Steal, Spend}
-use Rattle.sched_rules.specs.Trees.{Tenant, left, is_busy_in}
+use Rattle.sched_rules.specs.Trees.{Tenant, is_busy_in}
 use Rattle.sched_rules.specs.Lone.{lone_refusal}
 use Rattle.sched_rules.specs.Runs.{alone}
 use Rattle.jamboree_rules.specs.Procedure.{jamboree}
-use Rattle.promises.specs.Tenants.{AreSame, IsForBusyWorker, IsForOwnState, SearchAnswer, SearchStep, own_steps}
+use Rattle.promises.specs.Tenants.{IsForBusyWorker, IsForOwnState, SearchAnswer, SearchStep, own_steps}
 
 pub if-ok : {T E : Type 0} {P Q : T → Type 0} (r : Result T E) → ((value : T) → P value → Q value) → IfOk r P → IfOk r Q
 if-ok (Ok value) make p = make value p
@@ -17,35 +17,6 @@ if-ok (Err error) make p = tt
 pub if-some : {T : Type 0} {P Q : T → Type 0} (o : Option T) → ((value : T) → P value → Q value) → IfSome o P → IfSome o Q
 if-some (Some value) make p = make value p
 if-some None make p = tt
-
--- a tenant that is there, in the same state as this one
-abbrev pub Twin : Tenant → Option Tenant → Type 0
-Twin tenant other = (same : Tenant) × (other ≡ Some same) × (tenant.jobs ≡ same.jobs) × (tenant.frames ≡ same.frames) × (tenant.reserve ≡ same.reserve) × (left tenant ≡ left same)
-
-pub twin : (one other : Option Tenant) → AreSame one other → (tenant : Tenant) → one ≡ Some tenant → Twin tenant other
-twin None other same tenant there = absurd cc
-twin (Some it) None same tenant there = absurd same
-twin (Some it) (Some o) same tenant there =
-    let is : it ≡ tenant = cc in
-    let P : Tenant → Type 0 = λ (t : Tenant). Twin t (Some o) in
-    subst P is (o, refl, same.jobs, same.frames, same.reserve, same.left)
-
--- the same, where the second one is there
-abbrev pub FirstTwin : Option Tenant → Tenant → Type 0
-FirstTwin one tenant = (same : Tenant) × (one ≡ Some same) × (same.jobs ≡ tenant.jobs) × (same.frames ≡ tenant.frames) × (same.reserve ≡ tenant.reserve) × (left same ≡ left tenant)
-
-pub first-twin : (one other : Option Tenant) → AreSame one other → (tenant : Tenant) → other ≡ Some tenant → FirstTwin one tenant
-first-twin one None same tenant there = absurd cc
-first-twin None (Some it) same tenant there = absurd same
-first-twin (Some o) (Some it) same tenant there =
-    let is : it ≡ tenant = cc in
-    let P : Tenant → Type 0 = λ (t : Tenant). FirstTwin (Some o) t in
-    subst P is (o, refl, same.jobs, same.frames, same.reserve, same.left)
-
-pub nobody : (one other : Option Tenant) → AreSame one other → one ≡ None → other ≡ None
-nobody None None same none = refl
-nobody None (Some it) same none = absurd same
-nobody (Some it) other same none = absurd cc
 
 -- worker 5 was busy with another tenant
 abbrev pub IsBusyFive : ℕ → List SearchStep → List SearchAnswer → Refusal → Type 0

@@ -7,7 +7,7 @@ ghost use Rattle.othello_eval.specs.Tables.{entered};
 ghost use Rattle.sched_rules.specs.declared.refusal.Refusal.TheVariants.{BadAct, OutOfMemory};
 ghost use Rattle.sched_rules.specs.declared.step.StepOf.TheVariants.{Cancel};
 ghost use Rattle.sched_rules.specs.Headline.{after_answer, IsAnswerTo};
-ghost use Rattle.sched_rules.specs.Trees.{Tenant, left};
+ghost use Rattle.sched_rules.specs.Trees.{Tenant};
 ghost use Rattle.sched_rules.specs.Cores.{tenant_in};
 ghost use Rattle.sched_laws.specs.Fitted.{origins_of};
 ghost use Rattle.jamboree_rules.specs.Places.{root_words};
@@ -23,16 +23,15 @@ use sched_rules::StepOf;
 use std::alloc::Allocator;
 
 /// Tenants 7 and 9 of two halls of the same grain, where the journals of each are the same in both: whoever is there
-/// in the one is there in the other, with the same jobs, frames and reservation and as much left; and who isn't
-/// there in the one isn't in the other.
+/// in the one is there in the other, in the same state; and who isn't there in the one isn't in the other.
 /// Uses `promises::same_journals`.
 pub fn seven_and_nine<A: Allocator, B: Allocator>(one: &Hall<A>, other: &Hall<B>)
     ensures seven { one.now.grain ≡ other.now.grain → journal_in one.now.journals 7 ≡ journal_in other.now.journals 7 →
         (tenant : Tenant) → tenant_in one.now.shared.tenants 7 ≡ Some tenant →
-        (same : Tenant) × (tenant_in other.now.shared.tenants 7 ≡ Some same) × (tenant.jobs ≡ same.jobs) × (tenant.frames ≡ same.frames) × (tenant.reserve ≡ same.reserve) × (left tenant ≡ left same) }
+        tenant_in other.now.shared.tenants 7 ≡ Some tenant }
     ensures nine { one.now.grain ≡ other.now.grain → journal_in one.now.journals 9 ≡ journal_in other.now.journals 9 →
         (tenant : Tenant) → tenant_in other.now.shared.tenants 9 ≡ Some tenant →
-        (same : Tenant) × (tenant_in one.now.shared.tenants 9 ≡ Some same) × (same.jobs ≡ tenant.jobs) × (same.frames ≡ tenant.frames) × (same.reserve ≡ tenant.reserve) × (left same ≡ left tenant) }
+        tenant_in one.now.shared.tenants 9 ≡ Some tenant }
     ensures nobody { one.now.grain ≡ other.now.grain → journal_in one.now.journals 9 ≡ journal_in other.now.journals 9 →
         tenant_in one.now.shared.tenants 9 ≡ None → tenant_in other.now.shared.tenants 9 ≡ None }
 {

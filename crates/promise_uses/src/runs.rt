@@ -10,7 +10,7 @@ ghost use Rattle.sched_rules.specs.declared.job.Job.TheVariants.{Done};
 ghost use Rattle.sched_rules.specs.declared.refusal.Refusal.{Refusal};
 ghost use Rattle.sched_rules.specs.declared.refusal.Refusal.TheVariants.{Busy};
 ghost use Rattle.sched_rules.specs.declared.step.StepOf.TheVariants.{Steal, Spend};
-ghost use Rattle.sched_rules.specs.Trees.{Tenant, job_at, left, is_busy_in};
+ghost use Rattle.sched_rules.specs.Trees.{Tenant, job_at, is_busy_in};
 ghost use Rattle.sched_rules.specs.Cores.{shared_by_nobody, tenant_in};
 ghost use Rattle.sched_rules.specs.Lone.{lone_refusal};
 ghost use Rattle.sched_rules.specs.Runs.{alone, answers_from};
@@ -112,8 +112,8 @@ pub fn refusals<A: Allocator + Clone>(
     run(alloc, procedure, config, steps)
 }
 
-/// Tenant 9 after two lists in which its own taken steps are the same: it is there after both, with the same jobs,
-/// frames and reservation and as much left, or after neither; and it was told the same.
+/// Tenant 9 after two lists in which its own taken steps are the same: it is there after both, in the
+/// same state, or after neither; and it was told the same.
 /// Uses `promises::run_two` (`undisturbed`).
 pub fn nine_is_undisturbed<A: Allocator + Clone>(
     alloc: A,
@@ -127,7 +127,7 @@ pub fn nine_is_undisturbed<A: Allocator + Clone>(
     requires other_searches { AreSearches other_steps.now }
     ensures same { IfOk result (λ runs. own_steps 9 steps.now runs.0.answers.items ≡ own_steps 9 other_steps.now runs.1.answers.items →
         (tenant : Tenant) → tenant_in runs.0.core.shared.tenants 9 ≡ Some tenant →
-        (same : Tenant) × (tenant_in runs.1.core.shared.tenants 9 ≡ Some same) × (tenant.jobs ≡ same.jobs) × (tenant.frames ≡ same.frames) × (tenant.reserve ≡ same.reserve) × (left tenant ≡ left same)) }
+        tenant_in runs.1.core.shared.tenants 9 ≡ Some tenant) }
     ensures nobody { IfOk result (λ runs. own_steps 9 steps.now runs.0.answers.items ≡ own_steps 9 other_steps.now runs.1.answers.items →
         tenant_in runs.0.core.shared.tenants 9 ≡ None → tenant_in runs.1.core.shared.tenants 9 ≡ None) }
     ensures answers { IfOk result (λ runs. own_steps 9 steps.now runs.0.answers.items ≡ own_steps 9 other_steps.now runs.1.answers.items →
@@ -150,7 +150,7 @@ pub fn seven_alone<A: Allocator + Clone>(
     requires own_searches { AreSearches own.now }
     ensures same { IfOk result (λ runs. own.now ≡ own_steps 7 steps.now runs.0.answers.items → AreAdmissionsTaken own.now runs.1.answers.items →
         (tenant : Tenant) → tenant_in runs.0.core.shared.tenants 7 ≡ Some tenant →
-        (same : Tenant) × (tenant_in runs.1.core.shared.tenants 7 ≡ Some same) × (tenant.jobs ≡ same.jobs) × (tenant.frames ≡ same.frames) × (tenant.reserve ≡ same.reserve) × (left tenant ≡ left same)) }
+        tenant_in runs.1.core.shared.tenants 7 ≡ Some tenant) }
     ensures answers { IfOk result (λ runs. own.now ≡ own_steps 7 steps.now runs.0.answers.items → AreAdmissionsTaken own.now runs.1.answers.items →
         own_answers 7 steps.now runs.0.answers.items ≡ runs.1.answers.items) }
 {

@@ -18,7 +18,7 @@ use Rattle.jamboree_core.specs.jamboree_rules.declared.leaf.Leaf.{Leaf}
 use Rattle.jamboree_core.specs.jamboree_rules.declared.leaf.LeafAnswer.{LeafAnswer}
 use Rattle.jamboree_core.specs.jamboree_rules.Procedure.{jamboree}
 use Rattle.jamboree_core.specs.NewRuns.{IsHeadlineFromNew}
-use Rattle.promises.specs.Tenants.{SearchStep, SearchAnswer, own_steps, AreSame, AreAdmissionsTaken}
+use Rattle.promises.specs.Tenants.{SearchStep, SearchAnswer, own_steps, AreAdmissionsTaken}
 use Rattle.promises.proofs.Same.{undisturbed}
 
 abbrev Entries : Type 0
@@ -122,7 +122,7 @@ all-taken f number before own (step ∷ steps) (Ok did ∷ answers) known sole i
 pub alone : (grain : ℕ) (totals other_totals : Quota) (steps other_steps : List SearchStep) (answers other_answers : List SearchAnswer) (after other_after : CoreState) (number : ℕ) →
     IsHeadlineFromNew grain totals steps answers after → IsHeadlineFromNew grain other_totals other_steps other_answers other_after →
     other_steps ≡ own_steps number steps answers → AreAdmissionsTaken other_steps other_answers →
-    AreSame (tenant_in after.tenants number) (tenant_in other_after.tenants number) × (own_answers number steps answers ≡ other_answers)
+    (tenant_in after.tenants number ≡ tenant_in other_after.tenants number) × (own_answers number steps answers ≡ other_answers)
 alone grain totals other_totals steps other_steps answers other_answers after other_after number one other are admitted =
     let f = jamboree grain in
     let mine : AreAllOf number other_steps = rw are (only-all-of number (taken_steps steps answers)) in

@@ -20,9 +20,8 @@ use Rattle.jamboree_core.specs.Outcomes.{AnswersTo}
 use Rattle.jamboree_core.proofs.Serving.{searches-asked}
 use Rattle.hall.specs.Journals.{journal_in}
 use Rattle.hall.specs.Halls.{HallOf, Explains, IsExplained}
-use Rattle.promises.specs.Tenants.{SearchStep, AreSame}
+use Rattle.promises.specs.Tenants.{SearchStep}
 use Rattle.promises.specs.Replies.{IsAskedBy, IsValueOfSubmit, IsEntryOfSubmit}
-use Rattle.promises.proofs.Same.{are-same}
 use Rattle.promises.proofs.Replied.{root-at, true-table}
 
 explained : (grain : ℕ) (own : Option Tenant) (journal : List SearchStep) → Explains (jamboree grain) own journal → own ≡ alone_from (jamboree grain) None journal
@@ -30,14 +29,12 @@ explained grain None journal is = rw is refl
 explained grain (Some tenant) journal is = sym is.comes
 
 pub same-journals : (one other : HallOf) (number : ℕ) → IsExplained one → IsExplained other → one.grain ≡ other.grain → journal_in one.journals number ≡ journal_in other.journals number →
-    AreSame (tenant_in one.shared.tenants number) (tenant_in other.shared.tenants number)
+    tenant_in one.shared.tenants number ≡ tenant_in other.shared.tenants number
 same-journals one other number this that grain journal =
-    are-same _ _ (
     explained one.grain (tenant_in one.shared.tenants number) (journal_in one.journals number) (this.tenants number)
     ∙ ap (λ (n : ℕ). alone_from (jamboree n) None (journal_in one.journals number)) grain
     ∙ ap (λ (l : List SearchStep). alone_from (jamboree other.grain) None l) journal
     ∙ sym (explained other.grain (tenant_in other.shared.tenants number) (journal_in other.journals number) (that.tenants number))
-    )
 
 -- the words of a root, by what is read at their places
 root-places : (origin : List ℕ) (own opp depth : ℕ) (root : AreRootWords origin) → own ≡ slice_index origin 0 → opp ≡ slice_index origin 1 → depth ≡ slice_index origin 2 → (root.own ≡ own) × (root.opp ≡ opp) × (root.depth ≡ depth)

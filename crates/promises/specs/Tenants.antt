@@ -5,7 +5,7 @@ use Rattle.sched_rules.specs.declared.refusal.Refusal.TheVariants.{Busy}
 use Rattle.sched_rules.specs.declared.step.StepOf.{StepOf}
 use Rattle.sched_rules.specs.declared.step.StepOf.TheVariants.{Take, Steal, Inlet, Finish}
 use Rattle.sched_rules.specs.declared.step.DidOf.{DidOf}
-use Rattle.sched_rules.specs.Trees.{Tenant, left, is_busy_in}
+use Rattle.sched_rules.specs.Trees.{Tenant, is_busy_in}
 use Rattle.sched_rules.specs.Lone.{lone_refusal}
 use Rattle.sched_rules.specs.Runs.{tenant_of, only, alone}
 use Rattle.sched_rules.specs.Headline.{is_admission, taken_steps}
@@ -24,21 +24,6 @@ SearchAnswer = Result (DidOf Leaf) Refusal
 -- the steps of a list that are this tenant's and were taken, in order
 abbrev pub own_steps : ℕ → List SearchStep → List SearchAnswer → List SearchStep
 own_steps number steps answers = only number (taken_steps steps answers)
-
--- two tenants are in the same state: the same jobs, each with the same words where it is done; the same frames,
--- in the same states and with the same words; and the same reserved and left
-pub record IsSameTenant (one other : Tenant) : Type 0 where
-  pub jobs : one.jobs ≡ other.jobs
-  pub frames : one.frames ≡ other.frames
-  pub reserve : one.reserve ≡ other.reserve
-  pub left : left one ≡ left other
-
--- two tenants that may not be there: both are and are in the same state, or neither is
-abbrev pub AreSame : Option Tenant → Option Tenant → Type 0
-AreSame None None = Unit {0}
-AreSame None (Some other) = ⊥
-AreSame (Some one) None = ⊥
-AreSame (Some one) (Some other) = IsSameTenant one other
 
 -- each admission in a list was taken: there was room, and memory didn't run out
 abbrev pub AreAdmissionsTaken : List SearchStep → List SearchAnswer → Type 0

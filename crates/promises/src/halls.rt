@@ -2,7 +2,6 @@
 ghost use Rattle.std.specs.Prelude.{◌≡◌, ℕ, IfSome};
 ghost use Rattle.sched_rules.specs.Cores.{tenant_in};
 ghost use Rattle.hall.specs.Journals.{journal_in};
-ghost use Rattle.promises.specs.Tenants.{AreSame};
 ghost use Rattle.promises.specs.Replies.{IsValueOfSubmit, IsEntryOfSubmit};
 
 use hall::{Hall, Outcome};
@@ -14,7 +13,7 @@ use std::alloc::Allocator;
 /// nothing: it only makes this known.
 pub fn same_journals<A: Allocator, B: Allocator>(one: &Hall<A>, other: &Hall<B>)
     ensures { one.now.grain ≡ other.now.grain → (number : ℕ) → journal_in one.now.journals number ≡ journal_in other.now.journals number →
-        AreSame (tenant_in one.now.shared.tenants number) (tenant_in other.now.shared.tenants number) }
+        tenant_in one.now.shared.tenants number ≡ tenant_in other.now.shared.tenants number }
 {
     let _one = one.count();
     let _other = other.count();

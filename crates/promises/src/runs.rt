@@ -7,7 +7,7 @@ ghost use Rattle.sched_rules.specs.Headline.{own_answers};
 ghost use Rattle.jamboree_core.specs.Replies.{AreSearches};
 ghost use Rattle.jamboree_core.specs.NewRuns.{IsHeadlineFromNew, submitted_by};
 ghost use Rattle.jamboree_core.specs.Searching.{CoreSearches};
-ghost use Rattle.promises.specs.Tenants.{own_steps, AreSame, AreAdmissionsTaken, AreRefusedForThese};
+ghost use Rattle.promises.specs.Tenants.{own_steps, AreAdmissionsTaken, AreRefusedForThese};
 ghost use Rattle.promises.specs.Replies.{RepliesToSubmit};
 
 use jamboree_core::jamboree::Jamboree;
@@ -88,11 +88,11 @@ pub fn run_two<A: Allocator + Clone>(
         × IsHeadlineFromNew procedure.grain other_config other_steps.now runs.1.answers.items runs.1.core.shared) }
     ensures undisturbed { IfOk result (λ runs. (number : ℕ) →
         own_steps number steps.now runs.0.answers.items ≡ own_steps number other_steps.now runs.1.answers.items →
-        AreSame (tenant_in runs.0.core.shared.tenants number) (tenant_in runs.1.core.shared.tenants number)
+        (tenant_in runs.0.core.shared.tenants number ≡ tenant_in runs.1.core.shared.tenants number)
         × (own_answers number steps.now runs.0.answers.items ≡ own_answers number other_steps.now runs.1.answers.items)) }
     ensures alone { IfOk result (λ runs. (number : ℕ) →
         other_steps.now ≡ own_steps number steps.now runs.0.answers.items → AreAdmissionsTaken other_steps.now runs.1.answers.items →
-        AreSame (tenant_in runs.0.core.shared.tenants number) (tenant_in runs.1.core.shared.tenants number)
+        (tenant_in runs.0.core.shared.tenants number ≡ tenant_in runs.1.core.shared.tenants number)
         × (own_answers number steps.now runs.0.answers.items ≡ runs.1.answers.items)) }
 {
     let one = ran(alloc.clone()?, procedure, config, steps)?;

@@ -53,7 +53,7 @@ impl<P: Procedure, A: Allocator> Engine<P, A> {
     /// What the frame stores of an answer that this worker brings; else the Answer's refusal: NoTenant, NoFrame,
     /// NotComputing, Mismatch, NoSteps or BadAct. `fitting` says that all frames are known to fit (the procedure's
     /// invariant holds of them); the result is the same without.
-    pub(crate) fn accepted<const CALLER: u8>(
+    pub(crate) fn accepted(
         &self,
         worker: Worker,
         name: FrameId,

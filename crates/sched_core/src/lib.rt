@@ -48,8 +48,6 @@
 //! - A call that isn't inlined zeroes and copies its result, and so is a value made in a `match` arm and used
 //!   after it. So a step's look-ups and tests are `#[inline(always)]`, and functions that answer an act return
 //!   from the arms of a closing `match`.
-//! - One with two callers is inlined in neither. So a caller that takes many steps, as the worker of `lone_search` or
-//!   the hall, has instances of the commonest steps to itself ([`Core::step_as`]).
 //!
 //! ```text
 //! let mut core = Core::new(alloc, config, Fan)?;

@@ -19,11 +19,7 @@ use std::alloc::Allocator;
 impl<P: Procedure, A: Allocator> Engine<P, A> {
     /// Ok where a Take of this frame by this worker would be taken; else NoTenant, NoFrame, NotReady, NotHere,
     /// NoSteps or Busy.
-    pub(crate) fn may_take<const CALLER: u8>(
-        &self,
-        worker: Worker,
-        name: FrameId,
-    ) -> Result<(), Refusal>
+    pub(crate) fn may_take(&self, worker: Worker, name: FrameId) -> Result<(), Refusal>
         ensures refusal { refusal_in result ≡ shared_refusal (P.functions self.now.procedure) self.now.store (TakeStep worker name) }
         ensures free { IfOk result (λ _. is_busy_among worker self.now.store.tenants ≡ false) }
     {
@@ -55,11 +51,11 @@ impl<P: Procedure, A: Allocator> Engine<P, A> {
     }
 
     /// Take: the worker runs a ready frame whose home it is. A step is counted.
-    pub(crate) fn take<const CALLER: u8>(&mut self, worker: Worker, name: FrameId) -> StepAnswer<P>
+    pub(crate) fn take(&mut self, worker: Worker, name: FrameId) -> StepAnswer<P>
         ensures step_result { FollowsResult (P.functions self.old.procedure) self.old.store (TakeStep worker name) result self.new.store }
         ensures procedure { self.new.procedure ≡ self.old.procedure }
     {
-        self.may_take::<CALLER>(worker, name)?;
+        self.may_take(worker, name)?;
         self.run(worker, name);
         Ok(DidOf::Took)
     }

@@ -26,7 +26,7 @@ use std::alloc::Allocator;
 impl<P: Procedure, A: Allocator> Engine<P, A> {
     /// Answer: the worker brings the answer to the input of the frame that it computes; the frame stores what the
     /// procedure makes of it, and runs again. A step is counted.
-    pub(crate) fn answer<const CALLER: u8>(
+    pub(crate) fn answer(
         &mut self,
         worker: Worker,
         name: FrameId,
@@ -37,7 +37,7 @@ impl<P: Procedure, A: Allocator> Engine<P, A> {
         ensures step_result { FollowsResult (P.functions self.old.procedure) self.old.store (AnswerStep worker name answer.now) result self.new.store }
         ensures procedure { self.new.procedure ≡ self.old.procedure }
     {
-        let stores = self.accepted::<CALLER>(worker, name, answer, fitting)?;
+        let stores = self.accepted(worker, name, answer, fitting)?;
         self.store.store_all(name, stores.as_slice());
         self.run(worker, name);
         Ok(DidOf::Answered)
@@ -45,12 +45,7 @@ impl<P: Procedure, A: Allocator> Engine<P, A> {
 
     /// Advance: a frame that this worker runs does its next act, the stores and then what comes after them. A step is
     /// counted.
-    pub(crate) fn advance<const CALLER: u8>(
-        &mut self,
-        worker: Worker,
-        name: FrameId,
-        fitting: bool,
-    ) -> StepAnswer<P>
+    pub(crate) fn advance(&mut self, worker: Worker, name: FrameId, fitting: bool) -> StepAnswer<P>
         requires { IsKeptFitting (P.fits self.old.procedure) (P.rooted self.old.procedure) fitting self.old.store }
         ensures step_result { FollowsResult (P.functions self.old.procedure) self.old.store (AdvanceStep worker name) result self.new.store }
         ensures procedure { self.new.procedure ≡ self.old.procedure }
@@ -122,12 +117,7 @@ impl<P: Procedure, A: Allocator> Engine<P, A> {
     /// with all other frames below the parent. A parent that waits becomes ready at this worker at an abort, where
     /// the inlet says so, or where it has no child left. A step is counted. Tells the parent if it was woken, and how
     /// many other frames were removed.
-    pub(crate) fn inlet<const CALLER: u8>(
-        &mut self,
-        worker: Worker,
-        name: FrameId,
-        fitting: bool,
-    ) -> StepAnswer<P>
+    pub(crate) fn inlet(&mut self, worker: Worker, name: FrameId, fitting: bool) -> StepAnswer<P>
         requires { IsKeptFitting (P.fits self.old.procedure) (P.rooted self.old.procedure) fitting self.old.store }
         ensures step_result { FollowsResult (P.functions self.old.procedure) self.old.store (InletStep worker name) result self.new.store }
         ensures procedure { self.new.procedure ≡ self.old.procedure }

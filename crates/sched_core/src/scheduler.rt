@@ -80,35 +80,9 @@ impl<P: Procedure, A: Allocator> Core<P, A> {
             → (is_ok result ≡ true → RootFits (P.fits self.old.procedure) (P.rooted self.old.procedure) step.now)
             → CoreFits (P.fits self.old.procedure) (P.rooted self.old.procedure) (origins_after origins step.now result) self.new.shared }
     {
-        self.step_as::<0>(step)
-    }
-
-    /// Does one step, as `step` does, in line. A caller that takes many steps passes a number of its own as `CALLER` (0 is
-    /// that of `step`): so it gets instances of the commonest steps that nobody else calls, and the compiler inlines them
-    /// there. One with two callers would be inlined in neither. The number changes nothing else.
-    #[inline(always)]
-    pub fn step_as<const CALLER: u8>(&mut self, step: &Step<P>) -> Result<Did<P>, Refusal>
-    where
-        A: Clone,
-        ensures one { IsOneStep (P.functions self.old.procedure) self.old.shared step.now result self.new.shared }
-        ensures refused { OnErr result (self.new.shared ≡ self.old.shared) }
-        ensures procedure { self.new.procedure ≡ self.old.procedure }
-        ensures memory { is_admission step.now ≡ false → result ≢ Err OutOfMemory }
-        ensures known_before { AreNumbersGiven self.old.shared }
-        ensures known { AreNumbersGiven self.new.shared }
-        ensures kept_before { IsKeptCore self.old.shared }
-        ensures kept { IsKeptCore self.new.shared }
-
-        // If all frames fit before the step, and so does the new root of a taken Submit, then all fit after it. The
-        // same holds of jobs: each live root, and what each done job keeps, belongs to the words that the job was
-        // submitted with (`Procedure::rooted`).
-        ensures fitting { (origins : ℕ → List (List ℕ)) → CoreFits (P.fits self.old.procedure) (P.rooted self.old.procedure) origins self.old.shared
-            → (is_ok result ≡ true → RootFits (P.fits self.old.procedure) (P.rooted self.old.procedure) step.now)
-            → CoreFits (P.fits self.old.procedure) (P.rooted self.old.procedure) (origins_after origins step.now result) self.new.shared }
-    {
         let fitting = self.fitting;
         self.fitting = stays_fitting(&self.engine.procedure, fitting, step);
-        self.engine.step::<CALLER>(step, fitting)
+        self.engine.step(step, fitting)
     }
 
     /// Why a step would be refused now; None where it would be taken, unless it is an admission that gets no

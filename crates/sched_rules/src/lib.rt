@@ -14,7 +14,7 @@
 //! tenants stands in `specs/Headline.antt`: each tenant is what its own steps give, and a step is
 //! refused only for its own tenant's state or a busy worker. [`laws`] proves it of the definitions,
 //! for every procedure. What a run keeps besides is proved in `sched_laws`; worked examples of all
-//! these definitions are in `sched_toys`.
+//! these definitions are in `toys`.
 //!
 //! What a procedure is to the core is one ghost member, `functions`: five functions of the words
 //! shown and of the values passed alone. Its invariant is `fits`: where a frame, its parent and its

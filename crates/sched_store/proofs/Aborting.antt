@@ -9,7 +9,7 @@ use Rattle.tenant_quota.specs.Reservations.{Reservations, IsSoundBook, ChangesOn
 use Rattle.tenant_quota.specs.declared.account.Account.{Account}
 use Rattle.frame_tree.specs.declared.names.FrameId.{FrameId}
 use Rattle.frame_tree.specs.Frames.{Frame, has_frame, goes_under, aborted, frames_under, values_of, IsTree, TenantTree}
-use Rattle.frame_table.specs.Tables.{frames_of, KeepsOtherFrames}
+use Rattle.frame_tree.specs.Tables.{frames_of, KeepsOtherFrames}
 use Rattle.frame_tree.specs.TreeLaws.{map_value, map_values}
 use Rattle.frame_tree.proofs.TreeLaws.{found-there}
 use Rattle.frame_tree.proofs.TreeChanges.{tree-aborted, child-further-under}

@@ -8,7 +8,7 @@ use Rattle.tenant_quota.specs.Accounts.{owner_of_account, account_of, fresh, wit
 use Rattle.tenant_quota.specs.Reservations.{Reservations, IsSoundBook, HasRoom, Admits, KeepsOtherAccounts}
 use Rattle.tenant_quota.specs.declared.account.Account.{Account}
 use Rattle.frame_tree.specs.Frames.{Frame, frame_at, AllBelow, TenantTree}
-use Rattle.frame_table.specs.Tables.{frames_of, places_of, tenant_count, KeepsOtherTenants}
+use Rattle.frame_tree.specs.Tables.{frames_of, places_of, tenant_count, KeepsOtherTenants}
 use Rattle.sched_rules.specs.Trees.{Tenant, admitted_with, charged_for}
 use Rattle.sched_rules.specs.Cores.{CoreState, is_full, reservations_in}
 use Rattle.sched_store.specs.Changes.{with_admitted}

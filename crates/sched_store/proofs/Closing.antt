@@ -8,7 +8,7 @@ use Rattle.std.proofs.lemmas.List.Sums.{sum_by-cons}
 use Rattle.cactus_stack.specs.Nodes.{Nodes, Node, IsOpen, charge, charge_of, node_at, node_words, node_parent, words_of_node, parent_of_node as parent_at, without, total_charge, HasAllChildren}
 use Rattle.cactus_stack.proofs.LawFacts.{charge-without}
 use Rattle.frame_tree.specs.Frames.{Frame, frame_at, parent_of, IsTree, TenantTree}
-use Rattle.frame_table.specs.Tables.{frames_of}
+use Rattle.frame_tree.specs.Tables.{frames_of}
 use Rattle.frame_tree.specs.TreeLaws.{AreSerialsRising, AllAboveSerial, Each}
 use Rattle.frame_tree.proofs.TreeLaws.{tree-rising, found-each, found-serial}
 use Rattle.sched_rules.specs.Trees.{charged_for}

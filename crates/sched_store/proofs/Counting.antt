@@ -9,7 +9,7 @@ use Rattle.tenant_quota.specs.declared.account.Account.{Account}
 use Rattle.tenant_quota.proofs.Edits.{AllEntries-of}
 use Rattle.frame_tree.specs.declared.names.FrameId.{FrameId}
 use Rattle.frame_tree.specs.Frames.{Frame, names_of, ready_frames, IsReadyAt}
-use Rattle.frame_table.specs.Tables.{frames_of}
+use Rattle.frame_tree.specs.Tables.{frames_of}
 use Rattle.frame_tree.specs.TreeLaws.{map_value, Each}
 use Rattle.frame_tree.proofs.Finds.{none_of_length}
 use Rattle.frame_tree.proofs.TreeLaws.{tree-rising, found-each, found-serial}

@@ -6,7 +6,7 @@ use Rattle.cactus_stack.specs.Nodes.{Nodes, Node, IsOpen, node_at, node_words, w
 use Rattle.cactus_stack.proofs.LawFacts.{gone, kept, still-none}
 use Rattle.frame_tree.specs.declared.names.FrameId.{FrameId}
 use Rattle.frame_tree.specs.Frames.{Frame, frame_at, has_frame, parent_of, values_of, IsTree, TenantTree}
-use Rattle.frame_table.specs.Tables.{frames_of}
+use Rattle.frame_tree.specs.Tables.{frames_of}
 use Rattle.frame_tree.specs.TreeLaws.{AreSerialsRising, Each}
 use Rattle.frame_tree.proofs.TreeLaws.{there-found, tree-rising, found-each, under-there}
 use Rattle.frame_tree.proofs.TreeChanges.{frame_at-stays, filter-found}

@@ -8,7 +8,7 @@ use Rattle.tenant_quota.specs.Reservations.{Reservations, IsSoundBook, empty_of}
 use Rattle.tenant_quota.specs.declared.account.Account.{Account}
 use Rattle.frame_tree.specs.declared.names.FrameId.{FrameId}
 use Rattle.frame_tree.specs.Frames.{Frame, frame_at, IsTree, TenantTree}
-use Rattle.frame_table.specs.Tables.{frames_of, places_of, tenant_count}
+use Rattle.frame_tree.specs.Tables.{frames_of, places_of, tenant_count}
 use Rattle.sched_store.specs.Ledgers.{JobLedger, numbers_of}
 use Rattle.sched_store.specs.Stored.{IsStored, frame_in_trees, node_of, numbers_in, AreAtMost}
 

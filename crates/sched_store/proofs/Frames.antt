@@ -5,7 +5,7 @@ use Rattle.frame_tree.specs.declared.names.FrameId.{FrameId}
 use Rattle.frame_tree.specs.declared.names.Entry.{Entry}
 use Rattle.frame_tree.specs.Frames.{Frame, has_frame, parent_of, name_of, entry_of_frame, ready_name, first_of_two, newest_ready_of, IsTree}
 use Rattle.frame_tree.specs.TreeLaws.{map_value}
-use Rattle.frame_table.specs.Tables.{frames_of}
+use Rattle.frame_tree.specs.Tables.{frames_of}
 use Rattle.frame_tree.proofs.TreeLaws.{found-there}
 use Rattle.frame_tree.proofs.TreeValues.{tree-map_values}
 use Rattle.sched_rules.specs.Trees.{Tenant}

@@ -7,7 +7,7 @@ use Rattle.tenant_quota.specs.declared.account.Account.{Account}
 use Rattle.frame_tree.specs.declared.names.FrameId.{FrameId}
 use Rattle.frame_tree.specs.Frames.{Frame, frame_at, entry_of_frame}
 use Rattle.frame_tree.specs.TreeLaws.{map_value, AreSerialsRising}
-use Rattle.frame_table.specs.Tables.{frames_of}
+use Rattle.frame_tree.specs.Tables.{frames_of}
 use Rattle.frame_tree.proofs.TreeLaws.{found-there, tree-rising, above-missing}
 use Rattle.sched_rules.specs.Trees.{is_held_by, is_busy_in}
 use Rattle.sched_rules.specs.Views.{named}

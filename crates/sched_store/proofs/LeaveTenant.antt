@@ -8,7 +8,7 @@ use Rattle.tenant_quota.specs.Reservations.{Reservations, IsSoundBook, Releases,
 use Rattle.tenant_quota.specs.declared.account.Account.{Account}
 use Rattle.tenant_quota.proofs.Edits.{AllEntries-of}
 use Rattle.frame_tree.specs.Frames.{Frame, values_of, AllBelow, TenantTree}
-use Rattle.frame_table.specs.Tables.{frames_of, places_of, tenant_count}
+use Rattle.frame_tree.specs.Tables.{frames_of, places_of, tenant_count}
 use Rattle.sched_rules.specs.Trees.{Tenant, charged_for}
 use Rattle.sched_rules.specs.Cores.{CoreState, without_tenant}
 use Rattle.sched_store.specs.Changes.{with_departed}

@@ -10,7 +10,7 @@ use Rattle.tenant_quota.specs.Reservations.{left_in_book}
 use Rattle.frame_tree.specs.declared.names.FrameId.{FrameId}
 use Rattle.frame_tree.specs.Frames.{frame_at}
 use Rattle.frame_tree.specs.TreeLaws.{map_value}
-use Rattle.frame_table.specs.Tables.{frames_of}
+use Rattle.frame_tree.specs.Tables.{frames_of}
 use Rattle.frame_tree.proofs.TreeValues.{frame_at-map_values}
 use Rattle.sched_rules.specs.declared.job.Job.{Job}
 use Rattle.sched_rules.specs.Trees.{Tenant, charged_for, account_in, job_at}

@@ -9,7 +9,7 @@ use Rattle.tenant_quota.specs.declared.account.Account.{Account}
 use Rattle.frame_tree.specs.declared.names.State.TheVariants.{Ready}
 use Rattle.frame_tree.specs.Frames.{Frame, frame_at, has_parent, parent_of, path_under, AllBelow, IsTree, TenantTree, new_frame}
 use Rattle.frame_tree.specs.TreeLaws.{map_value}
-use Rattle.frame_table.specs.Tables.{frames_of, KeepsOtherFrames}
+use Rattle.frame_tree.specs.Tables.{frames_of, KeepsOtherFrames}
 use Rattle.frame_tree.proofs.TreeLaws.{found-each, tree-rising, found-there, below-found, frame_at-push, frame_at_other-push, frame_at-left, under-there}
 use Rattle.frame_tree.proofs.TreeValues.{tree-new_frame, parent_of-path_under, append-map_values, path_in-map_values}
 use Rattle.sched_rules.specs.Trees.{Tree, charged_for, is_held_by}

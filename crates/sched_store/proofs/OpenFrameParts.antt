@@ -8,7 +8,7 @@ use Rattle.tenant_quota.specs.declared.account.Account.{Account}
 use Rattle.frame_tree.specs.declared.names.FrameId.{FrameId}
 use Rattle.frame_tree.specs.Frames.{Frame, has_parent, name_of}
 use Rattle.frame_tree.specs.TreeLaws.{Each, map_value}
-use Rattle.frame_table.specs.Tables.{frames_of, places_of, IsParentIn, serial_of}
+use Rattle.frame_tree.specs.Tables.{frames_of, places_of, IsParentIn, serial_of}
 use Rattle.frame_tree.proofs.TreeLaws.{found-each, tree-rising, there-found}
 use Rattle.frame_tree.proofs.TreeValues.{has_frame-map_values}
 use Rattle.sched_rules.specs.Trees.{charged_for}

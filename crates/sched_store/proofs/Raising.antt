@@ -9,7 +9,7 @@ use Rattle.tenant_quota.specs.Reservations.{Reservations, IsSoundBook, HasRoomFo
 use Rattle.tenant_quota.specs.declared.account.Account.{Account}
 use Rattle.tenant_quota.proofs.Edits.{AllEntries-of}
 use Rattle.frame_tree.specs.Frames.{Frame, frame_at, TenantTree}
-use Rattle.frame_table.specs.Tables.{frames_of, places_of, tenant_count, KeepsOtherTenants}
+use Rattle.frame_tree.specs.Tables.{frames_of, places_of, tenant_count, KeepsOtherTenants}
 use Rattle.sched_rules.specs.Lone.{is_lower}
 use Rattle.sched_rules.specs.Cores.{CoreState, tenant_in, reservations_in, reserved_by, is_beyond}
 use Rattle.sched_rules.specs.Changes.{on_tenant, with_reserve}

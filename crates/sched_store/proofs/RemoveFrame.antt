@@ -5,7 +5,7 @@ use Rattle.std.proofs.lemmas.Bool.{cases_Bool, eq-eqb, eqb-true, ne_eqb, ltb-fal
 use Rattle.cactus_stack.specs.Nodes.{Nodes, HasNoChild, node_at, node_words, node_parent, with_node, without}
 use Rattle.frame_tree.specs.declared.names.FrameId.{FrameId}
 use Rattle.frame_tree.specs.Frames.{Frame, frame_at, parent_of, children_of, frames_without, HasValue, TenantTree}
-use Rattle.frame_table.specs.Tables.{frames_of, KeepsOtherFrames}
+use Rattle.frame_tree.specs.Tables.{frames_of, KeepsOtherFrames}
 use Rattle.frame_tree.specs.TreeLaws.{map_values, is_child_of, AllAboveSerial, AreSerialsRising}
 use Rattle.frame_tree.proofs.TreeLaws.{tree-rising, children-by-paths}
 use Rattle.frame_tree.proofs.TreeChanges.{tree-without, frame_at-stays}

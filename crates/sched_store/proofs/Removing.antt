@@ -7,7 +7,7 @@ use Rattle.tenant_quota.specs.Accounts.{account_of, credited_by, charged_segment
 use Rattle.tenant_quota.specs.Reservations.{Reservations, IsSoundBook, ChangesOnly, KeepsOtherAccounts, HasChargedAtLeast}
 use Rattle.tenant_quota.specs.declared.account.Account.{Account}
 use Rattle.frame_tree.specs.Frames.{Frame, AllBelow, TenantTree}
-use Rattle.frame_table.specs.Tables.{frames_of, KeepsOtherFrames}
+use Rattle.frame_tree.specs.Tables.{frames_of, KeepsOtherFrames}
 use Rattle.frame_tree.proofs.TreeChanges.{AllBelow-filter}
 use Rattle.sched_rules.specs.Trees.{Tenant, charged_for}
 use Rattle.sched_rules.specs.Changes.{on_tenant}

@@ -7,7 +7,7 @@ use Rattle.cactus_stack.proofs.LawFacts.{one-sight}
 use Rattle.frame_tree.specs.declared.names.FrameId.{FrameId}
 use Rattle.frame_tree.specs.declared.names.Entry.{Entry}
 use Rattle.frame_tree.specs.Frames.{Frame, frame_at, entry_of_frame}
-use Rattle.frame_table.specs.Tables.{frames_of}
+use Rattle.frame_tree.specs.Tables.{frames_of}
 use Rattle.frame_tree.proofs.TreeLaws.{IsTop, IsUnder, tree-induction, found-serial}
 use Rattle.frame_tree.proofs.TreeValues.{frame_at-map_values}
 use Rattle.sched_rules.specs.Trees.{sight, words_in}

@@ -8,7 +8,7 @@ use Rattle.cactus_stack.specs.Nodes.{node_words}
 use Rattle.frame_tree.specs.declared.names.FrameId.{FrameId}
 use Rattle.frame_tree.specs.declared.names.Entry.{Entry}
 use Rattle.frame_tree.specs.Frames.{Frame, entry_of_frame, parent_of, path_in, name_of, children_of, IsTree}
-use Rattle.frame_table.specs.Tables.{frames_of}
+use Rattle.frame_tree.specs.Tables.{frames_of}
 use Rattle.frame_tree.specs.TreeLaws.{map_values}
 use Rattle.frame_tree.proofs.TreeLaws.{found-path, placed, IsPlaced}
 use Rattle.frame_tree.proofs.TreeValues.{children_of-map_values}

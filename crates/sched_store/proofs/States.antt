@@ -13,7 +13,7 @@ use Rattle.frame_tree.specs.declared.names.State.{State}
 use Rattle.frame_tree.specs.declared.names.State.TheVariants.{Ready, Running, Computing, Waiting, Returned}
 use Rattle.frame_tree.specs.Frames.{Frame, with_state, TenantTree}
 use Rattle.frame_tree.specs.TreeLaws.{map_value}
-use Rattle.frame_table.specs.Tables.{frames_of, KeepsOtherFrames}
+use Rattle.frame_tree.specs.Tables.{frames_of, KeepsOtherFrames}
 use Rattle.frame_tree.proofs.TreeValues.{tree-with_state, with_state-alike, AllBelow-alike, with_state-map_values, frame_at-with_state, frame_at_other-with_state}
 use Rattle.sched_rules.specs.Trees.{Tree, charged_for, is_held_by}
 use Rattle.sched_rules.specs.Lone.{in_state}

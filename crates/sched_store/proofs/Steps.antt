@@ -7,7 +7,7 @@ use Rattle.tenant_quota.specs.Accounts.{owner_of_account, account_of, with_chang
 use Rattle.tenant_quota.specs.Reservations.{Reservations, changed, IsSoundBook}
 use Rattle.tenant_quota.specs.declared.account.Account.{Account}
 use Rattle.frame_tree.specs.Frames.{IsTree, TenantTree}
-use Rattle.frame_table.specs.Tables.{frames_of, tenant_count, KeepsOtherFrames, KeepsOtherTenants}
+use Rattle.frame_tree.specs.Tables.{frames_of, tenant_count, KeepsOtherFrames, KeepsOtherTenants}
 use Rattle.sched_rules.specs.Trees.{Tenant}
 use Rattle.sched_rules.specs.Cores.{CoreState}
 use Rattle.sched_rules.specs.Changes.{with_change, on_tenant}

@@ -8,7 +8,7 @@ use Rattle.tenant_quota.specs.declared.account.Account.{Account}
 use Rattle.frame_tree.specs.declared.names.FrameId.{FrameId}
 use Rattle.frame_tree.specs.Frames.{Frame, frame_at, TenantTree}
 use Rattle.frame_tree.specs.TreeLaws.{map_value, AllAboveSerial, AreSerialsRising, Each}
-use Rattle.frame_table.specs.Tables.{frames_of}
+use Rattle.frame_tree.specs.Tables.{frames_of}
 use Rattle.frame_tree.proofs.TreeLaws.{found-serial, found-each, tree-rising}
 use Rattle.sched_rules.specs.Trees.{charged_for, with_frame_words}
 use Rattle.sched_rules.specs.Lone.{holding}

@@ -1,1 +1,4 @@
 pub mod RefusalLemmas
+pub mod Staying
+pub mod Asking
+pub mod Working

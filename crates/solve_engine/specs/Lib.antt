@@ -1,1 +1,3 @@
 pub mod Solving
+pub mod Asked
+pub mod Found

@@ -5,13 +5,13 @@ ghost use Rattle.line_io.specs.Runs.{FunctionRun};
 ghost use Rattle.solve_engine.specs.Solving.{solve_out_unless, IsSolvedLine, IsVisitedLine, SolvedRun, VisitedRun};
 
 use crate::answers::{SolveText, error_text, value_text, visited_text};
+use crate::leaf_search::search_full;
 use crate::requests::read_line;
+use crate::solve_by_core;
 use line_io::{
     Answer, FromReader, FromWriter, Line, LineFault, Sink, Source, answer_lines,
     known_runs_are_exact,
 };
-use lone_search::leaf_search::search_full;
-use lone_search::solve_by_core;
 use sched_rules::Refusal;
 use std::alloc::{AllocError, Allocator};
 use std::io::{Read, Write};

@@ -7,14 +7,13 @@ ghost use Rattle.std.specs.Prelude.{◌≡◌, ◌≤◌};
 use crate::crew::Crew;
 use crate::guests::House;
 use crate::sessions::Stage;
-use counted_alloc::Counted;
 use desk::{Config, Desk, DeskLedger, Hall, PARTS, Worker};
 use std::alloc::{AllocError, Allocator, Global};
 use std::marker::Brand;
 use std::sync::Wait;
 use std::sync::ledger::Blank;
-use step_texts::read_totals;
-use text_rows::{Place, Row, Scene, Tally, option};
+use text_rows::{Place, Row, Scene, Tally, option, read_totals};
+use toys::Counted;
 
 /// What a head asks for.
 #[derive(Clone, Copy)]

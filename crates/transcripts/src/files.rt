@@ -7,8 +7,7 @@ use std::process::ExitCode;
 use std::rt::Files;
 use std::sync::Wait;
 use std::{fs, io};
-use step_texts::play_steps;
-use text_rows::{Place, Scene, Tally, read_scenes};
+use text_rows::{Place, Scene, Tally, play_steps, read_scenes};
 
 /// The names of all files here, by rising name.
 fn names<R: Files + AllocGlobal + Clone + Drop>(rt: &R) -> io::Result<Vec<String>> {

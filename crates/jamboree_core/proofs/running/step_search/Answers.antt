@@ -5,10 +5,10 @@ use Rattle.jamboree_core.proofs.running.step_search.Goals as goal
 
 pub returns-clause-searching : goal.returns-clause-searching
 returns-clause-searching g c origins core search = record {
-  fits = c.step_as.ensures.fitting origins core.fits (λ ok. search-fits c.args.step.now (search ok));
-  asked = λ number. after-asked origins c.args.step.now c.step_as.result core.asked search number;
+  fits = c.step.ensures.fitting origins core.fits (λ ok. search-fits c.args.step.now (search ok));
+  asked = λ number. after-asked origins c.args.step.now c.step.result core.asked search number;
 }
 
 pub returns-clause-bad_act : goal.returns-clause-bad_act
 returns-clause-bad_act g c origins core none =
-    answer-none-bad c.args.core.now.procedure.grain origins c.args.core.now.shared c.args.step.now c.step_as.result c.step_as.ensures.kept_before.shaped core.fits none c.step_as.ensures.one.answered
+    answer-none-bad c.args.core.now.procedure.grain origins c.args.core.now.shared c.args.step.now c.step.result c.step.ensures.kept_before.shaped core.fits none c.step.ensures.one.answered

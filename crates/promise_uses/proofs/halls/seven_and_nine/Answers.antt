@@ -1,11 +1,11 @@
-use Rattle.promise_uses.proofs.Parts.{twin, first-twin, nobody}
+use Rattle.std.proofs.Common.{sym, ◌∙◌}
 use Rattle.promise_uses.proofs.halls.seven_and_nine.Goals as goal
 
 pub returns-clause-seven : goal.returns-clause-seven
-returns-clause-seven g c grain journal tenant there = twin _ _ (c.same_journals.ensures grain 7 journal) tenant there
+returns-clause-seven g c grain journal tenant there = sym (c.same_journals.ensures grain 7 journal) ∙ there
 
 pub returns-clause-nine : goal.returns-clause-nine
-returns-clause-nine g c grain journal tenant there = first-twin _ _ (c.same_journals.ensures grain 9 journal) tenant there
+returns-clause-nine g c grain journal tenant there = c.same_journals.ensures grain 9 journal ∙ there
 
 pub returns-clause-nobody : goal.returns-clause-nobody
-returns-clause-nobody g c grain journal none = nobody _ _ (c.same_journals.ensures grain 9 journal) none
+returns-clause-nobody g c grain journal none = sym (c.same_journals.ensures grain 9 journal) ∙ none

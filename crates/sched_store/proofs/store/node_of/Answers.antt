@@ -1,6 +1,6 @@
 use Rattle.std.proofs.Common.{sym, ◌∙◌}
 use Rattle.frame_tree.specs.Frames.{frame_at}
-use Rattle.frame_table.specs.Tables.{frames_of}
+use Rattle.frame_tree.specs.Tables.{frames_of}
 use Rattle.frame_tree.proofs.TreeLaws.{there-found}
 use Rattle.sched_store.proofs.Frames.{entry-none}
 use Rattle.sched_store.proofs.store.node_of.Goals as goal

@@ -2,12 +2,11 @@ ghost use Rattle.std.specs.Prelude.{◌<◌};
 
 use crate::tests::memory::plain_core::{free_segments, left, made, run, step as do_step};
 use crate::tests::memory::{config_of, heap_of, holds, most_of, reserve_of};
-use counted_alloc::Counted;
 use sched_core::{Config, Core, DidOf, Step, StepOf};
-use sched_toys::Fan;
 use std::alloc::{Allocator, Global};
 use std::process::Abort;
 use tenant_quota::{Left, Reserve};
+use toys::{Counted, Fan};
 
 /// A core made in a heap with room for so many units, to which all is given back; false where memory was wanting.
 fn is_made_in(rt: &impl Abort, alloc: Global, units: usize, config: Config) -> bool

@@ -1,8 +1,7 @@
 ghost use Rattle.std.specs.Prelude.{◌≤◌, ◌<◌};
 
 use crate::tests::memory::{heap_of, holds};
-use frame_table::FrameTable;
-use frame_tree::{Entry, FrameId, State};
+use frame_tree::{Entry, FrameId, FrameTable, State};
 use linked_list_allocator::LocalHeap;
 use std::alloc::{AllocError, Allocator};
 use std::process::Abort;

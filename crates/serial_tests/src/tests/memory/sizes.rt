@@ -3,7 +3,7 @@ ghost use Rattle.std.specs.Prelude.{◌≤◌};
 
 use crate::tests::memory::frames::{make_places, table_of};
 use crate::tests::memory::{heap_of, holds};
-use frame_table::FrameTable;
+use frame_tree::FrameTable;
 use linked_list_allocator::LocalHeap;
 use segment_region::Region;
 use std::alloc::Global;

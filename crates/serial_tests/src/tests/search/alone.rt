@@ -2,18 +2,18 @@
 ghost use Rattle.std.specs.Prelude.{◌≤◌};
 
 use super::{heap_of, holds, holds_at, opening};
-use counted_alloc::Counted;
 use frame_tree::FrameId;
 use linked_list_allocator::LocalHeap;
-use lone_search::{Searched, Way, search_within, solve_by_core};
 use othello_eval::Valued;
 use othello_moves::Choice;
 use pool_rules::{Action, Holding, Task, Turn};
 use position_text::{Position, read};
 use sched_rules::{DidOf, Worker};
+use solve_engine::{Searched, Way, search_within, solve_by_core};
 use std::alloc::{AllocError, Allocator, Global};
 use std::process::Abort;
 use tenant_quota::{Left, Reserve};
+use toys::Counted;
 
 /// Five squares are empty, White to move. It takes a corner, and wins by 26 discs.
 const NEAR_THE_END: &[u8; 66] =

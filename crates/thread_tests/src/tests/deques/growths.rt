@@ -3,9 +3,9 @@ ghost use Rattle.std.specs.Prelude.{◌<◌};
 
 use super::*;
 use crate::tests::{holds, holds_of};
-use counted_alloc::Counted;
 use linked_list_allocator::LocalHeap;
 use std::process::Abort;
+use toys::Counted;
 
 /// What is refused memory.
 #[derive(Clone, Copy)]

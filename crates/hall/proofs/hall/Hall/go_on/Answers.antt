@@ -24,36 +24,36 @@ taken hall latest count step (Err refusal) after ok keeps one goes none search k
 
 pub write-requires-clause-there : goal.write-requires-clause-there
 write-requires-clause-there g c =
-    let on = taken _ _ _ c.args.step.now c.step_as-answer.result c.step_as-answer.new.self.shared (sym c.is_ok.ensures.value ∙ c.if-is_ok.true) c.self.invariant c.step_as-answer.ensures.one c.requires.is_appended c.requires.raises_not c.requires.search c.step_as-answer.ensures.known in
+    let on = taken _ _ _ c.args.step.now c.step-answer.result c.step-answer.new.self.shared (sym c.is_ok.ensures.value ∙ c.if-is_ok.true) c.self.invariant c.step-answer.ensures.one c.requires.is_appended c.requires.raises_not c.requires.search c.step-answer.ensures.known in
     rw (← c.requires.own) on.has
 
 pub write-requires-clause-place : goal.write-requires-clause-place
 write-requires-clause-place g c =
-    let on = taken _ _ _ c.args.step.now c.step_as-answer.result c.step_as-answer.new.self.shared (sym c.is_ok.ensures.value ∙ c.if-is_ok.true) c.self.invariant c.step_as-answer.ensures.one c.requires.is_appended c.requires.raises_not c.requires.search c.step_as-answer.ensures.known in
+    let on = taken _ _ _ c.args.step.now c.step-answer.result c.step-answer.new.self.shared (sym c.is_ok.ensures.value ∙ c.if-is_ok.true) c.self.invariant c.step-answer.ensures.one c.requires.is_appended c.requires.raises_not c.requires.search c.step-answer.ensures.known in
     rw (← c.requires.own) (on.place c.requires.raises_not)
 
 pub write-requires-clause-long : goal.write-requires-clause-long
 write-requires-clause-long g c =
-    let on = taken _ _ _ c.args.step.now c.step_as-answer.result c.step_as-answer.new.self.shared (sym c.is_ok.ensures.value ∙ c.if-is_ok.true) c.self.invariant c.step_as-answer.ensures.one c.requires.is_appended c.requires.raises_not c.requires.search c.step_as-answer.ensures.known in
+    let on = taken _ _ _ c.args.step.now c.step-answer.result c.step-answer.new.self.shared (sym c.is_ok.ensures.value ∙ c.if-is_ok.true) c.self.invariant c.step-answer.ensures.one c.requires.is_appended c.requires.raises_not c.requires.search c.step-answer.ensures.known in
     rw (← c.requires.own) (on.long c.requires.raises_not)
 
 pub write-requires-clause-serial : goal.write-requires-clause-serial
 write-requires-clause-serial g c =
-    let on = taken _ _ _ c.args.step.now c.step_as-answer.result c.step_as-answer.new.self.shared (sym c.is_ok.ensures.value ∙ c.if-is_ok.true) c.self.invariant c.step_as-answer.ensures.one c.requires.is_appended c.requires.raises_not c.requires.search c.step_as-answer.ensures.known in
+    let on = taken _ _ _ c.args.step.now c.step-answer.result c.step-answer.new.self.shared (sym c.is_ok.ensures.value ∙ c.if-is_ok.true) c.self.invariant c.step-answer.ensures.one c.requires.is_appended c.requires.raises_not c.requires.search c.step-answer.ensures.known in
     on.serial
 
 pub invariant_of-self : goal.invariant_of-self
 invariant_of-self g c =
-    let on = taken _ _ _ c.args.step.now c.step_as-answer.result c.step_as-answer.new.self.shared (sym c.is_ok.ensures.value ∙ c.if-is_ok.true) c.self.invariant c.step_as-answer.ensures.one c.requires.is_appended c.requires.raises_not c.requires.search c.step_as-answer.ensures.known in
-    rw (c.step_as-answer.ensures.procedure, c.write.ensures, ← c.requires.own) on.keeps
+    let on = taken _ _ _ c.args.step.now c.step-answer.result c.step-answer.new.self.shared (sym c.is_ok.ensures.value ∙ c.if-is_ok.true) c.self.invariant c.step-answer.ensures.one c.requires.is_appended c.requires.raises_not c.requires.search c.step-answer.ensures.known in
+    rw (c.step-answer.ensures.procedure, c.write.ensures, ← c.requires.own) on.keeps
 
 pub returns-then-is_ok-clause-decided : goal.returns-then-is_ok-clause-decided
 returns-then-is_ok-clause-decided g c = record {
-  one = rw (← c.self.view_is) c.step_as-answer.ensures.one;
+  one = rw (← c.self.view_is) c.step-answer.ensures.one;
   taken = search rules;
   refused = search rules;
-  count = on-ok c.step_as-answer.result (rw (← c.self.view_is) (sym (invariant_of-self g c).counted ∙ ap (λ (n : ℕ). n + 1) c.self.invariant.counted));
+  count = on-ok c.step-answer.result (rw (← c.self.view_is) (sym (invariant_of-self g c).counted ∙ ap (λ (n : ℕ). n + 1) c.self.invariant.counted));
 }
 
 pub returns-else-is_ok-clause-decided : goal.returns-else-is_ok-clause-decided
-returns-else-is_ok-clause-decided g c = record { one = rw (← c.self.view_is) c.step_as-answer.ensures.one; taken = search rules; refused = search rules; count = search rules }
+returns-else-is_ok-clause-decided g c = record { one = rw (← c.self.view_is) c.step-answer.ensures.one; taken = search rules; refused = search rules; count = search rules }

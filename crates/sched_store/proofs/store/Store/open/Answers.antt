@@ -1,6 +1,6 @@
 use Rattle.std.proofs.Common.{◌≤◌, ◌+◌, ap, ◌∙◌, refl, sym, arith}
 use Rattle.cactus_stack.specs.Nodes.{charge}
-use Rattle.frame_table.specs.Tables.{frames_of}
+use Rattle.frame_tree.specs.Tables.{frames_of}
 use Rattle.sched_store.specs.Inside.{parts_of}
 use Rattle.sched_store.proofs.Tenants.{book-left}
 use Rattle.sched_store.proofs.Writing.{has-free, not-refused}

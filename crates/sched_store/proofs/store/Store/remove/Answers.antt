@@ -4,7 +4,7 @@ use Rattle.sched_rules.specs.Changes.{on_tenant, without_frame}
 use Rattle.sched_rules.specs.Cores.{CoreState}
 use Rattle.sched_rules.specs.Views.{named}
 use Rattle.cactus_stack.specs.Nodes.{IsOpen, HasNoChild}
-use Rattle.frame_table.specs.Tables.{frames_of}
+use Rattle.frame_tree.specs.Tables.{frames_of}
 use Rattle.frame_tree.specs.Frames.{frame_at, frames_without}
 use Rattle.sched_store.specs.Inside.{parts_of}
 use Rattle.sched_store.specs.Reads.{frames_in_core}

@@ -1,7 +1,7 @@
 //! What a hall asks of its allocator: nothing but at an admission, and there what is to be had.
 use super::turns::play;
 use super::*;
-use counted_alloc::Counted;
+use toys::Counted;
 
 /// A tenant asks for a position to depth 2.
 fn asks<A: Allocator + Clone>(

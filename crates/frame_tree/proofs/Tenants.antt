@@ -1,0 +1,283 @@
+-- The trees of a table: look-ups, and what a change of one of them leaves.
+use Rattle.std.proofs.Common.{◌≡◌, ◌≢◌, ℕ, suc, ◌+◌, ◌*◌, ◌<◌, ◌≤◌, Bool, true, false, not, ◌||◌, eqb, List, [], ◌∷◌, ◌++◌, Option, Some, None, length, get_or, drop, refl, ap, sym, ◌∙◌, inl, inr, arith, IsNone, IfSome, IfNone}
+use Rattle.std.specs.Prelude.{option_copied}
+use Rattle.std.specs.Borrow.{Bor}
+use Rattle.std.proofs.lemmas.Bool.{cases_eq, cases_Bool, false≢true, true≢false, eq-eqb, ne_eqb}
+use Rattle.std.proofs.lemmas.List.{at_drop_more}
+use Rattle.std.proofs.lemmas.List.Sums.{sum_by-cons}
+use Rattle.frame_tree.specs.declared.names.FrameId.{FrameId}
+use Rattle.frame_tree.specs.declared.names.State.{State}
+use Rattle.frame_tree.specs.declared.names.State.TheVariants.{Ready, Running, Computing, Waiting, Returned}
+use Rattle.frame_tree.specs.Frames.{Frame, TenantTree, owner_of_tree, frames_in, frame_at, has_frame, ready_frames, is_ready, newest_ready_of, ready_name, first_of_two, IsReadyAt, has_parent, with_state, aborted, goes_under, frames_without}
+use Rattle.number_index.specs.Places.{find_by_number, read_by_number, remove_by_number, inserted, AreRising}
+use Rattle.number_index.proofs.Places.{find_by_number-found}
+use Rattle.number_index.proofs.Edits.{all-map, all-of, thing-own, said-found, said-none, said-lacks, has-found, has-above, length-without, said-without_other, all-without, rising-without, sum_by-without, said-inserted_own, said-inserted_other, all-inserted, rising-inserted, length-inserted, sum_by-inserted}
+use Rattle.frame_tree.specs.Tables.{frames_of, places_of, KeepsOtherTenants, has_tenant, FitsPlaces, AllFitPlaces, total_ready, IsSoundTable, IsTreeOf, HasNoTree, first_ready_of, serial_of, IsParentIn}
+use Rattle.frame_tree.proofs.Lengths.{length-filter-le, length-filter_push}
+use Rattle.frame_tree.proofs.Forest.{has_frame-append}
+use Rattle.frame_tree.proofs.Finds.{none_of_length}
+
+-- how many frames of a tree are ready
+abbrev pub ready_of : {T : Type 0} → TenantTree T → ℕ
+ready_of tree = length (ready_frames tree.frames)
+
+-- a tenant that has no tree
+pub no_tree : {T : Type 0} (xs : List (TenantTree T)) (t : ℕ) → has_tenant xs t ≡ false → HasNoTree xs t
+no_tree xs t h = record { frames = said-lacks owner_of_tree (λ tree. tree.frames) [] t xs h; places = said-lacks owner_of_tree (λ tree. tree.places) 0 t xs h }
+
+-- a tenant that has places or a frame has a tree
+pub tree_by_places : {T : Type 0} (xs : List (TenantTree T)) (t : ℕ) → 0 < places_of xs t → has_tenant xs t ≡ true
+tree_by_places xs t h =
+    elim (cases_Bool (has_tenant xs t)) [ inl there ↦ there | inr gone ↦ absurd (let e = (no_tree xs t gone).places in omega (arith, h, e)) ]
+
+pub tree_by_frame : {T : Type 0} (xs : List (TenantTree T)) (t serial : ℕ) → has_frame (frames_of xs t) serial ≡ true → has_tenant xs t ≡ true
+tree_by_frame xs t serial h =
+    elim (cases_Bool (has_tenant xs t)) [ inl there ↦ there | inr gone ↦ absurd (let e = (no_tree xs t gone).frames in false≢true (rw e at h)) ]
+
+-- the tree that was found is the tenant's
+pub tree_found : {T : Type 0} (xs : List (TenantTree T)) (t : ℕ) (x : TenantTree T) → find_by_number owner_of_tree t xs ≡ Some x → IsTreeOf xs t x
+tree_found xs t x is =
+    record { named = thing-own owner_of_tree t xs x is; frames = said-found owner_of_tree (λ tree. tree.frames) [] t xs x is; places = said-found owner_of_tree (λ tree. tree.places) 0 t xs x is }
+
+pub found_some : {T : Type 0} (xs : List (TenantTree T)) (t : ℕ) (found : Option (Bor (TenantTree T))) → option_copied found ≡ find_by_number owner_of_tree t xs → IfSome found (λ tree. IsTreeOf xs t tree.now)
+found_some xs t None is = tt
+found_some xs t (Some tree) is = tree_found xs t tree.now (sym is)
+
+pub guess_found : {T : Type 0} (xs : List (TenantTree T)) (t : ℕ) (found : Option (Bor (TenantTree T))) → IfSome found (λ x. find_by_number owner_of_tree t xs ≡ Some x.now) → IfSome found (λ tree. IsTreeOf xs t tree.now)
+guess_found xs t None is = tt
+guess_found xs t (Some tree) is = tree_found xs t tree.now is
+
+pub found_none : {T : Type 0} (xs : List (TenantTree T)) (t : ℕ) (found : Option (Bor (TenantTree T))) → option_copied found ≡ find_by_number owner_of_tree t xs → IfNone found (HasNoTree xs t)
+found_none xs t None is = record { frames = said-none owner_of_tree (λ tree. tree.frames) [] t xs (sym is); places = said-none owner_of_tree (λ tree. tree.places) 0 t xs (sym is) }
+found_none xs t (Some tree) is = tt
+
+pub fit_more : {T : Type 0} (room more : ℕ) (xs : List (TenantTree T)) → room ≤ more → AllFitPlaces room xs → AllFitPlaces more xs
+fit_more room more xs le fit =
+    all-map (λ tree. FitsPlaces room tree) (λ tree. FitsPlaces more tree) (λ x f. record { within = f.within; some = f.some; few = f.few; room_left = (let h = f.room_left in omega (arith, le, h)) }) xs fit
+
+pub found_fits : {T : Type 0} (room : ℕ) (xs : List (TenantTree T)) (t : ℕ) (found : Option (Bor (TenantTree T))) → AllFitPlaces room xs → option_copied found ≡ find_by_number owner_of_tree t xs → IfSome found (λ tree. 1 ≤ tree.now.places)
+found_fits room xs t None fit is = tt
+found_fits room xs t (Some tree) fit is = (all-of (λ z. FitsPlaces room z) owner_of_tree t tree.now xs (sym is) fit).some
+
+-- the count of ready frames is bounded
+pub total_bound : {T : Type 0} (room : ℕ) (xs : List (TenantTree T)) → AllFitPlaces room xs → total_ready xs ≤ 4096 * length xs
+total_bound room [] fit = omega arith
+total_bound room (x ∷ xs) fit =
+    let here = length-filter-le (λ f. is_ready f.state) x.frames in
+    omega (arith, sum_by-cons ready_of x xs, total_bound room xs fit.1, here, fit.0.few, fit.0.within)
+
+-- no places where nothing was reserved
+pub no_places : {T : Type 0} (room : ℕ) (xs : List (TenantTree T)) (t : ℕ) → AllFitPlaces room xs → places_of xs t ≡ 0 → has_tenant xs t ≡ false
+no_places room [] t fit none = refl
+no_places room (x ∷ xs) t fit none =
+    elim (cases_Bool (eqb x.tenant t)) [
+      | inl same ↦ absurd (let e = rw same at none in let h = fit.0.some in omega (arith, e, h))
+      | inr differs ↦ rw differs (no_places room xs t fit.1 (rw differs at none))
+    ]
+
+-- a newest ready frame is there exactly where one is ready
+pub newest_none : {T : Type 0} (t : ℕ) (fs : List (Frame T)) → length (ready_frames fs) ≡ 0 → newest_ready_of t fs ≡ None
+newest_none t [] none = refl
+newest_none t (f ∷ fs) none =
+    elim (cases_Bool (is_ready f.state)) [
+      | inl ready ↦ absurd (zero_suc (rw ready at none))
+      | inr other ↦ rw (newest_none t fs (rw other at none), not_ready t f.serial f.state other) refl
+    ]
+  where
+    zero_suc : {n : ℕ} → suc n ≡ 0 → ⊥
+    zero_suc h = omega (arith, h)
+
+    not_ready : (t serial : ℕ) (state : State) → is_ready state ≡ false → ready_name t serial state ≡ None
+    not_ready t serial (Ready home) h = absurd (true≢false h)
+    not_ready t serial (Running worker) h = refl
+    not_ready t serial (Computing worker) h = refl
+    not_ready t serial Waiting h = refl
+    not_ready t serial Returned h = refl
+
+pub newest_some : {T : Type 0} (t : ℕ) (fs : List (Frame T)) → newest_ready_of t fs ≡ None → ready_frames fs ≡ []
+newest_some t [] none = refl
+newest_some t (f ∷ fs) none = by_tail t f fs (newest_ready_of t fs) refl none (λ e. newest_some t fs e)
+  where
+    some_none : {X : Type 0} {x : X} → Some x ≡ None → ⊥
+    some_none h = cc
+
+    not_ready : (t serial : ℕ) (state : State) → ready_name t serial state ≡ None → is_ready state ≡ false
+    not_ready t serial (Ready home) h = absurd (some_none h)
+    not_ready t serial (Running worker) h = refl
+    not_ready t serial (Computing worker) h = refl
+    not_ready t serial Waiting h = refl
+    not_ready t serial Returned h = refl
+
+    by_tail : {T : Type 0} (t : ℕ) (f : Frame T) (fs : List (Frame T)) (tail : Option (FrameId × ℕ)) → newest_ready_of t fs ≡ tail → first_of_two tail (ready_name t f.serial f.state) ≡ None → (newest_ready_of t fs ≡ None → ready_frames fs ≡ []) → ready_frames (f ∷ fs) ≡ []
+    by_tail t f fs None is none rest = rw (not_ready t f.serial f.state none) (rest is)
+    by_tail t f fs (Some r) is none rest = absurd (some_none none)
+
+-- the tree at a place, and those after it
+pub head_of : {T : Type 0} (xs : List (TenantTree T)) (i : ℕ) (x : TenantTree T) → i < length xs → x ≡ get_or xs i x → first_ready_of (drop i xs) ≡ first_of_two (newest_ready_of x.tenant x.frames) (first_ready_of (drop (i + 1) xs))
+head_of xs i x lt is = at_drop_more first_ready_of xs i x lt ∙ (rw (← is) refl)
+
+-- the first tree that has a ready frame
+pub first_found : {T : Type 0} (xs : List (TenantTree T)) (i : ℕ) (x : TenantTree T) (result : Option (FrameId × ℕ)) → first_ready_of xs ≡ first_ready_of (drop i xs) → i < length xs → x ≡ get_or xs i x → 0 < ready_of x → result ≡ newest_ready_of x.tenant x.frames → result ≡ first_ready_of xs
+first_found {T} xs i x result rest lt is some newest =
+    newest ∙ (sym (first_some (newest_ready_of x.tenant x.frames) (first_ready_of (drop (i + 1) xs)) (λ none. omega (arith, some, ap length (newest_some x.tenant x.frames none))))
+    ∙ (sym (head_of xs i x lt is) ∙ sym rest))
+  where
+    first_some : {X : Type 0} (a b : Option X) → (a ≡ None → ⊥) → first_of_two a b ≡ a
+    first_some None b h = absurd (h refl)
+    first_some (Some x) b h = refl
+
+pub first_later : {T : Type 0} (xs : List (TenantTree T)) (i : ℕ) (x : TenantTree T) → first_ready_of xs ≡ first_ready_of (drop i xs) → i < length xs → x ≡ get_or xs i x → ready_of x ≤ 0 → first_ready_of xs ≡ first_ready_of (drop (i + 1) xs)
+first_later xs i x rest lt is none =
+    rest ∙ (head_of xs i x lt is ∙ (rw (newest_none x.tenant x.frames (omega (arith, none))) refl))
+
+pub if_some_more : {X : Type 0} (o : Option X) (P Q : X → Type 0) → ((x : X) → P x → Q x) → IfSome o P → IfSome o Q
+if_some_more None P Q f h = tt
+if_some_more (Some x) P Q f h = f x h
+
+pub first_is_ready : {T : Type 0} (xs : List (TenantTree T)) (i : ℕ) (x : TenantTree T) (result : Option (FrameId × ℕ)) → AreRising owner_of_tree xs → i < length xs → x ≡ get_or xs i x → IfSome result (λ ready. (ready.0.tenant ≡ x.tenant) × IsReadyAt (frame_at x.frames ready.0.serial) ready.1) → IfSome result (λ ready. IsReadyAt (frame_at (frames_of xs ready.0.tenant) ready.0.serial) ready.1)
+first_is_ready xs i x result rise lt is h =
+    let own = tree_found xs x.tenant x (find_by_number-found owner_of_tree x.tenant xs i x rise lt is refl) in
+    if_some_more result _ _ (λ ready r. rw (r.0, own.frames) r.1) h
+
+-- nothing is ready in any tree where the count is 0
+pub none_ready : {T : Type 0} (xs : List (TenantTree T)) (t : ℕ) → total_ready xs ≡ 0 → ready_frames (frames_of xs t) ≡ []
+none_ready [] t none = refl
+none_ready (x ∷ xs) t none =
+    elim (cases_Bool (eqb x.tenant t)) [
+      | inl same ↦ rw same (none_of_length (ready_frames x.frames) (omega (arith, none, sum_by-cons ready_of x xs)))
+      | inr differs ↦ rw differs (none_ready xs t (omega (arith, none, sum_by-cons ready_of x xs)))
+    ]
+
+-- where no tree shows a ready frame, and back
+pub first_none : {T : Type 0} (xs : List (TenantTree T)) → first_ready_of xs ≡ None → (t : ℕ) → ready_frames (frames_of xs t) ≡ []
+first_none [] none t = refl
+first_none (x ∷ xs) none t = by_head x xs (newest_ready_of x.tenant x.frames) refl none t (λ e. first_none xs e t)
+  where
+    some_none : {X : Type 0} {x : X} → Some x ≡ None → ⊥
+    some_none h = cc
+
+    by_head : {T : Type 0} (x : TenantTree T) (xs : List (TenantTree T)) (head : Option (FrameId × ℕ)) → newest_ready_of x.tenant x.frames ≡ head → first_of_two head (first_ready_of xs) ≡ None → (t : ℕ) → (first_ready_of xs ≡ None → ready_frames (frames_of xs t) ≡ []) → ready_frames (frames_of (x ∷ xs) t) ≡ []
+    by_head x xs None is none t rest =
+        elim (cases_Bool (eqb x.tenant t)) [ inl same ↦ rw same (newest_some x.tenant x.frames is) | inr differs ↦ rw differs (rest none) ]
+    by_head x xs (Some r) is none t rest = absurd (some_none none)
+
+pub none_first : {T : Type 0} (xs : List (TenantTree T)) → AreRising owner_of_tree xs → ((t : ℕ) → ready_frames (frames_of xs t) ≡ []) → first_ready_of xs ≡ None
+none_first [] rise none = refl
+none_first (x ∷ xs) rise none =
+    let here : ready_frames x.frames ≡ [] = (let h = none x.tenant in rw (eq-eqb x.tenant x.tenant refl) at h) in
+    let rest = none_first xs rise.1 (λ t. elim (cases_eq x.tenant t) [
+      | inl e ↦ (let gone = (no_tree xs t (ap (λ n. has_tenant xs n) (sym e) ∙ has-above owner_of_tree x.tenant x.tenant xs (omega arith) rise.0)).frames in rw gone refl)
+      | inr ne ↦ (let h = none t in rw (ne_eqb x.tenant t ne) at h)
+    ]) in
+    rw (newest_none x.tenant x.frames (ap length here), rest) refl
+
+-- the count of ready frames stays a small number
+pub ready_bound : {T : Type 0} (xs : List (TenantTree T)) (room ready : ℕ) → IsSoundTable xs room ready → ready ≤ 262144
+ready_bound xs room ready s = let h = total_bound room xs s.fit in let few = s.few in let c = s.counted in omega (arith, h, few, c)
+
+ready_here : {T : Type 0} (xs : List (TenantTree T)) (room ready t : ℕ) (x : TenantTree T) → IsSoundTable xs room ready → find_by_number owner_of_tree t xs ≡ Some x → ready_of x ≤ ready
+ready_here xs room ready t x s is = omega (arith, sum_by-without ready_of owner_of_tree t x xs is, s.counted)
+
+-- one more frame
+pub more_ready : {T : Type 0} (fs : List (Frame T)) (f : Frame T) → is_ready f.state ≡ true → length (ready_frames (fs ++ f ∷ [])) ≡ length (ready_frames fs) + 1
+more_ready fs f ready = length-filter_push (λ g. is_ready g.state) fs f ∙ (rw ready refl)
+
+pub few_ready_frames : {T : Type 0} (fs : List (Frame T)) → length (ready_frames fs) ≤ length fs
+few_ready_frames fs = length-filter-le (λ f. is_ready f.state) fs
+
+-- as many frames in another state
+pub state_length : {T : Type 0} (serial : ℕ) (state : State) (fs : List (Frame T)) → length (with_state serial state fs) ≡ length fs
+state_length serial state [] = refl
+state_length serial state (f ∷ fs) = let h = state_length serial state fs in omega (arith, h)
+
+-- a parent that is named is there
+pub named_parent : {T : Type 0} (fs : List (Frame T)) (t : ℕ) (parent : Option FrameId) (above : Option ℕ) → above ≡ serial_of parent → IsParentIn fs t parent → has_parent fs above ≡ true
+named_parent fs t None above is p = rw is refl
+named_parent fs t (Some name) above is p = rw is p.1
+
+-- a table with a new tenant
+pub reserve_sound : {T : Type 0} (xs : List (TenantTree T)) (room more ready t places : ℕ) (y : TenantTree T) → IsSoundTable xs room ready → room ≤ more → places ≤ more → 1 ≤ places → places ≤ 4096 → length xs < 64 → places_of xs t ≡ 0 → y ≡ record { tenant = t; places = places; frames = [] } → IsSoundTable (inserted owner_of_tree y xs) more ready
+reserve_sound xs room more ready t places y s le within some few free fresh is =
+    let none : has_tenant xs y.tenant ≡ false = ap (λ z. has_tenant xs z.tenant) is ∙ no_places room xs t s.fit fresh in
+    let sized = ap (λ z. z.places) is in
+    let long = ap (λ z. length z.frames) is in
+    let unready = ap (λ z. length (ready_frames z.frames)) is in
+    record {
+      few = omega (arith, length-inserted owner_of_tree y xs, free);
+      rise = rising-inserted owner_of_tree y xs s.rise none;
+      fit = all-inserted (λ tree. FitsPlaces more tree) owner_of_tree y xs (record { within = omega (arith, long); some = omega (arith, sized, some); few = omega (arith, sized, few); room_left = omega (arith, sized, within) }) (fit_more room more xs le s.fit);
+      counted = omega (arith, sum_by-inserted ready_of owner_of_tree y xs, s.counted, unready);
+    }
+
+pub reserve_here : {T Y : Type 0} (say : TenantTree T → Y) (none : Y) (xs : List (TenantTree T)) (room ready t places : ℕ) (y : TenantTree T) → IsSoundTable xs room ready → places_of xs t ≡ 0 → y ≡ record { tenant = t; places = places; frames = [] } → read_by_number owner_of_tree say none t (inserted owner_of_tree y xs) ≡ say (record { tenant = t; places = places; frames = [] })
+reserve_here say none xs room ready t places y s fresh is =
+    rw is (said-inserted_own owner_of_tree say none (record { tenant = t; places = places; frames = [] }) xs (no_places room xs t s.fit fresh))
+
+pub insert_keeps : {T : Type 0} (xs : List (TenantTree T)) (t : ℕ) (y : TenantTree T) → y.tenant ≡ t → KeepsOtherTenants xs (inserted owner_of_tree y xs) t
+insert_keeps xs t y named = record {
+  frames = λ u other. said-inserted_other owner_of_tree (λ tree. tree.frames) [] u y xs (λ e. other (sym e ∙ named));
+  places = λ u other. said-inserted_other owner_of_tree (λ tree. tree.places) 0 u y xs (λ e. other (sym e ∙ named));
+}
+
+-- a table with room for more removed values
+pub more_room : {T : Type 0} (xs : List (TenantTree T)) (room more ready : ℕ) → room ≤ more → IsSoundTable xs room ready → IsSoundTable xs more ready
+more_room xs room more ready le s = record { few = s.few; rise = s.rise; fit = fit_more room more xs le s.fit; counted = s.counted }
+
+-- a tree that goes with no frame
+pub release_sound : {T : Type 0} (xs : List (TenantTree T)) (room ready t : ℕ) (x : TenantTree T) → IsSoundTable xs room ready → find_by_number owner_of_tree t xs ≡ Some x → frames_of xs t ≡ [] → IsSoundTable (remove_by_number owner_of_tree t xs) room ready
+release_sound xs room ready t x s is empty =
+    let unready = ap (λ fs. length (ready_frames fs)) (sym (tree_found xs t x is).frames ∙ empty) in
+    record {
+      few = omega (arith, length-without owner_of_tree t xs (has-found owner_of_tree t xs x is), s.few);
+      rise = rising-without owner_of_tree t xs s.rise;
+      fit = all-without (λ tree. FitsPlaces room tree) owner_of_tree t xs s.fit;
+      counted = omega (arith, sum_by-without ready_of owner_of_tree t x xs is, s.counted, unready);
+    }
+
+pub release_keeps : {T : Type 0} (xs : List (TenantTree T)) (t : ℕ) → KeepsOtherTenants xs (remove_by_number owner_of_tree t xs) t
+release_keeps xs t = record {
+  frames = λ u other. said-without_other owner_of_tree (λ tree. tree.frames) [] u t xs (λ e. other (sym e));
+  places = λ u other. said-without_other owner_of_tree (λ tree. tree.places) 0 u t xs (λ e. other (sym e));
+}
+
+-- what `None` is
+pub none_is : {X : Type 0} (o : Option X) → IsNone o → o ≡ None
+none_is None h = refl
+none_is (Some x) h = absurd (true≢false h)
+
+pub is_none_from : {X : Type 0} (o : Option X) → o ≡ None → IsNone o
+is_none_from o h = rw h refl
+
+-- what goes makes a tree no longer
+pub aborted_length : {T : Type 0} (serial : ℕ) (fs : List (Frame T)) → length (aborted serial fs) ≤ length fs
+aborted_length serial fs = length-filter-le (λ f. not (goes_under serial f.path)) fs
+
+pub without_length : {T : Type 0} (serial : ℕ) (fs : List (Frame T)) → length (frames_without serial fs) ≤ length fs
+without_length serial fs = length-filter-le (λ f. not (eqb f.serial serial)) fs
+
+-- a new frame is found under its own serial alone
+pub others_there : {T : Type 0} (old new : List (Frame T)) (f : Frame T) (serial : ℕ) → new ≡ old ++ f ∷ [] → f.serial ≢ serial → has_frame new serial ≡ has_frame old serial
+others_there old new f serial is other = rw (is, has_frame-append old (f ∷ []) serial, ne_eqb f.serial serial other) (or_false (has_frame old serial))
+  where
+    or_false : (b : Bool) → (b || false) ≡ b
+    or_false true = refl
+    or_false false = refl
+
+-- the count of its ready frames is part of that of all, its frames are within its places, and those are few
+pub record IsWithin {T : Type 0} (x : TenantTree T) (room ready : ℕ) : Type 0 where
+  pub part : ready_of x ≤ ready
+  pub some : 1 ≤ x.places
+  pub frames : length x.frames ≤ x.places
+  pub few : x.places ≤ 4096
+  pub room_left : x.places ≤ room
+  pub all_few : ready ≤ 262144
+
+pub is_within : {T : Type 0} (trees : List (TenantTree T)) (room ready tenant : ℕ) (x : TenantTree T) → IsSoundTable trees room ready → find_by_number owner_of_tree tenant trees ≡ Some x → IsWithin x room ready
+is_within trees room ready tenant x s is =
+    let fit = all-of (λ tree. FitsPlaces room tree) owner_of_tree tenant x trees is s.fit in
+    record { part = ready_here trees room ready tenant x s is; some = fit.some; frames = fit.within; few = fit.few; room_left = fit.room_left; all_few = ready_bound trees room ready s }
+
+-- the frames of a tenant's tree that was looked for
+pub frames_found : {T : Type 0} (xs : List (TenantTree T)) (t : ℕ) (tree : Option (Bor (TenantTree T))) → IfSome tree (λ x. IsTreeOf xs t x.now) → IfNone tree (HasNoTree xs t) → frames_in tree ≡ frames_of xs t
+frames_found xs t None found none = sym none.frames
+frames_found xs t (Some tree) found none = sym found.frames

@@ -1,3 +1,0 @@
-pub mod Staying
-pub mod Asking
-pub mod Working

@@ -1,7 +1,0 @@
-use Rattle.lone_search.proofs.Working.{begins}
-use Rattle.lone_search.proofs.job.admit.Goals as goal
-
-pub returns-in-Ok : goal.returns-in-Ok
-returns-in-Ok g c =
-    let e = c.in-Ok.ensures in
-    begins c.args.reserve c.args.core.now c.step_search.new.core c.in-Ok.field-0 c.requires e.known_before e.procedure e.one e.searching

@@ -1,4 +1,0 @@
-use Rattle.lone_search.proofs.worker.Searcher.offer_and_run.Goals as goal
-
-pub returns-in-GivingUp : goal.returns-in-GivingUp
-returns-in-GivingUp g c task works = c.spend.ensures task (c.offer.ensures task works)

@@ -1,7 +1,0 @@
-use Rattle.std.proofs.Common.{IfSome, sym, subst}
-use Rattle.lone_search.specs.Asked.{IsWork}
-use Rattle.lone_search.proofs.Staying.{held-work}
-use Rattle.lone_search.proofs.worker.own_step.Goals as goal
-
-pub returns : goal.returns
-returns c = subst (λ offer. IfSome offer (λ step. IsWork step)) (sym c.step.ensures) (held-work c.args.worker c.args.held.now)

@@ -1,5 +1,0 @@
-use Rattle.lone_search.specs.Asked.{Keeps}
-use Rattle.lone_search.proofs.worker.work.Given as goal
-
-abbrev pub invariant-loop-turn : goal.invariant-loop-turn
-invariant-loop-turn g l = Keeps l.initial.searcher.core l.searcher.core

@@ -1,0 +1,41 @@
+use Rattle.sched_core.proofs.Stepping.{kept-still, fits-still, stays-on_err}
+use Rattle.sched_core.proofs.Fitting.{kept-fitting}
+use Rattle.sched_core.proofs.scheduler.Core.step.Goals as goal
+
+pub invariant_of-self : goal.invariant_of-self
+invariant_of-self g c =
+    let procedure = c.self.inside.engine.procedure in
+    let same = c.step.ensures.procedure in
+    rw same (kept-fitting (g.P.Procedure.functions procedure) (g.P.Procedure.fits procedure) (g.P.Procedure.rooted procedure) _ _ _ _ _ _
+    (record { next = g.met.P.Procedure.next_keeps procedure; inlet = g.met.P.Procedure.inlet_keeps procedure; accept = g.met.P.Procedure.accept_keeps procedure })
+    c.self.invariant c.step.ensures.one c.stays_fitting-self-inside.ensures.before (λ so ok. c.stays_fitting-self-inside.ensures.root so))
+
+pub returns-clause-known : goal.returns-clause-known
+returns-clause-known g c = (kept-still _ _ _ _ _ c.self.invariant.kept c.step.ensures.one).known
+
+pub returns-clause-known_before : goal.returns-clause-known_before
+returns-clause-known_before g c = rw (← c.self.view_is) c.self.invariant.kept.known
+
+pub returns-clause-fitting : goal.returns-clause-fitting
+returns-clause-fitting g c =
+    let procedure = c.self.inside.engine.procedure in
+    rw (← c.self.view_is) (fits-still (g.P.Procedure.functions procedure) (g.P.Procedure.fits procedure) (g.P.Procedure.rooted procedure) _ _ _ _
+    (record { next = g.met.P.Procedure.next_keeps procedure; inlet = g.met.P.Procedure.inlet_keeps procedure; accept = g.met.P.Procedure.accept_keeps procedure }) c.self.invariant.kept c.step.ensures.one)
+
+pub returns-clause-kept : goal.returns-clause-kept
+returns-clause-kept g c = kept-still _ _ _ _ _ c.self.invariant.kept c.step.ensures.one
+
+pub returns-clause-kept_before : goal.returns-clause-kept_before
+returns-clause-kept_before g c = rw (← c.self.view_is) c.self.invariant.kept
+
+pub step-requires : goal.step-requires
+step-requires g c = c.self.invariant
+
+pub returns-clause-one : goal.returns-clause-one
+returns-clause-one g c = rw (← c.self.view_is) c.step.ensures.one
+
+pub returns-clause-refused : goal.returns-clause-refused
+returns-clause-refused g c = rw (← c.self.view_is) (stays-on_err _ _ _ _ _ c.step.ensures.one)
+
+pub returns-clause-procedure : goal.returns-clause-procedure
+returns-clause-procedure g c = rw (← c.self.view_is) c.step.ensures.procedure

@@ -1,0 +1,50 @@
+-- What a worker offers is a worker's step or Spend, and where that is taken its tenant stays, with what it reserved.
+use Rattle.std.proofs.Common.{◌≡◌, ℕ, true, false, ◌==◌, if◌then◌else◌, IfSome, Option, Some, None, Ok, refl, subst}
+use Rattle.sched_rules.specs.declared.step.StepOf.{StepOf}
+use Rattle.sched_rules.specs.declared.step.StepOf.TheVariants.{Take, Steal}
+use Rattle.sched_rules.specs.Functions.{Functions}
+use Rattle.sched_rules.specs.Trees.{Tenant}
+use Rattle.sched_rules.specs.Lone.{Outcome, lone_step}
+use Rattle.jamboree_core.proofs.sched_laws_Shaped.{by-kinds}
+use Rattle.jamboree_core.specs.jamboree_rules.declared.leaf.LeafAnswer.{LeafAnswer}
+use Rattle.pool_rules.specs.declared.turn.Action.{Action}
+use Rattle.pool_rules.specs.declared.turn.Action.TheVariants.{Get, Run, Bring, TakeIn, Finish as FinishRoot}
+use Rattle.pool_rules.specs.declared.turn.Holding.{Holding}
+use Rattle.pool_rules.specs.declared.turn.Holding.TheVariants.{Nothing, Next, Computing, GivingUp}
+use Rattle.pool_rules.specs.Turns.{step_of, offered}
+use Rattle.solve_engine.specs.Asked.{IsWork}
+
+-- for each action
+action-work : (worker : ℕ) (action : Action) → IsWork (step_of worker action)
+action-work worker (Get task) = elim (task.home == worker) as (λ own. IsWork {A = LeafAnswer} (if own then Take worker task.frame else Steal worker task.home task.frame)) [ true ↦ tt | false ↦ tt ]
+action-work worker (Run frame) = tt
+action-work worker (Bring frame answer) = tt
+action-work worker (TakeIn frame) = tt
+action-work worker (FinishRoot frame) = tt
+
+-- for all that it may hold
+pub held-work : (worker : ℕ) (held : Holding) → IfSome (offered worker held) (λ step. IsWork step)
+held-work worker Nothing = tt
+held-work worker (Next action) = action-work worker action
+held-work worker (Computing frame leaf) = tt
+held-work worker (GivingUp action) = tt
+
+-- a tenant is left, which reserves what it did
+abbrev pub Stays : Tenant → Option Tenant → Type 0
+Stays tenant None = ⊥
+Stays tenant (Some after) = after.reserve ≡ tenant.reserve
+
+-- each step of a worker, and Spend
+pub step-stays : {I A : Type 0} (functions : Functions I A) (tenant : Tenant) (step : StepOf A) (outcome : Outcome I) → IsWork step → lone_step functions tenant step ≡ Ok outcome → Stays tenant outcome.0
+step-stays {A = A} functions tenant step outcome work is = by-kinds functions tenant step outcome (Stays tenant) is (record {
+  at_raise = λ number quota raises. absurd (subst Works raises work);
+  at_submit = λ serials root frames. refl;
+  at_work = λ serials frames. refl;
+  at_finish = λ root words. refl;
+  at_spend = λ serial f found. refl;
+  at_cancel = λ number root found. refl;
+  at_leave = λ number leaves. absurd (subst Works leaves work);
+})
+  where
+    Works : StepOf A → Type 0
+    Works step = IsWork step

@@ -1,0 +1,23 @@
+use Rattle.std.proofs.Common.{ℕ, ap, subst}
+use Rattle.jamboree_core.specs.jamboree.declared.procedure.Jamboree.{Jamboree}
+use Rattle.solve_engine.specs.Asked.{IsNewCore}
+use Rattle.solve_engine.proofs.searching.search_within.Goals as goal
+
+pub answer_in-requires-clause-there : goal.answer_in-requires-clause-there
+answer_in-requires-clause-there g c =
+    let P : ℕ → Type 0 = λ grain. IsNewCore grain c.args.reserve c.admit.new.core in
+    let begun = subst P (ap (λ (p : Jamboree). p.grain) c.in_ok-core.ensures.procedure) c.in_ok-admit.ensures in
+    (c.args.reserve, (c.work-core.ensures _ (c.ask.ensures c.args.grain c.args.reserve c.segments.ensures.limits begun)).reserved)
+
+pub answer_in-requires-clause-asked : goal.answer_in-requires-clause-asked
+answer_in-requires-clause-asked g c =
+    let P : ℕ → Type 0 = λ grain. IsNewCore grain c.args.reserve c.admit.new.core in
+    let begun = subst P (ap (λ (p : Jamboree). p.grain) c.in_ok-core.ensures.procedure) c.in_ok-admit.ensures in
+    (c.work-core.ensures _ (c.ask.ensures c.args.grain c.args.reserve c.segments.ensures.limits begun)).asked
+
+pub returns-clause-found : goal.returns-clause-found
+returns-clause-found g c =
+    let P : ℕ → Type 0 = λ grain. IsNewCore grain c.args.reserve c.admit.new.core in
+    let begun = subst P (ap (λ (p : Jamboree). p.grain) c.in_ok-core.ensures.procedure) c.in_ok-admit.ensures in
+    let works = c.work-core.ensures _ (c.ask.ensures c.args.grain c.args.reserve c.segments.ensures.limits begun) in
+    record { shared = c.work-core.result.shared; run = works.run; reserved = works.reserved; asked = works.asked; found_in = c.answer_in.ensures.found }

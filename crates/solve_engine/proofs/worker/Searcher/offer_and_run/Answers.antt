@@ -1,0 +1,4 @@
+use Rattle.solve_engine.proofs.worker.Searcher.offer_and_run.Goals as goal
+
+pub returns-in-GivingUp : goal.returns-in-GivingUp
+returns-in-GivingUp g c task works = c.spend.ensures task (c.offer.ensures task works)

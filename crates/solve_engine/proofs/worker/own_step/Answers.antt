@@ -1,0 +1,7 @@
+use Rattle.std.proofs.Common.{IfSome, sym, subst}
+use Rattle.solve_engine.specs.Asked.{IsWork}
+use Rattle.solve_engine.proofs.Staying.{held-work}
+use Rattle.solve_engine.proofs.worker.own_step.Goals as goal
+
+pub returns : goal.returns
+returns c = subst (λ offer. IfSome offer (λ step. IsWork step)) (sym c.step.ensures) (held-work c.args.worker c.args.held.now)

@@ -1,0 +1,5 @@
+use Rattle.solve_engine.specs.Asked.{Keeps}
+use Rattle.solve_engine.proofs.worker.work.Given as goal
+
+abbrev pub invariant-loop-turn : goal.invariant-loop-turn
+invariant-loop-turn g l = Keeps l.initial.searcher.core l.searcher.core
