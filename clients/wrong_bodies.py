@@ -1,10 +1,12 @@
 #!/usr/bin/env python3
 """Shows that the tests of JavaScript and Java tell wrong bodies of their clients: each is put into a copy, and the tests of its language must fail there.
 
-usage: clients/wrong_bodies.py [--list] [WORD..]      (numbers, languages, or words of what is wrong; all where none is named)
+usage: clients/wrong_bodies.py [--list] [--jobs 2] [WORD..]      (numbers, languages, or words of what is wrong; all where none is named; so many at once)
 
 On a quiet host COLUWEN_ONCE=1 takes half the time: a row that fails isn't played again then.
 """
+import argparse
+import concurrent.futures
 import pathlib
 import re
 import shutil
@@ -14,7 +16,8 @@ import tempfile
 
 HERE = pathlib.Path(__file__).resolve().parent
 SOURCES = {"javascript": "javascript/src/{}.mjs", "java": "java/src/main/java/coluwen/{}.java"}
-TESTS = {"javascript": ["node", "--test", *(f"test/{name}.test.mjs" for name in ("behaviour", "client", "conformance", "core"))], "java": ["./build", "test", "-N", ".*EngineTest"]}
+TESTS = {"javascript": ["node", "--test", *(f"test/{name}.test.mjs" for name in ("behaviour", "client", "conformance", "core"))]}
+MOST = 900  # seconds that tests may take
 # What is wrong, and in each language the file, what stands in it once, and what comes in its place.
 BODIES = (
     ("a reservation is never raised",
@@ -92,6 +95,26 @@ def wrong():
         yield from ((what, language, change) for language, change in (("javascript", javascript), ("java", java)) if change)
 
 
+def by_java(bodies, jobs):
+    """The same of Java's bodies, by one virtual machine (clients/java/WrongBodies.java): the number and what is said of each. The first has no change."""
+    with tempfile.TemporaryDirectory() as room:
+        room = pathlib.Path(room)
+        for name in ("main", "tests"):
+            subprocess.run([HERE / "java/build", name, room / name], check=True)
+        for number, change in [(0, None), *bodies]:
+            (room / str(number)).mkdir()
+            if change:
+                path, text = changed("java", *change)
+                (room / str(number) / path.name).write_text(text)
+        (room / "logging").write_text(".level=OFF\n")
+        jars = subprocess.run([HERE / "java/build", "path"], check=True, stdout=subprocess.PIPE, text=True).stdout.strip()
+        words = ["java", f"-Djava.util.logging.config.file={room}/logging", f"-Dclients={HERE}", "-cp", jars, HERE / "java/WrongBodies.java", str(jobs), room / "main", room / "tests"]
+        with subprocess.Popen([*words, *(room / str(number) for number in (0, *dict(bodies)))], stdout=subprocess.PIPE, text=True) as process:
+            for line in process.stdout:
+                number, state, *said = line.rstrip("\n").split("\t")
+                yield int(number), state, "".join(said)
+
+
 def tried(language, change=None):
     """How the tests of a copy end: their status, and what they say."""
     with tempfile.TemporaryDirectory() as folder:
@@ -103,35 +126,53 @@ def tried(language, change=None):
             path, text = changed(language, *change)
             (clients / path).write_text(text)
         try:
-            done = subprocess.run(TESTS[language], cwd=clients / language, capture_output=True, text=True, check=False, timeout=300)
+            done = subprocess.run(TESTS[language], cwd=clients / language, capture_output=True, text=True, check=False, timeout=MOST)
         except subprocess.TimeoutExpired:
             return 1, "they don't end"
         said = done.stdout + done.stderr
-        if "SyntaxError" in said or "error: warnings found" in said or ".java:" in done.stderr and "error:" in done.stderr:
+        if "SyntaxError" in said:
             sys.exit(f"{change} is no program:\n{done.stderr[-1500:]}")
         return done.returncode, said
 
 
 def main():
-    words = [word for word in sys.argv[1:] if word != "--list"]
+    given = argparse.ArgumentParser(description=__doc__, formatter_class=argparse.RawDescriptionHelpFormatter)
+    given.add_argument("--list", action="store_true")
+    given.add_argument("--jobs", type=int, default=2)
+    given.add_argument("words", nargs="*", metavar="WORD")
+    given = given.parse_args()
+    words = given.words
     chosen = [(number, *one) for number, one in enumerate(wrong(), 1) if not words or any(word in (str(number), one[1]) or (not word.isdigit() and word in one[0]) for word in words)]
     for _, _, language, change in chosen:
         changed(language, *change)
-    if "--list" in sys.argv:
+    if given.list:
         print(*(f"{number:>3} {language}: {what}" for number, what, language, _ in chosen), sep="\n")
         return 0
-    for language in sorted({language for _, _, language, _ in chosen}):
-        status, said = tried(language)
-        if status:
-            sys.exit(f"{language}: the tests fail where nothing is wrong:\n" + "\n".join(line for line in said.splitlines() if "not ok" in line or "rror" in line or "=>" in line))
     missed = []
-    for number, what, language, change in chosen:
-        status, said = tried(language, change)
-        tests = [name for name in re.findall(r"not ok \d+ - (.*)|JUnit Jupiter:(?:\w+:)?(.*)", said) if name != ("behaviour rows", "")]
-        print(f"{number:>3} {language}: {what}: {'told by ' + ', '.join(''.join(name) for name in tests[:3]) if status else 'PASSES'}", flush=True)
-        if not status:
+
+    def say(number, is_told, said):
+        what, language = next((what, language) for each, what, language, _ in chosen if each == number)
+        print(f"{number:>3} {language}: {what}: {f'told by {said}' if is_told else 'PASSES'}", flush=True)
+        if not is_told:
             missed.append(number)
-    print(f"of {len(chosen)} wrong bodies {len(chosen) - len(missed)} are told" + (f"; not {missed}" if missed else ""))
+
+    def one(number, change):
+        status, said = tried("javascript", change)
+        say(number, status, ", ".join([name for name in re.findall(r"not ok \d+ - (.*)", said) if name != "behaviour rows"][:3]))
+
+    bodies = {wanted: [(number, change) for number, _, language, change in chosen if language == wanted] for wanted in SOURCES}
+    if bodies["javascript"]:
+        status, said = tried("javascript")
+        if status:
+            sys.exit("javascript: the tests fail where nothing is wrong:\n" + "\n".join(line for line in said.splitlines() if "not ok" in line or "rror" in line))
+        with concurrent.futures.ThreadPoolExecutor(given.jobs) as threads:
+            list(threads.map(lambda each: one(*each), bodies["javascript"]))
+    for number, state, said in by_java(bodies["java"], given.jobs) if bodies["java"] else ():
+        if state == "no program" or number == 0 and state != "passes":
+            sys.exit(f"java: {f'body {number} is no program' if number else 'the tests fail where nothing is wrong'}: {said}")
+        if number:
+            say(number, state == "told", said)
+    print(f"of {len(chosen)} wrong bodies {len(chosen) - len(missed)} are told" + (f"; not {sorted(missed)}" if missed else ""))
     return 1 if missed else 0
 
 

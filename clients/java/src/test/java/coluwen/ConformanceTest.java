@@ -1,6 +1,7 @@
 package coluwen;
 
 import static org.junit.jupiter.api.Assertions.assertEquals;
+import static org.junit.jupiter.api.Assertions.assertThrows;
 import static org.junit.jupiter.api.Assertions.assertTrue;
 
 import coluwen.ColuwenException.Broken;
@@ -63,5 +64,13 @@ class ConformanceTest {
   @Test
   void scores() throws IOException {
     for (var row : rows("score")) assertEquals(row.get(3), new Score(Integer.parseInt(row.get(0)), row.get(1).charAt(0), row.get(2).equals("1"), 'X').toString());
+  }
+
+  @Test
+  void bytesWithoutAnEndAreNoAnswer() {
+    var wire = new Wire();
+    wire.line("QUOTA", null);
+    assertEquals(List.of(), wire.answers("x".repeat(Answer.LONGEST - 1)));
+    assertThrows(Broken.class, () -> wire.answers("x"));
   }
 }
