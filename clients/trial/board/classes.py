@@ -95,7 +95,7 @@ async def crowd(address, many):
         one.cancel()
     await until_all("half of them leave", lambda: teacher[-1]["followers"] == many - many // 2)
     await post(f"/{room}", {"key": key, "state": None})
-    check(set(await asyncio.gather(*follow[many // 2 :])) == {200} and all(states[-1]["state"] is None for states in told[many // 2 :]), "the end isn't told to all")
+    check(set(await asyncio.gather(*follow[many // 2:])) == {200} and all(states[-1]["state"] is None for states in told[many // 2:]), "the end isn't told to all")
     hears.cancel()
 
 

@@ -11,8 +11,8 @@ MIDDLE = f"moves={GAME}&at=11&black=Anna&white=Bo"
 def make(address, port, folder):
     folder.mkdir(exist_ok=True)
     whole = whole_game(6)
-    views = (("board-first", (1280, 800), "en", "light", "", "moves"), ("board-middle", (1280, 800), "en", "dark", MIDDLE, "moves"), ("board-mistakes", (1280, 800), "en", "light", f"moves={whole}&at=52", "mistakes"),
-             ("board-phone", (390, 844), "de", "light", MIDDLE, "moves"))  # fmt: skip
+    views = (("board-first", (1280, 800), "en", "light", "", "moves"), ("board-middle", (1280, 800), "en", "dark", MIDDLE, "moves"), ("board-mistakes", (1280, 800), "en", "light", f"moves={whole}&at=52&depth=4", "mistakes"),
+             ("board-phone", (390, 844), "de", "light", f"{MIDDLE}&depth=8", "moves"))  # fmt: skip
     for name, size, language, scheme, state, tab in views:
         with opened("chromium", language, scheme, size) as shown:
             shown.open(f"{address}#{state}")
@@ -21,7 +21,7 @@ def make(address, port, folder):
             shown.evaluate("document.activeElement.blur()")
             shown.picture(folder / f"{name}.png")
     with page(port, "--address", "0.0.0.0", "--name", "board.school.example") as (_, service), opened("chromium", size=(1280, 800)) as shown:
-        shown.open(f"{service.replace('0.0.0.0', '127.0.0.1')}#{MIDDLE}")
+        shown.open(f"{service.replace('0.0.0.0', '127.0.0.1')}#{MIDDLE}&depth=8")
         shown.known(600)
         shown.tab("class")
         shown.until("a class can be opened", "!document.getElementById('class-open').hidden")
@@ -29,7 +29,7 @@ def make(address, port, folder):
         shown.until("the code", "document.querySelector('#class-code svg')")
         shown.picture(folder / "board-class.png")
     with opened("chromium", size=(900, 1270)) as shown:
-        shown.open(f"{address}#moves={whole}&at=52&black=Anna&white=Bo&date=2026-11-27&event=Cup")
+        shown.open(f"{address}#moves={whole}&at=52&depth=4&black=Anna&white=Bo&date=2026-11-27&event=Cup")
         shown.known(600)
         shown.evaluate("window.dispatchEvent(new Event('beforeprint'))")
         shown.scheme("light", "print")
