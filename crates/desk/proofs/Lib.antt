@@ -1,3 +1,5 @@
 pub mod Asking
 pub mod Offering
 pub mod Refused
+pub mod Owners
+pub mod Coming

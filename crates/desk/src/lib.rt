@@ -33,7 +33,7 @@
 //!   dropped, only released, so no wake-up is forgotten; each frame that became ready wakes one sleeping worker.
 //!
 //! ```text
-//! let desk: Desk<L> = Desk::new(Hall::new(alloc, config, 2)?, blank);
+//! let desk: Desk<L> = Desk::new(Hall::new(alloc, config, 2)?, blank, Opened::new(alloc)?);
 //! let mut seat = desk.admit(rt, reserve)?;
 //! let job = desk.ask(rt, &mut seat, &opening, 0)?;
 //! desk.wait(rt, &seat, job)? == Outcome::Done(reply)      // with workers that have badges
@@ -59,4 +59,5 @@ pub use hall::{
     StepAnswer, StepOf, Worker,
 };
 pub use seat::{Seat, SeatAsked};
+pub use shared_history::{Naming, Opened, Trace};
 pub use shares::{Badge, DeskLedger, PARTS};
