@@ -1,13 +1,14 @@
 -- A seat's steps are all the seat steps of its tenant.
-use Rattle.std.proofs.Common.{◌≡◌, ℕ, ◌<◌, ◌≤◌, ◌==◌, ◌&&◌, List, [], ◌∷◌, ◌++◌, Bool, true, false, refl, sym, ap, ◌∙◌, subst, arith, if◌then◌else◌}
+use Rattle.std.proofs.Common.{◌≡◌, ℕ, ◌<◌, ◌≤◌, ◌==◌, ◌&&◌, List, [], ◌∷◌, ◌++◌, Bool, true, false, refl, sym, ap, ◌∙◌, subst, arith, if◌then◌else◌, Result, Ok, Err}
 use Rattle.std.proofs.lemmas.Bool.Decides.{nat_tests}
 use Rattle.tenant_quota.specs.Quota.{Quota}
+use Rattle.sched_rules.specs.declared.refusal.Refusal.{Refusal}
 use Rattle.sched_rules.specs.declared.step.StepOf.{StepOf}
 use Rattle.sched_rules.specs.declared.step.StepOf.TheVariants.{Admit}
 use Rattle.sched_rules.specs.Runs.{tenant_of, only}
 use Rattle.hall.specs.jamboree_rules.declared.leaf.LeafAnswer.{LeafAnswer}
 use Rattle.shared_history.specs.Views.{own as own_by}
-use Rattle.desk.specs.Histories.{steps_of, is_seat_step, seat_steps, Owned, HasOwners, AllOwn, AreSeats, AreStepsUpTo}
+use Rattle.desk.specs.Histories.{steps_of, is_seat_step, seat_steps, with_taken, Owned, HasOwners, AllOwn, AreSeats, AreStepsUpTo}
 
 abbrev Step : Type 0
 Step = StepOf LeafAnswer
@@ -92,7 +93,7 @@ all_own_more : (t : ℕ) (mine : List Step) (step : Step) → AllOwn t mine → 
 all_own_more t [] step a o at = (o, at, tt)
 all_own_more t (s ∷ ss) step a o at = (a.0, a.1, all_own_more t ss step a.2 o at)
 
-pub seats_more : (t : ℕ) (mine : List Step) (step : Step) → AreSeats t mine → is_seat_step step ≡ true → tenant_of step ≡ t → AreSeats t (mine ++ step ∷ [])
+seats_more : (t : ℕ) (mine : List Step) (step : Step) → AreSeats t mine → is_seat_step step ≡ true → tenant_of step ≡ t → AreSeats t (mine ++ step ∷ [])
 seats_more t mine step a o at = (a.0, a.1 ++ step ∷ [], ap (λ l. l ++ step ∷ []) a.2, all_own_more t mine step a.3 o at)
 
 -- no step is of a tenant above all
@@ -114,3 +115,7 @@ unmade newest t (e ∷ es) h above =
 pub upto_more : (newest newer : ℕ) (log : Entries) (m : ℕ) (step : Step) → AreStepsUpTo newest log → newest ≤ newer → tenant_of step ≤ newer → AreStepsUpTo newer (log ++ (m, step) ∷ [])
 upto_more newest newer [] m step h more within = (within, tt)
 upto_more newest newer (e ∷ es) m step h more within = let small = h.0 in (omega arith, upto_more newest newer es m step h.1 more within)
+
+pub seats_taken : {X : Type 0} (t : ℕ) (mine : List Step) (step : Step) (answer : Result X Refusal) → AreSeats t mine → is_seat_step step ≡ true → tenant_of step ≡ t → AreSeats t (with_taken mine step answer)
+seats_taken t mine step (Ok value) a o at = seats_more t mine step a o at
+seats_taken t mine step (Err refusal) a o at = a

@@ -120,16 +120,17 @@ abbrev pub AreStepsUpTo : ℕ → List (ℕ × StepOf LeafAnswer) → Type 0
 AreStepsUpTo newest [] = Unit {0}
 AreStepsUpTo newest (entry ∷ entries) = (tenant_of entry.1 ≤ newest) × AreStepsUpTo newest entries
 
--- what lies under the lock has come from the hall that the desk was made with by the steps of this history
-pub record IsComeBy (begun hall : HallOf) (history : List (ℕ × StepOf LeafAnswer)) : Type 0 where
-  pub grain : hall.grain ≡ begun.grain
-  pub core : hall.shared ≡ core_at begun history
+-- a hall of this grain, whose tenants share this, has come from the hall that the desk was made with by the steps of this
+-- history
+pub record IsComeBy (begun : HallOf) (grain : ℕ) (shared : CoreState) (history : List (ℕ × StepOf LeafAnswer)) : Type 0 where
+  pub same : grain ≡ begun.grain
+  pub core : shared ≡ core_at begun history
   pub legal : AreTaken (jamboree begun.grain) begun.shared (steps_of history)
   pub owners : HasOwners history
-  pub upto : AreStepsUpTo hall.shared.newest history
-  pub later : begun.shared.newest ≤ hall.shared.newest
+  pub upto : AreStepsUpTo shared.newest history
+  pub later : begun.shared.newest ≤ shared.newest
   pub first : AreNumbersGiven begun.shared
-  pub given : AreNumbersGiven hall.shared
+  pub given : AreNumbersGiven shared
 
 -- a history with one more step, if it was taken
 abbrev pub with_taken : {X S : Type 0} → List S → S → Result X Refusal → List S

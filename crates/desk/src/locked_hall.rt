@@ -73,7 +73,7 @@ impl<L: DeskLedger, A: Allocator> Model for LockedHall<L, A> {
 
     ghost invariant = { λ k. (count_of k.hall ≡ k.before + k.book.total) × (k.hall.kept ≡ k.before + k.spare.amount) × (k.spare.parts ≡ k.parts)
         × (L.all ≡ 13835058055282163712) × (k.parts ≤ 13835058055282163712) × (13835058055282163712 ≤ k.parts + k.badges + k.hall.shared.newest) × (k.badges ≤ 2 ^ 62)
-        × IsComeBy L.begun k.hall k.history };
+        × IsComeBy L.begun k.hall.grain k.hall.shared k.history };
 }
 
 impl<L: DeskLedger, A: Allocator + Clone> LockedHall<L, A> {
@@ -186,23 +186,19 @@ impl<L: DeskLedger, A: Allocator + Clone> LockedHall<L, A> {
         } = self;
         let tenant = hall.next_tenant();
         let step = StepOf::Admit(tenant, reserve);
-        match hall.offer(&step) {
-            Ok(_) => {
-                let mut trace = history.begin();
-                history.add(&mut trace, &step);
-                let mut mine = spare.split_off(1, 0);
-                *parts -= 1;
-                book.add(&mut mine, 1);
-                Ok(Seat {
-                    tenant,
-                    mine,
-                    trace,
-                    steps: 1,
-                    asked: ArrayVec::new(),
-                })
-            }
-            Err(refusal) => Err(refusal),
-        }
+        hall.offer(&step)?;
+        let mut trace = history.begin();
+        history.add(&mut trace, &step);
+        let mut mine = spare.split_off(1, 0);
+        *parts -= 1;
+        book.add(&mut mine, 1);
+        Ok(Seat {
+            tenant,
+            mine,
+            trace,
+            steps: 1,
+            asked: ArrayVec::new(),
+        })
     }
 
     /// Raises the reservation of a seat's tenant to this one. The refusals are the hall's: `NoTenant`, `Lower`, `Full`,
@@ -308,6 +304,8 @@ impl<L: DeskLedger, A: Allocator + Clone> LockedHall<L, A> {
     {
         no_tenant_is_disturbed::<Jamboree>();
         each_step_has_a_right_answer::<Jamboree>();
+        // Its contract gives the prover a procedure of the hall's grain, for which these laws are told.
+        let _core = self.hall.core();
         self.history.show(&mut seat.trace);
     }
 
