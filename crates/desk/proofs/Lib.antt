@@ -1,3 +1,6 @@
 pub mod Asking
 pub mod Offering
 pub mod Refused
+pub mod Judged
+pub mod Owners
+pub mod Coming
