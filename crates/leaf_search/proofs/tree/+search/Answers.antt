@@ -30,7 +30,6 @@ some_left board left none all exactly denied =
 none_left : (board : List Cell) (left : List Choice) (none : Bool) → left ≡ choices board → IsTrue none ↔ (left ≡ []) → none ≡ true → choices board ≡ []
 none_left board left none all exactly told = sym all ∙ exactly.0 told
 
-
 pub score_of-search_below-child-requires : goal.score_of-search_below-child-requires
 score_of-search_below-child-requires t c =
     let here = IsSearching-next _ _ _ _ _ _ _ c.in-Some.choice _ c.loop-choice.invariant.searching c.in-Some.ensures.cases in
