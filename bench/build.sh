@@ -87,3 +87,21 @@ library() { # FOLDER CRATE
         rt lib > "$1/lib.log" 2>&1 < /dev/null && [ -e "out/lib$2.a" ]
     ) || { tail -20 "$1/lib.log"; exit 1; }
 }
+
+# Proves the search of $top and builds it as static libraries, libsearch_v2.a and libsearch_v3.a of a folder, with
+# `kernel_search` and `kernel_search_v3` of bench/search/kernel.txt; with a further word only libsearch_v2_WORD.a, with `kernel_search_WORD`.
+kernel() { # FOLDER LIBRARIES [WORD]
+    lay "$1" leaf_search 'search_kernel staticlib: leaf_search othello_board othello_moves'
+    mkdir -p "$1/crates/search_kernel/src" "$1/crates/search_kernel/specs"
+    cp "$here/kernel.txt" "$1/crates/search_kernel/src/lib.rt"
+    touch "$1/crates/search_kernel/specs/Lib.antt"
+    library "$1" search_kernel
+    made=$1/crates/search_kernel/out/libsearch_kernel.a
+    if [ -n "${3:-}" ]; then
+        objcopy --redefine-sym "kernel_search=kernel_search_$3" "$made" "$2/libsearch_v2_$3.a"
+        return
+    fi
+    cp "$made" "$2/libsearch_v2.a"
+    (cd "$1/crates/search_kernel" && rt lib --cpu x86-64-v3) > "$1/lib.log" 2>&1 < /dev/null || { tail -20 "$1/lib.log"; exit 1; }
+    objcopy --redefine-sym kernel_search=kernel_search_v3 "$made" "$2/libsearch_v3.a"
+}

@@ -1,11 +1,10 @@
-//! The strongest peer, for a processor with AVX2: moves and flips in four lanes of 64 bits, one direction and its opposite
-//! each, and weights by byte tables. Positions entered are added to `n`; 64 is a pass, 65 no choice.
+//! Peers for a processor with AVX2: moves and flips in four lanes of 64 bits, one direction and its opposite each.
 #![allow(clippy::all, unused_unsafe)]
 use crate::vectors::weigh;
 const A: u64 = 0x7e7e7e7e7e7e7e7e;
 use std::arch::x86_64::*;
 
-#[inline] #[target_feature(enable = "avx2,bmi1,bmi2,lzcnt,popcnt")] fn moves(own: u64, opp: u64) -> u64 { unsafe {
+#[inline] #[target_feature(enable = "avx2,bmi1,bmi2,lzcnt,movbe,popcnt")] fn moves(own: u64, opp: u64) -> u64 { unsafe {
     let sh = _mm256_set_epi64x(7, 9, 8, 1); let sh2 = _mm256_set_epi64x(14, 18, 16, 2);
     let p = _mm256_set1_epi64x(own as i64);
     let o = _mm256_and_si256(_mm256_set1_epi64x(opp as i64), _mm256_set_epi64x(A as i64, A as i64, -1, A as i64));
@@ -25,7 +24,7 @@ const fn rays() -> Rays { let mut t = [[0u64; 8]; 64]; let mut s = 0; while s < 
     t[s][0] = ray(q, 1, 0); t[s][1] = ray(q, 0, 1); t[s][2] = ray(q, 1, 1); t[s][3] = ray(q, -1, 1);
     t[s][4] = ray(q, -1, 0); t[s][5] = ray(q, 0, -1); t[s][6] = ray(q, -1, -1); t[s][7] = ray(q, 1, -1); s += 1; } Rays(t) }
 static R: Rays = rays();
-#[inline] #[target_feature(enable = "avx2,bmi1,bmi2,lzcnt,popcnt")] fn flips(own: u64, opp: u64, s: u32) -> u64 { unsafe {
+#[inline] #[target_feature(enable = "avx2,bmi1,bmi2,lzcnt,movbe,popcnt")] fn flips(own: u64, opp: u64, s: u32) -> u64 { unsafe {
     let sh = _mm256_set_epi64x(7, 9, 8, 1); let sh2 = _mm256_set_epi64x(14, 18, 16, 2); let sh4 = _mm256_set_epi64x(28, 36, 32, 4);
     let p = _mm256_set1_epi64x(own as i64); let o = _mm256_set1_epi64x(opp as i64); let z = _mm256_setzero_si256();
     let ml = _mm256_load_si256(R.0[s as usize].as_ptr() as *const __m256i); let mr = _mm256_load_si256(R.0[s as usize].as_ptr().add(4) as *const __m256i);
@@ -42,28 +41,6 @@ static R: Rays = rays();
     let h = _mm_or_si128(h, _mm_unpackhi_epi64(h, h));
     _mm_cvtsi128_si64(h) as u64
 } }
-const CORNERS: u64 = 0x8100000000000081;
-#[target_feature(enable = "avx2,bmi1,bmi2,lzcnt,popcnt")] pub fn search(own: u64, opp: u64, d: u32, alpha: i32, beta: i32, n: &mut u64) -> (i32, u32) {
-    *n += 1;
-    let mine = moves(own, opp);
-    if d == 0 || mine == 0 {
-        let theirs = moves(opp, own);
-        if mine == 0 && theirs == 0 { return (2000 * (own.count_ones() as i32 - opp.count_ones() as i32), 65); }
-        if d == 0 { return (weigh(own) - weigh(opp) + 4 * (mine.count_ones() as i32 - theirs.count_ones() as i32), 65); }
-        let v = -search(opp, own, d, -beta, -alpha, n).0; // a pass uses no ply
-        return (v, 64);
-    }
-    let (mut best, mut which) = (-200_000, 65);
-    for set in [mine & CORNERS, mine & !CORNERS] {
-        let mut left = set;
-        while left != 0 {
-            let s = left.trailing_zeros(); left &= left - 1;
-            let f = flips(own, opp, s);
-            let a = alpha.max(best);
-            let v = -search(opp & !f, own | f | 1 << s, d - 1, -beta, -a, n).0;
-            if v > best { best = v; which = s; }
-            if best >= beta { return (best, which); }
-        }
-    }
-    (best, which)
-}
+
+searches! { #[target_feature(enable = "avx2,bmi1,bmi2,lzcnt,movbe,popcnt")] }
+searches_kept! { #[target_feature(enable = "avx2,bmi1,bmi2,lzcnt,movbe,popcnt")] }

@@ -1,26 +1,32 @@
 //! Serial window search of Othello positions by these engines: the proved crate `leaf_search`, linked as a static library
-//! for x86-64-v2 and one for x86-64-v3; plain bit boards, below; and bit boards in vectors of 128 bits (`vectors.rs`) and
-//! in lanes of AVX2 (`avx2.rs`). Those for x86-64-v3 are left out where the processor lacks it. All take the choices
+//! for x86-64-v2 and one for x86-64-v3, and that of another commit where the script got one; plain bit boards, below; bit boards
+//! in vectors of 128 bits (`vectors.rs`) and in lanes of AVX2 (`avx2.rs`), which add up the weights of the discs at each leaf or
+//! keep their sum. Those for x86-64-v3 are left out where the processor lacks it. All take the choices
 //! in one order (legal corners a1, h1, a8, h8, then the other squares by rising index) with the same
 //! windows, so values, moves and counts must agree. They take turns at each position, by the thread's
 //! processor time; the best round of each counts.
 //!
-//! usage: search_peer DEPTH ROUNDS, or DEPTH ENGINE for one round of one engine (proved, proved_v3, plain, vectors, avx2)
+//! usage: search_peer DEPTH ROUNDS, or DEPTH ENGINE for one round of one engine
+#[macro_use]
+mod searches;
+
 mod avx2;
+mod kernels;
 mod positions;
 mod vectors;
 
-#[repr(C)]
-#[derive(Clone, Copy, PartialEq, Eq, Debug)]
-struct Found {
-    score: i32,
-    choice: u8,
-    visited: u64,
+/// The search by vectors for x86-64-v3: inlined into it, its moves and flips are compiled for that too.
+mod vectors_v3 {
+    use crate::vectors::{flips, moves, weigh};
+
+    searches! { #[target_feature(enable = "avx2,bmi1,bmi2,lzcnt,movbe,popcnt")] }
 }
 
+use kernels::{Found, INF, NONE, has_v3, kernel_search, kernel_search_v3, through};
+
 unsafe extern "C" {
-    fn kernel_search(own: u64, opp: u64, depth: u8, found: *mut Found);
-    fn kernel_search_v3(own: u64, opp: u64, depth: u8, found: *mut Found);
+    #[cfg(before)]
+    fn kernel_search_before(own: u64, opp: u64, depth: u8, alpha: i32, beta: i32, found: *mut Found);
     fn clock_gettime(clock: i32, now: *mut Timespec) -> i32;
 }
 
@@ -33,13 +39,11 @@ struct Timespec {
 /// The number of the clock of a thread's processor time, on Linux.
 const THREAD_PROCESSOR_TIME: i32 = 3;
 
-const INF: i32 = 200_000;
 const POSITIONS: usize = 60;
 const CORNERS: u64 = 0x8100_0000_0000_0081;
 const NOT_A: u64 = 0xfefe_fefe_fefe_fefe;
 const NOT_H: u64 = 0x7f7f_7f7f_7f7f_7f7f;
 const PASS: u8 = 64;
-const NONE: u8 = 65;
 
 const WEIGHTS: [i32; 6] = [100, -20, 10, 5, -50, -2];
 
@@ -148,47 +152,67 @@ fn search(own: u64, opp: u64, depth: u8, alpha: i32, beta: i32) -> Found {
 }
 
 fn proved(own: u64, opp: u64, depth: u8) -> Found {
-    let mut found = Found { score: 0, choice: NONE, visited: 0 };
-    unsafe { kernel_search(own, opp, depth, &mut found) };
-    found
+    through(kernel_search, own, opp, depth, -INF, INF)
 }
 
 fn proved_v3(own: u64, opp: u64, depth: u8) -> Found {
-    let mut found = Found { score: 0, choice: NONE, visited: 0 };
-    unsafe { kernel_search_v3(own, opp, depth, &mut found) };
-    found
+    through(kernel_search_v3, own, opp, depth, -INF, INF)
+}
+
+#[cfg(before)]
+fn before(own: u64, opp: u64, depth: u8) -> Found {
+    through(kernel_search_before, own, opp, depth, -INF, INF)
 }
 
 fn plain(own: u64, opp: u64, depth: u8) -> Found {
     search(own, opp, depth, -INF, INF)
 }
 
-fn by_vectors(own: u64, opp: u64, depth: u8) -> Found {
-    let mut visited = 0;
-    let (score, choice) = vectors::search(own, opp, u32::from(depth), -INF, INF, &mut visited);
+/// What a peer's search of the full window found.
+fn found(visited: u64, (score, choice): (i32, u32)) -> Found {
     Found { score, choice: choice as u8, visited }
 }
 
-fn by_avx2(own: u64, opp: u64, depth: u8) -> Found {
-    let mut visited = 0;
-    let (score, choice) = unsafe { avx2::search(own, opp, u32::from(depth), -INF, INF, &mut visited) };
-    Found { score, choice: choice as u8, visited }
+/// An engine of a peer's module, by the sum of weights at each leaf or kept.
+macro_rules! engine {
+    ($name:ident, $($module:ident)::+) => {
+        fn $name(own: u64, opp: u64, depth: u8) -> Found {
+            let mut visited = 0;
+            #[allow(unused_unsafe)]
+            let result = unsafe { $($module)::+::search(own, opp, u32::from(depth), -INF, INF, &mut visited) };
+            found(visited, result)
+        }
+    };
+    ($name:ident, $($module:ident)::+, kept) => {
+        fn $name(own: u64, opp: u64, depth: u8) -> Found {
+            let mut visited = 0;
+            let discs = vectors::weigh(own) - vectors::weigh(opp);
+            #[allow(unused_unsafe)]
+            let result = unsafe { $($module)::+::search_kept(own, opp, discs, u32::from(depth), -INF, INF, &mut visited) };
+            found(visited, result)
+        }
+    };
 }
+
+engine!(by_vectors, vectors);
+engine!(by_vectors_v3, vectors_v3);
+engine!(by_avx2, avx2);
+engine!(by_avx2_kept, avx2, kept);
 
 type Engine = fn(u64, u64, u8) -> Found;
 
-const ENGINES: [(&str, Engine); 5] =
-    [("proved", proved), ("proved_v3", proved_v3), ("plain", plain), ("vectors", by_vectors), ("avx2", by_avx2)];
-
-/// Whether the processor runs what is built for x86-64-v3.
-fn has_v3() -> bool {
-    is_x86_feature_detected!("avx2")
-        && is_x86_feature_detected!("bmi1")
-        && is_x86_feature_detected!("bmi2")
-        && is_x86_feature_detected!("fma")
-        && is_x86_feature_detected!("lzcnt")
-        && is_x86_feature_detected!("movbe")
-}
+/// The first is the one that the others are compared with.
+const ENGINES: &[(&str, Engine)] = &[
+    #[cfg(before)]
+    ("before", before),
+    ("proved", proved),
+    ("proved_v3", proved_v3),
+    ("plain", plain),
+    ("vectors", by_vectors),
+    ("vectors_v3", by_vectors_v3),
+    ("avx2", by_avx2),
+    ("avx2_kept", by_avx2_kept),
+];
 
 /// The processor seconds that this thread has used: on a busy machine they say more than the clock.
 fn processor_seconds() -> f64 {
@@ -223,7 +247,7 @@ fn main() {
     let depth: u8 = words[1].parse().expect("a depth");
     let positions = positions::positions(POSITIONS);
     let engines: Vec<(&str, Engine)> =
-        ENGINES.into_iter().filter(|(name, _)| has_v3() || !matches!(*name, "proved_v3" | "avx2")).collect();
+        ENGINES.iter().copied().filter(|(name, _)| has_v3() || !(name.ends_with("_v3") || name.starts_with("avx2"))).collect();
     if let Some(one) = engines.iter().find(|(name, _)| *name == words[2]) {
         println!("{}", visited_of(&timed(&positions, depth, &[*one])[0].0));
         return;
@@ -239,6 +263,6 @@ fn main() {
         println!("round {round}: {} positions", visited_of(&results[0].0));
     }
     for ((name, _), speed) in engines.iter().zip(&best) {
-        println!("depth {depth}, {POSITIONS} positions: {name} {speed:.0}/s, proved to {name} {:.3}", best[0] / speed);
+        println!("depth {depth}, {POSITIONS} positions: {name} {speed:.0}/s, its time to that of {} {:.3}", engines[0].0, best[0] / speed);
     }
 }

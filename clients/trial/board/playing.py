@@ -49,6 +49,29 @@ def try_tree(shown, address):
     shown.until("the browser's Back", f"{TEXT}.endsWith('(f7)')")
 
 
+def try_seen(shown, address):
+    """Values are seen: by the bar, tints, the best move's star, the last move, arrows of the best line; what is switched off isn't."""
+    shown.open(f"{address}#moves={GAME}&at=11&depth=6")
+    shown.check("#game", False)
+    shown.known()
+    shown.until("the best line", "document.querySelectorAll('.arrows .head').length === 2")
+    found = shown.evaluate("['.square.best .star', '.disc .last', '.square .next'].map((one) => document.querySelectorAll(one).length)")
+    check(found == [1, 1, 1] and shown.says("#value-note", "note.points", n=6) and shown.says("#line", "line.best"), f"{shown.name}: what is marked: {found}, {shown.text('#value-note')}")
+    told = shown.evaluate("[...document.querySelectorAll('.square .score')].map((one) => [Number(one.textContent), Number(/tint(\\d)/.exec(one.parentElement.className)[1]), one.parentElement.matches('.best')])")
+    told.sort(reverse=True)
+    tints = [tint for _, tint, _ in told]
+    check(told[0][2] and tints == sorted(tints) and tints[0] == 0 < tints[-1], f"{shown.name}: values and tints: {told}")
+    best = told[0][0] * -1  # white moves, and the bar is black's
+    share = shown.evaluate("Number(getComputedStyle(document.getElementById('bar')).getPropertyValue('--share'))")
+    check((share > 0.5) == (best > 0) and shown.says(shown.evaluate("document.getElementById('bar').getAttribute('aria-label')"), "bar.known"), f"{shown.name}: the bar: {share} of {best}")
+    shown.tab("options")
+    for option, part in (("values", ".square .score"), ("tints", "[class*=tint]"), ("line", ".arrows .head"), ("bar", "#bar:not([hidden])")):
+        shown.check(f"#show-{option}", False)
+        check(shown.evaluate(f"document.querySelectorAll('.play {part}').length") == 0, f"{shown.name}: {option} are seen though switched off")
+        shown.check(f"#show-{option}", True)
+    shown.tab("moves")
+
+
 def try_notes(shown, address):
     shown.open(f"{address}#moves={GAME}&at=2&depth=2")
     shown.click("#glyphs button:nth-child(4)")
@@ -174,6 +197,7 @@ def try_quiz(shown, address):
 def try_stop(shown, address):
     shown.open(f"{address}#moves={whole_game(8)[:60]}&depth=12")
     shown.until("something to stop", "document.getElementById('stop').getAttribute('aria-disabled') === 'false'")
+    check(any(shown.says("#state", name) for name in ("state.searching", "state.game", "state.left")), f"{shown.name}: how far it is: {shown.text('#state')}")
     renderer = shown.renderer()
     before = main_thread(renderer)
     shown.evaluate("document.getElementById('stop').click()")
@@ -185,7 +209,7 @@ def try_stop(shown, address):
 
 def try_all(address, name, only=""):
     """Each in both browsers and at each width, by day or by night, in one language or the other."""
-    trials = chosen(only, try_moves, try_tree, try_notes, try_shelf, try_program, try_quiz, try_stop, try_markup, try_reading)
+    trials = chosen(only, try_moves, try_tree, try_seen, try_notes, try_shelf, try_program, try_quiz, try_stop, try_markup, try_reading)
     for at, (width, height, language, scheme) in enumerate(FORMS):
         if only and at != 3:
             continue  # (one that is named alone is tried at one width)

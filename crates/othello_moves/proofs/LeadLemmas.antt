@@ -1,11 +1,11 @@
 -- The spread of a word from the mover's discs over opposing ones, bit by bit and round by round.
-use Rattle.std.proofs.Common.{◌≡◌, ℕ, zero, suc, ◌+◌, ◌-◌, ◌^◌, ◌<◌, ◌≤◌, Bool, true, false, not, ◌&&◌, ◌||◌, cond, eqb, ltb, List, [], ◌++◌, filter, Option, Some, None, unwrap_or, bit_and, bit_or, min, max, ◌⊎◌, inl, inr, refl, sym, ap, ap₂, ◌∙◌, arith, w64}
+use Rattle.std.proofs.Common.{◌≡◌, ℕ, zero, suc, ◌+◌, ◌-◌, ◌^◌, ◌<◌, ◌≤◌, Bool, true, false, not, ◌&&◌, ◌||◌, cond, eqb, ltb, List, [], ◌++◌, filter, Option, Some, None, unwrap_or, bit_and, bit_or, min, max, inl, inr, refl, sym, ap, ap₂, ◌∙◌, arith, w64}
 use Rattle.std.specs.Prelude.{is_some}
 use Rattle.std.specs.List.{flat_map, range_with_len}
 use Rattle.std.specs.Int.{bit_at}
 use Rattle.std.proofs.lemmas.Bool.{cases_lt, ne_eqb, eqb-true, ltb-true, and_parts, or_cases, not-true, and_right}
 use Rattle.std.proofs.lemmas.Nat.{or_lt}
-use Rattle.std.proofs.lemmas.Nat.Bits.{bit_at_and, bit_at_or, bit_at_not, bit_at_above, bit_at_ones, bit_at-lt, same_from_bits}
+use Rattle.std.proofs.lemmas.Nat.Bits.{bit_at_and, bit_at_or, bit_at_not, bit_at_above, bit_at-lt, same_from_bits}
 use Rattle.othello_board.specs.declared.cells.Cell.{Cell}
 use Rattle.othello_board.specs.declared.cells.Cell.TheVariants.{Empty, Own, Opp}
 use Rattle.othello_board.specs.declared.directions.Direction.{Direction}
@@ -196,16 +196,8 @@ slid_led found slid n board d slides bits t below =
       | inr side ↦ side_bit found n board d (slid_from (opposite d) t) (step d t) bits side
     ]
 
--- the masks of inner squares
-pub inner_all : (d : Direction) → (d ≡ North) ⊎ (d ≡ South) → (t : ℕ) → t < 64 → bit_at 18446744073709551615 t ≡ bit_of (is_inner d t)
-inner_all d (inl north) t below = bit_at_ones 64 t below ∙ ap (λ e. bit_of (is_inner e t)) (sym north)
-inner_all d (inr south) t below = bit_at_ones 64 t below ∙ ap (λ e. bit_of (is_inner e t)) (sym south)
-
 pub middle_bit : (t : ℕ) → t < 64 → bit_at 0x7e7e_7e7e_7e7e_7e7e t ≡ bit_of (has_both_sides t)
 middle_bit t below = eqb-true (bit_at 0x7e7e_7e7e_7e7e_7e7e t) (bit_of (has_both_sides t)) (holds_below 64 (λ s. eqb (bit_at 0x7e7e_7e7e_7e7e_7e7e s) (bit_of (has_both_sides s))) refl t below)
-
-pub inner_middle : (d : Direction) → (d ≡ North → ⊥) → (d ≡ South → ⊥) → (t : ℕ) → t < 64 → bit_at 0x7e7e_7e7e_7e7e_7e7e t ≡ bit_of (is_inner d t)
-inner_middle d h2 h3 t h5 = grind (arith, middle_bit)
 
 -- the opposing discs that may stand inside a run
 abbrev pub inside : List Cell → Direction → ℕ → Bool
@@ -237,12 +229,6 @@ led_one own opp over slid d over_bits slides t below =
     ∙ ap bit_of
     (turned o (is_inner d t) (there_is (λ u. is_own_cell (cell_at board u)) (step d t))
     ∙ ap (λ g. is_inner d t && g) (first_by board d o (step d t) ∙ ap (λ g. o && g) (sym (goes_on-next 0 board d t (step d t) refl))))
-
-both_true : (w p q : Bool) → ((q && (w || (p && true))) || ((p && true) && q)) ≡ (q && (w || (p && true)))
-both_true w p q = grind arith
-
-only_later : (w p q h : Bool) → ((q && (w || (p && false))) || ((p && h) && q)) ≡ (q && (w || (p && h)))
-only_later w p q h = grind arith
 
 -- one round
 round_by : (board : List Cell) (d : Direction) (n : ℕ) (o : Bool) (next : Option ℕ)
