@@ -5,10 +5,11 @@ use mathlib.Core.List.{IsPrefix}
 use Rattle.tenant_quota.specs.Quota.{Quota}
 use Rattle.sched_rules.specs.declared.refusal.Refusal.{Refusal}
 use Rattle.sched_rules.specs.declared.step.StepOf.{StepOf}
-use Rattle.sched_rules.specs.declared.step.StepOf.TheVariants.{Admit}
+use Rattle.sched_rules.specs.declared.step.StepOf.TheVariants.{Admit, Leave}
 use Rattle.sched_rules.specs.declared.step.DidOf.{DidOf}
+use Rattle.sched_rules.specs.declared.step.DidOf.TheVariants.{Left}
 use Rattle.sched_rules.specs.Runs.{tenant_of, only, alone_from}
-use Rattle.sched_rules.specs.Cores.{tenant_in, shared_run, newest_after}
+use Rattle.sched_rules.specs.Cores.{CoreState, tenant_in, shared_run, newest_after}
 use Rattle.sched_rules.specs.Headline.{IsOneStep}
 use Rattle.hall.specs.jamboree_rules.declared.leaf.Leaf.{Leaf}
 use Rattle.hall.specs.jamboree_rules.declared.leaf.LeafAnswer.{LeafAnswer}
@@ -16,8 +17,9 @@ use Rattle.hall.specs.jamboree_rules.Procedure.{jamboree}
 use Rattle.hall.specs.Halls.{HallOf, hall_after, IsExplained}
 use Rattle.shared_history.specs.Views.{own, Known}
 use Rattle.desk.specs.Seats.{SeatOf, seeing}
-use Rattle.desk.specs.Histories.{steps_of, core_at, is_admit, is_seat_step, with_taken, AreTaken, AreSeats, HasOwners, IsComeBy, IsLook, IsToldOf}
+use Rattle.desk.specs.Histories.{steps_of, core_at, is_admit, is_seat_step, with_taken, is_leave, stays_by, AreTaken, AreSeats, HasNoLeave, HasOwners, IsComeBy, IsThere, IsLook, IsToldOf}
 use Rattle.desk.proofs.Judged.{run-more, taken-more, not-refused, here, known-number, tenant_in-new, newest-stays, Rights, Headlines, isolated}
+use Rattle.desk.proofs.Staying.{there_more, seat_stays, leaves}
 use Rattle.desk.proofs.Owners.{steps_of-more, owners_more, owners_admit, steps_are_mine, unused, unmade, upto_more}
 
 abbrev Step : Type 0
@@ -38,17 +40,21 @@ come_more : (begun before after : HallOf) (log : Entries) (m : ℕ) (step : Step
 come_more begun before after log m step did come one taken explained owners more within =
     let functions = jamboree begun.grain in
     let at = one-at begun before after log step (Ok did) come one in
+    let none = not-refused functions (core_at begun log) step did at.answered in
     let later = come.later in
     record {
       same = ap (λ h. h.grain) taken ∙ come.same;
       core = at.left ∙ sym (ap (λ l. shared_run functions begun.shared l) (steps_of-more log m step) ∙ run-more functions begun.shared (steps_of log) step);
       legal = subst (λ l. AreTaken functions begun.shared l) (sym (steps_of-more log m step))
-          (taken-more functions begun.shared (steps_of log) step come.legal (not-refused functions (core_at begun log) step did at.answered));
+          (taken-more functions begun.shared (steps_of log) step come.legal none);
       owners = owners;
       upto = upto_more before.shared.newest after.shared.newest log m step come.upto more within;
       later = omega arith;
       first = come.first;
       given = explained.known;
+      there = λ t stays. subst (λ (s : CoreState). IsThere (tenant_in s.tenants t)) (sym at.left)
+          (there_more functions (core_at begun log) false (steps_of log) step t none (λ h. subst (λ (s : CoreState). IsThere (tenant_in s.tenants t)) come.core (come.there t h))
+          (subst (λ l. stays_by false t l ≡ true) (steps_of-more log m step) stays));
     }
 
 -- a step that is no Admit, by the owner of its tenant or a worker
@@ -76,10 +82,27 @@ come_admitted begun before after log m t reserve did come number one taken newes
 pub come_begun : (begun hall : HallOf) → hall ≡ begun → IsExplained hall → IsComeBy begun hall.grain hall.shared []
 come_begun begun hall is explained =
     subst (λ (b : HallOf). IsComeBy b hall.grain hall.shared []) is
-    (record { same = refl; core = refl; legal = tt; owners = ((λ _. 0), tt); upto = tt; later = omega arith; first = explained.known; given = explained.known })
+    (record { same = refl; core = refl; legal = tt; owners = ((λ _. 0), tt); upto = tt; later = omega arith; first = explained.known; given = explained.known; there = λ t stays. absurd (cc stays) })
 
 pub new_unused : (begun before : HallOf) (log : Entries) (t : ℕ) → IsComeBy begun before.grain before.shared log → t ≡ before.shared.newest + 1 → only t (steps_of log) ≡ []
 new_unused begun before log t come number = unused before.shared.newest t log come.upto (omega (arith, number))
+
+-- a seat's Leave is taken
+pub leave_taken : (begun before after : HallOf) (log : Entries) (m : ℕ) (mine : List Step) (step : Step) (answer : Result (DidOf Leaf) Refusal) → IsComeBy begun before.grain before.shared log → is_leave step ≡ true →
+    (is_seat_step step ≡ true → AreSeats (tenant_of step) mine) → HasNoLeave mine → own m log ≡ mine → IsOneStep (jamboree before.grain) before.shared step answer after.shared → answer ≡ Ok Left
+leave_taken begun before after log m mine (Leave t) answer come is seats none_left is_mine one =
+    let a = seats refl in
+    leaves {A = LeafAnswer} (jamboree before.grain) before.shared t answer
+    (come.there t (seat_stays t (steps_of log) mine a.1 (Admit t a.0) (steps_are_mine m t log mine come.owners a is_mine) a.2 none_left)) one.answered
+leave_taken begun before after log m mine _ answer come is seats none_left is_mine one = absurd cc
+
+pub no_leave_taken : {X : Type 0} (mine : List Step) (step : Step) (answer : Result X Refusal) → HasNoLeave mine → is_leave step ≡ false → HasNoLeave (with_taken mine step answer)
+no_leave_taken mine step (Err refusal) h other = h
+no_leave_taken mine step (Ok value) h other = more mine h
+  where
+    more : (steps : List Step) → HasNoLeave steps → HasNoLeave (steps ++ step ∷ [])
+    more [] h = (other, tt)
+    more (s ∷ steps) h = (h.0, more steps h.1)
 
 -- what a maker is told of its step
 pub told : (begun before after : HallOf) (log : Entries) (step : Step) (answer : Result (DidOf Leaf) Refusal) (was now : Known Step) → IsComeBy begun before.grain before.shared log →

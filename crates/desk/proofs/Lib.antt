@@ -2,5 +2,6 @@ pub mod Asking
 pub mod Offering
 pub mod Refused
 pub mod Judged
+pub mod Staying
 pub mod Owners
 pub mod Coming

@@ -1,11 +1,11 @@
 -- Meaning: the history of a desk, which are the steps taken since it was made, each with the number of its maker, and what a
 -- call says of it to the maker who made the call.
-use Rattle.std.specs.Prelude.{◌≡◌, ℕ, ◌≤◌, ◌==◌, ◌&&◌, Bool, not, true, false, List, [], ◌∷◌, ◌++◌, filter, Option, None, Result, Ok, Err}
+use Rattle.std.specs.Prelude.{◌≡◌, ℕ, ◌≤◌, ◌==◌, ◌&&◌, Bool, not, true, false, List, [], ◌∷◌, ◌++◌, filter, Option, Some, None, Result, Ok, Err, if◌then◌else◌}
 use mathlib.Core.List.{IsPrefix}
 use Rattle.tenant_quota.specs.Quota.{Quota}
 use Rattle.sched_rules.specs.declared.refusal.Refusal.{Refusal}
 use Rattle.sched_rules.specs.declared.step.StepOf.{StepOf}
-use Rattle.sched_rules.specs.declared.step.StepOf.TheVariants.{Admit}
+use Rattle.sched_rules.specs.declared.step.StepOf.TheVariants.{Admit, Leave}
 use Rattle.sched_rules.specs.Functions.{Functions}
 use Rattle.sched_rules.specs.Trees.{Tenant}
 use Rattle.sched_rules.specs.Runs.{tenant_of, only, alone}
@@ -48,6 +48,11 @@ is_seat_step step = not (is_worker_step step)
 abbrev pub is_admit : {A : Type 0} → StepOf A → Bool
 is_admit (Admit number quota) = true
 is_admit _ = false
+
+-- whether a step is its tenant's Leave
+abbrev pub is_leave : {A : Type 0} → StepOf A → Bool
+is_leave (Leave number) = true
+is_leave _ = false
 
 -- the steps of this tenant that its seat made, in order
 abbrev pub seat_steps : {A : Type 0} → ℕ → List (StepOf A) → List (StepOf A)
@@ -115,6 +120,22 @@ AllOwn number (step ∷ steps) = (is_seat_step step ≡ true) × (tenant_of step
 abbrev pub AreSeats : ℕ → List (StepOf LeafAnswer) → Type 0
 AreSeats number steps = (reserve : Quota) × (later : List (StepOf LeafAnswer)) × (steps ≡ Admit number reserve ∷ later) × AllOwn number steps
 
+-- none of these steps is a Leave
+abbrev pub HasNoLeave : {A : Type 0} → List (StepOf A) → Type 0
+HasNoLeave [] = Unit {0}
+HasNoLeave (step ∷ steps) = (is_leave step ≡ false) × HasNoLeave steps
+
+-- whether this tenant is there after these steps, each of which was taken, where it was there before them or not: it is
+-- after any step of it but its Leave
+abbrev pub stays_by : {A : Type 0} → Bool → ℕ → List (StepOf A) → Bool
+stays_by was number [] = was
+stays_by was number (step ∷ steps) = stays_by (if tenant_of step == number then not (is_leave step) else was) number steps
+
+-- there is such a tenant
+abbrev pub IsThere : Option Tenant → Type 0
+IsThere None = ⊥
+IsThere (Some tenant) = Unit {0}
+
 -- no step is of a tenant above this number
 abbrev pub AreStepsUpTo : ℕ → List (ℕ × StepOf LeafAnswer) → Type 0
 AreStepsUpTo newest [] = Unit {0}
@@ -131,6 +152,7 @@ pub record IsComeBy (begun : HallOf) (grain : ℕ) (shared : CoreState) (history
   pub later : begun.shared.newest ≤ shared.newest
   pub first : AreNumbersGiven begun.shared
   pub given : AreNumbersGiven shared
+  pub there : (number : ℕ) → stays_by false number (steps_of history) ≡ true → IsThere (tenant_in shared.tenants number)
 
 -- a history with one more step, if it was taken
 abbrev pub with_taken : {X S : Type 0} → List S → S → Result X Refusal → List S

@@ -1,17 +1,14 @@
 //! The desk.
-ghost use Rattle.std.specs.Prelude.{◌≡◌, ◌≢◌, ◌+◌, ◌≤◌, [], true, length, Err, Some, None, Result, Contains, IfErr, IfOk, IfSome, OnSome, MatchResult};
+ghost use Rattle.std.specs.Prelude.{◌≡◌, ◌≢◌, ◌+◌, ◌≤◌, [], true, length, Err, Some, None, Contains, IfErr, IfOk, IfSome, OnSome, MatchResult};
 ghost use Rattle.sched_rules.specs.declared.refusal.Refusal.TheVariants.{NoJob, NoTenant, OutOfMemory};
 ghost use Rattle.hall.specs.Journals.{is_worker_step};
 ghost use Rattle.hall.specs.Halls.{count_of};
-ghost use Rattle.hall.specs.jamboree_rules.declared.leaf.Leaf.{Leaf as LeafOf};
 ghost use Rattle.hall.specs.jamboree_rules.Places.{root_words, frame_size};
-ghost use Rattle.sched_rules.specs.declared.refusal.Refusal.{Refusal as RefusalOf};
 ghost use Rattle.sched_rules.specs.declared.step.StepOf.TheVariants.{AdmitMore, Submit, Cancel, Leave};
-ghost use Rattle.sched_rules.specs.declared.step.DidOf.{DidOf};
 ghost use Rattle.sched_rules.specs.Views.{left_in_core, live_of};
 ghost use Rattle.desk.specs.Counts.{found_or_no_tenant};
 ghost use Rattle.desk.specs.Seats.{admit_refusals, reserve_refusals, ask_refusals, cancel_refusals, seeing, stepped, seat_asked_at, IsAsked, IsShown};
-ghost use Rattle.desk.specs.Histories.{core_at, IsAdmitted, IsLook, IsShownAt, IsToldOf};
+ghost use Rattle.desk.specs.Histories.{core_at, IsAdmitted, IsLook, IsShownAt, IsToldOf, Took};
 
 use crate::backoff::Backoff;
 use crate::desk_guard::DeskGuard;
@@ -245,11 +242,11 @@ impl<L: DeskLedger, A: Allocator + Clone> Desk<L, A> {
         let _trace = self.leave_seen(rt, seat);
     }
 
-    /// As [`Desk::leave`], and gives back what the seat then knows of the history: that its tenant has left, as the last
-    /// step of its own.
+    /// As [`Desk::leave`], and gives back what the seat then knows of the history, which ends with its tenant's Leave, the
+    /// last step of its own.
     pub fn leave_seen<R: Wait>(&self, rt: &R, seat: Seat<L>) -> Trace<Step<Jamboree>, L>
         requires { L.all ≡ L.parts }
-        ensures told { (answer : Result (DidOf LeafOf) RefusalOf) × IsToldOf L.begun seat.known (Leave seat.tenant) answer result }
+        ensures told { Took seat.known (Leave seat.tenant) result }
     {
         let trace = self.enter(rt).leave(seat);
         self.ended.notify_all();

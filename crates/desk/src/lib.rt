@@ -36,8 +36,7 @@
 //!
 //! Why it is so:
 //!
-//! - `leave` answers nothing: if a hall refused it, the share would still be kept, so that shares add up. A
-//!   ledger has 3 * 2^62 parts, one for each of 2^62 badges and 2^62 tenants, and 2^62 to spare. After 2^64 - 1
+//! - `leave` answers nothing, as the hall never refuses it: a seat's tenant is there until then. A ledger has 3 * 2^62 parts, one for each of 2^62 badges and 2^62 tenants, and 2^62 to spare. After 2^64 - 1
 //!   steps a badge would block for ever; no run gets there.
 //! - Sleepers are counted under the lock, after they saw no ready frame, so none is missed. A `DeskGuard` can't be
 //!   dropped, only released, so no wake-up is forgotten; each frame that became ready wakes one sleeping worker.

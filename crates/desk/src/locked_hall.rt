@@ -1,6 +1,6 @@
 //! What lies under the lock: the hall, the book of the shares, and the history of the steps.
-ghost use Rattle.std.specs.Prelude.{◌≡◌, ◌≢◌, ◌+◌, ◌%◌, ◌^◌, ◌<◌, ◌≤◌, ◌==◌, ◌↔◌, not, [], true, false, length, Ok, Err, Some, None, Contains, IfErr, IfNone, IfOk, IfSome, IsNone, OnSome, Option, Result, MatchResult, option_copied};
-ghost use Rattle.sched_rules.specs.declared.refusal.Refusal.{Refusal as RefusalOf};
+ghost use Rattle.std.specs.Prelude.{◌≡◌, ◌≢◌, ◌+◌, ◌%◌, ◌^◌, ◌<◌, ◌≤◌, ◌==◌, ◌↔◌, not, [], true, false, length, Ok, Err, Some, None, Contains, IfErr, IfNone, IfOk, IfSome, IsNone, OnSome, Option, MatchResult, option_copied};
+ghost use Rattle.sched_rules.specs.declared.step.DidOf.TheVariants.{Left as HasLeft};
 ghost use Rattle.sched_rules.specs.declared.refusal.Refusal.TheVariants.{NoJob, OutOfMemory};
 ghost use Rattle.sched_rules.specs.declared.step.StepOf.TheVariants.{Admit, AdmitMore, Submit, Cancel, Leave};
 ghost use Rattle.sched_rules.specs.declared.step.DidOf.{DidOf};
@@ -17,7 +17,7 @@ ghost use mathlib.Core.List.{IsPrefix};
 ghost use Rattle.shared_history.specs.Views.{own};
 ghost use Rattle.sched_rules.specs.Runs.{tenant_of};
 ghost use Rattle.desk.specs.Seats.{admit_refusals, reserve_refusals, ask_refusals, cancel_refusals, seeing, stepped, seat_asked_at, IsAsked, Shows, IsShown, IsShownOf, IsToldBy};
-ghost use Rattle.desk.specs.Histories.{core_at, is_admit, is_seat_step, with_taken, AreSeats, IsAdmitted, IsLook, IsShownAt, IsToldOf};
+ghost use Rattle.desk.specs.Histories.{core_at, is_admit, is_leave, is_seat_step, with_taken, AreSeats, HasNoLeave, IsAdmitted, IsLook, IsShownAt, IsToldOf, Took};
 ghost use Rattle.desk.specs.Counts.{IsOffered, IsLeft, IsAsOpen, IsNext, with_kept, found_or_no_tenant, waits_on, has_news};
 
 use crate::backoff::Backoff;
@@ -126,6 +126,8 @@ impl<L: DeskLedger, A: Allocator + Clone> LockedHall<L, A> {
         ensures told { IsToldOf L.begun trace.old step.now result trace.new }
         ensures seen { trace.new.seen ≡ self.new.history }
         ensures owner { is_seat_step step.now ≡ true → AreSeats (tenant_of step.now) trace.new.mine }
+        ensures stays { is_leave step.now ≡ false → HasNoLeave trace.old.mine → HasNoLeave trace.new.mine }
+        ensures left { is_leave step.now ≡ true → HasNoLeave trace.old.mine → result ≡ Ok HasLeft }
         ensures step { IsOffered self.old.hall step.now result self.new.hall }
         ensures others { IsAsOpen self.old self.new }
         ensures amount { MatchResult result (λ _. mine.new.amount ≡ mine.old.amount + 1) (λ _. mine.new.amount ≡ mine.old.amount) }
@@ -151,7 +153,7 @@ impl<L: DeskLedger, A: Allocator + Clone> LockedHall<L, A> {
     /// Offers a step for a seat; the seat's share and its number of steps count it if the hall took it.
     fn take_for(&mut self, seat: &mut Seat<L>, step: &Step<Jamboree>) -> StepAnswer
         requires search { IsSearch step.now }
-        requires own { (is_seat_step step.now ≡ true) × (is_admit step.now ≡ false) × (tenant_of step.now ≡ seat.old.tenant) }
+        requires own { (is_seat_step step.now ≡ true) × (is_admit step.now ≡ false) × (is_leave step.now ≡ false) × (tenant_of step.now ≡ seat.old.tenant) }
         ensures share { MatchResult result (λ _. seat.new ≡ stepped seat.new.known seat.old) (λ _. seat.new ≡ seeing seat.new.known seat.old) }
         ensures told { IsToldOf L.begun seat.old.known step.now result seat.new.known }
         ensures step { IsOffered self.old.hall step.now result self.new.hall }
@@ -440,12 +442,12 @@ impl<L: DeskLedger, A: Allocator + Clone> LockedHall<L, A> {
         })
     }
 
-    /// A seat's tenant leaves: its jobs, frames and reservation are removed. The seat's steps, and this one where it
-    /// was taken, are added to the hall's number `kept`, and the seat's share to the spare one. What the seat then knows
-    /// of the history is given back.
+    /// A seat's tenant leaves: its jobs, frames and reservation are removed. The seat's steps and this one are added to the
+    /// hall's number `kept`, and the seat's share to the spare one. What the seat then knows of the history is given back.
+    /// The hall never refuses: the tenant is there, as its seat made its Admit and no Leave.
     pub(crate) fn leave(&mut self, seat: Seat<L>) -> Trace<Step<Jamboree>, L>
         requires { L.all ≡ L.parts }
-        ensures told { (answer : Result (DidOf LeafOf) RefusalOf) × IsToldOf L.begun seat.known (Leave seat.tenant) answer result }
+        ensures told { Took seat.known (Leave seat.tenant) result }
         ensures step { IsLeft self.old.hall seat self.new.hall }
         ensures others { IsAsOpen self.old self.new }
     {
@@ -456,16 +458,9 @@ impl<L: DeskLedger, A: Allocator + Clone> LockedHall<L, A> {
             steps,
             ..
         } = seat;
-        match self.take(&mut mine, &mut trace, &StepOf::Leave(tenant)) {
-            Ok(_) => {
-                self.keep_share(mine, steps + 1);
-                trace
-            }
-            Err(_) => {
-                self.keep_share(mine, steps);
-                trace
-            }
-        }
+        let _left = self.take(&mut mine, &mut trace, &StepOf::Leave(tenant));
+        self.keep_share(mine, steps + 1);
+        trace
     }
 
     /// Adds the share of a seat that has left to the spare one, and its number of steps to the hall's number `kept`.

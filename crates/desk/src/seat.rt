@@ -48,17 +48,17 @@ pub struct Seat<L: DeskLedger> {
 }
 
 // Clauses see the tenant, the share, the list and what the seat knows. All steps that it made are seat steps of its
-// tenant, from the Admit on; the tenant wasn't there before the desk was.
+// tenant, from the Admit on, and none is a Leave; the tenant wasn't there before the desk was.
 impl<L: DeskLedger> Model for Seat<L> {
     ghost use Rattle.std.specs.Prelude.{◌≡◌, ◌^◌, ◌<◌};
     ghost use Rattle.desk.specs.Seats.{SeatOf};
-    ghost use Rattle.desk.specs.Histories.{AreSeats};
+    ghost use Rattle.desk.specs.Histories.{AreSeats, HasNoLeave};
 
     ghost Value = { SeatOf };
 
     ghost view = { λ s. record { tenant = s.tenant; share = s.steps; asked = s.asked.items; known = s.trace } };
 
-    ghost invariant = { λ s. (s.mine.amount ≡ s.steps) × (s.mine.parts ≡ 1) × (s.steps < 2 ^ 100) × AreSeats s.tenant s.trace.mine × (L.begun.shared.newest < s.tenant) };
+    ghost invariant = { λ s. (s.mine.amount ≡ s.steps) × (s.mine.parts ≡ 1) × (s.steps < 2 ^ 100) × AreSeats s.tenant s.trace.mine × HasNoLeave s.trace.mine × (L.begun.shared.newest < s.tenant) };
 }
 
 impl<L: DeskLedger> Seat<L> {

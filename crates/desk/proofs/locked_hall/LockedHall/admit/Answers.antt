@@ -3,7 +3,7 @@ use Rattle.sched_rules.specs.declared.step.StepOf.{StepOf}
 use Rattle.sched_rules.specs.declared.step.StepOf.TheVariants.{Admit}
 use Rattle.hall.specs.jamboree_rules.declared.leaf.LeafAnswer.{LeafAnswer}
 use Rattle.shared_history.specs.Views.{Known}
-use Rattle.desk.specs.Histories.{AllOwn, AreSeats, IsAdmitted, IsComeBy}
+use Rattle.desk.specs.Histories.{AllOwn, AreSeats, HasNoLeave, IsAdmitted, IsComeBy}
 use Rattle.desk.proofs.Coming.{come_admitted, new_unused}
 use Rattle.desk.proofs.locked_hall.LockedHall.admit.Goals as goal
 
@@ -25,6 +25,7 @@ invariant_of-result g c =
     let t = c.next_tenant-tenant.result in
     let mine : c.add.new.trace.mine ≡ Admit t c.args.reserve ∷ [] =
     ap (λ (k : Known (StepOf LeafAnswer)). k.mine) c.add.ensures.trace ∙ ap (λ (l : List (StepOf LeafAnswer)). l ++ Admit t c.args.reserve ∷ []) c.begin-trace.ensures.seen.1 in
+    let none_left : HasNoLeave c.add.new.trace.mine = subst (λ (l : List (StepOf LeafAnswer)). HasNoLeave l) (sym mine) (refl, tt) in
     let seats : AreSeats t c.add.new.trace.mine = (c.args.reserve, [], mine, subst (λ l. AllOwn t l) (sym mine) (refl, refl, tt)) in
     let later = c.self.invariant.7.later in
     let number = c.next_tenant-tenant.ensures.value in

@@ -13,5 +13,5 @@ returns-clause-look g c =
     let was : SeatOf = record { tenant = c.seat.inside.tenant; share = c.seat.inside.steps; asked = c.seat.inside.asked.items; known = c.seat.inside.trace } in
     rw (← c.seat.view_is)
     (looks begun c.self.inside.hall c.self.inside.history was _ (subst (λ grain. Rights (jamboree grain)) is (c.each_step_has_a_right_answer.ensures c.core-core.result.now.procedure))
-    (subst (λ grain. Headlines (jamboree grain)) is (c.no_tenant_is_disturbed.ensures c.core-core.result.now.procedure)) come c.seat.invariant.3 c.seat.invariant.4 c.show.ensures.seen c.show.ensures.own
+    (subst (λ grain. Headlines (jamboree grain)) is (c.no_tenant_is_disturbed.ensures c.core-core.result.now.procedure)) come c.seat.invariant.3 c.seat.invariant.5 c.show.ensures.seen c.show.ensures.own
     (ap (λ t. seeing t was) c.show.ensures.trace))

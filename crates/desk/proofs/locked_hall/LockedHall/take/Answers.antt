@@ -3,9 +3,9 @@ use Rattle.sched_rules.specs.Runs.{tenant_of}
 use Rattle.sched_rules.specs.declared.step.StepOf.{StepOf}
 use Rattle.hall.specs.jamboree_rules.declared.leaf.LeafAnswer.{LeafAnswer}
 use Rattle.shared_history.specs.Views.{Known}
-use Rattle.desk.specs.Histories.{with_taken, AreSeats, IsComeBy}
+use Rattle.desk.specs.Histories.{with_taken, AreSeats, HasNoLeave, IsComeBy}
 use Rattle.desk.proofs.Offering.{offered}
-use Rattle.desk.proofs.Coming.{come_offered, told}
+use Rattle.desk.proofs.Coming.{come_offered, leave_taken, no_leave_taken, told}
 use Rattle.desk.proofs.Owners.{seats_taken}
 use Rattle.desk.proofs.locked_hall.LockedHall.take.Goals as goal
 
@@ -33,3 +33,12 @@ pub returns-clause-owner : goal.returns-clause-owner
 returns-clause-owner g c = λ own.
     subst (λ (k : Known (StepOf LeafAnswer)). AreSeats (tenant_of c.args.step.now) k.mine) (sym c.note.ensures.trace)
     (seats_taken (tenant_of c.args.step.now) c.args.trace.now.mine c.args.step.now c.offer-answer.result (c.requires.owner own) own refl)
+
+pub returns-clause-stays : goal.returns-clause-stays
+returns-clause-stays g c = λ other none_left.
+    subst (λ (k : Known (StepOf LeafAnswer)). HasNoLeave k.mine) (sym c.note.ensures.trace) (no_leave_taken c.args.trace.now.mine c.args.step.now c.offer-answer.result none_left other)
+
+pub returns-clause-left : goal.returns-clause-left
+returns-clause-left g c = λ is none_left.
+    leave_taken g.L.DeskLedger.begun c.self.inside.hall c.offer-answer.new.self c.self.inside.history c.args.trace.now.maker c.args.trace.now.mine c.args.step.now c.offer-answer.result c.self.invariant.7 is c.requires.owner none_left
+    c.note.ensures.own c.offer-answer.ensures.one
