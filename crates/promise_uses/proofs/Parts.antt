@@ -56,9 +56,3 @@ pub refused-of : {X : Type 0} (begun : HallOf) (before now : Known SearchStep) (
     IfErr r (λ refusal. IsAnswerTo (jamboree begun.grain) (core_at begun now.seen) step (Err refusal))
 refused-of begun before now step (Ok value) told = tt
 refused-of begun before now step (Err refusal) told = told.1
-
-pub either-of : {X : Type 0} (begun : HallOf) (before now : Known SearchStep) (step : SearchStep) (r : Result X Refusal) → IsToldOf begun before step r now →
-    ((between : List (ℕ × SearchStep)) × (now.seen ≡ (before.seen ++ between) ++ (before.maker, step) ∷ []) × (now.mine ≡ before.mine ++ step ∷ []))
-    ⊎ ((refusal : Refusal) × IsAnswerTo (jamboree begun.grain) (core_at begun now.seen) step (Err refusal))
-either-of begun before now step (Ok value) told = inl (told.0, told.1.0, told.1.1.1.0)
-either-of begun before now step (Err refusal) told = inr (refusal, told.1)

@@ -1,6 +1,5 @@
 //! What a seat of tenant 9 knows after its calls at a desk.
-ghost use Rattle.std.specs.Prelude.{◌≡◌, ◌≢◌, ◌⊎◌, ◌++◌, ◌∷◌, [], ℕ, List, length, Option, Some, None, Err, IfOk, OnOk, IfErr};
-ghost use Rattle.sched_rules.specs.declared.refusal.Refusal.{Refusal as RefusalOf};
+ghost use Rattle.std.specs.Prelude.{◌≡◌, ◌≢◌, ◌++◌, ◌∷◌, [], ℕ, List, length, Option, Some, None, Err, IfOk, OnOk, IfErr};
 ghost use Rattle.sched_rules.specs.declared.refusal.Refusal.TheVariants.{NoJob};
 ghost use Rattle.sched_rules.specs.declared.step.StepOf.TheVariants.{Admit, AdmitMore, Submit, Cancel, Leave};
 ghost use Rattle.sched_rules.specs.Runs.{alone, only};
@@ -159,7 +158,7 @@ pub fn job_three_of_nine<L: DeskLedger, A: Allocator + Clone, R: Wait>(
     desk.wait_seen(rt, seat, 3)
 }
 
-/// Tenant 9 leaves: the history then ends with just its Leave, or the core at its end refuses it.
+/// Tenant 9 leaves: the history then ends with just its Leave, which is the last of the seat's own steps.
 /// Uses `desk::Desk::leave_seen` (`told`).
 pub fn nine_leaves<L: DeskLedger, A: Allocator + Clone, R: Wait>(
     rt: &R,
@@ -168,8 +167,11 @@ pub fn nine_leaves<L: DeskLedger, A: Allocator + Clone, R: Wait>(
 ) -> Trace<Step<Jamboree>, L>
     requires parts { L.all ≡ L.parts }
     requires nine { seat.tenant ≡ 9 }
-    ensures told { ((between : List (ℕ × SearchStep)) × (result.seen ≡ (seat.known.seen ++ between) ++ (seat.known.maker, Leave 9) ∷ []) × (result.mine ≡ seat.known.mine ++ Leave 9 ∷ []))
-        ⊎ ((refusal : RefusalOf) × IsAnswerTo (jamboree L.begun.grain) (core_at L.begun result.seen) (Leave 9) (Err refusal)) }
+    ensures told { (between : List (ℕ × SearchStep))
+        × (result.seen ≡ (seat.known.seen ++ between) ++ (seat.known.maker, Leave 9) ∷ [])
+        × (own seat.known.maker (seat.known.seen ++ between) ≡ seat.known.mine)
+        × (result.mine ≡ seat.known.mine ++ Leave 9 ∷ [])
+        × (result.maker ≡ seat.known.maker) }
 {
     desk.leave_seen(rt, seat)
 }
