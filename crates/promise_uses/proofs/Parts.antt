@@ -1,9 +1,10 @@
 -- What the definitions of `promises` come to, part by part, and what holds of a value that there is.
 use Rattle.std.proofs.Common.{◌≡◌, ◌≢◌, ◌⊎◌, ℕ, List, true, Option, Some, None, Result, Ok, Err, inl, inr, ap, ◌∙◌}
-use Rattle.std.specs.Prelude.{IfOk, IfErr, OnOk, IfSome, ◌++◌, ◌∷◌, []}
+use Rattle.std.specs.Prelude.{IfOk, IfErr, OnOk, IfSome, MatchResult, ◌++◌, ◌∷◌, []}
 use Rattle.sched_rules.specs.Headline.{IsAnswerTo}
 use Rattle.shared_history.specs.Views.{own, Known}
 use Rattle.hall.specs.Halls.{HallOf}
+use Rattle.desk.specs.Seats.{SeatOf, stepped, seeing}
 use Rattle.desk.specs.Histories.{core_at, IsToldOf}
 use Rattle.sched_rules.specs.declared.refusal.Refusal.{Refusal}
 use Rattle.sched_rules.specs.declared.refusal.Refusal.TheVariants.{Busy}
@@ -56,3 +57,9 @@ pub refused-of : {X : Type 0} (begun : HallOf) (before now : Known SearchStep) (
     IfErr r (λ refusal. IsAnswerTo (jamboree begun.grain) (core_at begun now.seen) step (Err refusal))
 refused-of begun before now step (Ok value) told = tt
 refused-of begun before now step (Err refusal) told = told.1
+
+-- a call that changed the share and what is known of a seat, and nothing else of it
+pub kept-of : {X : Type 0} (before after : SeatOf) (r : Result X Refusal) → MatchResult r (λ value. after ≡ stepped after.known before) (λ refusal. after ≡ seeing after.known before) → before.tenant ≡ 9 →
+    (after.asked ≡ before.asked) × (after.tenant ≡ 9)
+kept-of before after (Ok value) is nine = (ap (λ (s : SeatOf). s.asked) is, ap (λ (s : SeatOf). s.tenant) is ∙ nine)
+kept-of before after (Err refusal) is nine = (ap (λ (s : SeatOf). s.asked) is, ap (λ (s : SeatOf). s.tenant) is ∙ nine)

@@ -1,6 +1,6 @@
 //! What a seat of tenant 9 knows after its calls at a desk.
-ghost use Rattle.std.specs.Prelude.{◌≡◌, ◌≢◌, ◌++◌, ◌∷◌, [], ℕ, List, length, Option, Some, None, Err, IfOk, OnOk, IfErr};
-ghost use Rattle.sched_rules.specs.declared.refusal.Refusal.TheVariants.{NoJob};
+ghost use Rattle.std.specs.Prelude.{◌≡◌, ◌≢◌, ◌++◌, ◌∷◌, [], ℕ, List, length, Option, Some, None, Err, IfOk, OnOk, IfErr, Contains};
+ghost use Rattle.sched_rules.specs.declared.refusal.Refusal.TheVariants.{Full, Lower, NoJob, NoJobsLeft, NoNodes, NoSegments, NoTenant, OldTenant, OutOfMemory};
 ghost use Rattle.sched_rules.specs.declared.step.StepOf.TheVariants.{Admit, AdmitMore, Submit, Cancel, Leave};
 ghost use Rattle.sched_rules.specs.Runs.{alone, only};
 ghost use Rattle.sched_rules.specs.Views.{left_in_core, live_of, job_of};
@@ -25,7 +25,7 @@ use std::sync::Wait;
 use tenant_quota::{Left, Reserve};
 
 /// A seat that is new at a desk: the history that it has seen ends with its tenant's admission, which is all that it made.
-/// Uses `desk::Desk::admit` (`seat`, `admitted`).
+/// Uses `desk::Desk::admit` (`seat`, `admitted`, `refused`).
 pub fn a_new_seat<L: DeskLedger, A: Allocator + Clone, R: Wait>(
     rt: &R,
     desk: &Desk<L, A>,
@@ -33,14 +33,15 @@ pub fn a_new_seat<L: DeskLedger, A: Allocator + Clone, R: Wait>(
 ) -> Result<Seat<L>, Refusal>
     ensures asked { IfOk result (λ seat. (seat.share ≡ 1) × (seat.asked ≡ [])) }
     ensures seen { IfOk result (λ seat. (before : List (ℕ × SearchStep)) × (seat.known.seen ≡ before ++ (seat.known.maker, Admit seat.tenant reserve) ∷ [])
-        × (only seat.tenant (steps_of before) ≡ []) × (seat.known.mine ≡ Admit seat.tenant reserve ∷ [])) }
+        × (only seat.tenant (steps_of before) ≡ []) × (own seat.known.maker before ≡ []) × (seat.known.mine ≡ Admit seat.tenant reserve ∷ [])) }
+    ensures refused { IfErr result (Contains (Full ∷ OldTenant ∷ OutOfMemory ∷ [])) }
 {
     desk.admit(rt, reserve)
 }
 
 /// Tenant 9 asks for a search of depth 3, as its fifth job. Where it is taken, the history goes on from what the seat had seen,
 /// without a step of the seat's, and ends with just this Submit; where it is refused, it is for what the core at the end of what
-/// the seat has then seen is. Uses `desk::Desk::ask` (`asked`, `full`, `told`).
+/// the seat has then seen is. Uses `desk::Desk::ask` (`asked`, `told`, `refused`).
 pub fn nine_asks<L: DeskLedger, A: Allocator + Clone, R: Wait>(
     rt: &R,
     desk: &Desk<L, A>,
@@ -57,6 +58,7 @@ pub fn nine_asks<L: DeskLedger, A: Allocator + Clone, R: Wait>(
         × (seat.new.known.maker ≡ seat.old.known.maker)) }
     ensures refused { IfErr result (λ refusal. IsAnswerTo (jamboree L.begun.grain) (core_at L.begun seat.new.known.seen)
         (Submit 9 (root_words position.now.board.own position.now.board.opp 3) frame_size) (Err refusal)) }
+    ensures listed { IfErr result (Contains (NoTenant ∷ NoJobsLeft ∷ NoNodes ∷ NoSegments ∷ [])) }
 {
     desk.ask(rt, seat, position, 3)
 }
@@ -75,7 +77,7 @@ pub fn nine_asks_in_vain<L: DeskLedger, A: Allocator + Clone, R: Wait>(
 }
 
 /// Tenant 9 reserves more: the history then ends with just this AdmitMore, or the core at its end refuses it.
-/// Uses `desk::Desk::reserve` (`told`).
+/// Uses `desk::Desk::reserve` (`share`, `told`, `refused`).
 pub fn nine_reserves<L: DeskLedger, A: Allocator + Clone, R: Wait>(
     rt: &R,
     desk: &Desk<L, A>,
@@ -89,12 +91,14 @@ pub fn nine_reserves<L: DeskLedger, A: Allocator + Clone, R: Wait>(
         × (seat.new.known.mine ≡ seat.old.known.mine ++ AdmitMore 9 reserve ∷ [])
         × (seat.new.known.maker ≡ seat.old.known.maker)) }
     ensures refused { IfErr result (λ refusal. IsAnswerTo (jamboree L.begun.grain) (core_at L.begun seat.new.known.seen) (AdmitMore 9 reserve) (Err refusal)) }
+    ensures kept { (seat.new.asked ≡ seat.old.asked) × (seat.new.tenant ≡ 9) }
+    ensures listed { IfErr result (Contains (NoTenant ∷ Lower ∷ Full ∷ OutOfMemory ∷ [])) }
 {
     desk.reserve(rt, seat, reserve)
 }
 
 /// Tenant 9 cancels its job 3: the history then ends with just this Cancel, or the core at its end refuses it; and where the seat
-/// never asked for such a job, nothing changes. Uses `desk::Desk::cancel` (`none`, `told`).
+/// never asked for such a job, nothing changes. Uses `desk::Desk::cancel` (`share`, `none`, `told`, `refused`).
 pub fn nine_cancels<L: DeskLedger, A: Allocator + Clone, R: Wait>(
     rt: &R,
     desk: &Desk<L, A>,
@@ -108,6 +112,8 @@ pub fn nine_cancels<L: DeskLedger, A: Allocator + Clone, R: Wait>(
         × (seat.new.known.mine ≡ seat.old.known.mine ++ Cancel 9 3 ∷ [])
         × (seat.new.known.maker ≡ seat.old.known.maker)) }
     ensures refused { seat_asked_at seat.old.asked 3 ≢ None → IfErr result (λ refusal. IsAnswerTo (jamboree L.begun.grain) (core_at L.begun seat.new.known.seen) (Cancel 9 3) (Err refusal)) }
+    ensures kept { (seat.new.asked ≡ seat.old.asked) × (seat.new.tenant ≡ 9) }
+    ensures listed { IfErr result (Contains (NoTenant ∷ NoJob ∷ [])) }
 {
     desk.cancel(rt, seat, 3)
 }
