@@ -1,3 +1,7 @@
 pub mod Asking
 pub mod Offering
 pub mod Refused
+pub mod Judged
+pub mod Staying
+pub mod Owners
+pub mod Coming

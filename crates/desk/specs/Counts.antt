@@ -1,5 +1,5 @@
 -- Meaning: what contracts see of what lies under the lock, what one call does to the hall there, and for what is waited.
-use Rattle.std.specs.Prelude.{◌≡◌, ℕ, ◌+◌, ◌==◌, Bool, true, false, not, ◌&&◌, ◌||◌, Option, Some, None, Result, Ok, Err, if◌then◌else◌, is_ok}
+use Rattle.std.specs.Prelude.{◌≡◌, ℕ, ◌+◌, ◌==◌, Bool, true, false, not, ◌&&◌, ◌||◌, List, Option, Some, None, Result, Ok, Err}
 use Rattle.frame_tree.specs.declared.names.FrameId.{FrameId}
 use Rattle.frame_tree.specs.Frames.{IsReadyAt}
 use Rattle.sched_rules.specs.declared.job.Job.{Job}
@@ -21,12 +21,14 @@ use Rattle.desk.specs.declared.change.Change.{Change}
 use Rattle.desk.specs.declared.change.Change.TheVariants.{Nothing, InReady, Job as InJob}
 
 -- what contracts see of what lies under the lock: the hall, whether the desk is closed, how many workers sleep until a
--- frame is ready, modulo 2^32, and how many badges were given
+-- frame is ready, modulo 2^32, how many badges were given, and the steps taken since the desk was made, each with the number
+-- of its maker
 pub record LockedHallOf : Type 0 where
   pub hall : HallOf
   pub closed : Bool
   pub sleepers : ℕ
   pub badges : ℕ
+  pub history : List (ℕ × StepOf LeafAnswer)
 
 -- a call changes neither whether the desk is closed, nor how many workers sleep, nor how many badges were given
 abbrev pub IsAsOpen : LockedHallOf → LockedHallOf → Type 0
@@ -43,12 +45,10 @@ pub record IsOffered (before : HallOf) (step : StepOf LeafAnswer) (answer : Resu
   pub one : IsOneStep (jamboree before.grain) before.shared step answer after.shared
   pub left : after ≡ after_offer before step answer after
 
--- a Leave of the seat's tenant was offered to the hall, which then keeps the seat's share too, and 1 more where the
--- Leave was taken
+-- the hall took a Leave of the seat's tenant, and then keeps the seat's share too, and 1 more for the Leave
 pub record IsLeft (before : HallOf) (seat : SeatOf) (after : HallOf) : Type 0 where
-  pub answer : Result (DidOf Leaf) Refusal
-  pub step : IsOffered before (Leave seat.tenant) answer (record after { kept = before.kept })
-  pub kept : after.kept ≡ before.kept + seat.share + (if is_ok answer then 1 else 0)
+  pub step : IsOffered before (Leave seat.tenant) (Ok Left) (record after { kept = before.kept })
+  pub kept : after.kept ≡ before.kept + seat.share + 1
 
 -- what was found of a tenant; None, as the tenant isn't there, is the refusal NoTenant
 abbrev pub found_or_no_tenant : {X : Type 0} → Option X → Result X Refusal

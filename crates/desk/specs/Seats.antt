@@ -5,21 +5,29 @@ use Rattle.sched_rules.specs.declared.refusal.Refusal.TheVariants.{NoTenant, NoS
 use Rattle.hall.specs.jamboree.Replies.{board_of, depth_of}
 use Rattle.hall.specs.jamboree_core.declared.outcomes.Outcome.{Outcome}
 use Rattle.hall.specs.jamboree_core.declared.outcomes.Outcome.TheVariants.{Pending, Done, Spent, Cancelled}
+use Rattle.sched_rules.specs.declared.step.StepOf.{StepOf}
+use Rattle.hall.specs.jamboree_rules.declared.leaf.LeafAnswer.{LeafAnswer}
+use Rattle.shared_history.specs.Views.{Known}
 use Rattle.desk.specs.declared.seat.SeatAsked.{SeatAsked}
 
--- a seat: its tenant, the number of its own steps, and what it asked, from job 1 on
+-- a seat: its tenant, the number of its own steps, what it asked, from job 1 on, and what it knows of the desk's history
 pub record SeatOf : Type 0 where
   pub tenant : ℕ
   pub share : ℕ
   pub asked : List SeatAsked
+  pub known : Known (StepOf LeafAnswer)
 
--- the seat after one more of its steps was taken
-abbrev pub stepped : SeatOf → SeatOf
-stepped seat = record { tenant = seat.tenant; share = seat.share + 1; asked = seat.asked }
+-- the seat that now knows this
+abbrev pub seeing : Known (StepOf LeafAnswer) → SeatOf → SeatOf
+seeing now seat = record { tenant = seat.tenant; share = seat.share; asked = seat.asked; known = now }
 
--- the seat after an ask was taken: one step more, and what was asked at the end of its list
-abbrev pub with_asked : SeatAsked → SeatOf → SeatOf
-with_asked asked seat = record { tenant = seat.tenant; share = seat.share + 1; asked = seat.asked ++ asked ∷ [] }
+-- the seat after one more of its steps was taken, which now knows this
+abbrev pub stepped : Known (StepOf LeafAnswer) → SeatOf → SeatOf
+stepped now seat = record { tenant = seat.tenant; share = seat.share + 1; asked = seat.asked; known = now }
+
+-- the same after an ask was taken: what was asked stands at the end of its list
+abbrev pub with_asked : SeatAsked → Known (StepOf LeafAnswer) → SeatOf → SeatOf
+with_asked asked now seat = record { tenant = seat.tenant; share = seat.share + 1; asked = seat.asked ++ asked ∷ []; known = now }
 
 -- the refusals of an admission: 64 tenants are there or too little is left, all 2^62 numbers were given, no memory
 abbrev pub admit_refusals : List Refusal
@@ -39,11 +47,11 @@ abbrev pub cancel_refusals : List Refusal
 cancel_refusals = NoTenant ∷ NoJob ∷ []
 
 -- how a seat's ask is answered, with the seat before and after it: at Ok what was asked is appended to its list, whose
--- new length is the job's number; at Err the seat is unchanged, and the refusal is NoJobsLeft where its list has 256
--- entries
+-- new length is the job's number; at Err only what the seat knows may have changed, and the refusal is NoJobsLeft where
+-- its list has 256 entries
 abbrev pub IsAsked : SeatAsked → SeatOf → Result ℕ Refusal → SeatOf → Type 0
-IsAsked asked before (Ok job) after = (after ≡ with_asked asked before) × (job ≡ length after.asked) × (length before.asked ≢ 256)
-IsAsked asked before (Err refusal) after = (after ≡ before) × (length before.asked ≡ 256 → refusal ≡ NoJobsLeft)
+IsAsked asked before (Ok job) after = (after ≡ with_asked asked after.known before) × (job ≡ length after.asked) × (length before.asked ≢ 256)
+IsAsked asked before (Err refusal) after = (after ≡ seeing after.known before) × (length before.asked ≡ 256 → refusal ≡ NoJobsLeft)
 
 -- what was asked as the job of this number, from 1 on; None where the number is 0 or above the length
 abbrev pub seat_asked_at : List SeatAsked → ℕ → Option SeatAsked

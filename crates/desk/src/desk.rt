@@ -1,9 +1,14 @@
 //! The desk.
-ghost use Rattle.std.specs.Prelude.{◌≡◌, ◌≢◌, ◌+◌, ◌≤◌, [], true, Err, Some, None, Contains, IfErr, IfOk, IfSome, OnSome, MatchResult};
+ghost use Rattle.std.specs.Prelude.{◌≡◌, ◌≢◌, ◌+◌, ◌≤◌, [], true, length, Err, Some, None, Contains, IfErr, IfOk, IfSome, OnSome, MatchResult};
 ghost use Rattle.sched_rules.specs.declared.refusal.Refusal.TheVariants.{NoJob, NoTenant, OutOfMemory};
 ghost use Rattle.hall.specs.Journals.{is_worker_step};
 ghost use Rattle.hall.specs.Halls.{count_of};
-ghost use Rattle.desk.specs.Seats.{admit_refusals, reserve_refusals, ask_refusals, cancel_refusals, stepped, seat_asked_at, IsAsked, IsShown};
+ghost use Rattle.hall.specs.jamboree_rules.Places.{root_words, frame_size};
+ghost use Rattle.sched_rules.specs.declared.step.StepOf.TheVariants.{AdmitMore, Submit, Cancel, Leave};
+ghost use Rattle.sched_rules.specs.Views.{left_in_core, live_of};
+ghost use Rattle.desk.specs.Counts.{found_or_no_tenant};
+ghost use Rattle.desk.specs.Seats.{admit_refusals, reserve_refusals, ask_refusals, cancel_refusals, seeing, stepped, seat_asked_at, IsAsked, IsShown};
+ghost use Rattle.desk.specs.Histories.{core_at, IsAdmitted, IsLook, IsShownAt, IsToldOf, Took};
 
 use crate::backoff::Backoff;
 use crate::desk_guard::DeskGuard;
@@ -13,6 +18,7 @@ use crate::shares::{Badge, DeskLedger, PARTS};
 use frame_tree::FrameId;
 use hall::{Hall, Jamboree, Outcome, Refusal, Step, StepAnswer};
 use position_text::Position;
+use shared_history::{Opened, Trace};
 use std::alloc::{Allocator, Global};
 use std::hint::spin_loop;
 use std::sync::atomic::AtomicU64;
@@ -43,13 +49,16 @@ impl<L: DeskLedger, A: Allocator> Drop for Desk<L, A> {
 }
 
 impl<L: DeskLedger, A: Allocator + Clone> Desk<L, A> {
-    /// Puts a hall under a lock, with a new ledger that counts the steps from now on.
-    pub fn new(hall: Hall<A>, blank: Blank) -> Desk<L, A>
+    /// Puts a hall under a lock, with a new ledger that counts the steps from now on, and a new history
+    /// ([`Opened::new`]) that they are written to.
+    pub fn new(hall: Hall<A>, blank: Blank, opened: Opened<Step<Jamboree>>) -> Desk<L, A>
         requires name { blank.name ≡ L.name }
         requires parts { (blank.parts ≡ L.parts) × (L.all ≡ L.parts) × (L.all ≡ PARTS) }
+        requires history { opened ≡ L.table }
+        requires begun { hall ≡ L.begun }
     {
         Desk {
-            lock: Mutex::new(LockedHall::new(hall, blank)),
+            lock: Mutex::new(LockedHall::new(hall, blank, opened)),
             ready: Condvar::new(),
             ended: Condvar::new(),
         }
@@ -81,6 +90,7 @@ impl<L: DeskLedger, A: Allocator + Clone> Desk<L, A> {
     /// admission was a step. The only refusals are `Full`, `OutOfMemory`, and `OldTenant` after 2^62 tenants.
     pub fn admit<R: Wait>(&self, rt: &R, reserve: Reserve) -> Result<Seat<L>, Refusal>
         ensures seat { IfOk result (λ seat. (seat.share ≡ 1) × (seat.asked ≡ [])) }
+        ensures admitted { IfOk result (IsAdmitted reserve) }
         ensures refused { IfErr result (Contains admit_refusals) }
     {
         self.enter(rt).admit(reserve)
@@ -88,14 +98,15 @@ impl<L: DeskLedger, A: Allocator + Clone> Desk<L, A> {
 
     /// Raises the reservation of the seat's tenant to `reserve`, which has at least as many segments and nodes as it
     /// reserves now, and more of one of them. What it used stays used. The only refusals are `NoTenant`, `Lower` (no
-    /// raise), `Full` and `OutOfMemory`; then seat and hall are unchanged.
+    /// raise), `Full` and `OutOfMemory`; then the hall is unchanged, and the seat but for what it has seen.
     pub fn reserve<R: Wait>(
         &self,
         rt: &R,
         seat: &mut Seat<L>,
         reserve: Reserve,
     ) -> Result<(), Refusal>
-        ensures share { MatchResult result (λ _. seat.new ≡ stepped seat.old) (λ _. seat.new ≡ seat.old) }
+        ensures share { MatchResult result (λ _. seat.new ≡ stepped seat.new.known seat.old) (λ _. seat.new ≡ seeing seat.new.known seat.old) }
+        ensures told { IsToldOf L.begun seat.old.known (AdmitMore seat.old.tenant reserve) result seat.new.known }
         ensures refused { IfErr result (Contains reserve_refusals) }
     {
         self.enter(rt).reserve(seat, reserve)
@@ -103,8 +114,8 @@ impl<L: DeskLedger, A: Allocator + Clone> Desk<L, A> {
 
     /// Submits a search of this position to a depth of 0 to 12 plies, and returns the job's number without waiting for
     /// the job. The number is the new length of the seat's list. Wakes one worker that waits for a frame. Refused with
-    /// `NoJobsLeft` where that list has 256 entries, else only with `NoNodes`, `NoSegments` or `NoTenant`; then seat
-    /// and hall are unchanged.
+    /// `NoJobsLeft` where that list has 256 entries, else only with `NoNodes`, `NoSegments` or `NoTenant`; then the hall
+    /// is unchanged, and the seat but for what it has seen.
     pub fn ask<R: Wait>(
         &self,
         rt: &R,
@@ -114,6 +125,8 @@ impl<L: DeskLedger, A: Allocator + Clone> Desk<L, A> {
     ) -> Result<u64, Refusal>
         requires { depth ≤ 12 }
         ensures asked { IsAsked (record { board = position.now.board; depth = depth }) seat.old result seat.new }
+        ensures full { length seat.old.asked ≡ 256 → seat.new ≡ seat.old }
+        ensures told { length seat.old.asked ≢ 256 → IsToldOf L.begun seat.old.known (Submit seat.old.tenant (root_words position.now.board.own position.now.board.opp depth) frame_size) result seat.new.known }
         ensures refused { IfErr result (Contains ask_refusals) }
     {
         let job = self.enter(rt).ask(seat, position, depth)?;
@@ -130,6 +143,20 @@ impl<L: DeskLedger, A: Allocator + Clone> Desk<L, A> {
         self.enter(rt).get(seat, job)
     }
 
+    /// As [`Desk::get`], and the seat has then seen the history so far: the answer is what its end tells of the job.
+    pub fn get_seen<R: Wait>(
+        &self,
+        rt: &R,
+        seat: &mut Seat<L>,
+        job: u64,
+    ) -> Result<Outcome, Refusal>
+        ensures look { IsLook L.begun seat.old seat.new }
+        ensures shown { IsShown (seat_asked_at seat.new.asked job) result }
+        ensures told { IsShownAt L.begun seat.new job result }
+    {
+        self.enter(rt).get_seen(seat, job)
+    }
+
     /// Waits until a job has ended or the desk is closed, and answers as `get` does then: `Pending` where the desk was
     /// closed first. Where the hall has no such job it answers at once.
     pub fn wait<R: Wait>(&self, rt: &R, seat: &Seat<L>, job: u64) -> Result<Outcome, Refusal>
@@ -142,12 +169,31 @@ impl<L: DeskLedger, A: Allocator + Clone> Desk<L, A> {
         kept.get(seat, job)
     }
 
+    /// As [`Desk::wait`], and the seat has then seen the history so far: the answer is what its end tells of the job.
+    pub fn wait_seen<R: Wait>(
+        &self,
+        rt: &R,
+        seat: &mut Seat<L>,
+        job: u64,
+    ) -> Result<Outcome, Refusal>
+        ensures look { IsLook L.begun seat.old seat.new }
+        ensures shown { IsShown (seat_asked_at seat.new.asked job) result }
+        ensures told { IsShownAt L.begun seat.new job result }
+    {
+        let tenant = seat.tenant();
+        let mut kept = self
+            .ended
+            .wait_while(rt, self.enter(rt), |kept| kept.keeps_waiting(tenant, job));
+        kept.get_seen(seat, job)
+    }
+
     /// Cancels a job that hasn't ended: its frames are removed, and all seats that wait are woken, to look at their
     /// jobs again. `NoJob` where its number is 0 or above the length of the seat's list, or it has ended; the only
     /// other refusal is `NoTenant`.
     pub fn cancel<R: Wait>(&self, rt: &R, seat: &mut Seat<L>, job: u64) -> Result<(), Refusal>
-        ensures share { MatchResult result (λ _. seat.new ≡ stepped seat.old) (λ _. seat.new ≡ seat.old) }
-        ensures none { seat_asked_at seat.old.asked job ≡ None → result ≡ Err NoJob }
+        ensures share { MatchResult result (λ _. seat.new ≡ stepped seat.new.known seat.old) (λ _. seat.new ≡ seeing seat.new.known seat.old) }
+        ensures none { seat_asked_at seat.old.asked job ≡ None → (result ≡ Err NoJob) × (seat.new ≡ seat.old) }
+        ensures told { seat_asked_at seat.old.asked job ≢ None → IsToldOf L.begun seat.old.known (Cancel seat.old.tenant job) result seat.new.known }
         ensures refused { IfErr result (Contains cancel_refusals) }
     {
         self.enter(rt).cancel(seat, job)?;
@@ -156,18 +202,35 @@ impl<L: DeskLedger, A: Allocator + Clone> Desk<L, A> {
     }
 
     /// The segments, nodes and steps that the seat's tenant has left when the lock is taken. The only refusal is
-    /// `NoTenant`. The contract says nothing of the numbers.
+    /// `NoTenant`. The contract says nothing of the numbers; that of [`Desk::quota_seen`] does.
     pub fn quota<R: Wait>(&self, rt: &R, seat: &Seat<L>) -> Result<Left, Refusal>
         ensures { IfErr result (λ refusal. refusal ≡ NoTenant) }
     {
         self.enter(rt).quota(seat.tenant())
     }
 
+    /// As [`Desk::quota`], and the seat has then seen the history so far: the numbers are the tenant's at its end.
+    pub fn quota_seen<R: Wait>(&self, rt: &R, seat: &mut Seat<L>) -> Result<Left, Refusal>
+        ensures look { IsLook L.begun seat.old seat.new }
+        ensures left { result ≡ found_or_no_tenant (left_in_core (core_at L.begun seat.new.known.seen) seat.new.tenant) }
+    {
+        self.enter(rt).quota_seen(seat)
+    }
+
     /// How many frames the seat's tenant has, and how many words these have together. The only refusal is `NoTenant`.
+    /// The contract says nothing of the numbers; that of [`Desk::live_seen`] does.
     pub fn live<R: Wait>(&self, rt: &R, seat: &Seat<L>) -> Result<(usize, usize), Refusal>
         ensures { IfErr result (λ refusal. refusal ≡ NoTenant) }
     {
         self.enter(rt).live(seat.tenant())
+    }
+
+    /// As [`Desk::live`], and the seat has then seen the history so far: the numbers are the tenant's at its end.
+    pub fn live_seen<R: Wait>(&self, rt: &R, seat: &mut Seat<L>) -> Result<(usize, usize), Refusal>
+        ensures look { IsLook L.begun seat.old seat.new }
+        ensures live { result ≡ found_or_no_tenant (live_of (core_at L.begun seat.new.known.seen) seat.new.tenant) }
+    {
+        self.enter(rt).live_seen(seat)
     }
 
     /// The seat's tenant leaves: its jobs, ended or not, its frames and its reservation are gone, and the seat is used
@@ -176,8 +239,18 @@ impl<L: DeskLedger, A: Allocator + Clone> Desk<L, A> {
     pub fn leave<R: Wait>(&self, rt: &R, seat: Seat<L>)
         requires { L.all ≡ L.parts }
     {
-        self.enter(rt).leave(seat);
+        let _trace = self.leave_seen(rt, seat);
+    }
+
+    /// As [`Desk::leave`], and gives back what the seat then knows of the history, which ends with its tenant's Leave, the
+    /// last step of its own.
+    pub fn leave_seen<R: Wait>(&self, rt: &R, seat: Seat<L>) -> Trace<Step<Jamboree>, L>
+        requires { L.all ≡ L.parts }
+        ensures told { Took seat.known (Leave seat.tenant) result }
+    {
+        let trace = self.enter(rt).leave(seat);
         self.ended.notify_all();
+        trace
     }
 
     /// A new badge, with which a worker offers steps. Its share is 0. `None` only after 2^62 badges.

@@ -7,12 +7,22 @@
 //! ([`Desk::next_ready`]), a seat until its job has ended ([`Desk::wait`]); a step wakes only those who wait for what
 //! it changed.
 //!
-//! The contract of a call that locks can't say what the call did to the hall. That is said by the contract of a method
-//! of what lies under the lock (`LockedHall`), and tests show that the call calls that method. What the
-//! threads carry says the rest: a seat's and a badge's share count their own taken steps, as
-//! shares of one ledger (`std::sync::ledger`) whose book lies under the lock. So at the end, where
-//! [`Desk::into_hall`] gives the share with all parts of that ledger, all steps in the hall are those that it keeps and
-//! those of the badge: no taken call was dropped, and nobody else took a step.
+//! Behind a lock a contract can't say what a call did to the hall, as other threads use it too. So the steps taken since
+//! the desk was made, each with the number of its maker, are a history (`shared_history`) that lies beside the hall, in
+//! proofs alone; a seat and a badge are makers, and a seat knows what it has seen of the history and which steps are its
+//! own. What a call did is said of these (`specs/Histories.antt`): a step that was taken is the last of the history that
+//! the seat has then seen, and its own steps grew by just it; a refusal is the one that the core at the end of that history
+//! gives; an answer by [`Desk::get_seen`], [`Desk::wait_seen`], [`Desk::quota_seen`] or [`Desk::live_seen`] is the tenant's
+//! at that end, where the tenant is what its own steps make of it alone. Contracts see a badge's share alone, so of
+//! [`Desk::offer`] they say how the share changed; a method's contract under the lock (`LockedHall`) says what the call did.
+//!
+//! What no contract can say: steps that a call's body takes by a maker of its own beside what it was asked for, so each body
+//! here is one call of a method of `LockedHall`, whose contract names all that changed; how new the history is that a seat
+//! has seen; and that a call returns.
+//!
+//! A seat's and a badge's share count their own taken steps, as shares of one ledger (`std::sync::ledger`) whose book lies
+//! under the lock. So at the end, where [`Desk::into_hall`] gives the share with all parts of that ledger, all steps in the
+//! hall are those that it keeps and those of the badge: nobody else took a step.
 //!
 //! Beside the hall and the book lies a spare share. A taken step adds 1 to the book and to the share of who
 //! took it, and a seat that leaves merges its share into the spare one: so the hall's count is what it was
@@ -26,14 +36,13 @@
 //!
 //! Why it is so:
 //!
-//! - `leave` answers nothing: if a hall refused it, the share would still be kept, so that shares add up. A
-//!   ledger has 3 * 2^62 parts, one for each of 2^62 badges and 2^62 tenants, and 2^62 to spare. After 2^64 - 1
+//! - `leave` answers nothing, as the hall never refuses it: a seat's tenant is there until then. A ledger has 3 * 2^62 parts, one for each of 2^62 badges and 2^62 tenants, and 2^62 to spare. After 2^64 - 1
 //!   steps a badge would block for ever; no run gets there.
 //! - Sleepers are counted under the lock, after they saw no ready frame, so none is missed. A `DeskGuard` can't be
 //!   dropped, only released, so no wake-up is forgotten; each frame that became ready wakes one sleeping worker.
 //!
 //! ```text
-//! let desk: Desk<L> = Desk::new(Hall::new(alloc, config, 2)?, blank);
+//! let desk: Desk<L> = Desk::new(Hall::new(alloc, config, 2)?, blank, Opened::new(alloc)?);
 //! let mut seat = desk.admit(rt, reserve)?;
 //! let job = desk.ask(rt, &mut seat, &opening, 0)?;
 //! desk.wait(rt, &seat, job)? == Outcome::Done(reply)      // with workers that have badges
@@ -59,4 +68,5 @@ pub use hall::{
     StepAnswer, StepOf, Worker,
 };
 pub use seat::{Seat, SeatAsked};
+pub use shared_history::{Naming, Opened, Trace};
 pub use shares::{Badge, DeskLedger, PARTS};

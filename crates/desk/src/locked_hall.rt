@@ -1,5 +1,6 @@
-//! What lies under the lock: the hall, and the book of the shares.
+//! What lies under the lock: the hall, the book of the shares, and the history of the steps.
 ghost use Rattle.std.specs.Prelude.{◌≡◌, ◌≢◌, ◌+◌, ◌%◌, ◌^◌, ◌<◌, ◌≤◌, ◌==◌, ◌↔◌, not, [], true, false, length, Ok, Err, Some, None, Contains, IfErr, IfNone, IfOk, IfSome, IsNone, OnSome, Option, MatchResult, option_copied};
+ghost use Rattle.sched_rules.specs.declared.step.DidOf.TheVariants.{Left as HasLeft};
 ghost use Rattle.sched_rules.specs.declared.refusal.Refusal.TheVariants.{NoJob, OutOfMemory};
 ghost use Rattle.sched_rules.specs.declared.step.StepOf.TheVariants.{Admit, AdmitMore, Submit, Cancel, Leave};
 ghost use Rattle.sched_rules.specs.declared.step.DidOf.{DidOf};
@@ -12,7 +13,11 @@ ghost use Rattle.sched_rules.specs.Views.{left_in_core, live_of, job_of};
 ghost use Rattle.hall.specs.jamboree_core.Replies.{IsSearch};
 ghost use Rattle.hall.specs.jamboree_core.declared.outcomes.Outcome.{Outcome as OutcomeOf};
 ghost use Rattle.hall.specs.jamboree_core.Outcomes.{IsOutcomeIn};
-ghost use Rattle.desk.specs.Seats.{admit_refusals, reserve_refusals, ask_refusals, cancel_refusals, stepped, seat_asked_at, IsAsked, Shows, IsShown, IsShownOf, IsToldBy};
+ghost use mathlib.Core.List.{IsPrefix};
+ghost use Rattle.shared_history.specs.Views.{own};
+ghost use Rattle.sched_rules.specs.Runs.{tenant_of};
+ghost use Rattle.desk.specs.Seats.{admit_refusals, reserve_refusals, ask_refusals, cancel_refusals, seeing, stepped, seat_asked_at, IsAsked, Shows, IsShown, IsShownOf, IsToldBy};
+ghost use Rattle.desk.specs.Histories.{core_at, is_admit, is_leave, is_seat_step, with_taken, AreSeats, HasNoLeave, IsAdmitted, IsLook, IsShownAt, IsToldOf, Took};
 ghost use Rattle.desk.specs.Counts.{IsOffered, IsLeft, IsAsOpen, IsNext, with_kept, found_or_no_tenant, waits_on, has_news};
 
 use crate::backoff::Backoff;
@@ -22,6 +27,8 @@ use arrayvec::ArrayVec;
 use frame_tree::FrameId;
 use hall::{Hall, Jamboree, Outcome, Refusal, Step, StepAnswer, StepOf, submit};
 use position_text::Position;
+use sched_rules::laws::{each_step_has_a_right_answer, no_tenant_is_disturbed};
+use shared_history::{History, Opened, Trace};
 use std::alloc::{Allocator, Global};
 use std::marker::Model;
 use std::sync::ledger::{Blank, Book, Share};
@@ -30,10 +37,13 @@ use tenant_quota::{Left, Reserve};
 /// The most badges that one desk ever gives.
 const BADGES: u64 = 1 << 62;
 
-/// What lies under the desk's lock: the hall, and the ledger that counts the steps taken since the desk was made.
+/// What lies under the desk's lock: the hall, the ledger that counts the steps taken since the desk was made, and the
+/// history of these steps.
 #[derive(Drop)]
 pub(crate) struct LockedHall<L: DeskLedger, A: Allocator = Global> {
     hall: Hall<A>,
+    /// The steps taken since the desk was made. It exists in proofs alone, but for one word.
+    history: History<Step<Jamboree>, L>,
     /// Its total is the number of steps taken since the desk was made.
     book: Book<L>,
     /// The share that no seat and no badge has: parts that can be given, and the steps of seats that have left.
@@ -50,30 +60,39 @@ pub(crate) struct LockedHall<L: DeskLedger, A: Allocator = Global> {
     sleepers: u32,
 }
 
-// Clauses see the hall, whether the desk is closed, how many workers sleep, and how many badges were given.
+// Clauses see the hall, whether the desk is closed, how many workers sleep, how many badges were given, and the history.
 impl<L: DeskLedger, A: Allocator> Model for LockedHall<L, A> {
     ghost use Rattle.std.specs.Prelude.{◌≡◌, ◌+◌, ◌^◌, ◌≤◌};
     ghost use Rattle.hall.specs.Halls.{count_of};
     ghost use Rattle.desk.specs.Counts.{LockedHallOf};
+    ghost use Rattle.desk.specs.Histories.{IsComeBy};
 
     ghost Value = { LockedHallOf };
 
-    ghost view = { λ k. record { hall = k.hall; closed = k.closed; sleepers = k.sleepers; badges = k.badges } };
+    ghost view = { λ k. record { hall = k.hall; closed = k.closed; sleepers = k.sleepers; badges = k.badges; history = k.history } };
 
     ghost invariant = { λ k. (count_of k.hall ≡ k.before + k.book.total) × (k.hall.kept ≡ k.before + k.spare.amount) × (k.spare.parts ≡ k.parts)
-        × (L.all ≡ 13835058055282163712) × (k.parts ≤ 13835058055282163712) × (13835058055282163712 ≤ k.parts + k.badges + k.hall.shared.newest) × (k.badges ≤ 2 ^ 62) };
+        × (L.all ≡ 13835058055282163712) × (k.parts ≤ 13835058055282163712) × (13835058055282163712 ≤ k.parts + k.badges + k.hall.shared.newest) × (k.badges ≤ 2 ^ 62)
+        × IsComeBy L.begun k.hall.grain k.hall.shared k.history };
 }
 
 impl<L: DeskLedger, A: Allocator + Clone> LockedHall<L, A> {
     /// A hall with a new ledger. The number of steps that it has taken so far is stored in the hall as its number
     /// `kept` (`Hall::keep`).
-    pub(crate) fn new(hall: Hall<A>, blank: Blank) -> LockedHall<L, A>
+    pub(crate) fn new(
+        hall: Hall<A>,
+        blank: Blank,
+        opened: Opened<Step<Jamboree>>,
+    ) -> LockedHall<L, A>
         requires name { blank.name ≡ L.name }
         requires parts { (blank.parts ≡ L.parts) × (L.all ≡ L.parts) × (L.all ≡ PARTS) }
+        requires history { opened ≡ L.table }
+        requires begun { hall ≡ L.begun }
         ensures hall { result.hall ≡ record hall { kept = count_of hall } }
         ensures open { result.closed ≡ false }
         ensures none { result.sleepers ≡ 0 }
         ensures no_badges { result.badges ≡ 0 }
+        ensures no_steps { result.history ≡ [] }
     {
         let (book, spare) = blank.open::<L>();
         let mut hall = hall;
@@ -81,6 +100,7 @@ impl<L: DeskLedger, A: Allocator + Clone> LockedHall<L, A> {
         hall.keep(before);
         LockedHall {
             hall,
+            history: opened.named::<L>(),
             book,
             spare,
             parts: PARTS,
@@ -91,10 +111,23 @@ impl<L: DeskLedger, A: Allocator + Clone> LockedHall<L, A> {
         }
     }
 
-    /// Offers a step to the hall. If the hall takes it, the share `mine` and the book count it.
-    fn take(&mut self, mine: &mut Share<L>, step: &Step<Jamboree>) -> StepAnswer
+    /// Offers a step of this maker to the hall. If the hall takes it, the share `mine` and the book count it, and the
+    /// history ends with it. A seat step is by the maker who admitted its tenant.
+    fn take(
+        &mut self,
+        mine: &mut Share<L>,
+        trace: &mut Trace<Step<Jamboree>, L>,
+        step: &Step<Jamboree>,
+    ) -> StepAnswer
         requires search { IsSearch step.now }
         requires part { 0 < mine.old.parts }
+        requires admitted { is_admit step.now ≡ false }
+        requires owner { is_seat_step step.now ≡ true → AreSeats (tenant_of step.now) trace.old.mine }
+        ensures told { IsToldOf L.begun trace.old step.now result trace.new }
+        ensures seen { trace.new.seen ≡ self.new.history }
+        ensures owner { is_seat_step step.now ≡ true → AreSeats (tenant_of step.now) trace.new.mine }
+        ensures stays { is_leave step.now ≡ false → HasNoLeave trace.old.mine → HasNoLeave trace.new.mine }
+        ensures left { is_leave step.now ≡ true → HasNoLeave trace.old.mine → result ≡ Ok HasLeft }
         ensures step { IsOffered self.old.hall step.now result self.new.hall }
         ensures others { IsAsOpen self.old self.new }
         ensures amount { MatchResult result (λ _. mine.new.amount ≡ mine.old.amount + 1) (λ _. mine.new.amount ≡ mine.old.amount) }
@@ -102,8 +135,14 @@ impl<L: DeskLedger, A: Allocator + Clone> LockedHall<L, A> {
         ensures bound { mine.new.amount ≤ 2 ^ 84 }
         ensures memory { is_admission step.now ≡ false → result ≢ Err OutOfMemory }
     {
-        let LockedHall { hall, book, .. } = self;
+        let LockedHall {
+            hall,
+            history,
+            book,
+            ..
+        } = self;
         let answer = hall.offer(step);
+        note(history, trace, step, &answer);
         if answer.is_ok() {
             book.add(mine, 1);
         }
@@ -113,12 +152,14 @@ impl<L: DeskLedger, A: Allocator + Clone> LockedHall<L, A> {
 
     /// Offers a step for a seat; the seat's share and its number of steps count it if the hall took it.
     fn take_for(&mut self, seat: &mut Seat<L>, step: &Step<Jamboree>) -> StepAnswer
-        requires { IsSearch step.now }
-        ensures share { MatchResult result (λ _. seat.new ≡ stepped seat.old) (λ _. seat.new ≡ seat.old) }
+        requires search { IsSearch step.now }
+        requires own { (is_seat_step step.now ≡ true) × (is_admit step.now ≡ false) × (is_leave step.now ≡ false) × (tenant_of step.now ≡ seat.old.tenant) }
+        ensures share { MatchResult result (λ _. seat.new ≡ stepped seat.new.known seat.old) (λ _. seat.new ≡ seeing seat.new.known seat.old) }
+        ensures told { IsToldOf L.begun seat.old.known step.now result seat.new.known }
         ensures step { IsOffered self.old.hall step.now result self.new.hall }
         ensures others { IsAsOpen self.old self.new }
     {
-        let answer = self.take(&mut seat.mine, step);
+        let answer = self.take(&mut seat.mine, &mut seat.trace, step);
         if answer.is_ok() {
             seat.steps += 1;
         }
@@ -129,7 +170,8 @@ impl<L: DeskLedger, A: Allocator + Clone> LockedHall<L, A> {
     /// part of the spare one, is 1: it counts the admission. The refusals are the hall's: `Full`, `OldTenant`,
     /// `OutOfMemory`.
     pub(crate) fn admit(&mut self, reserve: Reserve) -> Result<Seat<L>, Refusal>
-        ensures seat { IfOk result (λ seat. seat ≡ record { tenant = self.old.hall.shared.newest + 1; share = 1; asked = [] }) }
+        ensures seat { IfOk result (λ seat. (seat.tenant ≡ self.old.hall.shared.newest + 1) × (seat.share ≡ 1) × (seat.asked ≡ [])) }
+        ensures admitted { IfOk result (IsAdmitted reserve) }
         ensures step { MatchResult result
             (λ _. (did : DidOf LeafOf) × IsOffered self.old.hall (Admit (self.old.hall.shared.newest + 1) reserve) (Ok did) self.new.hall)
             (λ refusal. IsOffered self.old.hall (Admit (self.old.hall.shared.newest + 1) reserve) (Err refusal) self.new.hall) }
@@ -138,32 +180,34 @@ impl<L: DeskLedger, A: Allocator + Clone> LockedHall<L, A> {
     {
         let LockedHall {
             hall,
+            history,
             book,
             spare,
             parts,
             ..
         } = self;
         let tenant = hall.next_tenant();
-        match hall.offer(&StepOf::Admit(tenant, reserve)) {
-            Ok(_) => {
-                let mut mine = spare.split_off(1, 0);
-                *parts -= 1;
-                book.add(&mut mine, 1);
-                Ok(Seat {
-                    tenant,
-                    mine,
-                    steps: 1,
-                    asked: ArrayVec::new(),
-                })
-            }
-            Err(refusal) => Err(refusal),
-        }
+        let step = StepOf::Admit(tenant, reserve);
+        hall.offer(&step)?;
+        let mut trace = history.begin();
+        history.add(&mut trace, &step);
+        let mut mine = spare.split_off(1, 0);
+        *parts -= 1;
+        book.add(&mut mine, 1);
+        Ok(Seat {
+            tenant,
+            mine,
+            trace,
+            steps: 1,
+            asked: ArrayVec::new(),
+        })
     }
 
     /// Raises the reservation of a seat's tenant to this one. The refusals are the hall's: `NoTenant`, `Lower`, `Full`,
     /// `OutOfMemory`; then nothing changes.
     pub(crate) fn reserve(&mut self, seat: &mut Seat<L>, reserve: Reserve) -> Result<(), Refusal>
-        ensures share { MatchResult result (λ _. seat.new ≡ stepped seat.old) (λ _. seat.new ≡ seat.old) }
+        ensures share { MatchResult result (λ _. seat.new ≡ stepped seat.new.known seat.old) (λ _. seat.new ≡ seeing seat.new.known seat.old) }
+        ensures told { IsToldOf L.begun seat.old.known (AdmitMore seat.old.tenant reserve) result seat.new.known }
         ensures step { MatchResult result
             (λ _. (did : DidOf LeafOf) × IsOffered self.old.hall (AdmitMore seat.old.tenant reserve) (Ok did) self.new.hall)
             (λ refusal. IsOffered self.old.hall (AdmitMore seat.old.tenant reserve) (Err refusal) self.new.hall) }
@@ -188,7 +232,8 @@ impl<L: DeskLedger, A: Allocator + Clone> LockedHall<L, A> {
         ensures others { IsAsOpen self.old self.new }
         ensures asked { IsAsked (record { board = position.now.board; depth = depth }) seat.old result seat.new }
         ensures refused { IfErr result (Contains ask_refusals) }
-        ensures full { length seat.old.asked ≡ 256 → self.new ≡ self.old }
+        ensures full { length seat.old.asked ≡ 256 → (self.new ≡ self.old) × (seat.new ≡ seat.old) }
+        ensures told { length seat.old.asked ≢ 256 → IsToldOf L.begun seat.old.known (Submit seat.old.tenant (root_words position.now.board.own position.now.board.opp depth) frame_size) result seat.new.known }
         ensures step { MatchResult result
             (λ _. (did : DidOf LeafOf) × IsOffered self.old.hall (Submit seat.old.tenant (root_words position.now.board.own position.now.board.opp depth) frame_size) (Ok did) self.new.hall)
             (λ refusal. length seat.old.asked ≢ 256 → IsOffered self.old.hall (Submit seat.old.tenant (root_words position.now.board.own position.now.board.opp depth) frame_size) (Err refusal) self.new.hall) }
@@ -208,8 +253,9 @@ impl<L: DeskLedger, A: Allocator + Clone> LockedHall<L, A> {
     /// Cancels a seat's job. Where the seat asked for no job of this number the hall isn't asked, and the refusal is
     /// `NoJob`; the hall refuses with `NoJob` where the job has ended, and with `NoTenant`.
     pub(crate) fn cancel(&mut self, seat: &mut Seat<L>, job: u64) -> Result<(), Refusal>
-        ensures share { MatchResult result (λ _. seat.new ≡ stepped seat.old) (λ _. seat.new ≡ seat.old) }
-        ensures none { seat_asked_at seat.old.asked job ≡ None → (result ≡ Err NoJob) × (self.new ≡ self.old) }
+        ensures share { MatchResult result (λ _. seat.new ≡ stepped seat.new.known seat.old) (λ _. seat.new ≡ seeing seat.new.known seat.old) }
+        ensures none { seat_asked_at seat.old.asked job ≡ None → (result ≡ Err NoJob) × (self.new ≡ self.old) × (seat.new ≡ seat.old) }
+        ensures told { seat_asked_at seat.old.asked job ≢ None → IsToldOf L.begun seat.old.known (Cancel seat.old.tenant job) result seat.new.known }
         ensures step { MatchResult result
             (λ _. (did : DidOf LeafOf) × IsOffered self.old.hall (Cancel seat.old.tenant job) (Ok did) self.new.hall)
             (λ refusal. seat_asked_at seat.old.asked job ≢ None → IsOffered self.old.hall (Cancel seat.old.tenant job) (Err refusal) self.new.hall) }
@@ -233,7 +279,7 @@ impl<L: DeskLedger, A: Allocator + Clone> LockedHall<L, A> {
         ensures others { IsAsOpen self.old self.new }
         ensures memory { result ≢ Err OutOfMemory }
     {
-        let answer = self.take(&mut badge.mine, step);
+        let answer = self.take(&mut badge.mine, &mut badge.trace, step);
         if answer.is_ok() {
             badge.steps += 1;
         }
@@ -250,6 +296,47 @@ impl<L: DeskLedger, A: Allocator + Clone> LockedHall<L, A> {
             Some(asked) => Ok(shown(asked, told)),
             None => Err(Refusal::NoJob),
         }
+    }
+
+    /// Lets a seat see the history so far.
+    fn show(&mut self, seat: &mut Seat<L>)
+        ensures same { self.new ≡ self.old }
+        ensures look { IsLook L.begun seat.old seat.new }
+        ensures core { self.old.hall.shared ≡ core_at L.begun seat.new.known.seen }
+    {
+        no_tenant_is_disturbed::<Jamboree>();
+        each_step_has_a_right_answer::<Jamboree>();
+        // Its contract gives the prover a procedure of the hall's grain, for which these laws are told.
+        let _core = self.hall.core();
+        self.history.show(&mut seat.trace);
+    }
+
+    /// As `get`, and the seat has then seen the history so far.
+    pub(crate) fn get_seen(&mut self, seat: &mut Seat<L>, job: u64) -> Result<Outcome, Refusal>
+        ensures look { IsLook L.begun seat.old seat.new }
+        ensures shown { IsShown (seat_asked_at seat.new.asked job) result }
+        ensures told { IsShownAt L.begun seat.new job result }
+    {
+        self.show(seat);
+        self.get(seat, job)
+    }
+
+    /// As `quota` of the seat's tenant, and the seat has then seen the history so far.
+    pub(crate) fn quota_seen(&mut self, seat: &mut Seat<L>) -> Result<Left, Refusal>
+        ensures look { IsLook L.begun seat.old seat.new }
+        ensures left { result ≡ found_or_no_tenant (left_in_core (core_at L.begun seat.new.known.seen) seat.new.tenant) }
+    {
+        self.show(seat);
+        self.quota(seat.tenant())
+    }
+
+    /// As `live` of the seat's tenant, and the seat has then seen the history so far.
+    pub(crate) fn live_seen(&mut self, seat: &mut Seat<L>) -> Result<(usize, usize), Refusal>
+        ensures look { IsLook L.begun seat.old seat.new }
+        ensures live { result ≡ found_or_no_tenant (live_of (core_at L.begun seat.new.known.seen) seat.new.tenant) }
+    {
+        self.show(seat);
+        self.live(seat.tenant())
     }
 
     /// Whether a seat goes on waiting for this job: it is there and hasn't ended, and the desk isn't closed.
@@ -343,33 +430,37 @@ impl<L: DeskLedger, A: Allocator + Clone> LockedHall<L, A> {
         // This call tells the prover what `IsExplained` says of the tenants' numbers.
         let _next = self.hall.next_tenant();
         let mine = self.spare.split_off(1, 0);
+        let trace = self.history.begin();
         self.parts -= 1;
         self.badges += 1;
         Some(Badge {
             mine,
+            trace,
             steps: 0,
             parts: 1,
             backoff: Backoff::new(),
         })
     }
 
-    /// A seat's tenant leaves: its jobs, frames and reservation are removed. The seat's steps, and this one where it
-    /// was taken, are added to the hall's number `kept`, and the seat's share to the spare one.
-    pub(crate) fn leave(&mut self, seat: Seat<L>)
+    /// A seat's tenant leaves: its jobs, frames and reservation are removed. The seat's steps and this one are added to the
+    /// hall's number `kept`, and the seat's share to the spare one. What the seat then knows of the history is given back.
+    /// The hall never refuses: the tenant is there, as its seat made its Admit and no Leave.
+    pub(crate) fn leave(&mut self, seat: Seat<L>) -> Trace<Step<Jamboree>, L>
         requires { L.all ≡ L.parts }
+        ensures told { Took seat.known (Leave seat.tenant) result }
         ensures step { IsLeft self.old.hall seat self.new.hall }
         ensures others { IsAsOpen self.old self.new }
     {
         let Seat {
             tenant,
             mut mine,
+            mut trace,
             steps,
             ..
         } = seat;
-        match self.take(&mut mine, &StepOf::Leave(tenant)) {
-            Ok(_) => self.keep_share(mine, steps + 1),
-            Err(_) => self.keep_share(mine, steps),
-        }
+        let _left = self.take(&mut mine, &mut trace, &StepOf::Leave(tenant));
+        self.keep_share(mine, steps + 1);
+        trace
     }
 
     /// Adds the share of a seat that has left to the spare one, and its number of steps to the hall's number `kept`.
@@ -414,6 +505,24 @@ impl<L: DeskLedger, A: Allocator + Clone> LockedHall<L, A> {
         spare.merge(mine);
         book.audit(&mut spare);
         (hall, Some(spare))
+    }
+}
+
+/// Adds a step with this answer to the history where it was taken, and lets its maker see all of it.
+fn note<L: DeskLedger>(
+    history: &mut History<Step<Jamboree>, L>,
+    trace: &mut Trace<Step<Jamboree>, L>,
+    step: &Step<Jamboree>,
+    answer: &StepAnswer,
+)
+    ensures history { history.new ≡ with_taken history.old (trace.old.maker, step.now) answer.now }
+    ensures trace { trace.new ≡ record { maker = trace.old.maker; seen = history.new; mine = with_taken trace.old.mine step.now answer.now } }
+    ensures seen { IsPrefix trace.old.seen history.old }
+    ensures own { own trace.old.maker history.old ≡ trace.old.mine }
+{
+    match answer {
+        Ok(_) => history.add(trace, step),
+        Err(_) => history.show(trace),
     }
 }
 

@@ -3,7 +3,9 @@ ghost use Rattle.std.specs.Prelude.{◌≡◌, ◌≤◌, length};
 
 use crate::shares::DeskLedger;
 use arrayvec::ArrayVec;
+use hall::{Jamboree, Step};
 use othello_board::Board;
+use shared_history::Trace;
 use std::marker::Model;
 use std::sync::ledger::Share;
 
@@ -30,28 +32,33 @@ impl Default for SeatAsked {
 }
 
 /// A tenant's place at the desk, which its calls are made with. Contracts see the tenant's number, the seat's share,
-/// which counts its own taken steps, and the list of what it asked.
+/// which counts its own taken steps, the list of what it asked, and what it knows of the desk's history: the number of
+/// its maker, what it has seen, and its own steps.
 #[derive(Drop)]
 pub struct Seat<L: DeskLedger> {
     pub(crate) tenant: u64,
     /// Its part of the desk's ledger, whose amount is `steps`. It takes no bytes.
     pub(crate) mine: Share<L>,
+    /// What it knows of the desk's history. It takes no bytes.
+    pub(crate) trace: Trace<Step<Jamboree>, L>,
     /// How many of its own steps were taken, from its admission on.
     pub(crate) steps: u128,
     /// What it asked, from job 1 on.
     pub(crate) asked: ArrayVec<SeatAsked, JOBS>,
 }
 
-// Clauses see the tenant, the share and the list.
+// Clauses see the tenant, the share, the list and what the seat knows. All steps that it made are seat steps of its
+// tenant, from the Admit on, and none is a Leave; the tenant wasn't there before the desk was.
 impl<L: DeskLedger> Model for Seat<L> {
     ghost use Rattle.std.specs.Prelude.{◌≡◌, ◌^◌, ◌<◌};
     ghost use Rattle.desk.specs.Seats.{SeatOf};
+    ghost use Rattle.desk.specs.Histories.{AreSeats, HasNoLeave};
 
     ghost Value = { SeatOf };
 
-    ghost view = { λ s. record { tenant = s.tenant; share = s.steps; asked = s.asked.items } };
+    ghost view = { λ s. record { tenant = s.tenant; share = s.steps; asked = s.asked.items; known = s.trace } };
 
-    ghost invariant = { λ s. (s.mine.amount ≡ s.steps) × (s.mine.parts ≡ 1) × (s.steps < 2 ^ 100) };
+    ghost invariant = { λ s. (s.mine.amount ≡ s.steps) × (s.mine.parts ≡ 1) × (s.steps < 2 ^ 100) × AreSeats s.tenant s.trace.mine × HasNoLeave s.trace.mine × (L.begun.shared.newest < s.tenant) };
 }
 
 impl<L: DeskLedger> Seat<L> {

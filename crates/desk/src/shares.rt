@@ -2,20 +2,31 @@
 ghost use Rattle.std.specs.Prelude.{◌≡◌, ℕ, ◌+◌, ◌*◌, ◌<◌, ◌≤◌};
 
 use crate::backoff::Backoff;
+use hall::{Jamboree, Step};
+use shared_history::{Naming, Trace};
 use std::marker::{Brand, Model};
 use std::sync::ledger::{Ledger, Share};
 
-/// A type that stands for the ledger of one desk.
-pub trait DeskLedger: Ledger {
+/// A type that stands for the ledger and for the history of one desk.
+pub trait DeskLedger: Ledger + Naming {
+    ghost use Rattle.hall.specs.Halls.{HallOf};
+
     /// How many parts the ledger has. The invariants of `Badge` and `LockedHall` speak of this number; most calls
     /// require that it is the `parts` of `Ledger`.
     ghost all: { ℕ };
+
+    /// The hall that the desk was made with, with which its history begins.
+    ghost begun: { HallOf };
 }
 
-// So that a call may pass `Brand` for `L`. The proof of that call then chooses the ghost members; the 0 here isn't
+// So that a call may pass `Brand` for `L`. The proof of that call then chooses the ghost members; those here aren't
 // used.
 impl DeskLedger for Brand {
+    ghost use Rattle.hall.specs.Halls.{empty_hall};
+
     ghost all = { 0 };
+
+    ghost begun = { empty_hall 0 (record { segments = 0; nodes = 0 }) };
 }
 
 /// How many parts a desk's ledger has: one for each of 2^62 badges and of 2^62 tenants, and 2^62 more, so that the
@@ -28,6 +39,8 @@ pub const PARTS: u64 = 3 << 62;
 pub struct Badge<L: DeskLedger> {
     /// Its parts of the desk's ledger, whose amount is `steps`. It takes no bytes.
     pub(crate) mine: Share<L>,
+    /// What it knows of the desk's history, as the maker of its own steps. It takes no bytes.
+    pub(crate) trace: Trace<Step<Jamboree>, L>,
     /// Its share.
     pub(crate) steps: u128,
     /// How many parts it has: one for itself, and one for each badge that was joined to it.
@@ -53,13 +66,15 @@ impl<L: DeskLedger> Badge<L> {
         self.steps
     }
 
-    /// One badge in place of two, with the sums of their shares and of their parts, and the waits of the first.
+    /// One badge in place of two, with the sums of their shares and of their parts, and the waits of the first. It goes
+    /// on as the maker that the first is.
     pub fn join(self, other: Badge<L>) -> Badge<L>
         requires { L.all ≡ L.parts }
         ensures { result ≡ self + other }
     {
         let Badge {
             mut mine,
+            trace,
             steps,
             parts,
             backoff,
@@ -73,6 +88,7 @@ impl<L: DeskLedger> Badge<L> {
         mine.merge(more);
         Badge {
             mine,
+            trace,
             steps: steps + also,
             parts: parts + others,
             backoff,

@@ -81,8 +81,8 @@ impl<L: DeskLedger, R: Wait, A: Allocator + Clone> Office for DeskOffice<'_, L, 
     /// How the job stands now, without waiting for it. `NoJob` where no tenant is there, or the number is 0 or above
     /// that of the tenant's last job; there is no other refusal.
     fn get(&mut self, job: u64) -> Result<Standing, Refusal> {
-        match &self.seat {
-            Some(seat) => told_answer(self.desk.get(self.rt, seat, job)),
+        match &mut self.seat {
+            Some(seat) => told_answer(self.desk.get_seen(self.rt, seat, job)),
             None => Err(Refusal::NoJob),
         }
     }
@@ -91,8 +91,8 @@ impl<L: DeskLedger, R: Wait, A: Allocator + Clone> Office for DeskOffice<'_, L, 
     /// once, where no tenant is there, or the number is 0 or above that of the tenant's last job; there is no other
     /// refusal.
     fn wait(&mut self, job: u64) -> Result<Standing, Refusal> {
-        match &self.seat {
-            Some(seat) => told_answer(self.desk.wait(self.rt, seat, job)),
+        match &mut self.seat {
+            Some(seat) => told_answer(self.desk.wait_seen(self.rt, seat, job)),
             None => Err(Refusal::NoJob),
         }
     }
@@ -108,18 +108,18 @@ impl<L: DeskLedger, R: Wait, A: Allocator + Clone> Office for DeskOffice<'_, L, 
 
     /// What the tenant has left of its reservation now. `NoTenant` where no tenant is there; there is no other refusal.
     fn quota(&mut self) -> Result<Left, Refusal> {
-        match &self.seat {
-            Some(seat) => self.desk.quota(self.rt, seat),
+        match &mut self.seat {
+            Some(seat) => self.desk.quota_seen(self.rt, seat),
             None => Err(Refusal::NoTenant),
         }
     }
 
     /// How many frames and words the tenant has now. `NoTenant` where no tenant is there; there is no other refusal.
     fn live(&mut self) -> Result<Live, Refusal> {
-        let Some(seat) = &self.seat else {
+        let Some(seat) = &mut self.seat else {
             return Err(Refusal::NoTenant);
         };
-        let (frames, words) = self.desk.live(self.rt, seat)?;
+        let (frames, words) = self.desk.live_seen(self.rt, seat)?;
         Ok(Live {
             frames: frames as u64,
             words: words as u64,

@@ -6,7 +6,7 @@ ghost use Rattle.solve_command.specs.Answering.{IsReadOf};
 ghost use Rattle.serve_command.specs.Running.{IsFollowed};
 
 use crate::service::Service;
-use crate::serving::serve_as_asked;
+use crate::serving::{Unserved, failed, serve_as_asked};
 use command_line::Options;
 use line_io::Sink;
 use solve_command::{Input, Output, Streams, answer, refuse};
@@ -17,7 +17,7 @@ use std::net::{Net, TcpListener, TcpStream};
 use std::sync::Wait;
 use std::sync::ledger::Blank;
 use std::thread::Threads;
-use tcp_server::desk::PARTS;
+use tcp_server::desk::{Opened, PARTS};
 
 /// Does what the words of the command line ask for, and returns the exit status: 0 where all went well, 1 where input,
 /// output or server failed or there was no memory to read the words, 2 where the words are refused. Answers, help, the
@@ -38,9 +38,12 @@ where
         Ok(Options::Solve { grain, visited }) => answer(alloc, grain, visited, streams),
         Ok(options) => {
             let asked = Service::of(options).unwrap();
-            let blank = Blank::new(PARTS);
             let Streams { sink, errors, .. } = streams;
-            serve_as_asked::<Brand, R, K, E>(rt, alloc, blank, asked, sink, errors)
+            let Ok(opened) = Opened::new(alloc) else {
+                return failed(errors, Unserved::OutOfMemory);
+            };
+            let blank = Blank::new(PARTS);
+            serve_as_asked::<Brand, R, K, E>(rt, alloc, blank, opened, asked, sink, errors)
         }
         Err(fault) => refuse(&fault, &mut streams.sink, &mut streams.errors),
     }

@@ -5,17 +5,17 @@ ghost use Rattle.shared_history.specs.Views.{own, keeper};
 
 use crate::passes::{Law, Naming, View, begin, give, hold, look, note};
 use atomic_table::{Seat as Pass, Table};
-use std::alloc::{AllocError, Allocator, Global};
+use std::alloc::{AllocError, Global};
 use std::marker::{Model, PhantomData};
 
 /// A history without an entry, which has no name yet. Contracts see which it is.
 #[derive(Drop)]
-pub struct Opened<S, A: Allocator = Global> {
-    table: Table<S, View<S>, (), Law, A>,
+pub struct Opened<S> {
+    table: Table<S, View<S>, (), Law, Global>,
     keeps: Pass<S, View<S>>,
 }
 
-impl<S, A: Allocator> Model for Opened<S, A> {
+impl<S> Model for Opened<S> {
     ghost use Rattle.std.specs.Prelude.{◌≡◌, ◌<◌, []};
     ghost use Rattle.atomic_table.specs.Seated.{TableId};
     ghost use Rattle.shared_history.specs.Views.{keeper};
@@ -27,15 +27,15 @@ impl<S, A: Allocator> Model for Opened<S, A> {
     ghost invariant = { λ o. (0 < o.table.shared.table_id.words) × (o.keeps.table_id ≡ o.table.shared.table_id) × (o.keeps.me ≡ (keeper [] 0, [])) };
 }
 
-impl<S, A: Allocator> Opened<S, A> {
+impl<S> Opened<S> {
     /// A new history. It takes one word of memory, and an error means that this was refused.
-    pub fn new(alloc: A) -> Result<Opened<S, A>, AllocError> {
+    pub fn new(alloc: Global) -> Result<Opened<S>, AllocError> {
         let (table, keeps) = Table::of_words(alloc, &[0], &())?;
         Ok(Opened { table, keeps })
     }
 
     /// The history under the name `J`, which has to name just this one.
-    pub fn named<J: Naming>(self) -> History<S, J, A>
+    pub fn named<J: Naming>(self) -> History<S, J>
         requires { self ≡ J.table }
         ensures { result ≡ [] }
     {
@@ -50,13 +50,13 @@ impl<S, A: Allocator> Opened<S, A> {
 
 /// The steps so far. Contracts see them in order, each with the number of its maker.
 #[derive(Drop)]
-pub struct History<S, J: Naming, A: Allocator = Global> {
-    table: Table<S, View<S>, (), Law, A>,
+pub struct History<S, J: Naming> {
+    table: Table<S, View<S>, (), Law, Global>,
     keeps: Pass<S, View<S>>,
     of: PhantomData<J>,
 }
 
-impl<S, J: Naming, A: Allocator> Model for History<S, J, A> {
+impl<S, J: Naming> Model for History<S, J> {
     ghost use Rattle.std.specs.Prelude.{◌≡◌, ◌<◌, ℕ, List, []};
     ghost use Rattle.shared_history.specs.Views.{keeper};
 
@@ -86,7 +86,7 @@ impl<S, J: Naming> Model for Trace<S, J> {
     ghost invariant = { λ t. (t.pass.table_id ≡ J.table) × (t.pass.me ≡ (sitter t.pass.me.0.maker t.pass.me.0.seen t.pass.me.0.mine, [])) × (own t.pass.me.0.maker t.pass.me.0.seen ≡ t.pass.me.0.mine) };
 }
 
-impl<S, J: Naming, A: Allocator> History<S, J, A> {
+impl<S, J: Naming> History<S, J> {
     /// The trace of a new maker, of whom the history has no step. It has seen all of it.
     pub fn begin(&mut self) -> Trace<S, J>
         ensures history { self.new ≡ self.old }

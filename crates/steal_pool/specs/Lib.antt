@@ -1,3 +1,4 @@
 pub mod Announced
+pub mod Ends
 pub mod Faults
 pub mod Works

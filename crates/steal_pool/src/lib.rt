@@ -16,7 +16,7 @@
 //! was computed from just the leaf it was given, that its badge counts the steps that were taken, and
 //! that its ends of the deques come back at the same deques. Of a pool it is that there is a deque for
 //! each worker, that what was pushed is what was taken and what is left, on each deque and of all
-//! together, that these are the sums it ends with, and that it had as many workers as were asked for. That
+//! together, that these are the sums it ends with (`tasks`), and that it had as many workers as were asked for. That
 //! the badge it ends with is that of all its workers, so that [`desk::Desk::into_hall`] can tell whether
 //! every step in the hall is one that somebody took, is tested. No order between threads is promised, nor
 //! that a job ends, nor that no task is left where none is found.
@@ -26,8 +26,8 @@
 //! - `run_pool` returns OutOfMemory before any thread starts. `PoolSizes` lets tests make each growth fail, and
 //!   each thread by a stack that can't be had (`spawn_scoped_with`). `worker::computed` gets no lock, tasks or
 //!   means to wait: a body that locks around the search alone fails `a_short_search_is_over_before_a_long_one`.
-//!   `PoolEnd` says `pushed = taken + left` alone, as a caller has no deque left to name; `pool::end_of` says
-//!   it of each.
+//!   A caller has no deque left to name, so `PoolEnd` has the ends as a snapshot, of which the clause `tasks`
+//!   speaks; which deques they are it can't say.
 //!
 //! ```text
 //! // four workers, beside whoever speaks at the desk, until it is closed

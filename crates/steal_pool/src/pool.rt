@@ -1,7 +1,7 @@
 //! Running a pool: what it is given, and what it ends with.
-ghost use Rattle.std.specs.Prelude.{◌≡◌, ◌+◌, true, length, sum_by, All, IfErr, IfOk, None};
-ghost use Rattle.task_deques.specs.Deals.{returned, whole_deques, IsAccounted};
+ghost use Rattle.std.specs.Prelude.{◌≡◌, ◌+◌, true, IfErr, IfOk, None};
 ghost use Rattle.steal_pool.specs.Announced.{IsUnsaid};
+ghost use Rattle.steal_pool.specs.Ends.{AreTasksOf};
 ghost use Rattle.steal_pool.specs.Faults.{pool_fault_number};
 
 use crate::announce::{Announce, Quiet};
@@ -11,9 +11,11 @@ use crate::threads::{Site, Stock, Worked, run_all};
 use desk::{Badge, Desk, DeskLedger};
 use sched_rules::Worker;
 use std::alloc::Global;
+use std::snapshot::Snapshot;
 use std::sync::Wait;
 use std::thread;
 use std::thread::Threads;
+use task_deques::Returned;
 use thiserror::Error;
 
 /// Why no pool ran. The desk is closed then, and the workers that were started have ended.
@@ -61,6 +63,9 @@ pub struct PoolEnd<L: DeskLedger> {
     pub taken: u128,
     /// How many tasks are left in them.
     pub left: u128,
+    /// The ends of all deques as the threads brought them back, in which the tasks were counted. It takes no bytes:
+    /// only contracts see them.
+    pub ends: Snapshot<Returned>,
     ghost sums: { pushed ≡ taken + left },
 }
 
@@ -111,6 +116,7 @@ pub fn run_pool<L: DeskLedger + Send + Sync, G: Gate + Sync, R: Threads + Wait +
 ) -> Result<PoolEnd<L>, PoolFault>
     requires { L.all ≡ L.parts }
     ensures workers { IfOk result (λ end. end.workers ≡ workers) }
+    ensures tasks { IfOk result (λ end. AreTasksOf end.ends.value end.workers end.pushed end.taken) }
 {
     let (_quiet, ended) = run_pool_sized(rt, alloc, desk, PoolSizes::usual(workers), gate, Quiet);
     match ended {
@@ -141,6 +147,7 @@ pub fn run_pool_announced<
 ) -> (A, Result<PoolEnd<L>, BeginFault>)
     requires { L.all ≡ L.parts }
     ensures workers { IfOk result.1 (λ end. end.workers ≡ config.workers) }
+    ensures tasks { IfOk result.1 (λ end. AreTasksOf end.ends.value end.workers end.pushed end.taken) }
     ensures said { IfOk result.1 (λ _. A.says call true result.0) }
     ensures unsaid { IfErr result.1 (λ fault. IsUnsaid A.says call fault result.0) }
 {
@@ -208,6 +215,7 @@ pub fn run_pool_sized<
 ) -> (A, Result<PoolEnd<L>, NotRun>)
     requires { L.all ≡ L.parts }
     ensures workers { IfOk result.1 (λ end. end.workers ≡ sizes.workers) }
+    ensures tasks { IfOk result.1 (λ end. AreTasksOf end.ends.value end.workers end.pushed end.taken) }
     ensures said { IfOk result.1 (λ _. A.says call true result.0) }
     ensures unsaid { IfErr result.1 (λ not_run. IsUnsaid A.says call not_run.fault result.0) }
 {
@@ -242,17 +250,14 @@ pub fn run_pool_sized<
     }
 }
 
-/// What a pool ends with, by what its workers left: how many they were, their joined badge, and how many tasks were
-/// pushed, taken and left on all deques together. On each deque the tasks that were pushed are those that were taken
-/// and those that are left, each as often.
+/// What a pool ends with, by what its workers left: their joined badge, and what they did with their tasks.
 fn end_of<L: DeskLedger>(worked: Worked<L>) -> PoolEnd<L>
-    ensures workers { result.workers ≡ length (returned worked.back) }
+    ensures ends { result.ends.value ≡ worked.back }
     ensures badge { result.badge ≡ worked.badge }
-    ensures pushed { result.pushed ≡ sum_by (λ deque. length deque.tally.pushed) (whole_deques (returned worked.back)) }
-    ensures taken { result.taken ≡ sum_by (λ deque. length deque.tally.taken) (whole_deques (returned worked.back)) }
-    ensures each_once { All IsAccounted (whole_deques (returned worked.back)) }
+    ensures tasks { AreTasksOf result.ends.value result.workers result.pushed result.taken }
 {
     let Worked { badge, back } = worked;
+    let ends = Snapshot::of(&back);
     let workers = back.count();
     let sums = back.sums();
     PoolEnd {
@@ -261,5 +266,6 @@ fn end_of<L: DeskLedger>(worked: Worked<L>) -> PoolEnd<L>
         pushed: sums.pushed,
         taken: sums.taken,
         left: sums.left,
+        ends,
     }
 }

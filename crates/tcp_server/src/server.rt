@@ -1,5 +1,6 @@
 //! The threads of a server: the pool in one, and one for each connection.
 ghost use Rattle.std.specs.Prelude.{◌≡◌, true, IfOk, None, Ok};
+ghost use Rattle.steal_pool.specs.Ends.{AreTasksOf};
 
 use crate::faults::ServeFault;
 use desk_office::serve_desk;
@@ -69,6 +70,7 @@ pub fn serve<L: DeskLedger + Send + Sync, G: Gate + Sync, R: Net + Threads + Wai
 ) -> Result<PoolEnd<L>, ServeFault>
     requires { L.all ≡ L.parts }
     ensures workers { IfOk result (λ end. end.workers ≡ config.pool.workers) }
+    ensures tasks { IfOk result (λ end. AreTasksOf end.ends.value end.workers end.pushed end.taken) }
 {
     match serve_announced(rt, alloc, desk, listener, config, gate, Quiet) {
         Ok((_quiet, end)) => Ok(end),
@@ -96,6 +98,7 @@ pub fn serve_announced<
     requires { L.all ≡ L.parts }
     ensures said { IfOk result (λ served. A.says call true served.0) }
     ensures workers { IfOk result (λ served. served.1.workers ≡ config.pool.workers) }
+    ensures tasks { IfOk result (λ served. AreTasksOf served.1.ends.value served.1.workers served.1.pushed served.1.taken) }
 {
     serve_beside(
         rt,

@@ -7,7 +7,7 @@ ghost use Rattle.std.specs.Prelude.{◌≡◌, ◌≤◌};
 use crate::crew::Crew;
 use crate::guests::House;
 use crate::sessions::Stage;
-use desk::{Config, Desk, DeskLedger, Hall, PARTS, Worker};
+use desk::{Config, Desk, DeskLedger, Hall, Jamboree, Opened, PARTS, Step, Worker};
 use std::alloc::{AllocError, Allocator, Global};
 use std::marker::Brand;
 use std::sync::Wait;
@@ -73,8 +73,9 @@ pub fn play_sessions<R: Wait>(
     play_at::<Brand, R, &Counted<Global>>(
         rt,
         alloc,
-        Blank::new(PARTS),
         hall,
+        Blank::new(PARTS),
+        Opened::new(alloc)?,
         setting,
         place,
         scene.rows.as_slice(),
@@ -86,8 +87,9 @@ pub fn play_sessions<R: Wait>(
 fn play_at<L: DeskLedger, R: Wait, A: Allocator + Clone>(
     rt: &R,
     alloc: Global,
-    blank: Blank,
     hall: Hall<A>,
+    blank: Blank,
+    opened: Opened<Step<Jamboree>>,
     setting: Setting,
     place: Place<'_>,
     rows: &[Row<'_>],
@@ -95,8 +97,10 @@ fn play_at<L: DeskLedger, R: Wait, A: Allocator + Clone>(
 ) -> Result<(), AllocError>
     requires name { blank.name ≡ L.name }
     requires parts { (blank.parts ≡ L.parts) × (L.all ≡ L.parts) × (L.all ≡ 13835058055282163712) }
+    requires history { opened ≡ L.table }
+    requires begun { hall ≡ L.begun }
 {
-    let desk: Desk<L, A> = Desk::new(hall, blank);
+    let desk: Desk<L, A> = Desk::new(hall, blank, opened);
     play_rows(rt, alloc, &desk, setting, place, rows, tally)
 }
 

@@ -24,7 +24,7 @@ use std::sync::atomic::{AtomicU32, Ordering};
 use std::sync::ledger::Blank;
 use std::thread::Threads;
 use std::time::{Clock, CpuClock, Duration};
-use tcp_server::desk::{Desk, DeskLedger, Hall, PARTS};
+use tcp_server::desk::{Desk, DeskLedger, Hall, Jamboree, Opened, PARTS, Step};
 use tcp_server::steal_pool::{Announce, Gate, OpenGate, PoolEnd};
 use tcp_server::{ServeFault, ServerConfig, serve, serve_announced};
 
@@ -367,6 +367,7 @@ fn is_well_at<L: DeskLedger + Send + Sync, R>(
     rt: &R,
     hall: Hall,
     blank: Blank,
+    opened: Opened<Step<Jamboree>>,
     trial: &Trial,
 ) -> bool
 where
@@ -379,8 +380,10 @@ where
         + Sync,
     requires name { blank.name ≡ L.name }
     requires parts { (blank.parts ≡ L.parts) × (L.all ≡ L.parts) × (L.all ≡ PARTS) }
+    requires history { opened ≡ L.table }
+    requires begun { hall ≡ L.begun }
 {
-    let desk: Desk<L> = Desk::new(hall, blank);
+    let desk: Desk<L> = Desk::new(hall, blank, opened);
     match TcpListener::bind(rt, "127.0.0.1:0") {
         Ok(listener) => is_tried(rt, desk, listener, trial),
         Err(_) => false,
@@ -404,8 +407,11 @@ where
         + CpuClock
         + Sync,
 {
+    let Ok(opened) = Opened::new(rt.alloc()) else {
+        return false;
+    };
     match hall_of(rt.alloc(), totals.0, totals.1, grain) {
-        Some(hall) => is_well_at::<Brand, R>(rt, hall, Blank::new(PARTS), trial),
+        Some(hall) => is_well_at::<Brand, R>(rt, hall, Blank::new(PARTS), opened, trial),
         None => false,
     }
 }

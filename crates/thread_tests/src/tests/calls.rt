@@ -4,8 +4,8 @@ ghost use Rattle.std.specs.Prelude.{◌≡◌, true};
 ghost use Rattle.hall.specs.Journals.{is_worker_step};
 
 use desk::{
-    Badge, Config, Desk, DeskGuard, DeskLedger, Hall, Jamboree, LeafAnswer, Outcome, PARTS,
-    Refusal, Seat, Step, StepAnswer, StepOf, Worker,
+    Badge, Config, Desk, DeskGuard, DeskLedger, Hall, Jamboree, LeafAnswer, Outcome, Refusal, Seat,
+    Step, StepAnswer, StepOf, Worker,
 };
 use frame_tree::FrameId;
 use othello_board::Board;
@@ -13,7 +13,6 @@ use othello_moves::Choice;
 use position_text::{Position, Side};
 use std::alloc::Global;
 use std::sync::Wait;
-use std::sync::ledger::Blank;
 use tenant_quota::{Left, Reserve};
 
 /// The opening, Black to move.
@@ -46,20 +45,10 @@ pub(crate) fn all_white() -> Position {
     }
 }
 
-/// A new desk, if there is memory for it, whose workers search what is at most so deep (and 6) by themselves.
-pub(crate) fn desk_of<L: DeskLedger>(
-    alloc: Global,
-    segments: u32,
-    nodes: u32,
-    grain: u8,
-    blank: Blank,
-) -> Option<Desk<L>>
-    requires name { blank.name ≡ L.name }
-    requires parts { (blank.parts ≡ L.parts) × (L.all ≡ L.parts) × (L.all ≡ PARTS) }
-{
+/// A new hall, if there is memory for it, whose workers search what is at most so deep (and 6) by themselves.
+pub(crate) fn hall_of(alloc: Global, segments: u32, nodes: u32, grain: u8) -> Option<Hall> {
     let config = Config::new(segments, nodes)?;
-    let hall = Hall::new(alloc, config, grain.min(6)).ok()?;
-    Some(Desk::new(hall, blank))
+    Hall::new(alloc, config, grain.min(6)).ok()
 }
 
 /// What is found of a job.

@@ -9,11 +9,14 @@ mod waiting;
 mod wakes;
 
 use super::calls::{
-    self, Found, Turn, admit, all_white, ask, cancel, corner, desk_of, end, get, live, offer,
+    self, Found, Turn, admit, all_white, ask, cancel, corner, end, get, hall_of, live, offer,
     opening, quota, wait,
 };
 use super::{holds, holds_of};
-use desk::{Badge, Desk, DeskLedger, DidOf, Leaf, LeafAnswer, PARTS, Refusal, Seat, Worker};
+use desk::{
+    Badge, Desk, DeskLedger, DidOf, Hall, Jamboree, Leaf, LeafAnswer, Opened, PARTS, Refusal, Seat,
+    Step, Worker,
+};
 use frame_tree::FrameId;
 use othello_moves::Choice;
 use position_text::Position;
@@ -70,25 +73,35 @@ fn totals(trial: Trial) -> (u32, u32) {
     }
 }
 
-/// Tries something at a new desk, at which one worker searches each job.
-fn try_at<L, R>(rt: &R, alloc: Global, blank: Blank, trial: Trial)
+/// Tries something at a new desk of this hall.
+fn try_at<L, R>(
+    rt: &R,
+    alloc: Global,
+    hall: Hall,
+    blank: Blank,
+    opened: Opened<Step<Jamboree>>,
+    trial: Trial,
+)
 where
     L: DeskLedger + Send + Sync,
     R: Wait + Abort + Threads + Clock + CpuClock + Sync,
     requires name { blank.name ≡ L.name }
     requires parts { (blank.parts ≡ L.parts) × (L.all ≡ L.parts) × (L.all ≡ PARTS) }
+    requires history { opened ≡ L.table }
+    requires begun { hall ≡ L.begun }
 {
-    let (segments, nodes) = totals(trial);
-    let desk: Desk<L> = desk_of(alloc, segments, nodes, 6, blank).expect(rt, "there is memory");
-    is_tried(rt, alloc, desk, trial);
+    is_tried(rt, alloc, Desk::<L>::new(hall, blank, opened), trial);
 }
 
-/// The same with a blank of its own.
+/// The same with a hall of its own, in which one worker searches each job.
 fn try_out<R>(rt: &R, alloc: Global, trial: Trial)
 where
     R: Wait + Abort + Threads + Clock + CpuClock + Sync,
 {
-    try_at::<Brand, R>(rt, alloc, Blank::new(PARTS), trial);
+    let (segments, nodes) = totals(trial);
+    let hall = hall_of(alloc, segments, nodes, 6).expect(rt, "there is memory");
+    let opened = Opened::new(alloc).expect(rt, "there is memory");
+    try_at::<Brand, R>(rt, alloc, hall, Blank::new(PARTS), opened, trial);
 }
 
 /// What is tried up to the desk's end, and what is tried at a desk that is there.

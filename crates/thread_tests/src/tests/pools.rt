@@ -12,8 +12,8 @@ mod rows;
 mod searches;
 mod seats;
 
-use super::calls::{desk_of, end};
-use desk::{Desk, DeskLedger, PARTS};
+use super::calls::{end, hall_of};
+use desk::{Desk, DeskLedger, Hall, Jamboree, Opened, PARTS, Step};
 use sched_rules::Worker;
 use std::alloc::Global;
 use std::marker::Brand;
@@ -79,20 +79,26 @@ pub(crate) fn play<S: Scenario, G: Gate + Sync, R: Threads + Wait + Sync>(
     alloc: Global,
     table: &Table<'_, S, G>,
 ) -> Option<Played> {
-    play_on::<Brand, S, G, R>(rt, alloc, Blank::new(PARTS), table)
+    let hall = hall_of(alloc, table.segments, 1 << 20, table.grain)?;
+    let opened = Opened::new(alloc).ok()?;
+    play_on::<Brand, S, G, R>(rt, alloc, hall, Blank::new(PARTS), opened, table)
 }
 
 /// The same over the ledger of the desk.
 fn play_on<L: DeskLedger + Send + Sync, S: Scenario, G: Gate + Sync, R: Threads + Wait + Sync>(
     rt: &R,
     alloc: Global,
+    hall: Hall,
     blank: Blank,
+    opened: Opened<Step<Jamboree>>,
     table: &Table<'_, S, G>,
 ) -> Option<Played>
     requires name { blank.name ≡ L.name }
     requires parts { (blank.parts ≡ L.parts) × (L.all ≡ L.parts) × (L.all ≡ 13835058055282163712) }
+    requires history { opened ≡ L.table }
+    requires begun { hall ≡ L.begun }
 {
-    let desk: Desk<L> = desk_of(alloc, table.segments, 1 << 20, table.grain, blank)?;
+    let desk: Desk<L> = Desk::new(hall, blank, opened);
     let ended = beside(rt, alloc, &desk, table)?;
     came_to(desk, ended, table.segments as usize)
 }

@@ -4,7 +4,8 @@ ghost use Rattle.std.specs.Prelude.{◌≡◌, ◌≤◌, length};
 use super::driving::{Offers, drive};
 use super::holds;
 use desk::{
-    Badge, Config, Desk, DeskLedger, Hall, Jamboree, PARTS, Step, StepAnswer, StepOf, Worker,
+    Badge, Config, Desk, DeskLedger, Hall, Jamboree, Opened, PARTS, Step, StepAnswer, StepOf,
+    Worker,
 };
 use frame_tree::FrameId;
 use line_io::{FromWriter, ReadFailed, Sink, Source};
@@ -136,18 +137,27 @@ fn new_hall(rt: &impl Abort, alloc: Global) -> Hall {
     Hall::new(alloc, Config::new(64, 64).unwrap(), 1).expect(rt, "there is memory")
 }
 
-/// The same at a new desk.
-fn served<L: DeskLedger, R: Wait + Abort>(rt: &R, alloc: Global, blank: Blank) -> bool
+/// The same at a new desk of this hall.
+fn served<L: DeskLedger, R: Wait + Abort>(
+    rt: &R,
+    alloc: Global,
+    hall: Hall,
+    blank: Blank,
+    opened: Opened<Step<Jamboree>>,
+) -> bool
     requires name { blank.name ≡ L.name }
     requires parts { (blank.parts ≡ L.parts) × (L.all ≡ L.parts) × (L.all ≡ 13835058055282163712) }
+    requires history { opened ≡ L.table }
+    requires begun { hall ≡ L.begun }
 {
-    let desk: Desk<L> = Desk::new(new_hall(rt, alloc), blank);
+    let desk: Desk<L> = Desk::new(hall, blank, opened);
     is_served(rt, alloc, &desk)
 }
 
-/// The same with a blank of its own.
+/// The same with a hall of its own.
 fn served_here<R: Wait + Abort>(rt: &R, alloc: Global) -> bool {
-    served::<Brand, R>(rt, alloc, Blank::new(PARTS))
+    let opened = Opened::new(alloc).expect(rt, "there is memory");
+    served::<Brand, R>(rt, alloc, new_hall(rt, alloc), Blank::new(PARTS), opened)
 }
 
 #[test]

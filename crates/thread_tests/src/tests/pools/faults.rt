@@ -3,9 +3,9 @@ ghost use Rattle.std.specs.Prelude.{◌≡◌};
 
 use super::run_sized;
 use super::seats::{asks, seat};
-use crate::tests::calls::{badge, desk_of, end};
+use crate::tests::calls::{badge, end, hall_of};
 use crate::tests::{holds, holds_of, holds_that};
-use desk::{Desk, DeskLedger, PARTS, Seat};
+use desk::{Desk, DeskLedger, Hall, Jamboree, Opened, PARTS, Seat, Step};
 use sched_rules::Worker;
 use std::alloc::Global;
 use std::marker::Brand;
@@ -67,14 +67,18 @@ fn found_of<L: DeskLedger + Send + Sync, R: Threads + Wait + Sync>(
 fn found_at<L: DeskLedger + Send + Sync, R: Threads + Wait + Sync>(
     rt: &R,
     alloc: Global,
+    hall: Hall,
     blank: Blank,
+    opened: Opened<Step<Jamboree>>,
     sizes: PoolSizes,
     works: bool,
 ) -> Option<Found>
     requires name { blank.name ≡ L.name }
     requires parts { (blank.parts ≡ L.parts) × (L.all ≡ L.parts) × (L.all ≡ 13835058055282163712) }
+    requires history { opened ≡ L.table }
+    requires begun { hall ≡ L.begun }
 {
-    let desk: Desk<L> = desk_of(alloc, 64, 1_024, 0, blank)?;
+    let desk: Desk<L> = Desk::new(hall, blank, opened);
     let found = found_of(rt, alloc, &desk, sizes, works)?;
     let badge = badge(rt, &desk)?;
     if end(desk, badge).free == 64 {
@@ -91,7 +95,9 @@ fn tried<R: Threads + Wait + Sync>(
     sizes: PoolSizes,
     works: bool,
 ) -> Option<Found> {
-    found_at::<Brand, R>(rt, alloc, Blank::new(PARTS), sizes, works)
+    let hall = hall_of(alloc, 64, 1_024, 0)?;
+    let opened = Opened::new(alloc).ok()?;
+    found_at::<Brand, R>(rt, alloc, hall, Blank::new(PARTS), opened, sizes, works)
 }
 
 /// Whether a pool of these sizes doesn't run for this, after so many threads had ended, and it was tried to be said so

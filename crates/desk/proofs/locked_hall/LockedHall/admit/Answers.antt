@@ -1,5 +1,46 @@
-use Rattle.std.proofs.Common.{rules}
+use Rattle.std.proofs.Common.{rules, ◌≡◌, ◌<◌, ◌++◌, ◌∷◌, [], ℕ, List, sym, ap, ◌∙◌, subst, refl, arith}
+use Rattle.sched_rules.specs.declared.step.StepOf.{StepOf}
+use Rattle.sched_rules.specs.declared.step.StepOf.TheVariants.{Admit}
+use Rattle.hall.specs.jamboree_rules.declared.leaf.LeafAnswer.{LeafAnswer}
+use Rattle.shared_history.specs.Views.{Known}
+use Rattle.desk.specs.Histories.{AllOwn, AreSeats, HasNoLeave, IsAdmitted, IsComeBy}
+use Rattle.desk.proofs.Coming.{come_admitted, new_unused}
 use Rattle.desk.proofs.locked_hall.LockedHall.admit.Goals as goal
 
-pub returns-clause-seat : goal.returns-clause-seat
-returns-clause-seat g c = search rules
+pub invariant_of-self-2 : goal.invariant_of-self-2
+invariant_of-self-2 g c =
+    let begun = g.L.DeskLedger.begun in
+    let now = c.offer.new.self in
+    let t = c.next_tenant-tenant.result in
+    let m = c.begin-trace.result.maker in
+    let is = c.add.ensures.history ∙ ap (λ (l : List (ℕ × StepOf LeafAnswer)). l ++ (m, Admit t c.args.reserve) ∷ []) c.begin-trace.ensures.history in
+    let offered = c.in_ok-offer.ensures in
+    let come : IsComeBy begun now.grain now.shared c.add.new.self =
+    subst (λ (l : List (ℕ × StepOf LeafAnswer)). IsComeBy begun now.grain now.shared l) (sym is)
+    (come_admitted begun c.self.inside.hall now c.self.inside.history m t c.args.reserve c.in_ok-offer.field-0 c.self.invariant.7 c.next_tenant-tenant.ensures.value offered.one offered.taken offered.newest offered.explained) in
+    search rules
+
+pub invariant_of-result : goal.invariant_of-result
+invariant_of-result g c =
+    let t = c.next_tenant-tenant.result in
+    let mine : c.add.new.trace.mine ≡ Admit t c.args.reserve ∷ [] =
+    ap (λ (k : Known (StepOf LeafAnswer)). k.mine) c.add.ensures.trace ∙ ap (λ (l : List (StepOf LeafAnswer)). l ++ Admit t c.args.reserve ∷ []) c.begin-trace.ensures.seen.1 in
+    let none_left : HasNoLeave c.add.new.trace.mine = subst (λ (l : List (StepOf LeafAnswer)). HasNoLeave l) (sym mine) (refl, tt) in
+    let seats : AreSeats t c.add.new.trace.mine = (c.args.reserve, [], mine, subst (λ l. AllOwn t l) (sym mine) (refl, refl, tt)) in
+    let later = c.self.invariant.7.later in
+    let number = c.next_tenant-tenant.ensures.value in
+    let above : g.L.DeskLedger.begun.shared.newest < t = omega (arith, later, number) in
+    search rules
+
+pub returns-clause-admitted : goal.returns-clause-admitted
+returns-clause-admitted g c =
+    let log = c.self.inside.history in
+    let t = c.next_tenant-tenant.result in
+    let m = c.begin-trace.result.maker in
+    let step : StepOf LeafAnswer = Admit t c.args.reserve in
+    let seen = c.add.ensures.history ∙ ap (λ (l : List (ℕ × StepOf LeafAnswer)). l ++ (m, step) ∷ []) c.begin-trace.ensures.history in
+    let mine = ap (λ (l : List (StepOf LeafAnswer)). l ++ step ∷ []) c.begin-trace.ensures.seen.1 in
+    let known : Known (StepOf LeafAnswer) = record { maker = m; seen = log ++ (m, step) ∷ []; mine = step ∷ [] } in
+    let is : c.add.new.trace ≡ known = c.add.ensures.trace ∙ (λ i. record { maker = m; seen = seen i; mine = mine i }) in
+    subst (λ (k : Known (StepOf LeafAnswer)). IsAdmitted c.args.reserve (record { tenant = t; share = 1; asked = c.new.result.items; known = k })) (sym is)
+    (record { before = log; seen = refl; unused = new_unused g.L.DeskLedger.begun c.self.inside.hall log t c.self.invariant.7 c.next_tenant-tenant.ensures.value; unmade = c.begin-trace.ensures.fresh; mine = refl })

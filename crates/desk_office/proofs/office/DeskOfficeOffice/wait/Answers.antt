@@ -1,10 +1,13 @@
-use Rattle.std.proofs.Common.{inr, refl}
+use Rattle.std.proofs.Common.{inr, refl, ◌∙◌}
 use Rattle.session.specs.Calls.{Wait}
 use Rattle.desk_office.specs.Offices.{asks_of}
-use Rattle.desk_office.proofs.SeatLemmas.{same_asks, seat_shows, told_to}
+use Rattle.desk_office.proofs.SeatLemmas.{same_asks, seat_looks, seat_shows, told_to}
 use Rattle.desk_office.proofs.office.DeskOfficeOffice.wait.Goals as goal
 
 pub returns-in-Some : goal.returns-in-Some
 returns-in-Some g c =
-    let shows = seat_shows c.args.self.now.seat c.in-Some.seat c.args.job c.wait.result c.told_answer.result c.in-Some.is c.wait.ensures c.told_answer.ensures in
-    (same_asks (asks_of c.args.self.now.seat) (Wait c.args.job) c.args.job c.told_answer.result, shows.0, shows.1, told_to (Wait c.args.job) c.args.job c.told_answer.result (inr refl))
+    let seat = c.wait_seen.new.seat in
+    let kept = c.wait_seen.ensures.look.kept in
+    let looks = seat_looks c.args.self.now.seat c.in-Some.seat seat c.in-Some.is kept in
+    let shows = seat_shows c.args.self.now.seat c.in-Some.seat seat c.args.job c.wait_seen.result c.told_answer.result c.in-Some.is kept c.wait_seen.ensures.shown c.told_answer.ensures in
+    (looks ∙ same_asks (asks_of c.args.self.now.seat) (Wait c.args.job) c.args.job c.told_answer.result, shows.0, shows.1, told_to (Wait c.args.job) c.args.job c.told_answer.result (inr refl))

@@ -2,7 +2,7 @@
 ghost use Rattle.std.specs.Prelude.{◌≡◌, ◌<◌};
 
 use super::{given, heap_of, holds, small_hall};
-use desk::{Desk, DeskLedger, Hall, PARTS};
+use desk::{Desk, DeskLedger, Hall, Jamboree, Opened, PARTS, Step};
 use desk_office::serve_desk;
 use line_io::{FromWriter, ReadFailed, Sink, Source};
 use linked_list_allocator::LocalHeap;
@@ -151,29 +151,24 @@ fn told_of<L: DeskLedger, R: Wait>(
     hall: Hall<&LocalHeap>,
     ballast: Vec<u8, &LocalHeap>,
     blank: Blank,
+    opened: Opened<Step<Jamboree>>,
     plan: Plan,
 ) -> Vec<u8>
     requires name { blank.name ≡ L.name }
     requires parts { (blank.parts ≡ L.parts) × (L.all ≡ L.parts) × (L.all ≡ 13835058055282163712) }
+    requires history { opened ≡ L.table }
+    requires begun { hall ≡ L.begun }
 {
-    let desk: Desk<L, &LocalHeap> = Desk::new(hall, blank);
+    let desk: Desk<L, &LocalHeap> = Desk::new(hall, blank, opened);
     told_at(rt, alloc, &desk, ballast, plan)
 }
 
 /// What the session reads at a desk over this heap; None where not even the hall could be made.
-fn told_in<L: DeskLedger, R: Wait>(
-    rt: &R,
-    alloc: Global,
-    heap: &LocalHeap,
-    blank: Blank,
-    plan: Plan,
-) -> Option<Vec<u8>>
-    requires name { blank.name ≡ L.name }
-    requires parts { (blank.parts ≡ L.parts) × (L.all ≡ L.parts) × (L.all ≡ 13835058055282163712) }
-{
+fn told_in<R: Wait>(rt: &R, alloc: Global, heap: &LocalHeap, plan: Plan) -> Option<Vec<u8>> {
     let ballast = Vec::with_capacity(heap, BALLAST).ok()?;
     let hall = small_hall(heap, 2)?;
-    Some(told_of::<L, R>(rt, alloc, hall, ballast, blank, plan))
+    let (blank, opened) = (Blank::new(PARTS), Opened::new(alloc).ok()?);
+    Some(told_of::<Brand, R>(rt, alloc, hall, ballast, blank, opened, plan))
 }
 
 /// What came of the line of a plan.
@@ -189,19 +184,11 @@ enum Outcome {
 }
 
 /// What comes of the line of the plan in a heap with room for so many units beside the ballast, which gets all back.
-fn outcome_in<L: DeskLedger, R: Wait + Abort>(
-    rt: &R,
-    alloc: Global,
-    units: usize,
-    blank: Blank,
-    plan: Plan,
-) -> Outcome
-    requires few { units < 16384 }
-    requires name { blank.name ≡ L.name }
-    requires parts { (blank.parts ≡ L.parts) × (L.all ≡ L.parts) × (L.all ≡ 13835058055282163712) }
+fn outcome_of<R: Wait + Abort>(rt: &R, alloc: Global, units: usize, plan: Plan) -> Outcome
+    requires { units < 16384 }
 {
     let heap = heap_of(rt, alloc, BALLAST + units * UNIT as usize);
-    let told = told_in::<L, R>(rt, alloc, &heap, blank, plan);
+    let told = told_in(rt, alloc, &heap, plan);
     holds(rt, heap.used() == 0);
     match told {
         None => Outcome::NoRoom,
@@ -220,13 +207,6 @@ fn judged(told: &[u8], plan: Plan) -> Outcome {
     } else {
         Outcome::Otherwise
     }
-}
-
-/// The same with a blank of its own.
-fn outcome_of<R: Wait + Abort>(rt: &R, alloc: Global, units: usize, plan: Plan) -> Outcome
-    requires { units < 16384 }
-{
-    outcome_in::<Brand, R>(rt, alloc, units, Blank::new(PARTS), plan)
 }
 
 /// In how many heaps with more and more room memory is wanting for the line of the plan, until it isn't; 0 where

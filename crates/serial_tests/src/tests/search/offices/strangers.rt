@@ -2,7 +2,7 @@
 ghost use Rattle.std.specs.Prelude.{◌≡◌};
 
 use super::{holds, small_hall};
-use desk::{Desk, DeskLedger, Hall, PARTS, Refusal};
+use desk::{Desk, DeskLedger, Hall, Jamboree, Opened, PARTS, Refusal, Step};
 use desk_office::DeskOffice;
 use session::Office;
 use std::marker::Brand;
@@ -73,23 +73,32 @@ fn is_new_desk_as_it_says<L: DeskLedger, R: Wait>(
     rt: &R,
     hall: Hall,
     blank: Blank,
+    opened: Opened<Step<Jamboree>>,
     reserve: Reserve,
 ) -> bool
     requires name { blank.name ≡ L.name }
     requires parts { (blank.parts ≡ L.parts) × (L.all ≡ L.parts) × (L.all ≡ 13835058055282163712) }
+    requires history { opened ≡ L.table }
+    requires begun { hall ≡ L.begun }
 {
-    let desk: Desk<L> = Desk::new(hall, blank);
+    let desk: Desk<L> = Desk::new(hall, blank, opened);
     is_new_office_as_it_says(rt, &desk, reserve)
 }
 
 /// The same with a blank of its own.
-fn are_offices_as_they_say<R: Wait>(rt: &R, hall: Hall, reserve: Reserve) -> bool {
-    is_new_desk_as_it_says::<Brand, R>(rt, hall, Blank::new(PARTS), reserve)
+fn are_offices_as_they_say<R: Wait>(
+    rt: &R,
+    hall: Hall,
+    opened: Opened<Step<Jamboree>>,
+    reserve: Reserve,
+) -> bool {
+    is_new_desk_as_it_says::<Brand, R>(rt, hall, Blank::new(PARTS), opened, reserve)
 }
 
 #[test]
 fn an_office_has_one_tenant_and_says_where_it_has_none(rt: HostRuntime) {
     let reserve = Reserve::new(1, 1).unwrap();
     let hall = small_hall(rt.alloc(), 0).expect(&rt, "there is memory");
-    holds(&rt, are_offices_as_they_say(&rt, hall, reserve));
+    let opened = Opened::new(rt.alloc()).expect(&rt, "there is memory");
+    holds(&rt, are_offices_as_they_say(&rt, hall, opened, reserve));
 }

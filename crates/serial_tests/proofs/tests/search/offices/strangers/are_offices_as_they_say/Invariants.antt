@@ -3,5 +3,8 @@ use Rattle.serial_tests.proofs.tests.search.offices.strangers.are_offices_as_the
 abbrev pub ghosts-is_new_desk_as_it_says-L-Ledger : goal.ghosts-is_new_desk_as_it_says-L-Ledger
 ghosts-is_new_desk_as_it_says-L-Ledger g a = record { name = a.blank.name; parts = a.blank.parts }
 
+abbrev pub ghosts-is_new_desk_as_it_says-L-Naming : goal.ghosts-is_new_desk_as_it_says-L-Naming
+ghosts-is_new_desk_as_it_says-L-Naming g a = record { table = a.opened }
+
 abbrev pub ghosts-is_new_desk_as_it_says-L-DeskLedger : goal.ghosts-is_new_desk_as_it_says-L-DeskLedger
-ghosts-is_new_desk_as_it_says-L-DeskLedger g a = record { all = a.blank.parts }
+ghosts-is_new_desk_as_it_says-L-DeskLedger g a = record { all = a.blank.parts; begun = a.hall }

@@ -1,0 +1,15 @@
+use Rattle.std.proofs.Common.{rules, ℕ, List, sym, subst}
+use Rattle.sched_rules.specs.declared.step.StepOf.{StepOf}
+use Rattle.hall.specs.jamboree_rules.declared.leaf.LeafAnswer.{LeafAnswer}
+use Rattle.hall.specs.Halls.{HallOf}
+use Rattle.desk.specs.Histories.{IsComeBy}
+use Rattle.desk.proofs.Coming.{come_begun}
+use Rattle.desk.proofs.locked_hall.LockedHall.new.Goals as goal
+
+pub invariant_of-result : goal.invariant_of-result
+invariant_of-result g c =
+    let begun = g.L.DeskLedger.begun in
+    let come : IsComeBy begun c.keep.new.self.grain c.keep.new.self.shared c.named.result =
+    subst (λ (x : HallOf × List (ℕ × StepOf LeafAnswer)). IsComeBy begun x.0.grain x.0.shared x.1) (λ i. (sym c.keep.ensures i, sym c.named.ensures i))
+    (come_begun begun c.args.hall c.requires.begun c.count-before.ensures.explained) in
+    search rules
