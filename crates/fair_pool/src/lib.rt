@@ -8,7 +8,8 @@
 //! for 1,024; a task beyond them is dropped, and its frame stays ready in the hall, where picks find it.
 //!
 //! The site is whatever has a hall, and who shares it, under a lock ([`Site`]); while it is locked it is a [`HeldHall`], and a worker takes
-//! up to 32 [`steps`] there. Each task that is begun is charged to its tenant as 1, and each leaf as what it cost.
+//! up to 32 [`steps`] there. Each task that is begun is charged to its tenant as 1, and each leaf as 4 to the
+//! power of its depth (not yet as the positions that its search entered).
 //!
 //! What is proved is that each turn is the table's (`pool_rules`), and no task but that of its turn is pushed; that between turns under
 //! one lock the worker goes on with a pick, only where one is due, or with the newest task of its own deque, which is counted

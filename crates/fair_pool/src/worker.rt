@@ -105,8 +105,9 @@ fn work_off<S: Site, R: Wait>(
     }
 }
 
-/// Computes a leaf, and returns what the worker holds then, the answer, to be brought to the hall, and what the leaf cost. This
-/// function is handed neither a means to wait nor anything that has a lock, so it can't take one.
+/// Computes a leaf, and returns what the worker holds then, the answer, to be brought to the hall, and what the leaf is counted as: 4 to
+/// the power of its depth, as an answer doesn't tell how many positions its search entered. This function is handed neither a means to
+/// wait nor anything that has a lock, so it can't take one.
 fn computed(frame: FrameId, leaf: Leaf) -> (Holding, u64)
     ensures { BringsAnswerTo frame leaf result.0 }
 {
