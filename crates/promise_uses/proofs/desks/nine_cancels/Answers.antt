@@ -1,8 +1,0 @@
-use Rattle.promise_uses.proofs.Parts.{taken-of, refused-of}
-use Rattle.promise_uses.proofs.desks.nine_cancels.Goals as goal
-
-pub returns-clause-taken : goal.returns-clause-taken
-returns-clause-taken g c there = taken-of g.L.DeskLedger.begun _ _ _ _ (rw (← c.requires.nine) (c.cancel.ensures.told there))
-
-pub returns-clause-refused : goal.returns-clause-refused
-returns-clause-refused g c there = refused-of g.L.DeskLedger.begun _ _ _ _ (rw (← c.requires.nine) (c.cancel.ensures.told there))
