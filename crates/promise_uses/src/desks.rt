@@ -1,5 +1,5 @@
 //! What a seat of tenant 9 knows after its calls at a desk.
-ghost use Rattle.std.specs.Prelude.{◌≡◌, ◌++◌, ◌∷◌, [], ℕ, List, length, Option, Some, None, Err, IfOk, IfErr, Contains};
+ghost use Rattle.std.specs.Prelude.{◌≡◌, ◌++◌, ◌∷◌, [], ℕ, List, Option, Some, None, Err, IfOk, IfErr, Contains};
 ghost use Rattle.sched_rules.specs.declared.refusal.Refusal.TheVariants.{Full, NoJob, OldTenant, OutOfMemory};
 ghost use Rattle.sched_rules.specs.declared.step.StepOf.TheVariants.{Admit, Leave};
 ghost use Rattle.sched_rules.specs.Runs.{alone, only};
@@ -17,7 +17,6 @@ ghost use Rattle.promises.specs.Tenants.{SearchStep};
 
 use desk::{Desk, DeskLedger, Seat, Trace};
 use hall::{Jamboree, Outcome, Refusal, Step};
-use position_text::Position;
 use std::alloc::Allocator;
 use std::sync::Wait;
 use tenant_quota::{Left, Reserve};
@@ -35,19 +34,6 @@ pub fn a_new_seat<L: DeskLedger, A: Allocator + Clone, R: Wait>(
     ensures refused { IfErr result (Contains (Full ∷ OldTenant ∷ OutOfMemory ∷ [])) }
 {
     desk.admit(rt, reserve)
-}
-
-/// Tenant 9 has had its 256 jobs, and asks once more: nothing changes. Uses `desk::Desk::ask` (`full`).
-pub fn nine_asks_in_vain<L: DeskLedger, A: Allocator + Clone, R: Wait>(
-    rt: &R,
-    desk: &Desk<L, A>,
-    seat: &mut Seat<L>,
-    position: &Position,
-) -> Result<u64, Refusal>
-    requires { length seat.old.asked ≡ 256 }
-    ensures unchanged { seat.new ≡ seat.old }
-{
-    desk.ask(rt, seat, position, 12)
 }
 
 /// What tenant 9 is told that it has left is what it has at the end of the history that its seat has then seen. There the tenant
