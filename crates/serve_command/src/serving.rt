@@ -1,14 +1,9 @@
 //! The command `serve`: a listener on 127.0.0.1, a hall under a desk, and what is said once the workers were started
 //! and at the end.
-//!
-//! When the last session has ended, the hall is taken out of the desk with the badge that the pool ended with. If that
-//! gives the share with all parts of the desk's ledger, every step in the hall is one that a seat or a badge counted:
-//! no accepted step was lost, and nobody else took one. Nobody can make such a share up, so `serve_at` gives it back,
-//! and only where it is there the program says `ended` and has the status 0.
 ghost use Rattle.std.specs.Prelude.{◌≡◌, ◌≤◌, true, IfOk, Ok};
 ghost use Rattle.line_io.specs.Writes.{IsWritten};
 ghost use Rattle.hall.specs.Halls.{empty_hall};
-ghost use Rattle.serve_command.specs.Running.{IsListening, IsServed, ended_text, listening_text};
+ghost use Rattle.serve_command.specs.Running.{IsServed, ended_text, listening_text};
 
 use crate::service::Service;
 use command_line::Options;
@@ -19,9 +14,9 @@ use std::alloc::Global;
 use std::io;
 use std::net::{Ipv4Addr, Net, SocketAddr, TcpListener, TcpStream};
 use std::sync::Wait;
-use std::sync::ledger::{Blank, Share};
+use std::sync::ledger::Blank;
 use std::thread::Threads;
-use tcp_server::desk::{Badge, Config, Desk, DeskLedger, Hall, Jamboree, Opened, PARTS, Step};
+use tcp_server::desk::{Config, Desk, DeskLedger, Hall, Jamboree, Opened, PARTS, Step};
 use tcp_server::steal_pool::{Announce, OpenGate};
 use tcp_server::{ServeFault, ServerConfig, serve_announced};
 use thiserror::Error;
@@ -44,9 +39,6 @@ pub enum Unserved {
     /// The server failed while it began or served.
     #[error("{0}")]
     Ended(ServeFault),
-    /// All sessions have ended, but some seat or badge hasn't come back, so steps may be uncounted.
-    #[error("not every step is accounted for")]
-    Uncounted,
 }
 
 impl From<ServeFault> for Unserved {
@@ -107,8 +99,8 @@ impl<K: Sink> Announce for Listening<'_, K> {
 
 /// Runs the server that is asked for, and returns the exit status when all its sessions have ended or it has failed.
 /// The output gets `listening 127.0.0.1:port` once the listener listens and all workers were started, and `ended k`
-/// after the last of the k sessions, if every step of the hall is accounted for. At status 0 both lines were written,
-/// and nothing else; else the status is 1, and the reason is written on the errors.
+/// after the last of the k sessions. At status 0 both lines were written, and nothing else; else the status is 1, and
+/// the reason is written on the errors.
 pub fn serve_as_asked<L, R, K: Sink, E: Sink>(
     rt: &R,
     alloc: Global,
@@ -129,7 +121,7 @@ where
     ensures told { result ≡ 0 → IsServed K.takes sink.old asked.sessions sink.new }
 {
     match serve_at::<L, R, K>(rt, alloc, blank, opened, asked, sink) {
-        Ok(_whole) => EXIT_OK,
+        Ok(()) => EXIT_OK,
         Err(why) => failed(errors, why),
     }
 }
@@ -143,8 +135,7 @@ pub(crate) fn failed<E: Sink>(errors: &mut E, why: Unserved) -> u8
 }
 
 /// Listens at the port that is asked for, makes a hall and its desk, and serves there (`serve_from`). `Ok` where both
-/// lines `listening` and `ended` were written and every step of the hall is accounted for: with it comes the share that
-/// has all parts of the desk's ledger, which nobody can make up.
+/// lines `listening` and `ended` were written.
 fn serve_at<L, R, K: Sink>(
     rt: &R,
     alloc: Global,
@@ -152,7 +143,7 @@ fn serve_at<L, R, K: Sink>(
     opened: Opened<Step<Jamboree>>,
     asked: Service,
     sink: &mut K,
-) -> Result<Share<L>, Unserved>
+) -> Result<(), Unserved>
 where
     L: DeskLedger + Send + Sync,
     R: Net<Listener = TcpListener, Stream = TcpStream> + Threads + Wait + Sync,
@@ -160,8 +151,7 @@ where
     requires parts { (blank.parts ≡ L.parts) × (L.all ≡ L.parts) × (L.all ≡ PARTS) }
     requires history { opened ≡ L.table }
     requires begun { L.begun ≡ empty_hall asked.grain asked.config }
-    ensures told { IfOk result (λ _. IsServed K.takes sink.old asked.sessions sink.new) }
-    ensures whole { IfOk result (λ whole. whole.parts ≡ L.parts) }
+    ensures { IfOk result (λ _. IsServed K.takes sink.old asked.sessions sink.new) }
 {
     let listener = match TcpListener::bind(rt, (Ipv4Addr::LOCALHOST, asked.port)) {
         Ok(listener) => listener,
@@ -171,20 +161,12 @@ where
         return Err(Unserved::OutOfMemory);
     };
     let desk: Desk<L> = Desk::new(hall, blank, opened);
-    let badge = serve_from(rt, alloc, &desk, listener, asked, sink)?;
-    let Some(whole) = desk.into_hall(badge).1 else {
-        return Err(Unserved::Uncounted);
-    };
-    if is_ended(alloc, sink, asked.sessions) {
-        Ok(whole)
-    } else {
-        Err(Unserved::Unwritten)
-    }
+    serve_from(rt, alloc, &desk, listener, asked, sink)
 }
 
 /// Serves the sessions that are asked for at this desk, and returns when they have ended or the server has failed.
-/// Writes the line `listening` once all workers were started. `Ok` where it was written and all sessions have ended:
-/// then the badge of all workers is returned.
+/// Writes the line `listening` once all workers were started, and `ended` after the last session; `Ok` where both were
+/// written.
 fn serve_from<L, R, K: Sink>(
     rt: &R,
     alloc: Global,
@@ -192,12 +174,12 @@ fn serve_from<L, R, K: Sink>(
     listener: TcpListener,
     asked: Service,
     sink: &mut K,
-) -> Result<Badge<L>, Unserved>
+) -> Result<(), Unserved>
 where
     L: DeskLedger + Send + Sync,
     R: Net<Listener = TcpListener, Stream = TcpStream> + Threads + Wait + Sync,
     requires { L.all ≡ L.parts }
-    ensures { IfOk result (λ _. IsListening K.takes sink.old sink.new) }
+    ensures { IfOk result (λ _. IsServed K.takes sink.old asked.sessions sink.new) }
 {
     let address = match listener.local_addr() {
         Ok(address) => address,
@@ -209,8 +191,13 @@ where
         address,
     };
     let config = ServerConfig::new(asked.sessions, asked.workers);
-    let (_told, end) = serve_announced(rt, alloc, desk, listener, config, &OpenGate, call)?;
-    Ok(end.badge)
+    let (told, _end) = serve_announced(rt, alloc, desk, listener, config, &OpenGate, call)?;
+    let Listening { sink: told, .. } = told;
+    if is_ended(alloc, told, asked.sessions) {
+        Ok(())
+    } else {
+        Err(Unserved::Unwritten)
+    }
 }
 
 /// Writes the line `listening` with this address, which the first write offers as a whole, and returns whether all of
