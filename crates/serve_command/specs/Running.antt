@@ -27,13 +27,10 @@ listening_text address = codes "listening " ++ (socket_text address ++ 10 ∷ []
 abbrev pub ended_text : ℕ → Text
 ended_text sessions = codes "ended " ++ (decimal sessions ++ 10 ∷ [])
 
--- the output was told that a server listens at some address, and nothing else
-abbrev pub IsListening : {K : Type 0} → (K → WriteAnswer → K → Type 0) → K → K → Type 0
-IsListening takes sink sink' = (address : SocketAddr) × IsWritten takes sink (listening_text address) sink' (Ok tt)
-
 -- the output was told that a server listens at some address, then that so many sessions have ended, and nothing else
 abbrev pub IsServed : {K : Type 0} → (K → WriteAnswer → K → Type 0) → K → ℕ → K → Type 0
-IsServed {K} takes sink sessions sink' = (between : K) × IsListening takes sink between × IsWritten takes between (ended_text sessions) sink' (Ok tt)
+IsServed {K} takes sink sessions sink' =
+    (address : SocketAddr) × (between : K) × IsWritten takes sink (listening_text address) between (Ok tt) × IsWritten takes between (ended_text sessions) sink' (Ok tt)
 
 module _ {S K : Type 0} (gives : S → ReadAnswer → S → Type 0) (takes : K → WriteAnswer → K → Type 0) (source : S) (sink : K) (source' : S) (sink' : K) where
   -- what is done for the words, and the exit status, 0 or 1 for a server: it reads nothing of the input, and where its

@@ -4,11 +4,11 @@
 //! When the last session has ended, the hall is taken out of the desk with the badge that the pool ended with. If that
 //! gives the share with all parts of the desk's ledger, every step in the hall is one that a seat or a badge counted:
 //! no accepted step was lost, and nobody else took one. Nobody can make such a share up, so `serve_at` gives it back,
-//! and only where it is there the program says `ended` and has the status 0.
+//! and only where it is there the status is 0.
 ghost use Rattle.std.specs.Prelude.{◌≡◌, ◌≤◌, true, IfOk, Ok};
 ghost use Rattle.line_io.specs.Writes.{IsWritten};
 ghost use Rattle.hall.specs.Halls.{empty_hall};
-ghost use Rattle.serve_command.specs.Running.{IsListening, IsServed, ended_text, listening_text};
+ghost use Rattle.serve_command.specs.Running.{IsServed, ended_text, listening_text};
 
 use crate::service::Service;
 use command_line::Options;
@@ -107,8 +107,8 @@ impl<K: Sink> Announce for Listening<'_, K> {
 
 /// Runs the server that is asked for, and returns the exit status when all its sessions have ended or it has failed.
 /// The output gets `listening 127.0.0.1:port` once the listener listens and all workers were started, and `ended k`
-/// after the last of the k sessions, if every step of the hall is accounted for. At status 0 both lines were written,
-/// and nothing else; else the status is 1, and the reason is written on the errors.
+/// after the last of the k sessions. At status 0 both lines were written, and nothing else, and every step of the hall is
+/// accounted for; else the status is 1, and the reason is written on the errors.
 pub fn serve_as_asked<L, R, K: Sink, E: Sink>(
     rt: &R,
     alloc: Global,
@@ -171,20 +171,45 @@ where
         return Err(Unserved::OutOfMemory);
     };
     let desk: Desk<L> = Desk::new(hall, blank, opened);
+    serve_to_the_end(rt, alloc, desk, listener, asked, sink)
+}
+
+/// Serves at this desk (`serve_from`), and then takes the hall out of it. `Ok` as for `serve_at`.
+fn serve_to_the_end<L, R, K: Sink>(
+    rt: &R,
+    alloc: Global,
+    desk: Desk<L>,
+    listener: TcpListener,
+    asked: Service,
+    sink: &mut K,
+) -> Result<Share<L>, Unserved>
+where
+    L: DeskLedger + Send + Sync,
+    R: Net<Listener = TcpListener, Stream = TcpStream> + Threads + Wait + Sync,
+    requires { L.all ≡ L.parts }
+    ensures told { IfOk result (λ _. IsServed K.takes sink.old asked.sessions sink.new) }
+    ensures whole { IfOk result (λ whole. whole.parts ≡ L.parts) }
+{
     let badge = serve_from(rt, alloc, &desk, listener, asked, sink)?;
-    let Some(whole) = desk.into_hall(badge).1 else {
-        return Err(Unserved::Uncounted);
-    };
-    if is_ended(alloc, sink, asked.sessions) {
-        Ok(whole)
-    } else {
-        Err(Unserved::Unwritten)
+    accounted(desk, badge)
+}
+
+/// The share that has all parts of the desk's ledger, where this badge has all that no seat and no other badge gave
+/// back: then every step of the hall is accounted for. Else `Uncounted`.
+fn accounted<L: DeskLedger>(desk: Desk<L>, badge: Badge<L>) -> Result<Share<L>, Unserved>
+    requires { L.all ≡ L.parts }
+    ensures { IfOk result (λ whole. whole.parts ≡ L.parts) }
+{
+    let (_hall, whole) = desk.into_hall(badge);
+    match whole {
+        Some(whole) => Ok(whole),
+        None => Err(Unserved::Uncounted),
     }
 }
 
 /// Serves the sessions that are asked for at this desk, and returns when they have ended or the server has failed.
-/// Writes the line `listening` once all workers were started. `Ok` where it was written and all sessions have ended:
-/// then the badge of all workers is returned.
+/// Writes the line `listening` once all workers were started, and `ended` after the last session. `Ok` where both were
+/// written: then the badge of all workers is returned.
 fn serve_from<L, R, K: Sink>(
     rt: &R,
     alloc: Global,
@@ -197,7 +222,7 @@ where
     L: DeskLedger + Send + Sync,
     R: Net<Listener = TcpListener, Stream = TcpStream> + Threads + Wait + Sync,
     requires { L.all ≡ L.parts }
-    ensures { IfOk result (λ _. IsListening K.takes sink.old sink.new) }
+    ensures { IfOk result (λ _. IsServed K.takes sink.old asked.sessions sink.new) }
 {
     let address = match listener.local_addr() {
         Ok(address) => address,
@@ -209,8 +234,13 @@ where
         address,
     };
     let config = ServerConfig::new(asked.sessions, asked.workers);
-    let (_told, end) = serve_announced(rt, alloc, desk, listener, config, &OpenGate, call)?;
-    Ok(end.badge)
+    let (told, end) = serve_announced(rt, alloc, desk, listener, config, &OpenGate, call)?;
+    let Listening { sink: told, .. } = told;
+    if is_ended(alloc, told, asked.sessions) {
+        Ok(end.badge)
+    } else {
+        Err(Unserved::Unwritten)
+    }
 }
 
 /// Writes the line `listening` with this address, which the first write offers as a whole, and returns whether all of
