@@ -13,7 +13,7 @@ mod searches;
 mod seats;
 
 use super::calls::{end, hall_of};
-use desk::{Desk, DeskLedger, Hall, Jamboree, Opened, PARTS, Step};
+use desk::{Badge, Desk, DeskLedger, Hall, Jamboree, Opened, PARTS, Step};
 use sched_rules::Worker;
 use std::alloc::Global;
 use std::marker::Brand;
@@ -103,8 +103,17 @@ fn play_on<L: DeskLedger + Send + Sync, S: Scenario, G: Gate + Sync, R: Threads 
     came_to(desk, ended, table.segments as usize)
 }
 
+/// What a pool's thread gives back of its end.
+#[derive(Drop)]
+struct Ended<L: DeskLedger> {
+    badge: Badge<L>,
+    pushed: u128,
+    taken: u128,
+    left: u128,
+}
+
 /// What a pool came to, where all shares and so many segments came back.
-fn came_to<L: DeskLedger>(desk: Desk<L>, end_of_pool: PoolEnd<L>, segments: usize) -> Option<Played>
+fn came_to<L: DeskLedger>(desk: Desk<L>, end_of_pool: Ended<L>, segments: usize) -> Option<Played>
     requires { L.all ≡ L.parts }
 {
     let played = Played {
@@ -179,13 +188,33 @@ fn run<L: DeskLedger + Send + Sync, G: Gate + Sync, R: Threads + Wait + Sync>(
     }
 }
 
+/// Runs the pool as `run` does, and gives back what its thread brings.
+fn run_there<L: DeskLedger + Send + Sync, G: Gate + Sync, R: Threads + Wait + Sync>(
+    rt: &R,
+    alloc: Global,
+    desk: &Desk<L>,
+    workers: u8,
+    gate: &G,
+    room: Option<usize>,
+) -> Option<Ended<L>>
+    requires { L.all ≡ L.parts }
+{
+    let end = run(rt, alloc, desk, workers, gate, room)?;
+    Some(Ended {
+        pushed: end.pushed,
+        taken: end.taken,
+        left: end.left,
+        badge: end.badge,
+    })
+}
+
 /// Runs the pool in a thread, plays, and closes the desk: what the pool ends with, where the scenario was content.
 fn beside<L: DeskLedger + Send + Sync, S: Scenario, G: Gate + Sync, R: Threads + Wait + Sync>(
     rt: &R,
     alloc: Global,
     desk: &Desk<L>,
     table: &Table<'_, S, G>,
-) -> Option<PoolEnd<L>>
+) -> Option<Ended<L>>
     requires { L.all ≡ L.parts }
 {
     let (scenario, gate) = (table.scenario, table.gate);
@@ -197,9 +226,9 @@ fn beside<L: DeskLedger + Send + Sync, S: Scenario, G: Gate + Sync, R: Threads +
             requires { L.all ≡ L.parts }
         {
             let started = scope.spawn(
-                move || -> Option<PoolEnd<L>>
+                move || -> Option<Ended<L>>
                     requires { L.all ≡ L.parts }
-                { run(rt, alloc, desk, workers, gate, room) },
+                { run_there(rt, alloc, desk, workers, gate, room) },
             );
             let Ok(pool) = started else { return None };
             let is_content = scenario.play(rt, desk);
