@@ -72,7 +72,7 @@ BODIES = (
     ("one direction flips nothing", ("board", "[-1, 0, 1].flatMap((down) => [-1, 0, 1].map(", "[-1, 0, 1].flatMap((down) => [0, 1].map("), ("Position", "for (int right = -1;", "for (int right = 0;")),
     ("nobody passes", ("board", "squares : [PASS];", "squares : [];"), ("Position", "? found : List.of(PASS);", "? found : List.of();")),
     ("black's number is the mover's", ("score", 'this.side === "X" ? this.mover : 0 - this.mover', "this.mover"), ("Score", "return side == 'X' ? mover() : -mover();", "return mover();")),
-    ("a wrong depth is sent", ("analyst", "if (!Number.isInteger(depth) || depth < 0 || depth > DEEPEST) throw", "if (false) throw"), ("Client", 'if (depth < 0 || depth > Core.DEEPEST) throw', 'if (depth < -99) throw')),
+    ("a wrong depth is sent", ("analyst", "if (!Number.isInteger(depth) || depth < 0 || depth > DEEPEST) throw", "if (false) throw"), ("Calls", 'if (depth < 0 || depth > Core.DEEPEST) throw', 'if (depth < -99) throw')),
     ("an endless source is taken without end", ("analyst", "&& taken.length < window) coming", ") coming"), ("Many", "taken - given >= how.window()", "taken < 0")),
     ("many answers come in any order", ("analyst", 'const next = order === "asked" ? known.find((one) => one === taken[0]) : known[0];', "const next = known[0];"), ("Many", "if (how.isOrdered()) early.put(outcome.index(), outcome);", "if (taken < 0) early.put(outcome.index(), outcome);")),
     ("what the caller leaves isn't cancelled", ("analyst", 'stops.end(new ColuwenError("the answers aren\'t wanted any more"));', ""), ("Many", "left.forEach(future -> future.cancel(true));", "")),

@@ -70,15 +70,4 @@ export class Position {
   flip() {
     return new Position([...this.cells].map((cell) => OTHER[cell] ?? cell).join(""), OTHER[this.side]);
   }
-
-  /** The board for a terminal, with what `marks` (a map) has for its empty squares; a pass stands below it. */
-  drawn(marks = new Map()) {
-    const width = Math.max(1, ...[...marks.values()].map((text) => text.length)) + 1;
-    const lines = [`  ${[..."abcdefgh"].map((column) => column.padStart(width)).join("")}`];
-    for (let row = 0; row < 8; row += 1) {
-      const cells = [...this.cells.slice(8 * row, 8 * row + 8)].map((cell, at) => marks.get(SQUARES[8 * row + at]) ?? cell.replace("-", "."));
-      lines.push(`${row + 1} ${cells.map((cell) => cell.padStart(width)).join("")}`);
-    }
-    return [...lines, ...(marks.has(PASS) ? [`pass ${marks.get(PASS)}`] : [])].join("\n");
-  }
 }

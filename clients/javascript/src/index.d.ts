@@ -43,7 +43,6 @@ export declare class Position {
   play(move: string): Position;
   flip(): Position;
   equals(other: unknown): boolean;
-  drawn(marks?: Map<string, string>): string;
 }
 
 /** As the player `side` sees it. Scores of one side are ordered by `<`. */

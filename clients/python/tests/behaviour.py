@@ -80,8 +80,9 @@ class Server:
             except OSError:
                 return
             number, self.accepted = self.accepted, self.accepted + 1
-            self.threads.append(threading.Thread(target=self.serve, args=(stream, number), daemon=True))
-            self.threads[-1].start()
+            thread = threading.Thread(target=self.serve, args=(stream, number), daemon=True)
+            thread.start()
+            self.threads.append(thread)  # (begun: `ended` joins it)
 
     def serve(self, stream: socket.socket, number: int) -> None:
         with stream:

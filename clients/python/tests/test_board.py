@@ -65,8 +65,15 @@ def test_rules_on_games(choices: list[int], turn: int) -> None:
             changed = {square for square, before, now in zip(SQUARES, position.cells, after.cells) if before != now}
             assert walked and changed == walked | {move} and set(position.flips(move)) == walked
             assert after.empties == position.empties - 1 and after.discs(position.side) == position.discs(position.side) + len(walked) + 1
-        assert len(position.symmetric(turn).legal_moves()) == len(moves) and position.flip().legal_moves() == moves
+        assert len(turned(position, turn).legal_moves()) == len(moves) and position.flip().legal_moves() == moves
         position = after
+
+
+def turned(position: Position, number: int) -> Position:
+    """One of the eight positions that are the same but for a rotation or reflection."""
+    rows = [position.cells[at : at + 8] for at in range(0, 64, 8)][:: -1 if number & 2 else 1]
+    rows = [row[:: -1 if number & 1 else 1] for row in rows]
+    return Position("".join("".join(column) for column in zip(*rows)) if number & 4 else "".join(rows), position.side)
 
 
 def walk(position: Position, move: str) -> set[str]:
@@ -82,12 +89,6 @@ def walk(position: Position, move: str) -> set[str]:
             if line and 0 <= c < 8 and 0 <= r < 8 and position.cells[8 * r + c] == position.side:
                 found |= set(line)
     return found
-
-
-def test_symmetries() -> None:
-    position = Position.opening().play("f5").play("d6")
-    assert len({position.symmetric(number).text for number in range(8)}) == 8
-    assert {len(position.symmetric(number).legal_moves()) for number in range(8)} == {len(position.legal_moves())}
 
 
 def test_errors_of_a_match() -> None:

@@ -251,8 +251,10 @@ def test_patience() -> None:
     work = Question(3, OPENING)
     stage = Stage(model, sessions=2, patience=3)
     stage.ask(work)
-    stage.run(2)
-    assert not work.ended and [text for text in stage.told if "ERR 14" in text]
+    stage.run(0.9)
+    assert not stage.told
+    stage.run(1.1)
+    assert not work.ended and [text for text in stage.told if "ERR 14" in text] and 10 < len(stage.lines("HELLO")) < 22  # ten times a second
     stage.run(5)
     assert isinstance(work.fault, Refused) and work.fault.number == 14 and 3 <= stage.ended[-1][0] < 3.5
     stage = Stage(model, sessions=2, patience=30)
@@ -609,3 +611,71 @@ def test_what_an_errand_is_refused_for() -> None:
     assert not errand.ended and hand.waits(0.09) == [] and hand.waits(0.02) == ["1 QUOTA"]
     hand.hear(1, "ERR 28")
     assert isinstance(errand.fault, Refused) and errand.fault.number == 28
+
+
+def asked(hand: Hand, *questions: Question) -> None:
+    """Each question by a session of its own, which looks at its job."""
+    for key, question in enumerate(questions, 1):
+        assert hand.ask(question) == [f"open {key}"] and hand.opens(key) == [f"{key} ASK {question.depth} {question.position}"]
+        assert hand.hear(key, "JOB 1") == [f"{key} GET 1"]
+
+
+def test_what_lost_sessions_had_is_asked_again_in_its_order() -> None:
+    hand = Hand(sessions=2)
+    asked(hand, Question(1, OPENING), Question(2, OPENING))
+    hand.ask(Question(3, OPENING))
+    for key in (1, 2):
+        hand.core.failed(key, "reset", hand.now)
+        assert hand.does() == [f"shut {key}", f"open {key + 2}"]
+    assert hand.opens(3) == [f"3 ASK 1 {OPENING}"] and hand.opens(4) == [f"4 ASK 2 {OPENING}"]
+
+
+@pytest.mark.parametrize("answer", ["PENDING 1", "ERR 17"])
+def test_a_job_that_is_done_has_a_table(answer: str) -> None:
+    hand = Hand(sessions=1)
+    asked(hand, Question(2, OPENING))
+    assert hand.hear(1, "DONE 1 5 d3") == ["1 TABLE 1"] and hand.hear(1, answer) == ["shut 1", "open 2"] and not hand.ended
+
+
+def test_where_others_go_on_no_session_is_tried_for_a_while() -> None:
+    hand = Hand(sessions=2)
+    asked(hand, Question(2, OPENING))
+    assert hand.ask(Question(2, OPENING)) == ["open 2"]
+    hand.core.failed(2, "nobody is there", hand.now)
+    assert hand.does() == ["shut 2"]
+    hand.core.failed(2, "nobody is there", hand.now)  # (of one that is over nothing is heard)
+    assert hand.does() == [] and "open 3" not in hand.waits(0.95) and "open 3" in hand.waits(0.1)
+
+
+def test_a_session_that_has_too_little_stays_where_there_is_room_for_another() -> None:
+    hand = Hand(sessions=2)
+    asked(hand, Question(2, OPENING))
+    hand.hear(1, "DONE 1 5 d3", "TABLE 1 d3=5")
+    hand.core._needs[9] = 1
+    assert hand.ask(Question(9, OPENING)) == ["open 2"]
+    assert hand.opens(2) == [f"2 ASK 9 {OPENING}"] and hand.ask(Question(2, OPENING)) == [f"1 ASK 2 {OPENING}"]
+
+
+def test_a_server_that_is_away_for_a_moment_is_no_loss_where_no_outage_is_endured() -> None:
+    model = Model(job=0.1)
+    model.away = [(1.0, 1.5)]
+    stage = Stage(model, sessions=1, outage=0)
+    stage.ask(Question(2, OPENING))
+    stage.run(1.1)
+    stage.ask(work := Question(2, POSITIONS[1]))
+    stage.run(5)
+    assert results([work]) == [value_of(POSITIONS[1])]
+
+
+def test_who_waits_for_what_the_server_is_is_told_that_it_can_t_be_found_out() -> None:
+    hand = Hand(sessions=1)
+    hand.core._needs[9] = 1
+    hand.ask(question := Question(9, OPENING))
+    hand.opens(1)
+    hand.hear(1, "JOB 1", "SPENT 1")
+    hand.hear(1, "BYE")
+    for key in range(2, 6):
+        assert not question.ended and hand.opens(key) == [f"{key} INFO"]
+        hand.core.failed(key, "reset", hand.now)
+        hand.does()
+    assert isinstance(question.fault, Unreachable) and "reset" in str(question.fault) and not hand.core.closed

@@ -185,7 +185,7 @@ def test_a_program_that_is_taken_away_is_told(false: str) -> None:
 
 
 def test_an_interpreter_that_ends_without_close_leaves_no_process(false: str) -> None:
-    script = "import sys, os\nfrom coluwen import Engine, Position\ne = Engine(2, program=sys.argv[1])\nf = e.submit(Position.opening().flip(), 12)\ne.analyse(Position.opening(), 1)\nprint(*[s.process.pid for s in e._pool.seats])"
+    script = "import sys, os\nfrom coluwen import Engine, Position\ne = Engine(2, program=sys.argv[1])\nf = e.submit(Position.opening().flip(), 12)\ne.analyse(Position.opening(), 1)\nprint(*[p.pid for p in [*e._pool.spare, *[q.process for q in e._pool.running]]])"
     begun = time.monotonic()
     told = subprocess.run([sys.executable, "-c", script, false], stdout=subprocess.PIPE, text=True, timeout=SOON, check=True, env={**os.environ, "PYTHONPATH": os.pathsep.join(sys.path)})
     pids = told.stdout.split()

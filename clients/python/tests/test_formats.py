@@ -237,7 +237,8 @@ def test_sgf() -> None:
                                ("(;GM[2];B[f5];W[d6]", "1:20", ["f5", "d6"]), ("x", "1:1", []), ("(;GM[2]RE[W+3.5];W[f5])", "1:20", [])):  # fmt: skip
         found = list(sgf.read(text))
         assert [one.words() for one in found if isinstance(one, formats.Game)] in ([words], [] if not words else None) and str(found[-1]).startswith(f"text:{place}: ")
-    assert [sgf.result_of(text) for text in ("B+2", "W+10", "0", "Draw", "?", "")] == [2.0, -10.0, 0.0, 0.0, None, None]
+    assert [sgf.result_of(text) for text in ("B+2", "W+10", "w+2.5", "0", "Draw", "?", "")] == [2.0, -10.0, -2.5, 0.0, 0.0, None, None]
+    assert [next(strictly(sgf.read(f"(;GM[2]PL[{word}];)"))).start.side for word in ("white", "W", "B", "black")] == ["O", "O", "X", "X"]
 
 
 def test_pgn() -> None:
@@ -272,7 +273,7 @@ def test_boards() -> None:
     text = "# a comment\n" + "\n".join(rows) + "\nO\n\n" + spaced + "f5d6\n" + "\n".join(rows).replace("X", "*") + "\n" + OPENING.drawn() + "\n"
     found = list(strictly(formats.problems_of(text.encode(), "a.txt")))
     assert [one.position.text for one in found] == [f"{OPENING.cells} O", f"{OPENING.cells} O", OPENING.text, OPENING.play("f5").text, OPENING.text, OPENING.text]
-    assert [one.place.line for one in found] == [2, 13, 23, 23, 24, 33]
+    assert [one.place.line for one in found] == [2, 13, 23, 23, 24, 33] and found[0].place == formats.Place("a.txt", 2, 1)
     assert [one.position.text for one in strictly(formats.problems_of(f"8 {' '.join(rows)} *\nBO[8 {OPENING.cells} O]".encode()))] == [OPENING.text, f"{OPENING.cells} O"]
 
 
@@ -311,12 +312,34 @@ def test_small_things() -> None:
     data = wthor.write([random_game(1), random_game(2)], 2020)
     first, second = strictly(wthor.read(data, "a.wtb"))
     assert [one.place.column for one in (first, second)] == [17, 85] and first.theoretical == (first.result or 0) / 2 + 32
-    for discs, faults in ((64, 0), (65, 1)):
-        cut = data[:4] + b"\1" + data[5:16] + bytes([0, 0, 0, 0, 0, 0, discs, discs]) + bytes([56, 64]) + bytes(58)
+    for discs, theoretical, faults in ((64, 64, 0), (65, 64, 1), (64, 65, 1)):
+        cut = data[:4] + b"\1" + data[5:16] + bytes([0, 0, 0, 0, 0, 0, discs, theoretical]) + bytes([56, 64]) + bytes(58)
         assert sum(isinstance(one, FormatError) for one in wthor.read(cut)) == faults
     assert [str(one) for one in formats.games_of(b"x", "a.obf")] == ["a.obf: an .obf has positions, and no games"]
     assert [formats.kind_of(*one) for one in (("a.OBF", b""), ("a", b"2 (;GM[Othello]"), ("a", b"(;FF[4]GM[2]"), ("a", b'[Event "x"]'), ("a.wtb", b""), ("a", b"f5d6"), ("a.sgf", b""), ("a.pgn", b""))] == [
         "obf", "ggf", "sgf", "pgn", "wtb", "lines", "sgf", "pgn"]
+
+
+def test_scores_have_64_discs_at_most() -> None:
+    assert transcript.read("f5d6c3 +64").result == 64 and obf.read_line(f"{OPENING}; f5:-64;") == formats.Problem(OPENING, None, (formats.Expected("f5", -64),))
+    for call in (lambda: transcript.read("f5d6c3 +65"), lambda: obf.read_line(f"{OPENING}; f5:-65;")):
+        with pytest.raises(FormatError, match="a score of .65 discs"):
+            call()
+
+
+def test_one_game_of_ggf() -> None:
+    game = "(;GM[Othello]B[f5];)"
+    assert ggf.read_game(game).words() == ["f5"]
+    for text, said in ((game + game, "2 games stand there"), ("", "0 games"), ("(;GM[Othello]B[a1];)", "move 1, a1")):
+        with pytest.raises(FormatError, match=said):
+            ggf.read_game(text)
+
+
+def test_wthor_byte_by_byte() -> None:
+    begun = transcript.read("f5d6c3 33-31")
+    assert wthor.write_names(["A"], ".jou") == bytes([20, 0, 1, 1]) + bytes(4) + b"\1\0" + bytes(6) + b"A" + bytes(19)
+    head = bytes([20, 0, 1, 1, 1]) + bytes(5) + (2020).to_bytes(2, "little") + bytes([8, 0, 0, 0])
+    assert wthor.write([begun], 2020) == head + bytes([0, 0, 0, 0, 0, 0, 33, 33, 56, 64, 33]) + bytes(57)
 
 
 # Whatever comes in, a reader gives games, problems and faults, and no other exception; what was written is read again.

@@ -1,5 +1,6 @@
 """The page's parts without a browser: turns, what is asked once, what is cancelled, what is read, whom it answers."""
 import asyncio
+import dataclasses
 import json
 import re
 import types
@@ -216,8 +217,10 @@ def test_a_teacher_hears_who_follows_and_whose_hands_are_raised():
         assert json.loads(await anext(heads)) == {"followers": 1, "hands": [{"name": "Anna", "state": "#b"}]}
         rooms.raise_hand(opened["room"], "one", "Anna", None)
         assert json.loads(await anext(heads)) == {"followers": 1, "hands": []}
+        waiting = asyncio.ensure_future(anext(heads))
+        await asyncio.sleep(0.01)
         await pupil.aclose()
-        assert json.loads(await anext(heads)) == {"followers": 0, "hands": []}
+        assert json.loads(await waiting) == {"followers": 0, "hands": []}
         for number in range(150):
             rooms.raise_hand(opened["room"], str(number), "", "#")
         assert len(json.loads(await anext(heads))["hands"]) == 100
@@ -619,9 +622,35 @@ def test_what_is_left_is_given_up():
         service = Service(Library(engine, 1), [4], True)
         lines = service.analyse(OPENING, 4, [])
         assert json.loads(await anext(lines))["kind"] == "searching"
+        begun = asyncio.get_running_loop().time()
         await lines.aclose()
         await asyncio.sleep(0.01)
-        assert engine.given_up == [(OPENING.text, 4)] and not service.known.flights
+        assert asyncio.get_running_loop().time() - begun < 10 and engine.given_up == [(OPENING.text, 4)] and not service.known.flights
+
+    run(main())
+
+
+def test_a_lost_server_is_asked_again_after_a_pause(monkeypatch):
+    monkeypatch.setattr(page_library, "FIRST_PAUSE", 0.1)
+
+    async def main():
+        engine, begun = Engine(), asyncio.get_running_loop().time()
+        engine.faults = [Unreachable("lost"), Unreachable("lost")]
+        await Library(engine, 1).find(OPENING, 4, lambda _: None)
+        assert asyncio.get_running_loop().time() - begun >= 0.29  # 0.1 and 0.2 s
+
+    run(main())
+
+
+def test_where_the_best_move_wins_another_may_be_worth_points():
+    class Winning(Engine):
+        async def analyse(self, position, depth):
+            result = await super().analyse(position, depth)
+            return dataclasses.replace(result, score=Score(8000 if position == OPENING else 3))
+
+    async def main():
+        told = await lines_of(Service(Library(Winning(), 1), [4]), OPENING, 4, ["c4"])
+        assert [one["score"] for one in told if one["kind"] == "exact"] == [{"sign": "=", "points": -3}]
 
     run(main())
 

@@ -81,8 +81,6 @@ def parse(line: str, answer: bytes, jobs: int = 0) -> Answer:
                       else "the server ended the session")  # fmt: skip
 
     word, *rest = line.split(" ")
-    if word == "HELLO":
-        rest = rest[:2]  # a token isn't answered
     if not answer.endswith(b"\n") or len(answer) > LONGEST:
         raise misfit()
     text = answer[:-1].decode("latin-1")

@@ -273,7 +273,6 @@ class Core:
     def __init__(self, options: Options):
         self.options, self.levels = options, options.levels
         self.closed = False
-        self.opened_sessions = self.lost_sessions = 0
         self.info: Info | None = None
         self._sessions: dict[int, _Session] = {}
         self._waiting: dict[tuple[int, bool, bool], collections.deque[Work]] = {}
@@ -547,7 +546,6 @@ class Core:
     def _greeted(self, session: _Session, found: Answer | Refused, now: float) -> None:
         if not isinstance(found, Refused):
             session.is_ready = True
-            self.opened_sessions += 1
             self._full, self._pause = None, 0.0
             self._granted = max(self._granted, sum(other.is_ready for other in self._sessions.values()))
             self._noted -= {"full", "outage"}
@@ -596,7 +594,6 @@ class Core:
         """Drops a session; what it had to do is asked again in another one, or can't be had."""
         works = [work for work in self._works(session) if not work.ended]
         self._shut(session)
-        self.lost_sessions += 1
         for work in sorted(works, key=lambda work: -work.sequence):
             if isinstance(fault, Silent):
                 work.silent_since = work.silent_since if work.silences else now - session.silence

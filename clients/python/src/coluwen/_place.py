@@ -1,10 +1,10 @@
 """Where a server is and how it is spoken to: options, addresses, tokens."""
 from __future__ import annotations
 
-import dataclasses
 import os
 import re
 import ssl
+import threading
 import urllib.parse
 from typing import Any
 
@@ -30,23 +30,14 @@ def token_in(path: str) -> str:
     return token
 
 
-@dataclasses.dataclass(frozen=True)
-class Place:
-    """A server and a client's options."""
+class Served:
+    """What clients have of a server: where it is, and how it is spoken to. Where no host is named it is that of COLUWEN_URL, if there is one."""
 
-    host: str
-    port: int
-    tls: ssl.SSLContext | None
-    timeout: float | None
-    options: Options
-
-    @classmethod
-    def of(cls, host: str | None = None, port: int | None = None, *, tls: ssl.SSLContext | bool | None = None, token: str | None = None, sessions: int = SESSIONS,
-           ahead: int = 1, patience: float = PATIENCE, silence: float = SILENCE, outage: float = OUTAGE, timeout: float | None = None, segments: int | None = None,
-           nodes: int | None = None, counts: bool = False) -> Place:  # fmt: skip
-        """The same from `Client`'s words, each of which is tested. Where no host is named it is that of COLUWEN_URL, if there is one."""
+    def __init__(self, host: str | None = None, port: int | None = None, *, tls: ssl.SSLContext | bool | None = None, token: str | None = None, sessions: int = SESSIONS,
+                 ahead: int = 1, patience: float = PATIENCE, silence: float = SILENCE, outage: float = OUTAGE, timeout: float | None = None, segments: int | None = None,
+                 nodes: int | None = None, counts: bool = False):  # fmt: skip
         named = url_of(os.environ.get(URL, "")) if host is None and port is None else {}
-        at: tuple[str, int] = (host or str(named.get("host", HOST)), port or int(named.get("port", PORT)))
+        self._host, self._port = host or str(named.get("host", HOST)), port or int(named.get("port", PORT))
         tls, token = named.get("tls") if tls is None else tls, named.get("token") if token is None else token
         for name, number in (("sessions", sessions), ("ahead", ahead), ("segments", segments), ("nodes", nodes), ("port", port)):
             if number is not None and (isinstance(number, bool) or not isinstance(number, int) or number < 1):
@@ -56,16 +47,20 @@ class Place:
                 raise ValueError(f"{name} is a number of seconds, and not {seconds!r}")
         if token is not None and not re.fullmatch("[!-~]{1,64}", token):
             raise ValueError("a token has 1 to 64 letters, digits and signs")
-        context = tls_context() if tls is True else tls or None
-        options = Options(f"{at[0]}:{at[1]}", token, sessions, ahead, patience, silence, outage, segments, nodes, counts)
-        return cls(*at, context, timeout, options)
+        self._tls, self._timeout = tls_context() if tls is True else tls or None, timeout
+        self._options = Options(f"{self._host}:{self._port}", token, sessions, ahead, patience, silence, outage, segments, nodes, counts)
+        self.parallel = sessions * ahead  # how many questions are with the server at once
+        self._lock, self._closed = threading.Lock(), False
+        self._driver: Driver | None = None
 
     @property
-    def parallel(self) -> int:
-        return self.options.sessions * self.options.ahead
+    def address(self) -> str:
+        """The server's `host:port`."""
+        return self._options.address
 
-    def driver(self) -> Driver:
-        return Driver(self.host, self.port, self.tls, self.options)
+    def _made(self) -> Driver:
+        """What has the connections, of the loop that runs."""
+        return Driver(self._host, self._port, self._tls, self._options)
 
 
 def url_of(text: str) -> dict[str, Any]:

@@ -10,30 +10,21 @@ A task that is cancelled, as by `asyncio.timeout`, cancels its job at the server
 from __future__ import annotations
 
 import asyncio
-import ssl
 from collections.abc import AsyncIterable, AsyncIterator, Callable, Coroutine, Iterable
 from types import TracebackType
 from typing import Any
 
 from ._core import Info
 from ._driver import Driver
-from ._place import OUTAGE, PATIENCE, SESSIONS, SILENCE, Place
+from ._place import Served
 from .analyst import Asked, Many, Order, Outcome, Progress, Result, checked, moves_of, parts_of, result_of
 from .board import Position
 from .errors import Closed, ColuwenError, TooDeep
 from .score import Entry
 
 
-class AsyncClient:
+class AsyncClient(Served):
     """Answers any number of positions; the tasks of one loop may share it. Its options are those of `Client`."""
-
-    def __init__(self, host: str | None = None, port: int | None = None, *, tls: ssl.SSLContext | bool | None = None, token: str | None = None, sessions: int = SESSIONS,
-                 ahead: int = 1, patience: float = PATIENCE, silence: float = SILENCE, outage: float = OUTAGE, timeout: float | None = None, segments: int | None = None,
-                 nodes: int | None = None, counts: bool = False):  # fmt: skip
-        self._place = Place.of(host, port, tls=tls, token=token, sessions=sessions, ahead=ahead, patience=patience, silence=silence, outage=outage, timeout=timeout,
-                               segments=segments, nodes=nodes, counts=counts)  # fmt: skip
-        self._driver: Driver | None = None
-        self._closed = False
 
     async def __aenter__(self) -> AsyncClient:
         return self
@@ -45,18 +36,13 @@ class AsyncClient:
         if self._closed:
             raise Closed("the client is closed")
         if not self._driver:
-            self._driver = self._place.driver()
+            self._driver = self._made()
         return self._driver
-
-    @property
-    def parallel(self) -> int:
-        """How many questions are with the server at once."""
-        return self._place.parallel
 
     async def analyse(self, position: str | Position, depth: int, *, timeout: float | None = None) -> Result:
         """As `Client.analyse`."""
         place = checked(position, depth)
-        return result_of(place, depth, await self._driving().question(depth, place.text, self._place.timeout if timeout is None else timeout))
+        return result_of(place, depth, await self._driving().question(depth, place.text, self._timeout if timeout is None else timeout))
 
     async def analyse_all(self, position: str | Position, depth: int, *, timeout: float | None = None) -> list[Entry]:
         """As `Client.analyse_all`."""

@@ -86,6 +86,15 @@ def parted(asked: Any, depth: int | None) -> tuple[Any, Any]:
     return position, depth if own is None else own
 
 
+def settle(future: concurrent.futures.Future[Result], outcome: Result | BaseException) -> None:
+    """Ends a future, where nobody has cancelled it."""
+    if future.set_running_or_notify_cancel():
+        if isinstance(outcome, Result):
+            future.set_result(outcome)
+        else:
+            future.set_exception(outcome)
+
+
 def result_of(position: Position, depth: int, found: Found) -> Result:
     """What the core found, as a result."""
     entries = tuple(Entry(move, Score(value, sign, depth >= position.empties, position.side)) for move, sign, value in found.entries)

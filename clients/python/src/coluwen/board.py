@@ -212,17 +212,6 @@ class Position:
         """The same with the colours exchanged, discs and side to move alike: its value is the same."""
         return Position(self.cells.translate(str.maketrans("XO", "OX")), OTHER[self.side])
 
-    def symmetric(self, number: int) -> Position:
-        """One of the eight positions that rotation and reflection make of it: 0 is itself; with bit 1 left and right are
-        exchanged, with 2 top and bottom, with 4 rows and columns (after the others)."""
-        found = []
-        for row in range(8):
-            for column in range(8):
-                r, c = (column, row) if number & 4 else (row, column)
-                r, c = 7 - r if number & 2 else r, 7 - c if number & 1 else c
-                found.append(self.cells[8 * r + c])
-        return Position("".join(found), self.side)
-
     def final_discs(self, side: str | None = None) -> int:
         """How many discs a side (the one to move) has more than its opponent, an empty square being the winner's."""
         side = side or self.side

@@ -13,20 +13,19 @@ from __future__ import annotations
 import asyncio
 import concurrent.futures
 import os
-import ssl
 import threading
 from collections.abc import Coroutine
 from typing import Any
 
 from ._core import Found, Info, Question
 from ._driver import Driver
-from ._place import OUTAGE, PATIENCE, SESSIONS, SILENCE, URL, Place, url_of
-from .analyst import Analyst, Result, checked, result_of
+from ._place import URL, Served, url_of
+from .analyst import Analyst, Result, checked, result_of, settle
 from .board import Position
 from .errors import Closed
 
 
-class Client(Analyst):
+class Client(Served, Analyst):
     """Answers any number of positions by a server of `othello serve`; threads may share it. Where no host is named it is that of the variable
     COLUWEN_URL, else 127.0.0.1:4711.
 
@@ -38,21 +37,7 @@ class Client(Analyst):
 
     What happens meanwhile (a full or silent server, sessions that were lost) is told by `logging.getLogger("coluwen")`."""
 
-    def __init__(self, host: str | None = None, port: int | None = None, *, tls: ssl.SSLContext | bool | None = None, token: str | None = None, sessions: int = SESSIONS,
-                 ahead: int = 1, patience: float = PATIENCE, silence: float = SILENCE, outage: float = OUTAGE, timeout: float | None = None, segments: int | None = None,
-                 nodes: int | None = None, counts: bool = False):  # fmt: skip
-        self._place = Place.of(host, port, tls=tls, token=token, sessions=sessions, ahead=ahead, patience=patience, silence=silence, outage=outage, timeout=timeout,
-                               segments=segments, nodes=nodes, counts=counts)  # fmt: skip
-        self.parallel = self._place.parallel
-        self._lock = threading.Lock()
-        self._loop: asyncio.AbstractEventLoop | None = None
-        self._driver: Driver | None = None
-        self._closed = False
-
-    @property
-    def address(self) -> str:
-        """The server's `host:port`."""
-        return self._place.options.address
+    _loop: asyncio.AbstractEventLoop | None = None
 
     def _driving(self) -> tuple[asyncio.AbstractEventLoop, Driver]:
         """The loop that has the connections, by a thread of its own, once there is something to ask."""
@@ -67,7 +52,7 @@ class Client(Analyst):
 
     def _drive(self, loop: asyncio.AbstractEventLoop, made: concurrent.futures.Future[Driver]) -> None:
         async def begin() -> None:
-            made.set_result(self._place.driver())
+            made.set_result(self._made())
 
         asyncio.set_event_loop(loop)
         loop.run_until_complete(begin())
@@ -78,16 +63,10 @@ class Client(Analyst):
         place = checked(position, depth)
         loop, driver = self._driving()
         future = concurrent.futures.Future[Result]()
-        question = Question(depth, place.text, self._place.timeout if timeout is None else timeout)
+        question = Question(depth, place.text, self._timeout if timeout is None else timeout)
 
         def ended(one: asyncio.Future[Found]) -> None:
-            fault = one.exception()
-            if not future.set_running_or_notify_cancel():
-                return
-            if fault:
-                future.set_exception(fault)
-            else:
-                future.set_result(result_of(place, depth, one.result()))
+            settle(future, one.exception() or result_of(place, depth, one.result()))
 
         def begin() -> None:
             try:

@@ -14,7 +14,7 @@ import threading
 from typing import Any
 
 from ._core import DEEPEST, Info
-from .analyst import Analyst, Result, checked
+from .analyst import Analyst, Result, checked, settle
 from .board import Position
 from .engine import Engine
 from .errors import Broken, Closed, ColuwenError, Unreachable
@@ -59,26 +59,17 @@ class Task:
 
     def fail(self, fault: ColuwenError) -> None:
         for future in self.futures:
-            if future.set_running_or_notify_cancel():
-                future.set_exception(fault)
+            settle(future, fault)
 
     def ended(self, sent: Any) -> None:
         """Takes what the cluster says."""
         try:
-            answers = sent.result()
+            for future, answer in zip(self.futures, sent.result(), strict=True):
+                settle(future, answer)
         except concurrent.futures.CancelledError:
             self.fail(Broken("the cluster's scheduler was lost"))
-            return
         except Exception as fault:
             self.fail(Broken(f"the cluster failed: {fault}"))
-            return
-        for future, answer in zip(self.futures, answers, strict=True):
-            if not future.set_running_or_notify_cancel():
-                continue
-            if isinstance(answer, ColuwenError):
-                future.set_exception(answer)
-            else:
-                future.set_result(answer)
 
 
 class Cluster(Analyst):

@@ -11,11 +11,11 @@ that process; another is begun in its place.
 from __future__ import annotations
 
 import asyncio
-import collections
 import concurrent.futures
 import functools
 import os
 import pathlib
+import queue
 import re
 import select
 import shutil
@@ -26,7 +26,7 @@ import weakref
 
 from ._core import DEEPEST, Info
 from .aio import AsyncClient
-from .analyst import Analyst, Result, checked
+from .analyst import Analyst, Result, checked, settle
 from .board import Position
 from .errors import Broken, Closed, ColuwenError, Late, Refused, TooDeep, Unreachable
 from .score import AT_MOST, EXACT, Entry, Score
@@ -86,87 +86,91 @@ def version_of(path: str) -> str:
 
 
 class Question:
-    """One that is asked. `seat` is where it is searched."""
+    """One that is asked, and the process that searches it."""
 
     def __init__(self, position: Position, depth: int, timeout: float | None):
         self.position, self.depth, self.timeout = position, depth, timeout
         self.future = concurrent.futures.Future[Result]()
-        self.seat: Seat | None = None
+        self.process: subprocess.Popen[bytes] | None = None  # changed under the pool's lock alone
         self.asked = 0.0  # when its search began
-
-    @property
-    def line(self) -> bytes:
-        return f"{self.depth} {self.position.text}\n".encode()
-
-    def settle(self, value: int, move: str, entered: int) -> None:
-        if self.future.set_running_or_notify_cancel():
-            self.future.set_result(result_of(self, value, move, entered))
-
-    def fail(self, fault: ColuwenError) -> None:
-        if self.future.set_running_or_notify_cancel():
-            self.future.set_exception(fault)
 
 
 def result_of(question: Question, value: int, move: str, entered: int) -> Result:
     """A value and a best move as a result. What is known of the other moves is that none is worth more."""
     position, depth = question.position, question.depth
     best = None if move == "-" else move
-    entries = []
-    if best:
-        ends, moves = depth >= position.empties, position.legal_moves()
-        for one in [corner for corner in CORNERS if corner in moves] + [each for each in moves if each not in CORNERS]:
-            entries.append(Entry(one, Score(value, EXACT if one == best else AT_MOST, ends, position.side)))
-    return Result(position, depth, Score.of(value, position, depth), best, tuple(entries), time.monotonic() - question.asked, entered)
+    ends, moves = depth >= position.empties, position.legal_moves() if best else []
+    ordered = sorted(moves, key=lambda one: CORNERS.index(one) if one in CORNERS else len(CORNERS))
+    table = tuple(Entry(one, Score(value, EXACT if one == best else AT_MOST, ends, position.side)) for one in ordered)
+    return Result(position, depth, Score.of(value, position, depth), best, table, time.monotonic() - question.asked, entered)
 
 
-class Seat:
-    """A thread and its process, which is begun when there is something to ask, and again where it has ended."""
+class Pool:
+    """The threads and processes of an engine: a process is begun when there is something to ask and none is spare."""
 
-    def __init__(self, pool: Pool):
-        self.pool = pool
-        self.question: Question | None = None  # changed under the pool's lock alone, as is the process
-        self.process: subprocess.Popen[bytes] | None = None
-        self.thread = threading.Thread(target=self.run, name="coluwen-engine", daemon=True)
+    def __init__(self, program: str, workers: int):
+        self.program, self.workers = program, workers
+        self.lock = threading.Lock()  # of all below but what waits
+        self.waiting = queue.SimpleQueue[Question | None]()  # None ends a thread
+        self.threads: list[threading.Thread] = []
+        self.running: set[Question] = set()
+        self.spare: list[subprocess.Popen[bytes]] = []
+        self.closed = False
+
+    def ask(self, question: Question) -> None:
+        question.future.add_done_callback(lambda future: self.give_up(question) if future.cancelled() else None)
+        with self.lock:
+            if self.closed:
+                raise Closed("the engine is closed")
+            self.waiting.put(question)
+            if len(self.threads) < self.workers:
+                self.threads.append(threading.Thread(target=self.run, name="coluwen-engine", daemon=True))
+                self.threads[-1].start()
 
     def run(self) -> None:
-        while question := self.pool.take(self):
+        while question := self.waiting.get():
+            with self.lock:
+                self.running.add(question)
             try:
-                self.work(question)
+                outcome: Result | ColuwenError = self.answer(question)
             except ColuwenError as fault:
-                self.end()
-                question.fail(fault)
+                outcome = fault
             except BaseException as fault:  # of this package's own: nobody is to wait for an answer that never comes
-                self.end()
-                question.fail(Broken(f"the engine failed: {fault!r}"))
-        self.end()
+                self.end(question)
+                outcome = Broken(f"the engine failed: {fault!r}")
+            with self.lock:
+                self.running.discard(question)
+                self.spare += [question.process] if question.process else []
+                question.process = None
+            settle(question.future, outcome)
 
-    def work(self, question: Question) -> None:
+    def answer(self, question: Question) -> Result:
+        """What a process finds; one that ends without an answer is replaced, and one that was asked for too long or in vain is ended."""
         question.asked = time.monotonic()
         until = None if question.timeout is None else question.asked + question.timeout
         for _ in range(TRIES):
-            answer = self.ask(question.line, until)
+            answer = self.ask_process(question, until)
             if found := ANSWER.fullmatch(answer):
-                return question.settle(int(found[1]), found[2].decode(), int(found[3]))
+                return result_of(question, int(found[1]), found[2].decode(), int(found[3]))
             if refused := REFUSAL.fullmatch(answer):
                 raise Refused(int(refused[1]))
-            self.end()
-            if question.future.done():
-                return None
-            if self.pool.closed:
+            self.end(question)
+            if self.closed:
                 raise Closed("the engine is closed")
+            if question.future.done():
+                raise ColuwenError("it was given up")
             if until is not None and time.monotonic() >= until:
-                assert question.timeout is not None
-                raise Late(question.timeout)
-        raise Broken(f"the program {self.pool.program} ended without an answer {TRIES} times")
+                raise Late(question.timeout or 0.0)
+        raise Broken(f"the program {self.program} ended without an answer {TRIES} times")
 
-    def ask(self, line: bytes, until: float | None) -> bytes:
-        """What the process answers; less than a line where it has ended, or the time is over."""
-        process = self.begin()
+    def ask_process(self, question: Question, until: float | None) -> bytes:
+        """What a process says to it; less than a line where that has ended, or the time is over."""
+        process = self.process_of(question)
         if not process:
             return b""
         assert process.stdin and process.stdout
         try:
-            os.write(process.stdin.fileno(), line)
+            os.write(process.stdin.fileno(), f"{question.depth} {question.position.text}\n".encode())
         except BrokenPipeError:
             return b""
         answer = b""
@@ -178,90 +182,53 @@ class Seat:
             answer += part
         return answer
 
-    def begin(self) -> subprocess.Popen[bytes] | None:
-        """The process; none where what is asked was given up before it began."""
-        with self.pool.lock:
-            if self.pool.closed or (self.question and self.question.future.done()):
+    def process_of(self, question: Question) -> subprocess.Popen[bytes] | None:
+        """The process that searches it; none where it was given up before that began."""
+        with self.lock:
+            if self.closed or question.future.done():
                 return None
-            if not self.process:
-                try:  # in a process group of its own: Ctrl-C at the terminal is this program's matter
-                    self.process = subprocess.Popen([self.pool.program, *OPTIONS], bufsize=0, process_group=0,
-                                                    stdin=subprocess.PIPE, stdout=subprocess.PIPE, stderr=subprocess.DEVNULL)
-                except OSError as fault:
-                    raise Unreachable(f"{self.pool.program}: {fault.strerror or fault}") from fault
-            return self.process
+            try:  # in a process group of its own: Ctrl-C at the terminal is this program's matter
+                question.process = self.spare.pop() if self.spare else subprocess.Popen(
+                    [self.program, *OPTIONS], bufsize=0, process_group=0, stdin=subprocess.PIPE, stdout=subprocess.PIPE, stderr=subprocess.DEVNULL)  # fmt: skip
+            except OSError as fault:
+                raise Unreachable(f"{self.program}: {fault.strerror or fault}") from fault
+            return question.process
 
-    def end(self) -> None:
-        """Ends the process, and waits until it has."""
-        with self.pool.lock:
-            process, self.process = self.process, None
+    def end(self, question: Question) -> None:
+        """Ends the process that searches it, and waits until it has."""
+        with self.lock:
+            process, question.process = question.process, None
         if process:
-            process.kill()
-            for stream in (process.stdin, process.stdout):
-                if stream:
-                    stream.close()
-            process.wait()
-
-
-class Pool:
-    """What the threads share: the questions that wait, and whether the engine is closed."""
-
-    def __init__(self, program: str, workers: int):
-        self.program, self.workers = program, workers
-        self.lock = threading.RLock()
-        self.changed = threading.Condition(self.lock)
-        self.waiting: collections.deque[Question] = collections.deque()
-        self.seats: list[Seat] = []
-        self.closed = False
-
-    def ask(self, question: Question) -> None:
-        question.future.add_done_callback(lambda future: self.give_up(question) if future.cancelled() else None)
-        with self.lock:
-            if self.closed:
-                raise Closed("the engine is closed")
-            self.waiting.append(question)
-            if len(self.seats) < self.workers and len(self.waiting) > sum(not seat.question for seat in self.seats):
-                self.seats.append(Seat(self))
-                self.seats[-1].thread.start()
-            self.changed.notify()
-
-    def take(self, seat: Seat) -> Question | None:
-        """The next question; none where the engine is closed."""
-        with self.lock:
-            seat.question = None
-            while True:
-                while self.waiting:
-                    question = self.waiting.popleft()
-                    if not question.future.done():
-                        seat.question, question.seat = question, seat
-                        return question
-                if self.closed:
-                    return None
-                self.changed.wait()
+            finish(process)
 
     def give_up(self, question: Question) -> None:
-        """Ends the process that searches it; one that waits is passed over."""
+        """Kills the process that searches it, which its thread notices; one that waits is passed over."""
         with self.lock:
-            seat = question.seat
-            if seat and seat.question is question and seat.process:
-                seat.process.kill()
+            if question.process:
+                question.process.kill()
 
     def close(self) -> None:
         with self.lock:
-            if self.closed:
-                return
             self.closed = True
-            left, seats = list(self.waiting), list(self.seats)
-            self.waiting.clear()
-            for seat in seats:
-                if seat.process:
-                    seat.process.kill()
-            self.changed.notify_all()
-        for question in left:
-            question.fail(Closed("the engine is closed"))
-        for seat in seats:
-            if seat.thread is not threading.current_thread():
-                seat.thread.join()
+            for question in self.running:
+                if question.process:
+                    question.process.kill()
+        for _ in self.threads:
+            self.waiting.put(None)
+        for thread in self.threads:
+            if thread is not threading.current_thread():
+                thread.join()
+        for process in self.spare:
+            finish(process)
+
+
+def finish(process: subprocess.Popen[bytes]) -> None:
+    """Kills a process, and waits until it has ended."""
+    process.kill()
+    for stream in (process.stdin, process.stdout):
+        if stream:
+            stream.close()
+    process.wait()
 
 
 class Engine(Analyst):
@@ -279,11 +246,6 @@ class Engine(Analyst):
         self.parallel, self._timeout = workers, timeout
         self._pool = Pool(self.program, workers)
         self._ended = weakref.finalize(self, self._pool.close)  # also where the interpreter ends
-
-    @property
-    def address(self) -> str:
-        """What it is, for a reader: the program's path."""
-        return self.program
 
     def submit(self, position: str | Position, depth: int, *, timeout: float | None = None) -> concurrent.futures.Future[Result]:
         question = Question(checked(position, depth), depth, self._timeout if timeout is None else timeout)
@@ -313,37 +275,25 @@ class Fallback(Analyst):
         self.parallel = first.parallel
 
     def submit(self, position: str | Position, depth: int, *, timeout: float | None = None) -> concurrent.futures.Future[Result]:
-        future = concurrent.futures.Future[Result]()
-        asked = [self.first.submit(position, depth, timeout=timeout)]
+        future, begun = concurrent.futures.Future[Result](), list[concurrent.futures.Future[Result]]()
+
+        def begin(analyst: Analyst) -> None:
+            begun.append(analyst.submit(position, depth, timeout=timeout))
+            if future.cancelled():
+                begun[-1].cancel()
+            begun[-1].add_done_callback(ended)
 
         def ended(one: concurrent.futures.Future[Result]) -> None:
-            if one.cancelled() or future.cancelled():
-                future.cancel()
-                return
-            fault = one.exception()
-            if isinstance(fault, TooDeep) and len(asked) == 1:
+            fault = Closed("it was given up") if one.cancelled() else one.exception()
+            if isinstance(fault, TooDeep) and len(begun) == 1:
                 try:
-                    asked.append(self.second.submit(position, depth, timeout=timeout))
+                    return begin(self.second)
                 except ColuwenError as other:
                     fault = other
-                else:
-                    asked[1].add_done_callback(ended)
-                    if future.cancelled():
-                        asked[1].cancel()
-                    return
-            if future.set_running_or_notify_cancel():
-                if fault:
-                    future.set_exception(fault)
-                else:
-                    future.set_result(one.result())
+            return settle(future, fault or one.result())
 
-        def given_up(one: concurrent.futures.Future[Result]) -> None:
-            if one.cancelled():
-                for each in list(asked):
-                    each.cancel()
-
-        asked[0].add_done_callback(ended)
-        future.add_done_callback(given_up)
+        future.add_done_callback(lambda one: [each.cancel() for each in begun] if one.cancelled() else None)
+        begin(self.first)
         return future
 
     def info(self) -> Info:
@@ -364,24 +314,16 @@ class AsyncEngine(AsyncClient):
 
     def __init__(self, workers: int | None = None, *, program: str | None = None, timeout: float | None = None, analyst: Analyst | None = None):
         self._analyst = analyst or Engine(workers, program=program, timeout=timeout)
-
-    @property
-    def parallel(self) -> int:
-        """How many questions are worked on at once."""
-        return self._analyst.parallel
+        self.parallel = self._analyst.parallel
 
     async def analyse(self, position: str | Position, depth: int, *, timeout: float | None = None) -> Result:
-        """As `Engine.analyse`."""
         return await asyncio.wrap_future(self._analyst.submit(position, depth, timeout=timeout))
 
     async def info(self) -> Info:
-        """As `Engine.info`."""
         return await asyncio.to_thread(self._analyst.info)
 
     async def ping(self) -> float:
-        """As `Engine.ping`."""
         return await asyncio.to_thread(self._analyst.ping)
 
     async def close(self) -> None:
-        """As `Engine.close`."""
         await asyncio.to_thread(self._analyst.close)

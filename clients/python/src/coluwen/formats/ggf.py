@@ -14,7 +14,7 @@ from collections.abc import Iterable, Iterator
 
 from ..board import PASS, START, Position
 from ..errors import FormatError
-from .records import Builder, Game, Place
+from .records import Builder, Game, Place, strictly
 
 TAG = re.compile(r"\s*([A-Za-z]+)\s*\[([^\]]*)\]")
 MOVE = re.compile(r"\s*(?P<move>[a-hA-H][1-8]|(?i:pass|pa)|--)\s*(?:/\s*(?P<eval>[^/]*?)\s*(?:/\s*(?P<time>[^/]*?)\s*)?)?")
@@ -57,11 +57,8 @@ def place_of(text: str, at: int, file: str) -> Place:
 
 def read_game(text: str, file: str = "") -> Game:
     """The one game of a text; `FormatError` where it has a fault, or more stands there."""
-    found = list(read(text, file))
-    for one in found:
-        if isinstance(one, FormatError):
-            raise one
-    if len(found) != 1 or not isinstance(found[0], Game):
+    found = list(strictly(read(text, file)))
+    if len(found) != 1:
         raise FormatError(f"{len(found)} games stand there, and not one", file)
     return found[0]
 
@@ -105,7 +102,7 @@ def game_of(text: str, tags: list[tuple[str, str, int]], place: Place, file: str
         fault = raised
     others = tuple((name, value) for name, value, _ in tags if name not in (*SIDES, *FIELDS, "BO", "GM", "RE", "TY"))
     black, white, event, date = (named.get(name, "") for name in FIELDS)
-    return Game(builder.start, tuple(builder.moves), black, white, event, date, result_of(named.get("RE", "")), tags=others, place=place, is_whole=is_whole and not fault), fault
+    return Game(builder.start, tuple(builder.moves), black, white, event, date, number_of(named.get("RE", "").strip()), tags=others, place=place, is_whole=is_whole and not fault), fault
 
 
 def board_of(text: str) -> Position | None:
@@ -115,14 +112,9 @@ def board_of(text: str) -> Position | None:
 
 
 def number_of(text: str | None) -> float | None:
-    """A number, of which some programs write other signs behind it; None where there is none."""
+    """A number, behind which other signs may stand, as what ended a game does: `-64.000:r`; None where there is none, as of `?`."""
     found = re.match(r"[+-]?\d+(\.\d*)?", text or "")
     return float(found[0]) if found else None
-
-
-def result_of(text: str) -> float | None:
-    """`+4.000`, or with what ended the game behind it, `-64.000:r`; ? is none."""
-    return number_of(text.strip())
 
 
 def write(games: Iterable[Game]) -> str:

@@ -57,8 +57,8 @@ def parts(text: str, start: Position | None = None, place: Place = Place()) -> I
                 numbers.append(int(re.sub(r"\D", "", found["number"])))
                 if numbers[-1] not in (builder.count + 1, (builder.count + 2) // 2) or numbers != sorted(set(numbers)):
                     raise here.fault(f"the number {numbers[-1]} stands before move {builder.count + 1}")
-            if found["space"] and (lines := found[0].count("\n")):
-                line, begun = line + lines, at + found[0].rindex("\n") + 1
+            if found["space"] and (lines := found["space"].count("\n")):
+                line, begun = line + lines, at + found["space"].rindex("\n") + 1
             at = found.end()
         if not builder.moves:
             raise place.fault("there are no moves")

@@ -197,4 +197,4 @@ class Library:
 def steps_of(position: Position, depth: int, least: int = 4) -> list[int]:
     """The depths by which a position is looked at one after another, up to this one: 4, 6, 8 and so on, and at last the depth itself."""
     aim = min(depth, position.empties, DEEPEST)
-    return [*range(least, aim, 2), aim] if aim > 0 else [0]
+    return [*range(least, aim, 2), aim]

@@ -186,7 +186,7 @@ class Service:
                 behind = await self.library.find(result.position.play(move), left, telling(events, depth=result.depth, exact=True))
             except TooDeep:
                 continue
-            worth = Score(-behind.result.score.value, EXACT, result.score.ends and result.depth >= result.position.empties or behind.result.score.ends, result.position.side)
+            worth = Score(-behind.result.score.value, EXACT, result.depth >= result.position.empties or behind.result.score.ends, result.position.side)
             events.put_nowait({"kind": "exact", "depth": result.depth, "move": move, "score": score_of(worth, behind.empty)})
 
     # /class

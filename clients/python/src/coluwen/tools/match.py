@@ -253,29 +253,32 @@ class Table:
     def add(self, side: str, outcome: Outcome) -> None:
         self.discs.append((side, outcome.discs if side == BLACK else -outcome.discs))
 
+    @property
+    def pairs(self) -> list[list[int]]:
+        return [[discs for _, discs in self.discs[at : at + 2]] for at in range(0, len(self.discs), 2)]
+
     def score(self) -> tuple[float, float]:
         """The first one's score, from 0 to 1, and its error."""
-        points = [(discs > 0) + (discs == 0) / 2 for _, discs in self.discs]
-        return mean_and_error([sum(points[at : at + 2]) / len(points[at : at + 2]) for at in range(0, len(points), 2)])
+        return mean_and_error([sum(map(points_of, group)) / len(group) for group in self.pairs])
 
     def lines(self) -> list[str]:
         rows = [f"{'':24}{'games':>6}{'won':>6}{'drawn':>6}{'lost':>6}{'score':>9}{'error':>8}{'discs':>8}{'error':>8}"]
-        for label, discs in ((f"{self.one} as black", [d for side, d in self.discs if side == BLACK]), ("as white", [d for side, d in self.discs if side == WHITE])):
-            rows.append(row_of(label, discs, [(d > 0) + (d == 0) / 2 for d in discs]))
-        every = [discs for _, discs in self.discs]
-        pairs = [sum(every[at : at + 2]) / len(every[at : at + 2]) for at in range(0, len(every), 2)]
-        score, error = self.score()
-        mean, spread = mean_and_error(pairs)
-        won, drawn = sum(d > 0 for d in every), sum(d == 0 for d in every)
-        rows.append(f"{'in all':24}{len(every):>6}{won:>6}{drawn:>6}{len(every) - won - drawn:>6}{100 * score:>8.1f}%{100 * error:>7.1f}%{mean:>+8.2f}{spread:>8.2f}")
-        return [*rows, f"Elo {elo_text(score, error)}"]
+        for label, colour in ((f"{self.one} as black", BLACK), ("as white", WHITE)):
+            rows.append(row_of(label, [[discs] for side, discs in self.discs if side == colour]))
+        return [*rows, row_of("in all", self.pairs), f"Elo {elo_text(*self.score())}"]
 
 
-def row_of(label: str, discs: list[int], points: list[float]) -> str:
-    score, error = mean_and_error(points)
-    mean, spread = mean_and_error([float(each) for each in discs])
-    won, drawn = sum(d > 0 for d in discs), sum(d == 0 for d in discs)
-    return f"{label[:24]:24}{len(discs):>6}{won:>6}{drawn:>6}{len(discs) - won - drawn:>6}{100 * score:>8.1f}%{100 * error:>7.1f}%{mean:>+8.2f}{spread:>8.2f}"
+def points_of(discs: int) -> float:
+    return (discs > 0) + (discs == 0) / 2
+
+
+def row_of(label: str, groups: list[list[int]]) -> str:
+    """The results of games, each group of which counts once in the errors."""
+    every = [discs for group in groups for discs in group]
+    score, error = mean_and_error([sum(map(points_of, group)) / len(group) for group in groups])
+    mean, spread = mean_and_error([sum(group) / len(group) for group in groups])
+    won, drawn = sum(discs > 0 for discs in every), sum(discs == 0 for discs in every)
+    return f"{label[:24]:24}{len(every):>6}{won:>6}{drawn:>6}{len(every) - won - drawn:>6}{100 * score:>8.1f}%{100 * error:>7.1f}%{mean:>+8.2f}{spread:>8.2f}"
 
 
 def mean_and_error(numbers: list[float]) -> tuple[float, float]:

@@ -4,10 +4,8 @@ import java.time.Duration;
 import java.util.ArrayList;
 import java.util.Comparator;
 import java.util.List;
-import java.util.concurrent.CancellationException;
 import java.util.concurrent.CompletableFuture;
 import java.util.concurrent.CompletionException;
-import java.util.concurrent.ExecutionException;
 import java.util.function.Consumer;
 import java.util.function.Function;
 import java.util.stream.Stream;
@@ -44,12 +42,12 @@ public interface Analyst extends AutoCloseable {
 
   /** The same by the thread that calls; an interrupt cancels the job, and {@code Stopped} is thrown. */
   default Result analyse(Position position, int depth, Duration timeout) {
-    return joined(analyseAsync(position, depth, timeout));
+    return Calls.joined(analyseAsync(position, depth, timeout));
   }
 
   /** Each move's value exactly, the best first, of equals the one from a1 on: one question for each position that a move leads to. */
   default List<Entry> analyseAll(Position position, int depth) {
-    checked(depth);
+    Calls.checked(depth);
     if (depth < 1) throw new IllegalArgumentException("moves are looked at from depth 1 on");
     var futures = new ArrayList<CompletableFuture<Entry>>();
     var questions = new ArrayList<CompletableFuture<Result>>();
@@ -64,7 +62,7 @@ public interface Analyst extends AutoCloseable {
       }));
     }
     try {
-      return futures.stream().map(Analyst::joined).sorted(Comparator.comparing(Entry::score).reversed()).toList();
+      return futures.stream().map(Calls::joined).sorted(Comparator.comparing(Entry::score).reversed()).toList();
     } finally {
       questions.forEach(question -> question.cancel(true));
     }
@@ -100,26 +98,7 @@ public interface Analyst extends AutoCloseable {
    * taken by a thread of its own, no further ahead than the window. Where the stream is closed, what isn't answered is cancelled.
    */
   default <T> Stream<Outcome<T>> analyseMany(Iterable<T> questions, Function<? super T, Position> positionOf, int depth, Bulk how) {
-    checked(depth);
+    Calls.checked(depth);
     return new Many<>(this, questions, positionOf, depth, how).stream();
-  }
-
-  private static void checked(int depth) {
-    if (depth < 0 || depth > Core.DEEPEST) throw new IllegalArgumentException("a depth is a number from 0 to " + Core.DEEPEST + ", and not " + depth);
-  }
-
-  private static <T> T joined(CompletableFuture<T> future) {
-    try {
-      return future.get();
-    } catch (ExecutionException fault) {
-      if (fault.getCause() instanceof RuntimeException known) throw known;
-      throw new CompletionException(fault.getCause());
-    } catch (CancellationException fault) {
-      throw new ColuwenException.Stopped();
-    } catch (InterruptedException fault) {
-      future.cancel(true);
-      Thread.currentThread().interrupt();
-      throw new ColuwenException.Stopped();
-    }
   }
 }

@@ -48,7 +48,7 @@ public final class Client implements Analyst {
   private final Core core;
   private final Map<Core.Seat, Socket> sockets = new HashMap<>();
   private final Map<Core.Question, Consumer<Core.Question>> waiting = new HashMap<>();
-  private final ScheduledThreadPoolExecutor clock = new ScheduledThreadPoolExecutor(1, task -> daemon(task, "coluwen-clock"));
+  private final ScheduledThreadPoolExecutor clock = new ScheduledThreadPoolExecutor(1, task -> Calls.daemon(task, "coluwen-clock"));
   private final long origin = System.nanoTime();
   private Future<?> alarm;
 
@@ -200,7 +200,7 @@ public final class Client implements Analyst {
 
   @Override
   public CompletableFuture<Result> analyseAsync(Position position, int depth, Duration timeout) {
-    if (depth < 0 || depth > Core.DEEPEST) throw new IllegalArgumentException("a depth is a number from 0 to " + Core.DEEPEST + ", and not " + depth);
+    Calls.checked(depth);
     var begun = System.nanoTime();
     var question = new Core.Question(Core.Kind.JOB, position.text(), depth, timeout == null ? 0 : Math.max(timeout.toNanos() / 1e6, 0.001));
     return asked(question, done -> resultOf(position, depth, done, Duration.ofNanos(System.nanoTime() - begun)));
@@ -214,19 +214,11 @@ public final class Client implements Analyst {
   }
 
   @Override
-  public Info info() { return joined(asked(new Core.Question(Core.Kind.INFO, "", 0, 0), done -> done.info)); }
+  public Info info() { return Calls.joined(asked(new Core.Question(Core.Kind.INFO, "", 0, 0), done -> done.info)); }
 
   @Override
   public Duration ping() {
-    return joined(asked(new Core.Question(Core.Kind.PING, "", 0, 0), done -> Duration.ofNanos((long) (1e6 * done.milliseconds))));
-  }
-
-  private static <T> T joined(CompletableFuture<T> future) {
-    try {
-      return future.join();
-    } catch (java.util.concurrent.CompletionException fault) {
-      throw fault.getCause() instanceof RuntimeException known ? known : fault;
-    }
+    return Calls.joined(asked(new Core.Question(Core.Kind.PING, "", 0, 0), done -> Duration.ofNanos((long) (1e6 * done.milliseconds))));
   }
 
   private <T> CompletableFuture<T> asked(Core.Question question, java.util.function.Function<Core.Question, T> resultOf) {
@@ -283,7 +275,7 @@ public final class Client implements Analyst {
 
   private void perform(Core.Action action, List<Runnable> later) {
     switch (action.what()) {
-      case OPEN -> daemon(() -> serve(action.seat()), "coluwen-session").start();
+      case OPEN -> Calls.daemon(() -> serve(action.seat()), "coluwen-session").start();
       case SEND -> write(action.seat(), action.text());
       case CLOSE -> shut(sockets.remove(action.seat()));
       case TELL -> later.add(() -> tell(new Event(action.text(), action.detail())));
@@ -303,12 +295,6 @@ public final class Client implements Analyst {
     } catch (RuntimeException fault) {
       LOGGER.log(System.Logger.Level.WARNING, "who hears events is at fault", fault);
     }
-  }
-
-  private static Thread daemon(Runnable task, String name) {
-    var thread = new Thread(task, name);
-    thread.setDaemon(true);
-    return thread;
   }
 
   private void write(Core.Seat seat, String bytes) {

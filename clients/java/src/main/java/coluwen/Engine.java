@@ -16,11 +16,14 @@ import java.nio.file.Path;
 import java.nio.file.StandardCopyOption;
 import java.time.Duration;
 import java.util.ArrayDeque;
-import java.util.ArrayList;
 import java.util.Deque;
+import java.util.HashSet;
 import java.util.List;
 import java.util.Optional;
+import java.util.Set;
 import java.util.concurrent.CompletableFuture;
+import java.util.concurrent.ExecutorService;
+import java.util.concurrent.Executors;
 import java.util.concurrent.Future;
 import java.util.concurrent.ScheduledThreadPoolExecutor;
 import java.util.concurrent.TimeUnit;
@@ -38,7 +41,6 @@ import java.util.stream.Stream;
  * }</pre>
  */
 public final class Engine implements Analyst {
-  private static final List<String> OPTIONS = List.of("solve", "--visited"); // one search for each line
   private static final List<String> CORNERS = List.of("a1", "h1", "a8", "h8");
   private static final int TRIES = 3; // of a question whose processes end
   private static final Pattern ANSWER = Pattern.compile("(0|-?[1-9][0-9]{0,5}) ([a-h][1-8]|pass|-) [1-9][0-9]*");
@@ -48,16 +50,17 @@ public final class Engine implements Analyst {
   private final String program;
   private final int workers;
   private final Duration timeout;
-  private final Deque<Question> waiting = new ArrayDeque<>(); // this and what follows is changed under the lock of `waiting` alone
-  private final List<Seat> seats = new ArrayList<>();
-  private int busy;
-  private boolean isClosed;
-  private final ScheduledThreadPoolExecutor clock = new ScheduledThreadPoolExecutor(1, task -> daemon(task, "coluwen-clock"));
+  private final ExecutorService threads;
+  private final ScheduledThreadPoolExecutor clock = new ScheduledThreadPoolExecutor(1, task -> Calls.daemon(task, "coluwen-clock"));
+  private final Set<Running> processes = new HashSet<>(); // this and what follows is changed under its lock alone
+  private final Deque<Running> spare = new ArrayDeque<>(); // those that search nothing
+  private volatile boolean isClosed;
 
   private Engine(String program, int workers, Duration timeout) {
     this.program = program;
     this.workers = workers;
     this.timeout = timeout;
+    threads = Executors.newFixedThreadPool(workers, task -> Calls.daemon(task, "coluwen-engine"));
     clock.setRemoveOnCancelPolicy(true);
   }
 
@@ -134,21 +137,38 @@ public final class Engine implements Analyst {
     }
   }
 
-  private static Thread daemon(Runnable task, String name) {
-    var thread = new Thread(task, name);
-    thread.setDaemon(true);
-    return thread;
+  /** A process, and what it says. */
+  private record Running(Process process, BufferedReader answers) {
+    static Running begun(String program) throws IOException {
+      var process = new ProcessBuilder(program, "solve", "--visited").redirectError(ProcessBuilder.Redirect.DISCARD).start(); // (one search for each line)
+      return new Running(process, new BufferedReader(new InputStreamReader(process.getInputStream(), StandardCharsets.ISO_8859_1), 64));
+    }
+
+    String asked(String line) throws IOException {
+      process.getOutputStream().write(line.getBytes(StandardCharsets.ISO_8859_1));
+      process.getOutputStream().flush();
+      return answers.readLine();
+    }
+
+    void end() {
+      process.destroyForcibly();
+      try {
+        process.getOutputStream().close();
+      } catch (IOException fault) {
+        // it is of no use any more
+      }
+      process.onExit().join();
+    }
   }
 
-  /** One that is asked; {@code seat} is where it is searched. */
-  private static final class Question {
-    final Position position;
-    final int depth;
-    final Duration timeout;
+  /** One that is asked; a thread runs it, by a process that is spare, or by one more. */
+  private final class Question implements Runnable {
     final CompletableFuture<Result> future = new CompletableFuture<>();
-    Seat seat;
-    long begun;
-    volatile boolean isLate;
+    private final Position position;
+    private final int depth;
+    private final Duration timeout;
+    private Running running;
+    private volatile boolean isLate;
 
     Question(Position position, int depth, Duration timeout) {
       this.position = position;
@@ -156,65 +176,38 @@ public final class Engine implements Analyst {
       this.timeout = timeout;
     }
 
-    void fail(ColuwenException fault) {
-      CompletableFuture.runAsync(() -> future.completeExceptionally(fault));
-    }
-
-    /** A value and a best move as a result. What is known of the other moves is that none is worth more. */
-    void settle(int value, String move) {
-      var ends = depth >= position.empties();
-      var best = Optional.of(move).filter(each -> !each.equals("-"));
-      var moves = best.isEmpty() ? List.<String>of() : position.legalMoves();
-      var ordered = Stream.concat(CORNERS.stream().filter(moves::contains), moves.stream().filter(each -> !CORNERS.contains(each)));
-      var table = ordered.map(each -> new Entry(each, new Score(value, each.equals(move) ? '=' : '<', ends, position.side()))).toList();
-      var result = new Result(position, depth, new Score(value, '=', ends, position.side()), best, table, Duration.ofNanos(System.nanoTime() - begun));
-      CompletableFuture.runAsync(() -> future.complete(result));
-    }
-  }
-
-  /** A thread and its process, which is begun when there is something to ask, and again where it has ended. */
-  private final class Seat implements Runnable {
-    final Thread thread = daemon(this, "coluwen-engine");
-    Question question;
-    private Process process; // also changed under the lock
-    private BufferedReader answers;
-
     @Override
     public void run() {
-      for (var next = take(this); next != null; next = take(this)) {
-        try {
-          work(next);
-        } catch (ColuwenException fault) {
-          end();
-          next.fail(fault);
-        } catch (RuntimeException fault) {
-          end();
-          next.fail(new Broken("the engine failed: " + fault));
+      try {
+        var result = searched();
+        synchronized (processes) {
+          spare.push(running);
+          running = null;
         }
+        CompletableFuture.runAsync(() -> future.complete(result));
+      } catch (RuntimeException fault) {
+        end();
+        CompletableFuture.runAsync(() -> future.completeExceptionally(fault instanceof ColuwenException ? fault : new Broken("the engine failed: " + fault)));
       }
-      end();
     }
 
-    private void work(Question one) {
-      one.begun = System.nanoTime();
-      Future<?> alarm = one.timeout == null ? null : clock.schedule(() -> {
-        one.isLate = true;
-        giveUp(one);
-      }, one.timeout.toNanos(), TimeUnit.NANOSECONDS);
+    private Result searched() {
+      var begun = System.nanoTime();
+      Future<?> alarm = timeout == null ? null : clock.schedule(() -> {
+        isLate = true;
+        kill();
+      }, timeout.toNanos(), TimeUnit.NANOSECONDS);
       try {
-        for (int tries = 0; tries < TRIES; tries += 1) {
-          var answer = asked(one);
+        for (int tries = 0; tries < TRIES; tries++) {
+          var answer = Optional.ofNullable(said()).orElse("");
           var found = ANSWER.matcher(answer);
-          if (found.matches()) {
-            one.settle(Integer.parseInt(found.group(1)), found.group(2));
-            return;
-          }
+          if (found.matches()) return result(Integer.parseInt(found.group(1)), found.group(2), Duration.ofNanos(System.nanoTime() - begun));
           var refused = REFUSAL.matcher(answer);
           if (refused.matches()) throw new Refused(Integer.parseInt(refused.group(1)));
           end();
-          if (one.future.isDone()) return;
-          if (isClosed()) throw new Closed("engine");
-          if (one.isLate) throw new Late("a search took longer than " + one.timeout.toMillis() + " ms");
+          if (isClosed) throw new Closed("engine");
+          if (isLate) throw new Late("a search took longer than " + timeout.toMillis() + " ms");
+          if (future.isDone()) throw new ColuwenException.Stopped();
         }
         throw new Broken(program + " ended without an answer " + TRIES + " times");
       } finally {
@@ -222,92 +215,49 @@ public final class Engine implements Analyst {
       }
     }
 
-    /** What the process answers; nothing where it has ended, or the question was given up. */
-    private String asked(Question one) {
-      var running = begun(one);
-      if (running == null) return "";
-      try {
-        running.getOutputStream().write((one.depth + " " + one.position.text() + "\n").getBytes(StandardCharsets.ISO_8859_1));
-        running.getOutputStream().flush();
-        var answer = answers.readLine();
-        return answer == null ? "" : answer;
-      } catch (IOException fault) {
-        return "";
-      }
-    }
-
-    private Process begun(Question one) {
-      synchronized (waiting) {
-        if (isClosed || one.isLate || one.future.isDone()) return null;
-        if (process == null) {
-          try {
-            var command = new ArrayList<>(List.of(program));
-            command.addAll(OPTIONS);
-            process = new ProcessBuilder(command).redirectError(ProcessBuilder.Redirect.DISCARD).start();
-            answers = new BufferedReader(new InputStreamReader(process.getInputStream(), StandardCharsets.ISO_8859_1), 64);
-          } catch (IOException fault) {
-            throw new Unreachable(program + ": " + fault.getMessage(), fault);
-          }
+    /** What a process answers; null where it has ended, or the question was given up. */
+    private String said() {
+      synchronized (processes) {
+        if (isClosed || isLate || future.isDone()) return null;
+        try {
+          running = spare.isEmpty() ? Running.begun(program) : spare.pop();
+          processes.add(running);
+        } catch (IOException fault) {
+          throw new Unreachable(program + ": " + fault.getMessage(), fault);
         }
-        return process;
+      }
+      try {
+        return running.asked(depth + " " + position.text() + "\n");
+      } catch (IOException fault) {
+        return null;
       }
     }
 
-    /** Ends the process at once; its thread notices. */
+    /** A value and a best move as a result. What is known of the other moves is that none is worth more. */
+    private Result result(int value, String move, Duration taken) {
+      var ends = depth >= position.empties();
+      var best = Optional.of(move).filter(each -> !each.equals("-"));
+      var moves = best.isEmpty() ? List.<String>of() : position.legalMoves();
+      var ordered = Stream.concat(CORNERS.stream().filter(moves::contains), moves.stream().filter(each -> !CORNERS.contains(each)));
+      var table = ordered.map(each -> new Entry(each, new Score(value, each.equals(move) ? '=' : '<', ends, position.side()))).toList();
+      return new Result(position, depth, new Score(value, '=', ends, position.side()), best, table, taken);
+    }
+
+    /** Ends the process that searches it, where one does; its thread notices. */
     void kill() {
-      if (process != null) process.destroyForcibly();
+      synchronized (processes) {
+        if (running != null) running.process().destroyForcibly();
+      }
     }
 
     private void end() {
-      Process ended;
-      synchronized (waiting) {
-        ended = process;
-        process = null;
+      Running ended;
+      synchronized (processes) {
+        ended = running;
+        running = null;
+        processes.remove(ended);
       }
-      if (ended == null) return;
-      ended.destroyForcibly();
-      try {
-        ended.getOutputStream().close();
-      } catch (IOException fault) {
-        // it is of no use any more
-      }
-      ended.onExit().join();
-    }
-  }
-
-  private boolean isClosed() {
-    synchronized (waiting) {
-      return isClosed;
-    }
-  }
-
-  /** The next question for a seat; null where the engine is closed. */
-  private Question take(Seat seat) {
-    synchronized (waiting) {
-      if (seat.question != null) busy -= 1;
-      seat.question = null;
-      while (true) {
-        for (var next = waiting.poll(); next != null; next = waiting.poll()) {
-          if (next.future.isDone()) continue;
-          seat.question = next;
-          next.seat = seat;
-          busy += 1;
-          return next;
-        }
-        if (isClosed) return null;
-        try {
-          waiting.wait();
-        } catch (InterruptedException fault) {
-          return null;
-        }
-      }
-    }
-  }
-
-  /** Ends the process that searches it; one that waits is passed over. */
-  private void giveUp(Question question) {
-    synchronized (waiting) {
-      if (question.seat != null && question.seat.question == question) question.seat.kill();
+      if (ended != null) ended.end();
     }
   }
 
@@ -323,19 +273,14 @@ public final class Engine implements Analyst {
 
   @Override
   public CompletableFuture<Result> analyseAsync(Position position, int depth, Duration timeout) {
-    if (depth < 0 || depth > Core.DEEPEST) throw new IllegalArgumentException("a depth is a number from 0 to " + Core.DEEPEST + ", and not " + depth);
+    Calls.checked(depth);
     var question = new Question(position, depth, timeout);
-    synchronized (waiting) {
+    synchronized (processes) {
       if (isClosed) return CompletableFuture.failedFuture(new Closed("engine"));
-      waiting.add(question);
-      if (seats.size() < workers && waiting.size() > seats.size() - busy) {
-        seats.add(new Seat());
-        seats.get(seats.size() - 1).thread.start();
-      }
-      waiting.notify();
+      threads.execute(question);
     }
     question.future.whenComplete((result, fault) -> {
-      if (question.future.isCancelled()) giveUp(question);
+      if (question.future.isCancelled()) question.kill();
     });
     return question.future;
   }
@@ -357,21 +302,17 @@ public final class Engine implements Analyst {
   /** Ends the processes, and waits until they have. Calls that wait, and later ones, are {@code Closed}. */
   @Override
   public void close() {
-    List<Question> left;
-    synchronized (waiting) {
-      if (isClosed) return;
+    synchronized (processes) {
       isClosed = true;
-      left = List.copyOf(waiting);
-      waiting.clear();
-      seats.forEach(Seat::kill);
-      waiting.notifyAll();
+      processes.forEach(one -> one.process().destroyForcibly());
     }
-    left.forEach(question -> question.fail(new Closed("engine")));
+    threads.shutdown();
     try {
-      for (var seat : seats) if (seat.thread != Thread.currentThread()) seat.thread.join();
+      threads.awaitTermination(1, TimeUnit.DAYS);
     } catch (InterruptedException fault) {
       Thread.currentThread().interrupt();
     }
+    spare.forEach(Running::end);
     clock.shutdownNow();
   }
 }

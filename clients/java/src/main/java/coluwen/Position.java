@@ -3,8 +3,6 @@ package coluwen;
 import coluwen.ColuwenException.IllegalMove;
 import java.util.ArrayList;
 import java.util.List;
-import java.util.Map;
-import java.util.stream.Collectors;
 import java.util.stream.IntStream;
 
 /**
@@ -82,16 +80,4 @@ public record Position(String cells, char side) {
 
   /** The same with the colours exchanged. */
   public Position flip() { return new Position(cells.replace('X', '?').replace('O', 'X').replace('?', 'O'), other(side)); }
-
-  /** The board for a terminal, with what {@code marks} has for its empty squares; a pass stands below it. */
-  public String drawn(Map<String, String> marks) {
-    var width = Math.max(1, marks.values().stream().mapToInt(String::length).max().orElse(0)) + 1;
-    var form = "%" + width + "s";
-    var text = new StringBuilder("  ").append("abcdefgh".chars().mapToObj(c -> form.formatted((char) c)).collect(Collectors.joining()));
-    for (int at = 0; at < 64; at++) {
-      if (at % 8 == 0) text.append('\n').append(at / 8 + 1).append(' ');
-      text.append(form.formatted(marks.getOrDefault(SQUARES.get(at), cells.substring(at, at + 1).replace('-', '.'))));
-    }
-    return marks.containsKey(PASS) ? text + "\n" + PASS + " " + marks.get(PASS) : text.toString();
-  }
 }

@@ -21,6 +21,7 @@ import java.util.Map;
 import java.util.concurrent.CompletableFuture;
 import java.util.concurrent.ExecutionException;
 import java.util.concurrent.Executors;
+import java.util.concurrent.TimeUnit;
 import java.util.concurrent.atomic.AtomicInteger;
 import java.util.function.Function;
 import java.util.regex.Matcher;
@@ -33,6 +34,8 @@ import org.junit.jupiter.api.TestFactory;
 /** The behaviour rows (clients/behaviour) by this client, eight at once. The property {@code clients} names the folder above them. */
 class BehaviourTest {
   private static final String GIVEN = "(result|moves|item|taken|info|done|fault)\\b.*";
+
+  private static final int SOON = 20; // seconds that no call takes
 
   private record Step(String word, String text) {}
 
@@ -161,7 +164,7 @@ class BehaviourTest {
       default:
         var timeout = how.containsKey("timeout") ? Duration.ofMillis(Long.parseLong(how.get("timeout"))) : client.timeout();
         var future = client.analyseAsync(Position.parse(position), Integer.parseInt(words[1]), timeout);
-        if (how.containsKey("abort")) CompletableFuture.delayedExecutor(Long.parseLong(how.get("abort")), java.util.concurrent.TimeUnit.MILLISECONDS).execute(() -> future.cancel(true));
+        if (how.containsKey("abort")) CompletableFuture.delayedExecutor(Long.parseLong(how.get("abort")), TimeUnit.MILLISECONDS).execute(() -> future.cancel(true));
         try {
           return List.of(text(future.get()));
         } catch (java.util.concurrent.CancellationException fault) {
@@ -189,6 +192,15 @@ class BehaviourTest {
     found.sort(java.util.Comparator.comparing(coluwen.Outcome::index));
     return found.stream().map(one -> "item " + one.index() + " " + (one.fault() == null ? text(one.result()) : "fault " + name(one.fault())
         + (one.fault() instanceof ColuwenException.Refused refused ? " number=" + refused.number() : ""))).toList();
+  }
+
+  /** A call by a thread of its own, so that one which never ends fails its row alone. */
+  private static CompletableFuture<Given> begun(Client client, String what) {
+    return CompletableFuture.supplyAsync(() -> given(client, what), task -> {
+      var thread = new Thread(task);
+      thread.setDaemon(true);
+      thread.start();
+    });
   }
 
   private static Given given(Client client, String what) {
@@ -267,9 +279,9 @@ class BehaviourTest {
         var words = step.text().split(" ");
         var wanted = row.calls().stream().skip(each + 1).map(line -> (line.word() + " " + line.text()).strip()).takeWhile(line -> line.matches(GIVEN)).toList();
         switch (step.word()) {
-          case "call" -> check(given(client, step.text()), wanted);
-          case "start" -> started.put(words[0], CompletableFuture.supplyAsync(() -> given(client, step.text().substring(words[0].length() + 1)), task -> new Thread(task).start()));
-          case "join" -> check(started.get(step.text()).get(), wanted);
+          case "call" -> check(begun(client, step.text()).get(SOON, TimeUnit.SECONDS), wanted);
+          case "start" -> started.put(words[0], begun(client, step.text().substring(words[0].length() + 1)));
+          case "join" -> check(started.get(step.text()).get(SOON, TimeUnit.SECONDS), wanted);
           case "sleep" -> Thread.sleep(Long.parseLong(step.text()));
           case "sent" -> assertEquals(Integer.parseInt(words[1]), server.heard.stream().filter(line -> line.split(" ")[0].equals(words[0])).count());
           case "connections" -> assertEquals(Integer.parseInt(step.text()), connections.get());

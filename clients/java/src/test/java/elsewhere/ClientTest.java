@@ -146,13 +146,26 @@ class ClientTest {
     }
   }
 
+  /** For longer than patience, too: that is for a server which grants no session at all. */
   @Test
   void whereThereIsRoomForFewerThoseDoTheWork() throws IOException {
     var isFirst = new AtomicBoolean(true);
     var right = sound((depth, text) -> true);
-    try (var server = Told.answering(() -> isFirst.getAndSet(false) ? right.get() : line -> "ERR 14\n"); var client = at(server).sessions(2).ahead(1).build()) {
+    try (var server = Told.answering(() -> isFirst.getAndSet(false) ? slowly(right.get(), 600) : line -> "ERR 14\n"); var client = at(server).sessions(2).patience(Duration.ofMillis(200)).build()) {
       for (var each : List.of(client.analyseAsync(OPENING, 6), client.analyseAsync(OPENING, 6))) assertEquals(5, each.join().score().value());
     }
+  }
+
+  /** The same answers, those to GET after so many milliseconds. */
+  private static Function<String, String> slowly(Function<String, String> answers, int milliseconds) {
+    return line -> {
+      try {
+        Thread.sleep(line.startsWith("GET") ? milliseconds : 0);
+      } catch (InterruptedException fault) {
+        throw new IllegalStateException(fault);
+      }
+      return answers.apply(line);
+    };
   }
 
   @Test
