@@ -216,7 +216,7 @@ def by_browser(name: str, questions: dict[str, Any], is_file: bool) -> dict[str,
     if not server.told:
         return {"fault": f"{name} told nothing in {PATIENCE} s; it asked for {server.asked}"}
     told: dict[str, Any] = server.told
-    return told
+    return {**told, "asked": server.asked}
 
 
 def words_of(position: Position) -> tuple[str, str]:
@@ -263,6 +263,9 @@ def test_the_pages_engine(where: str, questions: list[tuple[Position, int]], exp
     assert "fault" not in told, told["fault"]
     differ = [f"{depth} {position}: {one}, and the program has {other}" for (position, depth), one, other in zip(questions, told["found"], expected, strict=True) if one != other]
     assert not differ, differ[:5]
+    # a page asks for its own files alone, and one from a disk for none
+    own = set() if where.endswith("-file") else {"index.html", "page.js", "questions.json", "favicon.ico", *(f"engine/{path.name}" for path in ENGINE.iterdir())}
+    assert set(told.get("asked", ())) <= own, told["asked"]
     stops = told["stops"]
     print(f"{where}: {len(expected)} agree, by {told['module']}; a search that is given up is over after {max(stop[1] for stop in stops):.1f} ms, the next is answered after {max(stop[2] for stop in stops):.1f}")
     assert all(stop[0] for stop in stops) and min(stop[1] for stop in stops) < 50  # (of five: the others may wait for a busy machine)

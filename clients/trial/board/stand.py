@@ -154,9 +154,11 @@ def ended(position, depth):
     return discs + empty * ((discs > 0) - (discs < 0)), empty
 
 
-def worded(score):
-    """A result in words."""
-    return "draw" if not score else f"{'win' if score > 0 else 'loss'} by {abs(score)}"
+def sentence(language, discs):
+    """A result as black sees it, in the page's words."""
+    n, side = abs(discs), TABLE["side.black" if discs > 0 else "side.white"][language]
+    amount = TABLE["unit.discs"][language]["one" if n == 1 else "other"].replace("{n}", str(n))
+    return TABLE["value.wins"][language].replace("{side}", side).replace("{n}", amount) if n else TABLE["value.draw"][language]
 
 
 def play(shown, moves):
