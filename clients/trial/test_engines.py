@@ -1,4 +1,4 @@
-"""Engines with the program itself: Python's, by its processes; the page's, as WebAssembly, in node and in each browser that is here, over http under a strict
+"""Engines with the program itself: Python's, by its processes, and every command without a server; the page's, as WebAssembly, in node and in each browser that is here, over http under a strict
 Content-Security-Policy and from a file. Values and moves are compared with `othello solve`; a search that is given up ends at once."""
 from __future__ import annotations
 
@@ -12,12 +12,14 @@ import re
 import shutil
 import signal
 import subprocess
+import sys
 import tempfile
 import threading
+import urllib.request
 from typing import Any
 
 import pytest
-from conftest import TOP, positions, program
+from conftest import TOP, Othello, positions, program, solved
 from coluwen import Analyst, Engine, FormatError, Position, Result
 from coluwen.board import OTHER, PASS, SQUARES
 
@@ -110,6 +112,43 @@ def test_it_is_an_analyst_whose_values_are_the_programs() -> None:
         best = engine.analyse(after, 5)
         values = engine.analyse_all(after, 5)
         assert values[0].score.value == best.score.value and best.best in [entry.move for entry in values if entry.score.value == best.score.value]
+
+
+def command(name: str, *words: object, stdin: str = "") -> str:
+    """What a command writes, with no server named."""
+    env = {name: value for name, value in os.environ.items() if name not in ("COLUWEN_URL", "COLUWEN_SERVER")}
+    run = subprocess.run([sys.executable, TOP / "clients/bin" / name, *map(str, words)], input=stdin, capture_output=True, text=True, timeout=300, check=False, env=env)
+    assert run.returncode == 0, run.stderr
+    return run.stdout
+
+
+def test_no_command_needs_a_server(tmp_path: pathlib.Path) -> None:
+    assert command("coluwen", stdin=f"2 {OPENING}\n0 {OPENING}\n") == "DONE -4 d3\nDONE 0 -\n"
+    command("coluwen-batch", "--depth", 2, tmp_path / "rows.csv", stdin=f"{OPENING}\n{OPENING.play('f5')}\n")
+    ((value, move),) = solved([f"2 {OPENING.play('f5')}"])
+    assert [row.split(",")[1:4] for row in (tmp_path / "rows.csv").read_text().splitlines()[1:]] == [["2", "-4", "d3"], ["2", str(value), move]]
+    (tmp_path / "openings").write_text("f5d6c3d3\n")
+    assert "Elo" in command("coluwen-match", "--openings", tmp_path / "openings", "depth:2", "depth:1")
+    assert "best" in command("coluwen-review", "--depth", 2, "f5d6c3")
+    assert command("coluwen-gtp", "--depth", 2, stdin="genmove b\nquit\n").startswith("= D3")
+    assert "\nsearch D3 " in command("coluwen-nboard", stdin="nboard 1\nset depth 2\nhint 1\n")
+    page = subprocess.Popen([sys.executable, TOP / "clients/bin/coluwen-page", "--port", "0", "--log", ""], stdout=subprocess.PIPE, text=True)
+    try:
+        assert page.stdout
+        with urllib.request.urlopen(f"{page.stdout.readline().strip()}about.json", timeout=20) as about:
+            assert json.load(about) == {"service": True, "depths": [], "places": 0, "settled": True, "addresses": []}
+    finally:
+        page.kill()
+        page.wait()
+
+
+def test_what_a_server_cannot_give_an_engine_gives(server: Othello) -> None:
+    """A session of few nodes has no room for a search of five plies."""
+    line = f"5 {positions(1, 5, 20, 20)[0]}"
+    words = [sys.executable, TOP / "clients/bin/coluwen", "--server", server.address, "--silence", "30", "--segments", "64", "--nodes", "100"]
+    for more, wanted in (([], "SPENT\n"), (["--fallback", "engine"], "DONE {} {}\n".format(*solved([line])[0]))):
+        run = subprocess.run([*map(str, words), *more], input=f"{line}\n", capture_output=True, text=True, timeout=300, check=False)
+        assert run.stdout == wanted, run.stderr
 
 
 def test_many_of_any_depth_are_answered_in_order_with_their_faults() -> None:

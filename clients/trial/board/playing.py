@@ -4,7 +4,7 @@ import re
 import tempfile
 
 from browsers import main_thread, opened
-from stand import CELLS, FORMS, GAME, HERE, NAMES, SCORES, TEXT, check, chosen, ended, play, random_moves, said, sentence, settled, until, whole_game
+from stand import CELLS, FORMS, GAME, HERE, NAMES, SCORES, TEXT, check, chosen, ended, forms, play, random_moves, said, sentence, settled, until, whole_game
 
 KEY = {"Left": "\ue012", "Up": "\ue013", "Right": "\ue014", "Down": "\ue015", "Home": "\ue011", "End": "\ue010", "PageUp": "\ue00e", "PageDown": "\ue00f", "Enter": "\ue007", "Tab": "\ue004", "Escape": "\ue00c"}
 WIPED_OUT = "e6f4e3f6g5d6e7f5c5"  # black has all discs, and 51 squares are empty
@@ -105,10 +105,11 @@ def try_graph(shown, address):
     shown.known()
     shown.until("the graph", "document.querySelectorAll('#graph .curve.end').length === 1 && document.querySelector('#graph .curve.end').getAttribute('d').length > 99")
     found, end = shown.evaluate(CURVE), random_moves(6, 70)[-1][1]
-    (middle,), top = found["zero"], min(found["rows"])
+    (middle,), rows, heights = found["zero"], sorted(set(found["rows"])), [y for _, y in found["points"] + found["discs"]]
+    check(len(rows) == 2 and rows[0] - 0.1 <= min(heights) and max(heights) <= rows[1] + 0.1, f"{shown.name}: a value leaves the graph: {rows} {heights}")
     by = [int(text.split()[-1]) for text in found["texts"] if re.fullmatch(said(shown.language, "graph.by"), text)]
     check(len(by) == 2 and by[0] == by[1] and not [text for text in found["texts"] if re.fullmatch(r"[WLSN]\d+", text)], f"{shown.name}: the graph's scales: {found['texts']}")
-    discs = (middle - found["discs"][-1][1]) / (middle - top) * by[0]
+    discs = (middle - found["discs"][-1][1]) / (middle - rows[0]) * by[0]
     check(abs(discs - end.discs("X") + end.discs("O")) < 0.5, f"{shown.name}: the game ends with {discs} discs on the graph's scale of {by[0]}")
     check(len(found["points"]) + len(found["discs"]) == 61 and found["points"][-1][0] < found["border"][0] < found["discs"][0][0], f"{shown.name}: where discs begin: {found['border']}")
     shown.tab("mistakes")
@@ -286,12 +287,12 @@ def try_stop(shown, address):
 
 
 def try_all(address, name, only=""):
-    """Each in both browsers and at each width, by day or by night, in one language or the other."""
+    """Each in both browsers and at each width."""
     trials = chosen(only, try_moves, try_tree, try_keys, try_seen, try_ends, try_graph, try_help, try_notes, try_shelf, try_program, try_quiz, try_stop, try_markup, try_reading)
-    for at, (width, height, language, scheme) in enumerate(FORMS):
+    for at, (width, height, language, scheme) in enumerate(forms(name)):
         if only and at != 3:
             continue  # (one that is named alone is tried at one width)
         with opened(name, language, scheme, (width, height)) as shown, tempfile.TemporaryDirectory() as folder:
             for trial in trials:
                 trial(shown, address, *([pathlib.Path(folder)] if trial is try_reading else []))
-    print(f"board: {name}: moves, variations, keys, values, endings, graph, notes, addresses, formats, shelf, program, questions, stop, at {len(FORMS)} widths")
+    print(f"board: {name}: moves, variations, keys, values, endings, graph, notes, addresses, formats, shelf, program, questions, stop, at {1 if only else len(FORMS)} widths")

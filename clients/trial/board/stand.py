@@ -23,8 +23,9 @@ from stage import check, fail, free_port  # noqa: E402, F401
 
 OPENING = Position.opening()
 PAGE = pathlib.Path(os.environ.get("COLUWEN_FILES", TOP / "clients/page"))
-# Widths, heights, languages and schemes: each width by day or by night, in one language or the other.
+# Widths, heights, languages and schemes, in Chromium; in Firefox each width by the other scheme and in the other language (`forms`).
 FORMS = ((320, 640, "de", "dark"), (390, 844, "en", "light"), (768, 1024, "de", "light"), (1280, 900, "en", "dark"), (1920, 1080, "de", "dark"))
+TURNED = {"de": "en", "en": "de", "dark": "light", "light": "dark"}
 TABLE = json.loads((PAGE / "js/table.js").read_text().partition("TABLE = ")[2].rstrip().rstrip(";").replace("},\n}", "}\n}"))
 PATIENT = ("--silence", 30)  # of a page: on a busy machine an answer may take more than 1.5 seconds
 SQUARES = "[...document.querySelectorAll('.square')]"
@@ -83,6 +84,11 @@ def said(language, name, **words):
         text = text["one" if words.get("n") == 1 else "other"]
     parts = re.split(r"\{(\w+)\}", text)
     return "".join(re.escape(part) if at % 2 == 0 else re.escape(str(words[part])) if part in words else ".*" for at, part in enumerate(parts))
+
+
+def forms(name):
+    """What a browser tries: each width by day in one browser and by night in the other, and in each language."""
+    return FORMS if name == "chromium" else tuple((width, height, TURNED[language], TURNED[scheme]) for width, height, language, scheme in FORMS)
 
 
 def chosen(only, *trials):
