@@ -123,6 +123,7 @@ def try_help(shown, address):
     shown.open(f"{address}#depth=2")
     for tab, place, name in (("moves", "#moves-panel", "moves.none"), ("mistakes", "#mistakes-panel", "mistakes.none"), ("class", "#class-panel", "class.none")):
         shown.tab(tab)
+        shown.until(f"what {tab} says", f"document.querySelector('{place}').innerText.trim()")
         text = shown.evaluate(f"document.querySelector('{place}').innerText.trim()")
         check(re.fullmatch(said(shown.language, name), text), f"{shown.name}: {tab} says {text!r}")
     shown.tab("moves")
