@@ -1,6 +1,7 @@
 """Playing, going through a game, undoing, notes, addresses, what is read and written, the shelf, and a game against the program."""
 import pathlib
 import re
+import statistics
 import tempfile
 
 from browsers import main_thread, opened
@@ -277,14 +278,17 @@ def try_quiz(shown, address):
 def try_stop(shown, address):
     shown.open(f"{address}#moves={whole_game(8)[:60]}&depth=12")
     shown.until("something to stop", "document.getElementById('stop').getAttribute('aria-disabled') === 'false'")
-    check(any(shown.says("#state", name) for name in ("state.searching", "state.game", "state.left")), f"{shown.name}: how far it is: {shown.text('#state')}")
-    renderer = shown.renderer()
-    before = main_thread(renderer)
-    shown.evaluate("document.getElementById('stop').click()")
-    taken = main_thread(renderer) - before
-    check(shown.says("#state", "state.stopped") and taken < 50, f"{shown.name}: stop takes {taken} ms of a processor")
-    shown.click("#stop")
-    until("it goes on", lambda: not shown.says("#state", "state.stopped"))
+    seen = set()
+    until(f"{shown.name}: how far it is", lambda: seen.update(name for name in ("state.searching", "state.game") if shown.says("#state", name)) or len(seen) == 2)
+    renderer, taken = shown.renderer(), []
+    for _ in range(5):
+        before = main_thread(renderer)
+        shown.evaluate("document.getElementById('stop').click()")
+        taken.append(main_thread(renderer) - before)
+        check(shown.says("#state", "state.stopped"), f"{shown.name}: stop: {shown.text('#state')}")
+        shown.click("#stop")
+        until("it goes on", lambda: not shown.says("#state", "state.stopped"))
+    check(statistics.median(taken) < 50, f"{shown.name}: stop takes {taken} ms of a processor")
 
 
 def try_all(address, name, only=""):
