@@ -7,7 +7,7 @@ import os from "node:os";
 import path from "node:path";
 import test from "node:test";
 import { read, written } from "./js/address.js";
-import { stepsOf } from "./js/analyst.js";
+import { Analyst, stepsOf } from "./js/analyst.js";
 import * as ggf from "./js/formats/ggf.js";
 import { filesRead, textRead, titleOf } from "./js/formats/read.js";
 import * as sgf from "./js/formats/sgf.js";
@@ -156,6 +156,21 @@ test("steps deepen by two, and the end is searched at once", () => {
   assert.deepEqual(stepsOf(START, 8), [2, 4, 6, 8]);
   assert.deepEqual(stepsOf(START, 5), [2, 4, 5]);
   assert.deepEqual(stepsOf(`${"X".repeat(52)}${"-".repeat(12)} O`, 12), [12]);
+});
+
+test("how far an analysis is: how many positions are known as deep as they are wanted, and the time that the others take", () => {
+  const analyst = new Analyst({ engine: {} }, () => {}), positions = ["f5", "f5d6", "f5d6c3"].map((moves) => treeOf(moves).tree.main().at(-1).position);
+  const learn = (at, depth) => analyst.learn(positions[at], { depth, best: "", line: [], table: new Map() });
+  analyst.wanted = positions.map((position) => ({ position, depth: 8 }));
+  const before = analyst.progress();
+  learn(0, 8);
+  learn(1, 6);
+  const after = analyst.progress();
+  assert.deepEqual([before.known, before.all, after.known, after.all], [0, 3, 1, 3]);
+  assert.ok(before.left > after.left && after.left > 0);
+  learn(1, 8);
+  learn(2, 8);
+  assert.deepEqual(analyst.progress(), { known: 3, all: 3, left: 0 });
 });
 
 test("a level chooses the best, and by chance another", () => {

@@ -1,4 +1,4 @@
-"""Engines with the program itself: Python's, by its processes; the page's, as WebAssembly, in node and in each browser that is here, over http under a strict
+"""Engines with the program itself: Python's, by its processes, and every command without a server; the page's, as WebAssembly, in node and in each browser that is here, over http under a strict
 Content-Security-Policy and from a file. Values and moves are compared with `othello solve`; a search that is given up ends at once."""
 from __future__ import annotations
 
@@ -12,12 +12,14 @@ import re
 import shutil
 import signal
 import subprocess
+import sys
 import tempfile
 import threading
+import urllib.request
 from typing import Any
 
 import pytest
-from conftest import TOP, positions, program
+from conftest import TOP, Othello, positions, program, solved
 from coluwen import Analyst, Engine, FormatError, Position, Result
 from coluwen.board import OTHER, PASS, SQUARES
 
@@ -110,6 +112,43 @@ def test_it_is_an_analyst_whose_values_are_the_programs() -> None:
         best = engine.analyse(after, 5)
         values = engine.analyse_all(after, 5)
         assert values[0].score.value == best.score.value and best.best in [entry.move for entry in values if entry.score.value == best.score.value]
+
+
+def command(name: str, *words: object, stdin: str = "") -> str:
+    """What a command writes, with no server named."""
+    env = {name: value for name, value in os.environ.items() if name not in ("COLUWEN_URL", "COLUWEN_SERVER")}
+    run = subprocess.run([sys.executable, TOP / "clients/bin" / name, *map(str, words)], input=stdin, capture_output=True, text=True, timeout=300, check=False, env=env)
+    assert run.returncode == 0, run.stderr
+    return run.stdout
+
+
+def test_no_command_needs_a_server(tmp_path: pathlib.Path) -> None:
+    assert command("coluwen", stdin=f"2 {OPENING}\n0 {OPENING}\n") == "DONE -4 d3\nDONE 0 -\n"
+    command("coluwen-batch", "--depth", 2, tmp_path / "rows.csv", stdin=f"{OPENING}\n{OPENING.play('f5')}\n")
+    ((value, move),) = solved([f"2 {OPENING.play('f5')}"])
+    assert [row.split(",")[1:4] for row in (tmp_path / "rows.csv").read_text().splitlines()[1:]] == [["2", "-4", "d3"], ["2", str(value), move]]
+    (tmp_path / "openings").write_text("f5d6c3d3\n")
+    assert "Elo" in command("coluwen-match", "--openings", tmp_path / "openings", "depth:2", "depth:1")
+    assert "best" in command("coluwen-review", "--depth", 2, "f5d6c3")
+    assert command("coluwen-gtp", "--depth", 2, stdin="genmove b\nquit\n").startswith("= D3")
+    assert "\nsearch D3 " in command("coluwen-nboard", stdin="nboard 1\nset depth 2\nhint 1\n")
+    page = subprocess.Popen([sys.executable, TOP / "clients/bin/coluwen-page", "--port", "0", "--log", ""], stdout=subprocess.PIPE, text=True)
+    try:
+        assert page.stdout
+        with urllib.request.urlopen(f"{page.stdout.readline().strip()}about.json", timeout=20) as about:
+            assert json.load(about) == {"service": True, "depths": [], "places": 0, "settled": True, "addresses": []}
+    finally:
+        page.kill()
+        page.wait()
+
+
+def test_what_a_server_cannot_give_an_engine_gives(server: Othello) -> None:
+    """A session of few nodes has no room for a search of five plies."""
+    line = f"5 {positions(1, 5, 20, 20)[0]}"
+    words = [sys.executable, TOP / "clients/bin/coluwen", "--server", server.address, "--silence", "30", "--segments", "64", "--nodes", "100"]
+    for more, wanted in (([], "SPENT\n"), (["--fallback", "engine"], "DONE {} {}\n".format(*solved([line])[0]))):
+        run = subprocess.run([*map(str, words), *more], input=f"{line}\n", capture_output=True, text=True, timeout=300, check=False)
+        assert run.stdout == wanted, run.stderr
 
 
 def test_many_of_any_depth_are_answered_in_order_with_their_faults() -> None:
@@ -216,7 +255,7 @@ def by_browser(name: str, questions: dict[str, Any], is_file: bool) -> dict[str,
     if not server.told:
         return {"fault": f"{name} told nothing in {PATIENCE} s; it asked for {server.asked}"}
     told: dict[str, Any] = server.told
-    return told
+    return {**told, "asked": server.asked}
 
 
 def words_of(position: Position) -> tuple[str, str]:
@@ -263,6 +302,9 @@ def test_the_pages_engine(where: str, questions: list[tuple[Position, int]], exp
     assert "fault" not in told, told["fault"]
     differ = [f"{depth} {position}: {one}, and the program has {other}" for (position, depth), one, other in zip(questions, told["found"], expected, strict=True) if one != other]
     assert not differ, differ[:5]
+    # a page asks for its own files alone, and one from a disk for none
+    own = set() if where.endswith("-file") else {"index.html", "page.js", "questions.json", "favicon.ico", *(f"engine/{path.name}" for path in ENGINE.iterdir())}
+    assert set(told.get("asked", ())) <= own, told["asked"]
     stops = told["stops"]
     print(f"{where}: {len(expected)} agree, by {told['module']}; a search that is given up is over after {max(stop[1] for stop in stops):.1f} ms, the next is answered after {max(stop[2] for stop in stops):.1f}")
     assert all(stop[0] for stop in stops) and min(stop[1] for stop in stops) < 50  # (of five: the others may wait for a busy machine)

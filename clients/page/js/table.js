@@ -32,7 +32,7 @@ export const TABLE = {
   "setup.clear": { "en": "Empty board", "de": "Leeres Brett"},
   "setup.opening": { "en": "Opening", "de": "Grundstellung"},
   "moves": { "en": "Moves", "de": "Züge"},
-  "moves.none": { "en": "No move has been made. Click a square that has a ring.", "de": "Noch kein Zug. Klicken Sie auf ein Feld mit einem Ring."},
+  "moves.none": { "en": "No move has been made. Click a square with a ring or a value.", "de": "Noch kein Zug. Klicken Sie auf ein Feld mit einem Ring oder einem Wert."},
   "passed": { "en": "then the other player passes", "de": "danach passt der andere"},
   "slide": { "en": "Move that is shown", "de": "Gezeigter Zug"},
   "win": { "en": "win by {n}", "de": "Sieg mit {n}"},

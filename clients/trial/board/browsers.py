@@ -14,6 +14,7 @@ from patience import until
 from selenium import webdriver
 from selenium.common.exceptions import WebDriverException
 from selenium.webdriver.chrome.service import Service
+from selenium.webdriver.remote.file_detector import UselessFileDetector
 from stand import fail, free_port, said
 
 FIREFOX_PREFS = {"intl.accept_languages": "{language}", "layout.css.prefers-color-scheme.content-override": "{scheme}", "marionette.port": "{port}", "browser.shell.checkDefaultBrowser": False,
@@ -65,7 +66,7 @@ def firefox(folder, language, scheme):
     (profile / "user.js").write_text("".join(f"user_pref({json.dumps(name)}, {json.dumps(value)});\n" for name, value in prefs.items()))
     command = ["firefox-esr", "--headless", "--no-remote", "--marionette", "--profile", folder]
     process = subprocess.Popen(command, stdout=subprocess.DEVNULL, stderr=subprocess.DEVNULL, env={"HOME": folder, "PATH": "/usr/bin:/bin", "LANG": "C.UTF-8"})
-    return process, webdriver.Remote(command_executor=Marionette(port), options=webdriver.FirefoxOptions())
+    return process, webdriver.Remote(command_executor=Marionette(port), options=webdriver.FirefoxOptions(), file_detector=UselessFileDetector())
 
 
 def chromium(language):

@@ -79,7 +79,7 @@ def look(shown, what):
 def try_values(shown, width):
     """The widest values that there are, in the squares of this width."""
     texts = {"d3": {"sign": "<", "points": 10}, "c4": {"sign": "<", "points": 128}, "f5": {"sign": "<", "points": -1184}, "e6": {"sign": "<", "discs": 64}}
-    for scores in (texts, {"d3": texts["d3"]}, {"c4": texts["c4"]}, {"e6": texts["e6"]}):
+    for scores in (texts, {"d3": texts["d3"]}, {"c4": texts["c4"]}, {"e6": texts["e6"]}, {"d3": {"sign": "=", "points": 10}, "c4": texts["d3"], "f5": {"sign": ">", "points": 10}}):
         shown.driver.execute_script("""const scores = arguments[0]; document.documentElement.dataset.tried = "no";
           import(new URL("js/board.js", document.baseURI)).then(async ({ Board }) => { const { START } = await import(new URL("js/rules.js", document.baseURI));
             const element = document.getElementById("board"); element.replaceChildren();
@@ -87,6 +87,8 @@ def try_values(shown, width):
         shown.until("the values", "document.documentElement.dataset.tried === 'yes'")
         count, cut = shown.evaluate("document.querySelectorAll('.score').length"), shown.evaluate(SCORES_CUT)
         check(count == len(scores) and not cut, f"{shown.name} at {width}: {cut or count}")
+        looks = shown.evaluate("[...document.querySelectorAll('.score')].map((one) => getComputedStyle(one)).map((one) => [one.color, one.fontSize, one.fontWeight, one.fontStyle, one.opacity].join())")
+        check(len(set(looks)) == 1, f"{shown.name} at {width}: +10 and ≤+10 look otherwise: {looks}")
         least = shown.evaluate("Math.min(...[...document.querySelectorAll('.score')].map((one) => parseFloat(getComputedStyle(one).fontSize)))")
         check(least >= (7 if len(scores) == 4 else 7.8), f"{shown.name} at {width}: letters of {least} pixels")
 

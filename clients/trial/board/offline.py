@@ -29,7 +29,7 @@ def try_file(name, folder):
             check(shown.evaluate(SCORES) == wanted, f"{name}: values from a disk: {shown.evaluate(SCORES)}, not {wanted}")
         asked = shown.evaluate("performance.getEntriesByType('resource').map((one) => one.name).filter((one) => !one.startsWith('blob:'))")
         check(asked == [] and not shown.faults(), f"{name}: the page from a disk asks {asked}")
-        check("proved search" in shown.text("#computed") and "coluwen-page" in shown.text("#class-help"), f"{name}: {shown.text('#computed')}")
+        check(shown.says("#computed", "computed.local", module="page32.wasm") and shown.says("#computed", "computed.lowered") and shown.says("#class-help", "class.none"), f"{name}: {shown.text('#computed')}")
         shown.open(f"file://{folder}/board.html#moves={GAME}&at=3&depth=2")
         shown.click("[data-square=c4]")
         check(len(shown.evaluate(NAMES)) == 64 and shown.text("#faults") == "", f"{name}: a move from a disk")

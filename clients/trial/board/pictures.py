@@ -3,7 +3,7 @@ import shutil
 import subprocess
 
 from browsers import opened
-from stand import GAME, page, whole_game
+from stand import GAME, TEXT, page, whole_game
 
 MIDDLE = f"moves={GAME}&at=11&black=Anna&white=Bo"
 
@@ -20,13 +20,21 @@ def make(address, port, folder):
             shown.tab(tab)
             shown.evaluate("document.activeElement.blur()")
             shown.picture(folder / f"{name}.png")
-    with page(port, "--address", "0.0.0.0", "--name", "board.school.example") as (_, service), opened("chromium", size=(1280, 800)) as shown:
-        shown.open(f"{service.replace('0.0.0.0', '127.0.0.1')}#{MIDDLE}&depth=8")
+    with page(port, "--address", "0.0.0.0", "--name", "board.school.example") as (_, service), opened("chromium", size=(1280, 800)) as shown, opened("chromium") as pupil:
+        own = service.replace("0.0.0.0", "127.0.0.1")
+        shown.open(f"{own}#{MIDDLE}&depth=8")
         shown.known(600)
         shown.tab("class")
         shown.until("a class can be opened", "!document.getElementById('class-open').hidden")
         shown.click("#class-open")
         shown.until("the code", "document.querySelector('#class-code svg')")
+        pupil.open(f"{own}#{shown.text('#class-link a').partition('#')[2]}")
+        pupil.until("the teacher's game", f"{TEXT} === '{GAME}'")
+        pupil.tab("class")
+        pupil.fill("#pupil-name", "Kim")
+        pupil.click("#hand")
+        shown.until("a hand", "document.querySelector('#class-hands li')")
+        shown.until("nothing is said any more", "document.getElementById('toast').textContent === ''")
         shown.picture(folder / "board-class.png")
     with opened("chromium", size=(900, 1270)) as shown:
         shown.open(f"{address}#moves={whole}&at=52&depth=4&black=Anna&white=Bo&date=2026-11-27&event=Cup")

@@ -1,11 +1,18 @@
 """Playing, going through a game, undoing, notes, addresses, what is read and written, the shelf, and a game against the program."""
-import tempfile
 import pathlib
+import re
+import statistics
+import tempfile
 
 from browsers import main_thread, opened
-from stand import CELLS, FORMS, GAME, HERE, NAMES, SCORES, TEXT, check, chosen, play, random_moves, settled, until, whole_game
+from stand import CELLS, FORMS, GAME, HERE, NAMES, SCORES, TEXT, check, chosen, ended, forms, play, random_moves, said, sentence, settled, until, whole_game
 
-ARROW = {"Left": "\ue012", "Up": "\ue013", "Right": "\ue014", "Down": "\ue015", "Home": "\ue011", "End": "\ue010", "PageUp": "\ue00e", "Enter": "\ue007", "Tab": "\ue004"}
+KEY = {"Left": "\ue012", "Up": "\ue013", "Right": "\ue014", "Down": "\ue015", "Home": "\ue011", "End": "\ue010", "PageUp": "\ue00e", "PageDown": "\ue00f", "Enter": "\ue007", "Tab": "\ue004", "Escape": "\ue00c"}
+WIPED_OUT = "e6f4e3f6g5d6e7f5c5"  # black has all discs, and 51 squares are empty
+FOCUSED = "document.activeElement?.dataset.square"
+CURVE = """(() => { const of = (selector, name) => [...document.querySelectorAll(`#graph ${selector}`)].map((one) => one.getAttribute(name)), numbers = (path) => [...(path ?? "").matchAll(/[ML]([\\d.]+) ([\\d.-]+)/g)].map(([, x, y]) => [Number(x), Number(y)]);
+  return { points: numbers(of(".curve:not(.end)", "d")[0]), discs: numbers(of(".curve.end", "d")[0]), border: of(".border", "x1").map(Number), zero: of(".zero", "y1").map(Number), rows: of(".grid", "y1").map(Number),
+    texts: [...document.querySelectorAll("#graph text")].map((one) => one.textContent), marks: [of(".grave", "d").length, of(".weak", "d").length] } })()"""
 
 
 def try_moves(shown, address):
@@ -23,21 +30,21 @@ def try_moves(shown, address):
     game = random_moves(2, 70)  # both players pass near its end
     shown.open(f"{address}#moves={''.join(move for move, _ in game)}&at=50&depth=2")
     for move, position in game[50:]:
-        shown.press(ARROW["Right"])
+        shown.press(KEY["Right"])
         same(move, position)
 
 
 def try_tree(shown, address):
     shown.open(f"{address}#moves={GAME}&at=16&depth=2")
     for key, here in (("Left", "h6"), ("Left", "g3"), ("Home", ""), ("Right", "f5"), ("End", "f7")):
-        shown.press(ARROW[key])
+        shown.press(KEY[key])
         check(shown.evaluate(HERE) == here, f"{shown.name}: {key} leads to {shown.evaluate(HERE)}")
-    shown.press(ARROW["Left"])
+    shown.press(KEY["Left"])
     shown.evaluate("document.querySelector('.square.legal:not([data-square=f7])').click()")
     check("(" in shown.evaluate(TEXT), f"{shown.name}: no variation: {shown.evaluate(TEXT)}")
-    shown.press(ARROW["Up"])
+    shown.press(KEY["Up"])
     check(shown.evaluate(HERE) == "f7", f"{shown.name}: another variation")
-    shown.press(ARROW["Down"])
+    shown.press(KEY["Down"])
     shown.click("#promote")
     check(shown.evaluate(TEXT).endswith("(f7)"), f"{shown.name}: the main line")
     shown.click("#undo")
@@ -70,6 +77,81 @@ def try_seen(shown, address):
         check(shown.evaluate(f"document.querySelectorAll('.play {part}').length") == 0, f"{shown.name}: {option} are seen though switched off")
         shown.check(f"#show-{option}", True)
     shown.tab("moves")
+
+
+def try_ends(shown, address):
+    """Discs are facts, and say how empty squares count: of endings what `othello solve` plays to the end, with its empty squares for nobody and as in tournaments."""
+    kinds = set()
+    for seed, count in ((1, 52), (13, 54), (32, 50), (169, 52)):
+        game = random_moves(seed, count)
+        position = settled(game[-1][1])
+        whole, empty = ended(position, position.empties)
+        whole = whole if position.side == "X" else -whole
+        discs = whole - empty * ((whole > 0) - (whole < 0))
+        kinds.add((bool(empty), (whole > 0) - (whole < 0)))
+        shown.open(f"{address}#moves={''.join(move for move, _ in game)}&depth=2")
+        shown.check("#game", False)
+        shown.known()
+        note = ("note.empty", {"n": empty, "text": sentence(shown.language, whole)}) if empty and discs else ("note.end" if empty else "note.full", {})
+        shown.until("the line to the end", f"/{said(shown.language, note[0], **note[1])}/.test(document.getElementById('value-note').textContent)")
+        check(shown.text("#value") == sentence(shown.language, discs) and shown.says("#state", "state.end"), f"{shown.name}: {game[-1]} ends with {discs}, {empty} empty: {shown.text('#value')}")
+    check({empty for empty, _ in kinds} == {False, True} and len({sign for _, sign in kinds}) == 3, f"{shown.name}: not all kinds of endings: {kinds}")
+    shown.open(f"{address}#moves={WIPED_OUT}&depth=2")
+    check(sentence(shown.language, 13) in shown.text("#value") and shown.says("#value-note", "note.over", n=51, text=sentence(shown.language, 64)), f"{shown.name}: a finished game: {shown.text('#value')} {shown.text('#value-note')}")
+
+
+def try_graph(shown, address):
+    """Points and discs have scales of their own, a line stands where discs begin, and each mark is there once."""
+    shown.open(f"{address}#moves={whole_game(6)}&at=52&depth=4")
+    shown.known()
+    shown.until("the graph", "document.querySelectorAll('#graph .curve.end').length === 1 && document.querySelector('#graph .curve.end').getAttribute('d').length > 99")
+    found, end = shown.evaluate(CURVE), random_moves(6, 70)[-1][1]
+    (middle,), rows, heights = found["zero"], sorted(set(found["rows"])), [y for _, y in found["points"] + found["discs"]]
+    check(len(rows) == 2 and rows[0] - 0.1 <= min(heights) and max(heights) <= rows[1] + 0.1, f"{shown.name}: a value leaves the graph: {rows} {heights}")
+    by = [int(text.split()[-1]) for text in found["texts"] if re.fullmatch(said(shown.language, "graph.by"), text)]
+    check(len(by) == 2 and by[0] == by[1] and not [text for text in found["texts"] if re.fullmatch(r"[WLSN]\d+", text)], f"{shown.name}: the graph's scales: {found['texts']}")
+    discs = (middle - found["discs"][-1][1]) / (middle - rows[0]) * by[0]
+    check(abs(discs - end.discs("X") + end.discs("O")) < 0.5, f"{shown.name}: the game ends with {discs} discs on the graph's scale of {by[0]}")
+    check(len(found["points"]) + len(found["discs"]) == 61 and found["points"][-1][0] < found["border"][0] < found["discs"][0][0], f"{shown.name}: where discs begin: {found['border']}")
+    shown.tab("mistakes")
+    signs = shown.evaluate("[...document.querySelectorAll('.mistake .mark')].map((one) => one.textContent)")
+    check(signs and found["marks"] == [signs.count("??"), signs.count("?")], f"{shown.name}: marks {found['marks']} of {signs}")
+    shown.tab("moves")
+
+
+def try_help(shown, address):
+    """Where nothing is there yet it is said, once, what to do; the legend opens when it is asked for."""
+    shown.open(f"{address}#depth=2")
+    for tab, place, name in (("moves", "#moves-panel", "moves.none"), ("mistakes", "#mistakes-panel", "mistakes.none"), ("class", "#class-panel", "class.none")):
+        shown.tab(tab)
+        shown.until(f"what {tab} says", f"document.querySelector('{place}').innerText.trim()")
+        text = shown.evaluate(f"document.querySelector('{place}').innerText.trim()")
+        check(re.fullmatch(said(shown.language, name), text), f"{shown.name}: {tab} says {text!r}")
+    shown.tab("moves")
+    check(not shown.evaluate("document.getElementById('legend').open"), f"{shown.name}: the legend is open")
+    shown.click("#help")
+    names = shown.evaluate("[...document.querySelectorAll('#legend[open] dt')].map((one) => one.textContent)")
+    check(len(names) == 7 and "≤+10" in names[0] and shown.evaluate("document.querySelectorAll('#legend dd:not(:empty)').length") == 7, f"{shown.name}: the legend: {names}")
+    shown.press(KEY["Escape"])
+    shown.until("the legend is closed", "!document.getElementById('legend').open")
+
+
+def try_keys(shown, address):
+    """A game by keys alone, as it is told to one who hears it: a square is reached, played, said with its value, and gone back from."""
+    shown.open(f"{address}#depth=2")
+    shown.known()
+    shown.evaluate("document.getElementById('help').focus()")
+    for key, square in (("Tab", "d3"), ("Left", "c3"), ("Down", "c4")):
+        shown.press(KEY[key])
+        check(shown.evaluate(FOCUSED) == square, f"{shown.name}: {key} leads to {shown.evaluate(FOCUSED)}")
+    check(shown.says(shown.evaluate(f"{NAMES}.c4"), "square.legal"), f"{shown.name}: a square says {shown.evaluate(NAMES)['c4']}")
+    shown.press(KEY["Enter"])
+    check(shown.evaluate(TEXT) == "c4" and shown.says("#live", "said.move", ply=1, move="c4") and shown.evaluate(FOCUSED) == "c4", f"{shown.name}: Enter on c4: {shown.text('#live')}")
+    until("its value is said", lambda: shown.says("#live-value", "said.value", depth=2))
+    shown.press(KEY["PageUp"])
+    check(shown.evaluate(HERE) == "" and shown.says("#live", "said.start"), f"{shown.name}: Page Up: {shown.text('#live')}")
+    shown.press(KEY["PageDown"])
+    check(shown.evaluate(HERE) == "c4", f"{shown.name}: Page Down")
 
 
 def try_notes(shown, address):
@@ -118,10 +200,9 @@ def try_reading(shown, address, folder):
     check(kinds == ["svg+xml", "png", *["octet-stream"] * 3], f"{shown.name}: saved: {kinds}")
     for number, text in enumerate((whole, GAME)):
         (folder / f"{number}.txt").write_text(text)
-    if shown.name == "chromium":
-        shown.keys("#file", "\n".join(str(folder / f"{number}.txt") for number in range(2)))
-        shown.until("two files", "document.getElementById('games').options.length === 2")
-        check(shown.evaluate(TEXT) == whole, "the first of two files")
+    shown.keys("#file", "\n".join(str(folder / f"{number}.txt") for number in range(2)))
+    shown.until("two files", "document.getElementById('games').options.length === 2")
+    check(shown.evaluate(TEXT) == whole, f"{shown.name}: the first of two files")
     check(not (faults := shown.faults()), f"{shown.name} complains: {faults}")
 
 
@@ -197,23 +278,26 @@ def try_quiz(shown, address):
 def try_stop(shown, address):
     shown.open(f"{address}#moves={whole_game(8)[:60]}&depth=12")
     shown.until("something to stop", "document.getElementById('stop').getAttribute('aria-disabled') === 'false'")
-    check(any(shown.says("#state", name) for name in ("state.searching", "state.game", "state.left")), f"{shown.name}: how far it is: {shown.text('#state')}")
-    renderer = shown.renderer()
-    before = main_thread(renderer)
-    shown.evaluate("document.getElementById('stop').click()")
-    taken = main_thread(renderer) - before
-    check(shown.says("#state", "state.stopped") and taken < 50, f"{shown.name}: stop takes {taken} ms of a processor")
-    shown.click("#stop")
-    until("it goes on", lambda: not shown.says("#state", "state.stopped"))
+    seen = set()
+    until(f"{shown.name}: how far it is", lambda: seen.update(name for name in ("state.searching", "state.game") if shown.says("#state", name)) or len(seen) == 2)
+    renderer, taken = shown.renderer(), []
+    for _ in range(5):
+        before = main_thread(renderer)
+        shown.evaluate("document.getElementById('stop').click()")
+        taken.append(main_thread(renderer) - before)
+        check(shown.says("#state", "state.stopped"), f"{shown.name}: stop: {shown.text('#state')}")
+        shown.click("#stop")
+        until("it goes on", lambda: not shown.says("#state", "state.stopped"))
+    check(statistics.median(taken) < 50, f"{shown.name}: stop takes {taken} ms of a processor")
 
 
 def try_all(address, name, only=""):
-    """Each in both browsers and at each width, by day or by night, in one language or the other."""
-    trials = chosen(only, try_moves, try_tree, try_seen, try_notes, try_shelf, try_program, try_quiz, try_stop, try_markup, try_reading)
-    for at, (width, height, language, scheme) in enumerate(FORMS):
+    """Each in both browsers and at each width."""
+    trials = chosen(only, try_moves, try_tree, try_keys, try_seen, try_ends, try_graph, try_help, try_notes, try_shelf, try_program, try_quiz, try_stop, try_markup, try_reading)
+    for at, (width, height, language, scheme) in enumerate(forms(name)):
         if only and at != 3:
             continue  # (one that is named alone is tried at one width)
         with opened(name, language, scheme, (width, height)) as shown, tempfile.TemporaryDirectory() as folder:
             for trial in trials:
                 trial(shown, address, *([pathlib.Path(folder)] if trial is try_reading else []))
-    print(f"board: {name}: moves, variations, notes, addresses, formats, shelf, program, questions, stop, at {len(FORMS)} widths")
+    print(f"board: {name}: moves, variations, keys, values, endings, graph, notes, addresses, formats, shelf, program, questions, stop, at {1 if only else len(FORMS)} widths")

@@ -5,7 +5,7 @@ Other programs may have this machine's processors, so what the page takes is mea
 import statistics
 
 from browsers import main_thread, opened
-from stand import FORMS, check, chosen, play, whole_game
+from stand import check, chosen, forms, play, whole_game
 
 MOVES = ("f5", "d6", "c3", "d3", "c4", "f4", "f6", "g5", "e3", "f3", "g4", "h5")
 SHIFTS = "new PerformanceObserver((list) => { for (const one of list.getEntries()) window.shifts = (window.shifts ?? 0) + one.value; }).observe({ type: 'layout-shift', buffered: true });"
@@ -19,10 +19,10 @@ FIRST = "performance.getEntriesByName('values')[0]?.startTime"
 AT_ONCE, SHIFT, FIRST_VALUES = 50, 0.1, 500
 
 
-def try_shifts(name, address, forms=FORMS):
+def try_shifts(name, address, shapes):
     """Each part keeps its place while a game is played; Chromium also counts all shifts, those behind a click with the others."""
     counted = []
-    for width, height, language, scheme in forms:
+    for width, height, language, scheme in shapes:
         with opened(name, language, scheme, (width, height)) as shown:
             if name == "chromium":
                 shown.driver.execute_cdp_cmd("Page.addScriptToEvaluateOnNewDocument", {"source": SHIFTS})
@@ -35,12 +35,12 @@ def try_shifts(name, address, forms=FORMS):
                 check(not moved, f"{name} at {width}: behind {move or 'all moves'} these jump: {moved}, from {there}")
             counted.append(shown.evaluate("window.shifts ?? 0"))
             check(counted[-1] < SHIFT, f"layout shift {counted[-1]:.3f} after 12 moves at {width}")
-    print(f"board: {name}: nothing jumps at {len(forms)} widths" + (f"; layout shift {max(counted):.4f} at most" if name == "chromium" else ""))
+    print(f"board: {name}: nothing jumps at {len(shapes)} widths" + (f"; layout shift {max(counted):.4f} at most" if name == "chromium" else ""))
 
 
-def try_clicks(name, address, forms=FORMS):
+def try_clicks(name, address, shapes):
     slowest = {}
-    for width, height, language, scheme in forms:
+    for width, height, language, scheme in shapes:
         with opened(name, language, scheme, (width, height)) as shown:
             shown.open(f"{address}#moves={whole_game(3)}&at=0&depth=4")
             shown.known()
@@ -75,4 +75,4 @@ def try_first(name, address):
 
 def try_all(address, name, only=""):
     for trial in chosen(only, try_shifts, try_clicks, try_first):
-        trial(name, address, **{"forms": FORMS[3:4]} if only and trial is not try_first else {})
+        trial(name, address, *([] if trial is try_first else [forms(name)[3:4] if only else forms(name)]))

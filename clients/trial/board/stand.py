@@ -23,8 +23,9 @@ from stage import check, fail, free_port  # noqa: E402, F401
 
 OPENING = Position.opening()
 PAGE = pathlib.Path(os.environ.get("COLUWEN_FILES", TOP / "clients/page"))
-# Widths, heights, languages and schemes: each width by day or by night, in one language or the other.
+# Widths, heights, languages and schemes, in Chromium; in Firefox each width by the other scheme and in the other language (`forms`).
 FORMS = ((320, 640, "de", "dark"), (390, 844, "en", "light"), (768, 1024, "de", "light"), (1280, 900, "en", "dark"), (1920, 1080, "de", "dark"))
+TURNED = {"de": "en", "en": "de", "dark": "light", "light": "dark"}
 TABLE = json.loads((PAGE / "js/table.js").read_text().partition("TABLE = ")[2].rstrip().rstrip(";").replace("},\n}", "}\n}"))
 PATIENT = ("--silence", 30)  # of a page: on a busy machine an answer may take more than 1.5 seconds
 SQUARES = "[...document.querySelectorAll('.square')]"
@@ -47,11 +48,20 @@ class Quiet(http.server.SimpleHTTPRequestHandler):
         pass
 
 
+class Server(http.server.ThreadingHTTPServer):
+    """One whose browser may leave at any time."""
+
+    daemon_threads = True
+
+    def handle_error(self, request, client_address):
+        if not isinstance(sys.exc_info()[1], ConnectionError):
+            super().handle_error(request, client_address)
+
+
 @contextlib.contextmanager
 def files(port=0, folder=PAGE):
     """The page's files by a web server that knows nothing of them; gives its address."""
-    server = http.server.ThreadingHTTPServer(("127.0.0.1", port), functools.partial(Quiet, directory=folder))
-    server.daemon_threads = True
+    server = Server(("127.0.0.1", port), functools.partial(Quiet, directory=folder))
     thread = threading.Thread(target=server.serve_forever, daemon=True)
     thread.start()
     try:
@@ -83,6 +93,11 @@ def said(language, name, **words):
         text = text["one" if words.get("n") == 1 else "other"]
     parts = re.split(r"\{(\w+)\}", text)
     return "".join(re.escape(part) if at % 2 == 0 else re.escape(str(words[part])) if part in words else ".*" for at, part in enumerate(parts))
+
+
+def forms(name):
+    """What a browser tries: each width by day in one browser and by night in the other, and in each language."""
+    return FORMS if name == "chromium" else tuple((width, height, TURNED[language], TURNED[scheme]) for width, height, language, scheme in FORMS)
 
 
 def chosen(only, *trials):
@@ -154,9 +169,11 @@ def ended(position, depth):
     return discs + empty * ((discs > 0) - (discs < 0)), empty
 
 
-def worded(score):
-    """A result in words."""
-    return "draw" if not score else f"{'win' if score > 0 else 'loss'} by {abs(score)}"
+def sentence(language, discs):
+    """A result as black sees it, in the page's words."""
+    n, side = abs(discs), TABLE["side.black" if discs > 0 else "side.white"][language]
+    amount = TABLE["unit.discs"][language]["one" if n == 1 else "other"].replace("{n}", str(n))
+    return TABLE["value.wins"][language].replace("{side}", side).replace("{n}", amount) if n else TABLE["value.draw"][language]
 
 
 def play(shown, moves):
