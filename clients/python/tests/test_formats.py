@@ -309,6 +309,8 @@ def test_small_things() -> None:
                        ("8/8/8/3OX3/3XO3/8/8/8 Q", "1:23: 'Q' is no side to move")):
         with pytest.raises(FormatError, match=re.escape(said)):
             position.read_fen(text, formats.Place("", 1))
+    assert [one.position for one in strictly(formats.read_line("(;GM[Othello]B[f5]W[d6];)", formats.Place("a", 7)))] == [OPENING, OPENING.play("f5")]
+    assert [str(one) for one in formats.read_line("(;GM[Go];)", formats.Place("a", 7))] == ["a:7:6: this is a game of Go"]
     data = wthor.write([random_game(1), random_game(2)], 2020)
     first, second = strictly(wthor.read(data, "a.wtb"))
     assert [one.place.column for one in (first, second)] == [17, 85] and first.theoretical == (first.result or 0) / 2 + 32
