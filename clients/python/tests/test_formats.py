@@ -341,6 +341,8 @@ def test_wthor_byte_by_byte() -> None:
     begun = transcript.read("f5d6c3 33-31")
     assert wthor.write_names(["A"], ".jou") == bytes([20, 0, 1, 1]) + bytes(4) + b"\1\0" + bytes(6) + b"A" + bytes(19)
     head = bytes([20, 0, 1, 1, 1]) + bytes(5) + (2020).to_bytes(2, "little") + bytes([8, 0, 0, 0])
+    with pytest.raises(ValueError, match="from the opening alone"):
+        wthor.write([transcript.read("d6", OPENING.play("f5"))], 2020)
     assert wthor.write([begun], 2020) == head + bytes([0, 0, 0, 0, 0, 0, 33, 33, 56, 64, 33]) + bytes(57)
 
 
