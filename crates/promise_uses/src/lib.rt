@@ -17,7 +17,10 @@ mod runs;
 mod sessions;
 mod solving;
 
-pub use desks::{a_new_seat, job_three_of_nine, live_of_nine, nine_leaves, quota_of_nine};
+pub use desks::{
+    a_new_seat, job_three_of_nine, live_of_nine, nine_asks, nine_asks_in_vain, nine_cancels,
+    nine_leaves, nine_reserves, quota_of_nine,
+};
 pub use halls::{entry_of_nine, seven_and_nine, seven_cancels, value_of_nine, value_of_seven};
 pub use isolation::seven_in_a_running_core;
 pub use runs::{
