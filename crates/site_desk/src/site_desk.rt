@@ -216,6 +216,13 @@ impl<A: Allocator + Clone> SiteDesk<A> {
         )
     }
 
+    /// What some of the sessions may have together, and what they have.
+    pub fn part<R: Wait>(&self, rt: &R, part: Part) -> (Amount, Amount) {
+        let kept = self.enter(rt);
+        let book = kept.book();
+        (book.plan().limit(part), book.used(part))
+    }
+
     /// The session leaves, and the seat is used up: its tenant with its jobs and frames is gone, its grant is taken back, and it is
     /// listed no more. All seats that wait are woken, to look at their jobs again, and all who wait for one to leave.
     pub fn leave<R: Wait>(&self, rt: &R, seat: Seat) {
