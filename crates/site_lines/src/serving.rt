@@ -79,7 +79,7 @@ pub fn serve_site<'a, S: Source, K: Sink, O: Office + Reception, R: Wait>(
     office: &'a mut O,
 ) -> Result<TalkEnd, LineFault>
     requires { O.ready ≡ true }
-    ensures { (from to : ⟦Clerk<'a, O>⟧) × (from.office.now ≡ office.old) × (from.seated ≡ false)
+    ensures { (from to : Clerk O _ _) × (from.office.now ≡ office.old) × (from.seated ≡ false)
         × Talk S.gives K.takes ⟦<Clerk<'a, O> as Answer>⟧.answers is_bye source.old sink.old from source.new sink.new to result
         × LeavesIf O.does to.seated to.office.now office.new }
 {

@@ -4,8 +4,8 @@ use site_book::Who;
 /// Whose a session is to be.
 #[derive(Clone, Copy, Debug)]
 pub enum Met {
-    /// This customer's.
-    Is(Who),
+    /// This customer's, whose sessions are in the hall of this number, from 0.
+    Is(Who, usize),
     /// Nobody has the token.
     Nobody,
     /// Its customer has too many connections.

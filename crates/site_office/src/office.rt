@@ -1,7 +1,7 @@
 //! The office of one connection.
 ghost use Rattle.std.specs.Prelude.{◌≡◌, [], IfOk, IfErr, Contains};
 ghost use Rattle.session.specs.Asks.{KeepsAsks};
-ghost use Rattle.site_office.specs.Offices.{asks_of};
+ghost use Rattle.site_office.specs.Offices.{asks_of, IsSeatOf};
 ghost use Rattle.site_office.specs.Refusing.{comer_refusal, comer_refusals};
 
 use crate::entering::{cause_of, comer_refusal, raise_refusal};
@@ -32,6 +32,9 @@ const BETWEEN_NOTES: u64 = 1_000;
 /// calls but `hello` and `leave` are refused.
 pub struct SiteOffice<'a, H: House, R: Wait + Clock, A: Allocator = Global> {
     rt: &'a R,
+    /// The desks of all halls.
+    desks: &'a [SiteDesk<A>],
+    /// The desk of the session, or of the next.
     desk: &'a SiteDesk<A>,
     house: H,
     /// Whose the next session is to be; the seat's customer where one is there.
@@ -44,16 +47,16 @@ pub struct SiteOffice<'a, H: House, R: Wait + Clock, A: Allocator = Global> {
     noted: u64,
     /// The depth of the leaves that workers compute.
     grain: u8,
-    ghost use Rattle.site_office.specs.Offices.{IsSeatOf},
     ghost seated: { IsSeatOf who seat },
 }
 
 impl<'a, H: House, R: Wait + Clock, A: Allocator + Clone> SiteOffice<'a, H, R, A> {
     ghost use Rattle.std.specs.Prelude.{None};
 
-    /// The office of a connection that is this customer's, where no tenant is there.
+    /// The office of a connection that is this customer's, at one of these desks, where no tenant is there.
     pub fn new(
         rt: &'a R,
+        desks: &'a [SiteDesk<A>],
         desk: &'a SiteDesk<A>,
         house: H,
         own: Who,
@@ -64,6 +67,7 @@ impl<'a, H: House, R: Wait + Clock, A: Allocator + Clone> SiteOffice<'a, H, R, A
     {
         SiteOffice {
             rt,
+            desks,
             desk,
             house,
             who: own,
@@ -80,6 +84,7 @@ impl<'a, H: House, R: Wait + Clock, A: Allocator + Clone> SiteOffice<'a, H, R, A
     {
         let SiteOffice {
             rt: _,
+            desks: _,
             desk: _,
             house,
             who: _,
@@ -318,8 +323,11 @@ impl<H: House, R: Wait + Clock, A: Allocator + Clone> Reception for SiteOffice<'
             return Greeted::Known;
         }
         match self.house.meet(token) {
-            Met::Is(who) => {
+            Met::Is(who, hall) => {
                 self.who = who;
+                if let Some(desk) = self.desks.get(hall) {
+                    self.desk = desk;
+                }
                 Greeted::Known
             }
             Met::Nobody => {

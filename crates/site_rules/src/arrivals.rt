@@ -30,7 +30,7 @@ pub enum Arrival {
 
 /// What becomes of a connection that comes to these: it is closed where all are as many as there may be; it counts as its customer's where
 /// that may have one more; and else it is heard, unless a quarter of all are so already.
-pub fn arrival(crowd: &Crowd) -> Arrival
+pub fn arrival_of(crowd: &Crowd) -> Arrival
     ensures { result ≡ arrival crowd.now }
 {
     if crowd.all >= crowd.most_all {

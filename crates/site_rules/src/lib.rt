@@ -3,7 +3,7 @@
 //!
 //! - [`identify`]: whose a connection is by its first bytes, at a proxy's port by the header (`proxy_header`), which must be understood, and
 //!   else by its own address.
-//! - [`arrival`]: whether a connection counts as its customer's, is heard for its first line though its customer has too many, or is closed.
+//! - [`arrival_of`]: whether a connection counts as its customer's, is heard for its first line though its customer has too many, or is closed.
 //! - [`Pace`]: until when a connection may be silent. [`Watch`]: when a client that can't be seen to speak is gone.
 //! - [`read_command`]: what a line of the operator asks.
 //!
@@ -24,7 +24,7 @@ mod paces;
 pub mod rows;
 mod watches;
 
-pub use arrivals::{Arrival, Crowd, arrival};
+pub use arrivals::{Arrival, Crowd, arrival_of};
 pub use callers::{Caller, Port, identify};
 pub use commands::{Command, Whose, read_command};
 pub use paces::{Pace, Times};
