@@ -40,7 +40,7 @@ fn millis(seconds: u32) -> u64 {
 }
 
 /// Whose a connection is that begins with these bytes.
-fn met<R: Wait>(rt: &R, shared: &Shared, port: Port, bytes: &[u8], peer: Address) -> Met {
+fn identified<R: Wait>(rt: &R, shared: &Shared, port: Port, bytes: &[u8], peer: Address) -> Met {
     match identify(port, bytes, peer) {
         Origin::From {
             address,
@@ -69,7 +69,7 @@ fn greet<R: Clock + Wait>(
     peer: Address,
 ) -> Option<Known> {
     for _ in 0..MOST_BYTES {
-        match met(rt, shared, port, source.ahead.bytes(), peer) {
+        match identified(rt, shared, port, source.ahead.bytes(), peer) {
             Met::Is(known) => return Some(known),
             Met::Foreign => {
                 count(rt, shared, HEADER);

@@ -1,1 +1,2 @@
 mod TokenLemmas
+mod ChainLemmas

@@ -1,5 +1,5 @@
 //! Until when a connection may be silent.
-ghost use Rattle.std.specs.Prelude.{◌≡◌};
+ghost use Rattle.std.specs.Prelude.{◌≡◌, false};
 ghost use Rattle.site_rules.specs.Paces.{left, until};
 
 /// How long a connection may be silent, in milliseconds.
