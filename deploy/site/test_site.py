@@ -327,6 +327,40 @@ def test_many_sessions_leave_nothing(site):
     assert here.metric("welcomed_total") == answers.count("WELCOME 1 100")
 
 
+def test_two_halls(site):
+    here = site("halls = 2\n" + PLAN.replace('name = "club"', 'name = "club"\nhall = 2'))
+    club, guest, other = here.behind_proxy("10.9.3.4"), here.behind_proxy("10.1.1.2"), here.behind_proxy("10.1.1.3")
+    for each in (club, guest, other):
+        assert each.ask("HELLO 4 400") == "WELCOME 4 400"
+        assert each.ask("ASK 2 " + OPENING) == "JOB 1"
+        assert each.ask("WAIT 1").startswith("DONE 1 ")
+    stats = here.command("STATS")
+    assert 'customer="club" hall=2' in stats
+    assert 'customer="guest 10.1.1.2" hall=1' in stats and 'customer="guest 10.1.1.3" hall=2' in stats
+    assert here.command("END ADDRESS 10.1.1.3") == "OK 1\n"
+    assert other.read() == "" and guest.ask("QUOTA").startswith("QUOTA ")
+    assert here.command("END SESSION 2 1") == "OK 1\n"
+    assert club.read() == "" and guest.ask("QUOTA").startswith("QUOTA ")
+
+
+def test_the_log_says_who_was_refused(site):
+    here = site(PLAN)
+    club = here.behind_proxy("10.9.3.4")
+    assert club.ask("HELLO 9 400") == "ERR 14"
+    assert club.ask("HELLO 4 400 wrong") == "ERR 30"
+    for _ in range(100):
+        Client(here.proxy, header=b"GET / HTTP/1.0\r\n\r\n").close()
+    assert here.behind_proxy("2001:db8::9").ask("HELLO 4 400\nBYE") == "WELCOME 4 400"
+    assert here.command('END CUSTOMER a"\\b') == "ERR nobody has this name\n"
+    time.sleep(0.3)
+    log = (here.folder / "log").read_text()
+    assert "event=refused reason=budget address=10.9.3.4\n" in log
+    assert "event=refused reason=token address=10.9.3.4\n" in log
+    assert 0 < log.count("reason=header address=127.0.0.1\n") <= 45
+    assert 'event=command line="END CUSTOMER a??b"\n' in log
+    assert 'customer="guest 2001:db8::/64" address=2001:db8::9' in log
+
+
 def test_without_a_file():
     with pytest.raises(ConnectionRefusedError):
         Client(4711).close()

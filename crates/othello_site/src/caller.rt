@@ -1,7 +1,8 @@
 //! The house of a connection's office: clock, keys and rates, and what it is told.
-use crate::counts::place_of;
+use crate::counts::{NAMES, place_of};
 use crate::links::Talk;
 use crate::shared::Shared;
+use crate::telling::log_refusal;
 use site_book::Who;
 use site_directory::Address;
 use site_office::{Cause, House, Met, Note};
@@ -14,6 +15,7 @@ use std::time::Clock;
 #[derive(Drop)]
 pub(crate) struct Caller<'a, R> {
     pub(crate) rt: &'a R,
+    pub(crate) alloc: Global,
     pub(crate) shared: &'a Shared,
     pub(crate) stream: Arc<TcpStream, Global>,
     pub(crate) talk: &'a Talk,
@@ -53,10 +55,20 @@ impl<R: Clock + Wait> Caller<'_, R> {
         }
     }
 
-    /// A refusal is counted.
+    /// A refusal is counted, and said.
     fn refuse(&mut self, cause: Cause) {
-        let mut register = self.shared.lock.lock(self.rt);
-        register.counts.refuse(place_of(cause));
+        let place = place_of(cause);
+        {
+            let mut register = self.shared.lock.lock(self.rt);
+            register.counts.refuse(place);
+        }
+        log_refusal(
+            self.rt,
+            self.alloc,
+            self.shared,
+            self.address,
+            NAMES.get(place).copied().unwrap_or(""),
+        );
     }
 
     /// Its session waits for a job, or doesn't any more.

@@ -2,9 +2,10 @@
 ghost use Rattle.std.specs.Prelude.{◌≤◌, length};
 
 use crate::caller::Caller;
-use crate::counts::{FULL, HEADER, SILENCE};
+use crate::counts::{FULL, HEADER, NAMES, SILENCE};
 use crate::links::{Incoming, MOST_BYTES, Outgoing, Reading, Received, Talk};
 use crate::shared::Shared;
+use crate::telling::{address_text, log_refusal};
 use line_io::{LineFault, Sink, TalkEnd};
 use site_book::Who;
 use site_directory::Address;
@@ -63,6 +64,7 @@ fn identified<R: Wait>(rt: &R, shared: &Shared, port: Port, bytes: &[u8], peer: 
 /// Reads until it is known whose the connection is; `None` where it is to be closed.
 fn greet<R: Clock + Wait>(
     rt: &R,
+    alloc: Global,
     shared: &Shared,
     port: Port,
     source: &mut Incoming<'_, R>,
@@ -72,29 +74,43 @@ fn greet<R: Clock + Wait>(
         match identified(rt, shared, port, source.ahead.bytes(), peer) {
             Met::Is(known) => return Some(known),
             Met::Foreign => {
-                count(rt, shared, HEADER);
+                refuse(rt, alloc, shared, peer, HEADER);
                 return None;
             }
             Met::Unfinished => {}
         }
         let mut block = [0; 512];
-        let most = source.ahead.room().len().min(block.len());
+        let most = source.ahead.left().min(block.len());
         let Some(count) = source.read(&mut block[..most]) else {
             return None;
         };
         if count == 0 {
             return None;
         }
-        source.ahead.room()[..count].copy_from_slice(&block[..count]);
-        source.ahead.grow(count);
+        source.ahead.keep(&block[..count.min(most)]);
     }
     None
 }
 
-/// Counts a connection that is refused.
-fn count<R: Wait>(rt: &R, shared: &Shared, place: usize) {
-    let mut register = shared.lock.lock(rt);
-    register.counts.refuse(place);
+/// Counts a connection that is refused, and says it.
+fn refuse<R: Clock + Wait>(
+    rt: &R,
+    alloc: Global,
+    shared: &Shared,
+    address: Address,
+    place: usize,
+) {
+    {
+        let mut register = shared.lock.lock(rt);
+        register.counts.refuse(place);
+    }
+    log_refusal(
+        rt,
+        alloc,
+        shared,
+        address,
+        NAMES.get(place).copied().unwrap_or(""),
+    );
 }
 
 /// How long connections may be silent, and take for a byte.
@@ -151,7 +167,7 @@ pub(crate) fn serve_client<R: Clock + Wait>(
         ahead: Received::new(),
         given: 0,
     };
-    let known = greet(rt, shared, port, &mut source, Address::of_ip(peer.ip()))?;
+    let known = greet(rt, alloc, shared, port, &mut source, Address::of_ip(peer.ip()))?;
     source.given = known.used;
     let mut sink = Outgoing { stream: outgoing };
     receive(rt, alloc, shared, &talk, &mut source, &mut sink, own, known);
@@ -180,13 +196,14 @@ fn receive<R: Clock + Wait>(
             None
         }
         Arrival::Closed => {
-            count(rt, shared, FULL);
+            refuse(rt, alloc, shared, known.address, FULL);
             let _ = sink.put(NO_ROOM);
             return;
         }
     };
     let caller = Caller {
         rt,
+        alloc,
         shared,
         stream,
         talk,
@@ -215,7 +232,7 @@ fn receive<R: Clock + Wait>(
     caller.leave();
     tell_end(rt, alloc, shared, &caller, words_of(end, talk.reading.get()));
     if talk.reading.get() == Reading::Late && !talk.pace.get().welcomed {
-        count(rt, shared, SILENCE);
+        refuse(rt, alloc, shared, known.address, SILENCE);
     }
 }
 
@@ -251,7 +268,7 @@ fn tell_end<R: Clock + Wait>(
     let Ok(name) = name else {
         return;
     };
-    let Ok(address) = crate::telling::address_text(alloc, caller.address) else {
+    let Ok(address) = address_text(alloc, caller.address) else {
         return;
     };
     let line = format!(in alloc;

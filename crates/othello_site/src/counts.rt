@@ -64,12 +64,7 @@ impl Buckets {
 
     /// Counts a duration.
     pub(crate) fn note(&mut self, micros: u64) {
-        let mut place = 0;
-        for bound in &BOUNDS {
-            if micros > *bound {
-                place += 1;
-            }
-        }
+        let place = BOUNDS.iter().filter(|bound| micros > **bound).count();
         if let Some(count) = self.counts.get_mut(place) {
             *count = count.saturating_add(1);
         }

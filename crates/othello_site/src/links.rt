@@ -246,4 +246,19 @@ impl Received {
     pub(crate) fn grow(&mut self, count: usize) {
         self.size = self.size.saturating_add(count).min(MOST_BYTES);
     }
+
+    /// Keeps these bytes, as many as there is room for.
+    pub(crate) fn keep(&mut self, bytes: &[u8]) {
+        for byte in bytes {
+            if self.size < MOST_BYTES {
+                self.block[self.size] = *byte;
+                self.size += 1;
+            }
+        }
+    }
+
+    /// How many more bytes there is room for.
+    pub(crate) fn left(&self) -> usize {
+        MOST_BYTES.saturating_sub(self.size)
+    }
 }

@@ -5,11 +5,22 @@ use std::sync::{Condvar, Mutex, Wait};
 /// Bytes that wait to be written at most. Lines beyond them are left out.
 const MOST_BYTES: usize = 1 << 20;
 
+/// How many lines of one kind that anybody can cause are said in a second.
+const MOST_LINES: u32 = 20;
+
+/// How many lines were said of late that anybody can cause.
+#[derive(Clone, Copy)]
+struct Flow {
+    second: u64,
+    lines: u32,
+}
+
 /// The log.
 #[derive(Drop)]
 pub(crate) struct Log {
     waiting: Mutex<String>,
     filled: Condvar,
+    flow: Mutex<Flow>,
 }
 
 impl Log {
@@ -18,7 +29,22 @@ impl Log {
         Log {
             waiting: Mutex::new(String::new(alloc)),
             filled: Condvar::new(),
+            flow: Mutex::new(Flow {
+                second: 0,
+                lines: 0,
+            }),
         }
+    }
+
+    /// Whether one line more may be said in this second that anybody can cause.
+    pub(crate) fn has_room<R: Wait>(&self, rt: &R, second: u64) -> bool {
+        let mut flow = self.flow.lock(rt);
+        let lines = if flow.second == second { flow.lines } else { 0 };
+        *flow = Flow {
+            second,
+            lines: lines.saturating_add(1),
+        };
+        lines < MOST_LINES
     }
 
     /// Says a line, if there is room for it.

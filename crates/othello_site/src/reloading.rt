@@ -135,12 +135,12 @@ fn go_by<R: AllocGlobal + Wait>(rt: &R, shared: &Shared, config: Config) -> Resu
 
 /// Has the first halls go by these plans again.
 fn go_back<R: Wait>(rt: &R, shared: &Shared, was: Vec<Plan>) {
-    let mut hall = 0;
+    let mut hall: usize = 0;
     for plan in was {
         if let Some(desk) = shared.desks.get(hall) {
             let _ = desk.reload(rt, plan);
         }
-        hall += 1;
+        hall = hall.saturating_add(1);
     }
 }
 

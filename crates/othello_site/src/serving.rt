@@ -3,6 +3,8 @@
 //! They run in a scope of a thread of their own, which ends with the last session. The thread that began it waits for one thing alone: that
 //! it is told why the site ends ([`Ending`]). Then the program ends at once, and its sessions with it, so that whoever supervises it can
 //! start it again.
+ghost use Rattle.std.specs.Prelude.{◌≡◌, IfSome};
+
 use crate::control::serve_control;
 use crate::ending::{Ending, Why};
 use crate::listening::take_all;
@@ -80,7 +82,10 @@ where
 }
 
 /// The totals of a hall by its plan; `None` where they are beyond any hall's.
-fn totals_of(plan: &Plan) -> Option<Totals> {
+fn totals_of(plan: &Plan) -> Option<Totals>
+    ensures segments { IfSome result (λ totals. totals.segments ≡ plan.now.totals.segments) }
+    ensures nodes { IfSome result (λ totals. totals.nodes ≡ plan.now.totals.nodes) }
+{
     let totals = plan.totals();
     let Ok(segments) = u32::try_from(totals.segments) else {
         return None;

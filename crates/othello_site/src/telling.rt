@@ -26,6 +26,26 @@ pub(crate) fn address_text(alloc: Global, address: Address) -> Result<String, Al
     }
 }
 
+/// Says why somebody was refused, unless too many were in this second.
+pub(crate) fn log_refusal<R: Clock + Wait>(
+    rt: &R,
+    alloc: Global,
+    shared: &Shared,
+    address: Address,
+    reason: &str,
+) {
+    if !shared.log.has_room(rt, shared.now(rt) / 1_000) {
+        return;
+    }
+    let Ok(address) = address_text(alloc, address) else {
+        return;
+    };
+    let line = format!(in alloc; "event=refused reason={reason} address={address}\n");
+    if let Ok(line) = line {
+        shared.log.say(rt, line.as_str());
+    }
+}
+
 /// The answer to STATS: a line for each hall, for the guests and each customer of it that is there, and for each session, and an empty one.
 pub(crate) fn stats_of<R: AllocGlobal + Clock + Wait>(
     rt: &R,

@@ -322,6 +322,7 @@ impl<H: House, R: Wait + Clock, A: Allocator + Clone> Reception for SiteOffice<'
         if self.seat.is_some() {
             return Greeted::Known;
         }
+        self.who = self.own;
         match self.house.meet(token) {
             Met::Is(who, hall) => {
                 self.who = who;
@@ -331,13 +332,11 @@ impl<H: House, R: Wait + Clock, A: Allocator + Clone> Reception for SiteOffice<'
                 Greeted::Known
             }
             Met::Nobody => {
-                self.who = self.own;
-                self.house.note(Note::Refused(Cause::Token));
+                self.count(Some(Cause::Token));
                 Greeted::Unknown
             }
             Met::Crowded => {
-                self.who = self.own;
-                self.house.note(Note::Refused(Cause::Connections));
+                self.count(Some(Cause::Connections));
                 Greeted::Crowded
             }
         }
@@ -347,7 +346,7 @@ impl<H: House, R: Wait + Clock, A: Allocator + Clone> Reception for SiteOffice<'
     fn pay(&mut self) -> bool {
         let passes = self.house.pay(self.who);
         if !passes {
-            self.house.note(Note::Refused(Cause::Rate));
+            self.count(Some(Cause::Rate));
         }
         passes
     }

@@ -19,6 +19,11 @@ returns g c =
     let talk = c.talk_lines-talk in
     let clerk = c.new-clerk in
     let y = talk.ensures.lines in
-    let name = chain-keeps (Answers-line g.O.Office g.O.Reception) (λ a. a.office.ghost_name) (λ a line text b h. h.0) clerk.result y.answered y.texts talk.new.answerer y.answers_lead in
-    (clerk.result, talk.new.answerer, clerk.ensures.office, clerk.ensures.seated, talk.ensures,
-      subst (λ o. LeavesIf g.O.Office.does talk.new.answerer.seated talk.new.answerer.office.now o) (sym (search (rules, sym (name ∙ clerk.ensures.same_office)))) c.leave_if_seated.ensures)
+    let name = chain-keeps (Answers-line g.O.Office g.O.Reception) (λ a. a.office.ghost_name) (λ a line text b h. h.0) clerk.result y.answered y.texts talk.new.answerer y.answers_lead in (
+      clerk.result,
+      talk.new.answerer,
+      clerk.ensures.office,
+      clerk.ensures.seated,
+      talk.ensures,
+      subst (λ o. LeavesIf g.O.Office.does talk.new.answerer.seated talk.new.answerer.office.now o) (sym (search (rules, sym (name ∙ clerk.ensures.same_office)))) c.leave_if_seated.ensures,
+    )
