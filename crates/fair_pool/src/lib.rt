@@ -34,6 +34,7 @@
 mod hands;
 mod held;
 mod picks;
+mod pool;
 mod rhythm;
 pub mod rows;
 mod worker;
@@ -41,5 +42,6 @@ mod worker;
 pub use hands::Hands;
 pub use held::{HeldHall, steps};
 pub use picks::{charge, fair_task};
+pub use pool::{PoolEnd, PoolFault, run_pool};
 pub use rhythm::Rhythm;
 pub use worker::{Site, run_worker};

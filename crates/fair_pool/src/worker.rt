@@ -16,7 +16,16 @@ pub trait Site {
     ghost use Rattle.task_deques.specs.Deals.{posts};
 
     /// What a worker has of the site: a count of its steps, say.
-    type Badge: Drop;
+    type Badge: Drop + Send;
+
+    /// A badge for a worker that begins. `None` where none is left.
+    fn badge<R: Wait>(&self, rt: &R) -> Option<Self::Badge>;
+
+    /// One badge in place of two.
+    fn joined(first: Self::Badge, second: Self::Badge) -> Self::Badge;
+
+    /// Closes the site for good: from then on nobody waits.
+    fn close<R: Wait>(&self, rt: &R);
 
     /// Locks the hall, lets the worker take its steps there ([`steps`](crate::steps)), unlocks it and wakes those who wait for what
     /// became of it. Returns what the worker holds then.

@@ -1,0 +1,4 @@
+pub mod Addresses
+pub mod Keys
+pub mod Terms
+pub mod Checks

@@ -1,0 +1,38 @@
+-- Meaning: whose a connection is by its first bytes.
+use Rattle.std.specs.Prelude.{◌≡◌, ℕ, List, Option, Some, None, Result, Ok, Err, take, drop}
+use Rattle.std.specs.Int.{w32, w64, from_be_bytes}
+use Rattle.proxy_header.specs.declared.faults.HeaderFault.{HeaderFault}
+use Rattle.proxy_header.specs.declared.headers.Origin.{Origin}
+use Rattle.proxy_header.specs.declared.headers.Origin.TheVariants.{Local, V4 as told_v4, V6 as told_v6}
+use Rattle.proxy_header.specs.Fields.{field_of}
+use Rattle.proxy_header.specs.Headers.{HeaderOf}
+use Rattle.proxy_header.specs.Texts.{IsReading}
+use Rattle.site_directory.specs.Addresses.{v6_of}
+use Rattle.site_directory.specs.declared.address.Address.{Address}
+use Rattle.site_directory.specs.declared.address.Address.TheVariants.{V4}
+use Rattle.site_rules.specs.declared.callers.Port.{Port}
+use Rattle.site_rules.specs.declared.callers.Port.TheVariants.{Proxied, Plain}
+
+-- whose a connection is: it comes from this address, perhaps with a certificate of this name, and so many bytes said it; more bytes are to
+-- come; or it is closed
+pub data CallerOf : Type 0 where
+  Comes : (address : Address) (certificate : Option (List ℕ)) (used : ℕ) → CallerOf
+  Waiting : CallerOf
+  Closed : CallerOf
+
+-- from the address that its header tells; from its own where none is told
+abbrev pub address_of : Origin → Address → Address
+address_of Local peer = peer
+address_of (told_v4 octets port) peer = V4 (from_be_bytes w32 octets)
+address_of (told_v6 octets port) peer = v6_of (from_be_bytes w64 (take 8 octets)) (from_be_bytes w64 (drop 8 octets))
+
+-- by what was read of its header
+abbrev pub caller_by : Result (Option HeaderOf) HeaderFault → Address → CallerOf
+caller_by (Err fault) peer = Closed
+caller_by (Ok None) peer = Waiting
+caller_by (Ok (Some header)) peer = Comes (address_of header.origin peer) (field_of 5 header.fields) header.used
+
+-- at the proxy's port by its header, which must be one; at the other by its own address
+abbrev pub IsIdentified : Port → List ℕ → Address → CallerOf → Type 0
+IsIdentified Plain bytes peer caller = caller ≡ Comes peer None 0
+IsIdentified Proxied bytes peer caller = (read : Result (Option HeaderOf) HeaderFault) × IsReading bytes read × (caller ≡ caller_by read peer)

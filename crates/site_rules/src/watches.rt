@@ -1,0 +1,52 @@
+//! When the client of a session that waits for a job is gone.
+ghost use Rattle.std.specs.Prelude.{◌≡◌};
+ghost use Rattle.site_rules.specs.Watches.{after, is_gone};
+
+/// What is seen of a connection that isn't read.
+#[derive(Clone, Copy, Debug, PartialEq, Eq)]
+pub enum Seen {
+    /// Nothing, or bytes that wait to be read.
+    Silent,
+    /// The client has ended its input.
+    Ended,
+    /// The connection is lost.
+    Lost,
+}
+
+/// Since when a client's input has ended, if it has.
+#[derive(Clone, Copy, Debug, PartialEq, Eq)]
+pub struct Watch {
+    /// Since when.
+    pub since: Option<u64>,
+}
+
+impl Watch {
+    /// Of a client whose input hasn't ended.
+    pub const NOTHING: Watch = Watch { since: None };
+
+    /// After a look.
+    pub fn after(self, seen: Seen, now: u64) -> Watch
+        ensures { result ≡ after self seen now }
+    {
+        match (seen, self.since) {
+            (Seen::Silent, _) => Watch { since: None },
+            (_, Some(since)) => Watch { since: Some(since) },
+            (_, None) => Watch { since: Some(now) },
+        }
+    }
+
+    /// Whether the client is gone, by what was seen last: at once where the connection is lost, and where its input has ended after
+    /// `hangup`.
+    pub fn is_gone(self, seen: Seen, now: u64, hangup: u64) -> bool
+        ensures { result ≡ is_gone self seen now hangup }
+    {
+        match seen {
+            Seen::Silent => false,
+            Seen::Lost => true,
+            Seen::Ended => match self.since {
+                Some(since) => hangup <= now.saturating_sub(since),
+                None => false,
+            },
+        }
+    }
+}
