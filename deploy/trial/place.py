@@ -103,7 +103,9 @@ def address_of(number: int) -> str:
 
 def header_of(address: str) -> bytes:
     """What a proxy says in front of a connection from an address (version 2 of the PROXY protocol)."""
-    return b"\r\n\r\n\0\r\nQUIT\n\x21\x11\0\x0c" + socket.inet_aton(address) + socket.inet_aton("127.0.0.1") + struct.pack("!HH", 1000, 4700)
+    start, family, size = b"\r\n\r\n\0\r\nQUIT\n\x21", socket.AF_INET6 if ":" in address else socket.AF_INET, 36 if ":" in address else 12
+    ours = socket.inet_pton(family, "::1" if ":" in address else "127.0.0.1")
+    return start + (b"\x21" if ":" in address else b"\x11") + struct.pack("!H", size) + socket.inet_pton(family, address) + ours + struct.pack("!HH", 1000, 4700)
 
 
 def replaced(text: str, changes: list[tuple[str, str]]) -> str:
@@ -132,8 +134,17 @@ class From(coluwen.Session):
         self.address = address
         super().__init__(*words, **more)
 
-    def _connect(self, host: str, port: int, timeout: float) -> socket.socket:
+    def _connect(self, host: str, port: int, timeout: float) -> Any:
         return socket.create_connection((host, port), timeout, (self.address, 0))
+
+    @property
+    def socket(self) -> Any:
+        return self._socket
+
+    def reset(self) -> None:
+        """Ends the connection by a reset, without a BYE."""
+        self._socket.setsockopt(socket.SOL_SOCKET, socket.SO_LINGER, struct.pack("ii", 1, 0))
+        self._socket.close()
 
     def is_answered(self, number: int, wanted: list[Answer]) -> bool:
         """Whether the session gives the right value of one of the trial's positions."""
@@ -261,8 +272,8 @@ class Site:
 
     def has(self) -> dict[str, tuple[int, ...]]:
         """What each customer with a session has: sessions, segments and nodes."""
-        rows = [line.split() for line in self.ask("STATS") if line.startswith("customer ")]
-        return {row[1]: tuple(map(int, row[2:5])) for row in rows if row[2] != "0"}
+        rows = [re.match(r'customer="([^"]*)" hall=\d+ sessions=(\d+) segments=(\d+) nodes=(\d+) ', line) for line in self.ask("STATS")]
+        return {row[1]: tuple(map(int, row.groups()[1:])) for row in rows if row}
 
     def resident(self) -> float:
         """The memory that the program holds, in MB."""

@@ -1,12 +1,13 @@
 """Who may have how much: guests, customers by token, certificate and address, rates, and what comes back."""
 from __future__ import annotations
 
+import concurrent.futures
 import contextlib
 import socket
 import time
 
 import pytest
-from place import GREAT, LEFT, SCHOOL, SMALL, TOKEN, Answer, From, Site, address_of, until
+from place import GREAT, LEFT, OPENING, SCHOOL, SMALL, TOKEN, Answer, From, Site, address_of, header_of, until
 from coluwen import Refused
 
 
@@ -36,8 +37,8 @@ def test_a_budget_is_ones_own(wanted: list[Answer]) -> None:
 
 def test_what_a_session_had_is_there_when_bye_is_answered() -> None:
     with Site() as site:
-        for _ in range(50):
-            sessions = [site.opened(address_of(1), *SMALL) for _ in range(4)]
+        for number in range(60):
+            sessions = [site.opened(address_of(number // 20), *SMALL) for _ in range(4)]
             for session in sessions:
                 session.close()
         assert site.has() == {}
@@ -49,9 +50,7 @@ def test_a_session_that_is_gone_gives_all_back() -> None:
             for number in range(30):
                 session = site.opened(address_of(number), *GREAT)
                 session.ask_line(f"12 {'-' * 27}OX------XO{'-' * 27} X")
-                if by_reset:
-                    session.socket.setsockopt(socket.SOL_SOCKET, socket.SO_LINGER, b"\1\0\0\0\0\0\0\0")
-                session.socket.close()
+                session.reset() if by_reset else session.socket.close()
             until(lambda: site.has() == {}, 10, "all is given back")
 
 
@@ -120,3 +119,30 @@ def test_connections_beyond_a_guests_number_are_closed_but_for_a_token(wanted: l
                 stream.sendall(b"QUOTA\n")
         with site.opened(address_of(1), *SMALL, token=TOKEN) as session:
             assert session.is_answered(4, wanted)
+
+
+def test_a_network_of_48_bits() -> None:
+    with Site(terms=[("[guests.network]           # the guests of the first 48 bits of an address of IPv6; of IPv4 of one address\nsessions = 8", "[guests.network]\nsessions = 3")]) as site:
+        streams = [socket.create_connection(("127.0.0.1", site.inner), 10) for _ in range(5)]
+        found = list[bytes]()
+        for stream, address in zip(streams, [*(f"2001:db8:1:{number}::9" for number in range(4)), "2001:db8:2:1::9"]):
+            stream.sendall(header_of(address) + b"HELLO 4 400\n")
+            found.append(stream.recv(100))
+        assert found == [b"WELCOME 4 400\n"] * 3 + [b"ERR 14\n", b"WELCOME 4 400\n"], found
+        for stream in streams:
+            stream.close()
+
+
+def test_many_sessions_leave_nothing(length: int) -> None:
+    """With --length 1000 some 200,000 sessions."""
+    with Site() as site, concurrent.futures.ThreadPoolExecutor(8) as many:
+
+        def visit(number: int) -> int:
+            return sum(b"WELCOME" in site.said(address_of(number * 25 + at), f"HELLO 1 100\nASK 0 {OPENING}\nBYE\n".encode()) for at in range(25))
+
+        assert sum(many.map(visit, range(8))) == 200
+        before = site.resident()
+        for _ in range(length - 1):
+            sum(many.map(visit, range(8)))
+        until(lambda: site.has() == {}, 5, "all is given back")
+        assert site.resident() < before + 8

@@ -18,8 +18,8 @@ def test_stats_and_ends(wanted: list[Answer]) -> None:
         sessions = [site.opened(address_of(number), *SMALL) for number in range(4)] + [site.opened("127.6.0.1", *SMALL) for _ in range(3)]
         for session in sessions:
             open_ones.callback(session.socket.close)
-        rows = [line for line in site.ask("STATS") if line.startswith("session ")]
-        assert len(rows) == 7 and sum("127.1.0." in row for row in rows) == 4 and sum(" school " in row for row in rows) == 3, rows
+        rows = [line for line in site.ask("STATS") if line.startswith("session=")]
+        assert len(rows) == 7 and sum(" address=127.1.0." in row for row in rows) == 4 and sum(' customer="school" ' in row for row in rows) == 3, rows
         assert site.ask("END CUSTOMER school") == ["OK 3"] and site.ask(f"END ADDRESS {address_of(2)}") == ["OK 1"]
         until(lambda: sum(has[0] for has in site.has().values()) == 3, 5, "they have ended")
         for at, session in enumerate(sessions):

@@ -51,8 +51,8 @@ def test_who_takes_no_answer_is_ended() -> None:
         session.wait(session.ask_line(f"2 {OPENING}"))
         session.socket.settimeout(1)
         with contextlib.suppress(OSError):
-            session.socket.sendall(b"TABLE 1\n" * 200000)
-        until(lambda: not site.has(), 12, "what it had is given back")
+            session.socket.sendall(b"TABLE 1\n" * 400000)
+        until(lambda: not site.has(), 60, "what it had is given back")
         session.socket.close()
 
 
