@@ -1,1 +1,2 @@
 pub mod Offices
+pub mod Moments
