@@ -27,6 +27,7 @@
 mod laws;
 mod office;
 mod outcomes;
+pub mod rows;
 mod serving;
 
 pub use laws::own_steps_are_what_was_asked;
