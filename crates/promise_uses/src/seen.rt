@@ -1,5 +1,5 @@
 //! What a session's lines say of the server's history.
-ghost use Rattle.std.specs.Prelude.{◌≡◌, ◌∷◌, ◌++◌, [], ℕ, List, Some, option_map, codes};
+ghost use Rattle.std.specs.Prelude.{◌≡◌, ◌∷◌, ◌++◌, [], ℕ, List, false, Some, option_map, codes};
 ghost use mathlib.Core.List.{IsPrefix};
 ghost use Rattle.std.specs.List.{concat};
 ghost use Rattle.line_io.specs.Leads.{Leads};
@@ -21,6 +21,8 @@ ghost use Rattle.hall.specs.Halls.{HallOf};
 ghost use Rattle.desk.specs.Seats.{SeatOf};
 ghost use Rattle.desk.specs.Histories.{seat_steps, steps_of, AreTaken};
 ghost use Rattle.session.specs.Calls.{Ask, AskQuota, Cancel, Leave, OfficeReply, Welcome, Job, Rest, Gone, Refused};
+ghost use Rattle.session.specs.DoneLines.{EachDoneIsTrue};
+ghost use Rattle.session.specs.Turns.{turns};
 ghost use Rattle.session.specs.Sessions.{talk_result, texts_for, Called, IsWrittenOf};
 ghost use Rattle.desk_office.specs.Moments.{OfficeOf, IsTurnAt};
 ghost use Rattle.promises.specs.Tenants.{SearchStep};
@@ -35,7 +37,8 @@ use std::sync::Wait;
 
 /// Serves one session. Where its lines were `HELLO 4 8` and `QUOTA`, and the second answer has three numbers, these are what its own
 /// part of a history leaves to its tenant: a history of steps that were all taken, in which the tenant's one seat step is the
-/// Admit. Uses `desk_office::serve_desk_seen` (`history`).
+/// Admit. Whatever its lines were, each JOB, DONE and TABLE line is true by the lines before it.
+/// Uses `desk_office::serve_desk_seen` (`lines`, `history`).
 pub fn quota_after_hello<S, K, L, R, A>(
     rt: &R,
     source: &mut S,
@@ -52,7 +55,8 @@ where
     R: Wait,
     A: Allocator + Clone,
     requires { L.all ≡ L.parts }
-    ensures { (lines : List LineText) × (replies : List OfficeReply) × (pieces : List (List ℕ))
+    ensures dones { (lines : List LineText) × (replies : List OfficeReply) × EachDoneIsTrue [] lines (turns false lines replies) }
+    ensures quota { (lines : List LineText) × (replies : List OfficeReply) × (pieces : List (List ℕ))
         × Leads K.takes sink.old (writes_of pieces (write_result (talk_result result.0))) sink.new
         × IsWrittenOf (write_result (talk_result result.0)) (concat pieces) (texts_for lines replies)
         × ((left : LeftOf) → lines ≡ Whole (codes "HELLO 4 8") ∷ Whole (codes "QUOTA") ∷ [] → replies ≡ Welcome (record { segments = 4; nodes = 8 }) ∷ Rest left ∷ [] →
