@@ -49,13 +49,13 @@ by_step begun from next first now call reply takes any at_once to b = by_came b.
   where
     by_came : IsTaken first b.words b.step call reply now ⊎ (IsRefused begun first b.step reply now ⊎ ((now ≡ first) × IsRefusedAtOnce first.asked call reply)) → Moves from next first call reply
     by_came (inl t) =
-        let yes : is_taken reply ≡ true = ap is_taken t.reply ∙ any _ ∙ takes in
+        let yes : is_taken reply ≡ true = ap is_taken t.said ∙ any _ ∙ takes in
         record {
           now = now; seat = ap (λ (o : OfficeOf). o.seat) to; tenant = ap (λ (s : SeatOf). s.tenant) t.seat; goes_on = took_more first.known now.known b.step t.took;
           added = subst (λ (v : Bool). Added v first call now) (sym yes) (b.words, b.step, b.board, b.asks, t.took.3);
         }
     by_came (inr (inl r)) =
-        let no : is_taken reply ≡ false = ap is_taken r.reply in
+        let no : is_taken reply ≡ false = ap is_taken r.said in
         record {
           now = now; seat = ap (λ (o : OfficeOf). o.seat) to; tenant = ap (λ (s : SeatOf). s.tenant) r.seat; goes_on = r.saw.0;
           added = subst (λ (v : Bool). Added v first call now) (sym no) r.saw.2;
@@ -89,11 +89,11 @@ moves begun from next first (Ask depth board side) reply here stays t = by_step 
 moves begun from next first (Cancel job) reply here stays t = by_step begun from next first t.0 (Cancel job) reply refl (λ jobs. refl) (λ none. ap is_taken none.1) t.1 t.2
 moves begun from next first Leave reply here stays t = absurd (cc stays)
 moves begun from next first (Get job) reply here stays t =
-    let said = t.2.reply in by_look begun from next first t.0 (Get job) reply (ap is_taken said.2 ∙ told_is_none _ _ (λ x. refl)) t.1 t.2
+    let said = t.2.said in by_look begun from next first t.0 (Get job) reply (ap is_taken said.2 ∙ told_is_none _ _ (λ x. refl)) t.1 t.2
 moves begun from next first (Wait job) reply here stays t =
-    let said = t.2.reply in by_look begun from next first t.0 (Wait job) reply (ap is_taken said.2 ∙ told_is_none _ _ (λ x. refl)) t.1 t.2
-moves begun from next first AskQuota reply here stays t = by_look begun from next first t.0 AskQuota reply (ap is_taken t.2.reply ∙ told_is_none _ _ (λ x. refl)) t.1 t.2
-moves begun from next first AskLive reply here stays t = by_look begun from next first t.0 AskLive reply (ap is_taken t.2.reply ∙ told_is_none _ _ (λ x. refl)) t.1 t.2
+    let said = t.2.said in by_look begun from next first t.0 (Wait job) reply (ap is_taken said.2 ∙ told_is_none _ _ (λ x. refl)) t.1 t.2
+moves begun from next first AskQuota reply here stays t = by_look begun from next first t.0 AskQuota reply (ap is_taken t.2.said ∙ told_is_none _ _ (λ x. refl)) t.1 t.2
+moves begun from next first AskLive reply here stays t = by_look begun from next first t.0 AskLive reply (ap is_taken t.2.said ∙ told_is_none _ _ (λ x. refl)) t.1 t.2
 
 -- one call more before a tenancy
 more_before : (begun : HallOf) (first now : SeatOf) (call : Call) (reply : OfficeReply) (more : List (Call × OfficeReply)) (to : OfficeOf) → now.tenant ≡ first.tenant → IsPrefix first.known.seen now.known.seen →

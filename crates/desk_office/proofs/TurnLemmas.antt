@@ -51,9 +51,9 @@ no_words = record { own = 0; opp = 0 }
 reserve_step : (begun : HallOf) (before after : SeatOf) (quota : Quota) (answer : Result (Unit {0}) Refusal) → MatchResult answer (λ _. after ≡ stepped after.known before) (λ _. after ≡ seeing after.known before) →
     IsToldOf begun before.known (AdmitMore before.tenant quota) answer after.known → IsStepBy begun before (Reserve quota) (reply_of (λ _. Reserved quota) answer) after
 reserve_step begun before after quota (Ok done) share told =
-    record { words = no_words; board = tt; step = AdmitMore before.tenant quota; asks = refl; came = inl (record { took = told; seat = share; reply = refl }) }
+    record { words = no_words; board = tt; step = AdmitMore before.tenant quota; asks = refl; came = inl (record { took = told; seat = share; said = refl }) }
 reserve_step begun before after quota (Err refusal) share told =
-    record { words = no_words; board = tt; step = AdmitMore before.tenant quota; asks = refl; came = inr (inl (record { refusal = refusal; saw = told.0; right = told.1; seat = share; reply = refl })) }
+    record { words = no_words; board = tt; step = AdmitMore before.tenant quota; asks = refl; came = inr (inl (record { refusal = refusal; saw = told.0; right = told.1; seat = share; said = refl })) }
 
 -- the seat asks
 ask_step : (begun : HallOf) (before after : SeatOf) (words : Board) (depth : ℕ) (side : Side) (answer : Result ℕ Refusal) → IsAsked (record { board = words; depth = depth }) before answer after →
@@ -63,7 +63,7 @@ ask_step : (begun : HallOf) (before after : SeatOf) (words : Board) (depth : ℕ
 ask_step begun before after words depth side (Ok job) asked full told =
     let asking : SeatAsked = record { board = words; depth = depth } in
     let counted : job ≡ length before.asked + 1 = asked.1 ∙ ap (λ (s : SeatOf). length s.asked) asked.0 ∙ length-append before.asked (asking ∷ []) in
-    record { words = words; board = refl; step = Submit before.tenant (root_words words.own words.opp depth) frame_size; asks = refl; came = inl (record { took = told asked.2; seat = asked.0; reply = ap Job counted }) }
+    record { words = words; board = refl; step = Submit before.tenant (root_words words.own words.opp depth) frame_size; asks = refl; came = inl (record { took = told asked.2; seat = asked.0; said = ap Job counted }) }
 ask_step begun before after words depth side (Err refusal) asked full told = by_test (length before.asked == 256) refl
   where
     by_test : (b : Bool) → (length before.asked == 256) ≡ b → IsStepBy begun before (Ask depth (cells words) side) (Refused (refusal_number refusal)) after
@@ -74,7 +74,7 @@ ask_step begun before after words depth side (Err refusal) asked full told = by_
     by_test false e =
         let other : length before.asked ≢ 256 = λ is. absurd (grind (arith, nat_tests, e, is)) in
         let kept = told other in
-        record { words = words; board = refl; step = Submit before.tenant (root_words words.own words.opp depth) frame_size; asks = refl; came = inr (inl (record { refusal = refusal; saw = kept.0; right = kept.1; seat = asked.0; reply = refl })) }
+        record { words = words; board = refl; step = Submit before.tenant (root_words words.own words.opp depth) frame_size; asks = refl; came = inr (inl (record { refusal = refusal; saw = kept.0; right = kept.1; seat = asked.0; said = refl })) }
 
 -- the seat cancels
 cancel_step : (begun : HallOf) (before after : SeatOf) (job : ℕ) (answer : Result (Unit {0}) Refusal) → MatchResult answer (λ _. after ≡ stepped after.known before) (λ _. after ≡ seeing after.known before) →
@@ -84,9 +84,9 @@ cancel_step begun before after job answer share none told = by_found (seat_asked
   where
     by_answer : (a : Result (Unit {0}) Refusal) → MatchResult a (λ _. after ≡ stepped after.known before) (λ _. after ≡ seeing after.known before) → IsToldOf begun before.known (CancelStep before.tenant job) a after.known →
         IsStepBy begun before (Cancel job) (reply_of (λ _. Ended job) a) after
-    by_answer (Ok done) share came = record { words = no_words; board = tt; step = CancelStep before.tenant job; asks = refl; came = inl (record { took = came; seat = share; reply = refl }) }
+    by_answer (Ok done) share came = record { words = no_words; board = tt; step = CancelStep before.tenant job; asks = refl; came = inl (record { took = came; seat = share; said = refl }) }
     by_answer (Err refusal) share came =
-        record { words = no_words; board = tt; step = CancelStep before.tenant job; asks = refl; came = inr (inl (record { refusal = refusal; saw = came.0; right = came.1; seat = share; reply = refl })) }
+        record { words = no_words; board = tt; step = CancelStep before.tenant job; asks = refl; came = inr (inl (record { refusal = refusal; saw = came.0; right = came.1; seat = share; said = refl })) }
 
     by_found : (o : Option SeatAsked) → seat_asked_at before.asked job ≡ o → IsStepBy begun before (Cancel job) (reply_of (λ _. Ended job) answer) after
     by_found None is =
@@ -166,21 +166,21 @@ pub get_turn : (begun : HallOf) (from : OfficeOf) (before after : SeatOf) (job :
 get_turn begun from before after job answer said is look shown at says =
     let kept = job_kept (Get job) before after job answer look.kept shown (inl refl) in
     subst (λ (r : Result Standing Refusal). IsTurnAt begun from (Get job) (reply_of (Told job) r) (with_seat after from)) (sym says)
-    (turn begun from (Get job) (reply_of (Told job) (told_answer answer)) before after is (after, refl, record { look = look; reply = job_look begun before after job answer look shown at }) (kept.0, kept.1, kept.2, kept.3))
+    (turn begun from (Get job) (reply_of (Told job) (told_answer answer)) before after is (after, refl, record { look = look; said = job_look begun before after job answer look shown at }) (kept.0, kept.1, kept.2, kept.3))
 
 pub wait_turn : (begun : HallOf) (from : OfficeOf) (before after : SeatOf) (job : ℕ) (answer : Result Outcome Refusal) (said : Result Standing Refusal) → from.seat ≡ Some before → IsLook begun before after →
     IsShown (seat_asked_at after.asked job) answer → IsShownAt begun after job answer → said ≡ told_answer answer → IsTurnAt begun from (Wait job) (reply_of (Told job) said) (with_seat after from)
 wait_turn begun from before after job answer said is look shown at says =
     let kept = job_kept (Wait job) before after job answer look.kept shown (inr refl) in
     subst (λ (r : Result Standing Refusal). IsTurnAt begun from (Wait job) (reply_of (Told job) r) (with_seat after from)) (sym says)
-    (turn begun from (Wait job) (reply_of (Told job) (told_answer answer)) before after is (after, refl, record { look = look; reply = job_look begun before after job answer look shown at }) (kept.0, kept.1, kept.2, kept.3))
+    (turn begun from (Wait job) (reply_of (Told job) (told_answer answer)) before after is (after, refl, record { look = look; said = job_look begun before after job answer look shown at }) (kept.0, kept.1, kept.2, kept.3))
 
 pub quota_turn : (begun : HallOf) (from : OfficeOf) (before after : SeatOf) (answer : Result Left Refusal) → from.seat ≡ Some before → IsLook begun before after →
     answer ≡ found_or_no_tenant (left_in_core (core_at begun after.known.seen) after.tenant) → IsTurnAt begun from AskQuota (reply_of Rest answer) (with_seat after from)
 quota_turn begun from before after answer is look left_is =
     let same : map ask_of after.asked ≡ map ask_of before.asked = ap (λ (s : SeatOf). map ask_of s.asked) look.kept in
     let kept = rest_kept (map ask_of before.asked) (left_in_core (core_at begun after.known.seen) after.tenant) in
-    turn begun from AskQuota (reply_of Rest answer) before after is (after, refl, record { look = look; reply = rest_look begun before after answer look left_is })
+    turn begun from AskQuota (reply_of Rest answer) before after is (after, refl, record { look = look; said = rest_look begun before after answer look left_is })
     (subst (λ (a : List Asked). KeepsAsks (map ask_of before.asked) AskQuota (reply_of Rest answer) a) (sym same) (subst (λ (r : Result Left Refusal). KeepsAsks (map ask_of before.asked) AskQuota (reply_of Rest r) (map ask_of before.asked)) (sym left_is) kept))
 
 pub live_turn : (begun : HallOf) (from : OfficeOf) (before after : SeatOf) (answer : Result (ℕ × ℕ) Refusal) → from.seat ≡ Some before → IsLook begun before after →
@@ -189,7 +189,7 @@ live_turn begun from before after answer is look live_is =
     let said : Result (ℕ × ℕ) Refusal → OfficeReply = λ r. reply_of (λ its. Alive (record { frames = its.0; words = its.1 })) r in
     let same : map ask_of after.asked ≡ map ask_of before.asked = ap (λ (s : SeatOf). map ask_of s.asked) look.kept in
     let kept = live_kept (map ask_of before.asked) (live_of (core_at begun after.known.seen) after.tenant) in
-    turn begun from AskLive (said answer) before after is (after, refl, record { look = look; reply = live_look begun before after answer look live_is })
+    turn begun from AskLive (said answer) before after is (after, refl, record { look = look; said = live_look begun before after answer look live_is })
     (subst (λ (a : List Asked). KeepsAsks (map ask_of before.asked) AskLive (said answer) a) (sym same) (subst (λ (r : Result (ℕ × ℕ) Refusal). KeepsAsks (map ask_of before.asked) AskLive (said r) (map ask_of before.asked)) (sym live_is) kept))
 
 pub leave_turn : (begun : HallOf) (from : OfficeOf) (before : SeatOf) (now : Known (StepOf LeafAnswer)) → from.seat ≡ Some before → Took before.known (LeaveStep before.tenant) now → IsTrueTo begun before.tenant now →

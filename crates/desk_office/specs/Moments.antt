@@ -100,7 +100,7 @@ IsReplyOf asked tenant _ reply = ⊥
 pub record IsTaken (before : SeatOf) (words : Board) (step : StepOf LeafAnswer) (call : Call) (reply : OfficeReply) (now : SeatOf) : Type 0 where
   pub took : Took before.known step now.known
   pub seat : now ≡ record { tenant = before.tenant; share = before.share + 1; asked = asked_after before.asked words call; known = now.known }
-  pub reply : reply ≡ taken_reply (length before.asked) call
+  pub said : reply ≡ taken_reply (length before.asked) call
 
 -- a seat's step was refused, as the core at the end of the history that it has then seen refuses it
 pub record IsRefused (begun : HallOf) (before : SeatOf) (step : StepOf LeafAnswer) (reply : OfficeReply) (now : SeatOf) : Type 0 where
@@ -108,7 +108,7 @@ pub record IsRefused (begun : HallOf) (before : SeatOf) (step : StepOf LeafAnswe
   pub saw : Saw before.known now.known
   pub right : IsAnswerTo (jamboree begun.grain) (core_at begun now.known.seen) step (Err refusal)
   pub seat : now ≡ seeing now.known before
-  pub reply : reply ≡ Refused (refusal_number refusal)
+  pub said : reply ≡ Refused (refusal_number refusal)
 
 -- a call for a seat's step: it is taken or refused, or refused at once without a change
 pub record IsStepBy (begun : HallOf) (before : SeatOf) (call : Call) (reply : OfficeReply) (now : SeatOf) : Type 0 where
@@ -122,7 +122,7 @@ pub record IsStepBy (begun : HallOf) (before : SeatOf) (call : Call) (reply : Of
 -- history gives
 pub record IsLookBy (begun : HallOf) (before : SeatOf) (call : Call) (reply : OfficeReply) (now : SeatOf) : Type 0 where
   pub look : IsLook begun before now
-  pub reply : IsReplyOf now.asked (tenant_at begun now.known.seen now.tenant) call reply
+  pub said : IsReplyOf now.asked (tenant_at begun now.known.seen now.tenant) call reply
 
 -- HELLO: there is a new tenant with its seat, or a refusal
 abbrev pub IsHello : Call → OfficeReply → OfficeOf → OfficeOf → Type 0

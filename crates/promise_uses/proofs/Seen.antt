@@ -51,7 +51,7 @@ of-quota begun office quota left h = by_hello h.1.0
         let asks : IsTurnOf begun (Some new.0) AskQuota (Rest left) h.0 h.2.0 = subst (λ (o : Option SeatOf). IsTurnOf begun o AskQuota (Rest left) h.0 h.2.0) here h.2.1.0 in
         let look = asks.2.look in
         let same : asks.0.tenant ≡ new.0.tenant = ap (λ (s : SeatOf). s.tenant) look.kept in
-        (asks.0.tenant, asks.0.known.seen, found-left _ left asks.2.reply, look.legal, look.mine ∙ look.saw.2 ∙ new.2.mine ∙ ap (λ n. Admit n quota ∷ []) (sym same))
+        (asks.0.tenant, asks.0.known.seen, found-left _ left asks.2.said, look.legal, look.mine ∙ look.saw.2 ∙ new.2.mine ∙ ap (λ n. Admit n quota ∷ []) (sym same))
     by_hello (inr refused) = let is : Welcome quota ≡ Refused refused.1 = refused.2 in absurd (cc is)
 
 pub quota-seen : {S K : Type 0} (begun : HallOf) (gives : S → ReadAnswer → S → Type 0) (takes : K → WriteAnswer → K → Type 0) (source : S) (sink : K) (source' : S) (sink' : K) (r : Result End SessionFault) (known : Option (Known SearchStep)) →
