@@ -87,6 +87,11 @@ pub record IsAdmitted (reserve : Quota) (seat : SeatOf) : Type 0 where
   pub unmade : own seat.known.maker before ≡ []
   pub mine : seat.known.mine ≡ Admit seat.tenant reserve ∷ []
 
+-- what a maker has seen of the history: each step of it was taken, and those of this tenant that workers didn't make are just
+-- the maker's own
+abbrev pub IsTrueTo : HallOf → ℕ → Known (StepOf LeafAnswer) → Type 0
+IsTrueTo begun number known = AreTaken (jamboree begun.grain) begun.shared (steps_of known.seen) × (seat_steps number (steps_of known.seen) ≡ known.mine)
+
 -- a seat has seen the history go on: nothing else of it has changed; each step of the history was taken, those of the
 -- seat's tenant that workers didn't make are just the seat's own, and the tenant is at its end what the tenant's own
 -- steps make of it alone

@@ -4,11 +4,12 @@ ghost use Rattle.sched_rules.specs.declared.refusal.Refusal.TheVariants.{NoJob, 
 ghost use Rattle.hall.specs.Journals.{is_worker_step};
 ghost use Rattle.hall.specs.Halls.{count_of};
 ghost use Rattle.hall.specs.jamboree_rules.Places.{root_words, frame_size};
+ghost use Rattle.hall.specs.jamboree_rules.Procedure.{jamboree};
 ghost use Rattle.sched_rules.specs.declared.step.StepOf.TheVariants.{AdmitMore, Submit, Cancel, Leave};
 ghost use Rattle.sched_rules.specs.Views.{left_in_core, live_of};
 ghost use Rattle.desk.specs.Counts.{found_or_no_tenant};
 ghost use Rattle.desk.specs.Seats.{admit_refusals, reserve_refusals, ask_refusals, cancel_refusals, seeing, stepped, seat_asked_at, IsAsked, IsShown};
-ghost use Rattle.desk.specs.Histories.{core_at, IsAdmitted, IsLook, IsShownAt, IsToldOf, Took};
+ghost use Rattle.desk.specs.Histories.{core_at, steps_of, AreTaken, IsAdmitted, IsLook, IsShownAt, IsToldOf, IsTrueTo, Saw, Took};
 
 use crate::backoff::Backoff;
 use crate::desk_guard::DeskGuard;
@@ -243,14 +244,31 @@ impl<L: DeskLedger, A: Allocator + Clone> Desk<L, A> {
     }
 
     /// As [`Desk::leave`], and gives back what the seat then knows of the history, which ends with its tenant's Leave, the
-    /// last step of its own.
+    /// last step of its own: each step of it was taken, and those of the tenant that workers didn't make are just its own.
     pub fn leave_seen<R: Wait>(&self, rt: &R, seat: Seat<L>) -> Trace<Step<Jamboree>, L>
         requires { L.all ≡ L.parts }
         ensures told { Took seat.known (Leave seat.tenant) result }
+        ensures true_to { IsTrueTo L.begun seat.tenant result }
     {
         let trace = self.enter(rt).leave(seat);
         self.ended.notify_all();
         trace
+    }
+
+    /// Lets two makers see the history so far, as what two seats knew when they left: both speak of one history. What each
+    /// had seen is a beginning of it, its own steps are all its steps in it, and each step of it was taken.
+    pub fn compare<R: Wait>(
+        &self,
+        rt: &R,
+        one: &mut Trace<Step<Jamboree>, L>,
+        other: &mut Trace<Step<Jamboree>, L>,
+    )
+        ensures one { Saw one.old one.new }
+        ensures other { Saw other.old other.new }
+        ensures history { one.new.seen ≡ other.new.seen }
+        ensures legal { AreTaken (jamboree L.begun.grain) L.begun.shared (steps_of one.new.seen) }
+    {
+        self.enter(rt).compare(one, other)
     }
 
     /// A new badge, with which a worker offers steps. Its share is 0. `None` only after 2^62 badges.

@@ -6,6 +6,7 @@ ghost use Rattle.sched_rules.specs.declared.step.StepOf.TheVariants.{Admit, Admi
 ghost use Rattle.sched_rules.specs.declared.step.DidOf.{DidOf};
 ghost use Rattle.hall.specs.jamboree_rules.declared.leaf.Leaf.{Leaf as LeafOf};
 ghost use Rattle.hall.specs.jamboree_rules.Places.{root_words, frame_size};
+ghost use Rattle.hall.specs.jamboree_rules.Procedure.{jamboree};
 ghost use Rattle.hall.specs.Journals.{is_worker_step};
 ghost use Rattle.hall.specs.Halls.{count_of};
 ghost use Rattle.sched_rules.specs.Headline.{is_admission};
@@ -17,7 +18,7 @@ ghost use mathlib.Core.List.{IsPrefix};
 ghost use Rattle.shared_history.specs.Views.{own};
 ghost use Rattle.sched_rules.specs.Runs.{tenant_of};
 ghost use Rattle.desk.specs.Seats.{admit_refusals, reserve_refusals, ask_refusals, cancel_refusals, seeing, stepped, seat_asked_at, IsAsked, Shows, IsShown, IsShownOf, IsToldBy};
-ghost use Rattle.desk.specs.Histories.{core_at, is_admit, is_leave, is_seat_step, with_taken, AreSeats, HasNoLeave, IsAdmitted, IsLook, IsShownAt, IsToldOf, Took};
+ghost use Rattle.desk.specs.Histories.{core_at, steps_of, is_admit, is_leave, is_seat_step, with_taken, AreSeats, AreTaken, HasNoLeave, IsAdmitted, IsLook, IsShownAt, IsToldOf, IsTrueTo, Saw, Took};
 ghost use Rattle.desk.specs.Counts.{IsOffered, IsLeft, IsAsOpen, IsNext, with_kept, found_or_no_tenant, waits_on, has_news};
 
 use crate::backoff::Backoff;
@@ -125,6 +126,7 @@ impl<L: DeskLedger, A: Allocator + Clone> LockedHall<L, A> {
         requires owner { is_seat_step step.now ≡ true → AreSeats (tenant_of step.now) trace.old.mine }
         ensures told { IsToldOf L.begun trace.old step.now result trace.new }
         ensures seen { trace.new.seen ≡ self.new.history }
+        ensures true_to { is_seat_step step.now ≡ true → IsTrueTo L.begun (tenant_of step.now) trace.new }
         ensures owner { is_seat_step step.now ≡ true → AreSeats (tenant_of step.now) trace.new.mine }
         ensures stays { is_leave step.now ≡ false → HasNoLeave trace.old.mine → HasNoLeave trace.new.mine }
         ensures left { is_leave step.now ≡ true → HasNoLeave trace.old.mine → result ≡ Ok HasLeft }
@@ -147,6 +149,7 @@ impl<L: DeskLedger, A: Allocator + Clone> LockedHall<L, A> {
             book.add(mine, 1);
         }
         book.audit(mine);
+        trace.recall();
         answer
     }
 
@@ -311,6 +314,22 @@ impl<L: DeskLedger, A: Allocator + Clone> LockedHall<L, A> {
         self.history.show(&mut seat.trace);
     }
 
+    /// Lets two makers see the history so far.
+    pub(crate) fn compare(
+        &mut self,
+        one: &mut Trace<Step<Jamboree>, L>,
+        other: &mut Trace<Step<Jamboree>, L>,
+    )
+        ensures same { self.new ≡ self.old }
+        ensures one { Saw one.old one.new }
+        ensures other { Saw other.old other.new }
+        ensures history { one.new.seen ≡ other.new.seen }
+        ensures legal { AreTaken (jamboree L.begun.grain) L.begun.shared (steps_of one.new.seen) }
+    {
+        self.history.show(one);
+        self.history.show(other);
+    }
+
     /// As `get`, and the seat has then seen the history so far.
     pub(crate) fn get_seen(&mut self, seat: &mut Seat<L>, job: u64) -> Result<Outcome, Refusal>
         ensures look { IsLook L.begun seat.old seat.new }
@@ -448,6 +467,7 @@ impl<L: DeskLedger, A: Allocator + Clone> LockedHall<L, A> {
     pub(crate) fn leave(&mut self, seat: Seat<L>) -> Trace<Step<Jamboree>, L>
         requires { L.all ≡ L.parts }
         ensures told { Took seat.known (Leave seat.tenant) result }
+        ensures true_to { IsTrueTo L.begun seat.tenant result }
         ensures step { IsLeft self.old.hall seat self.new.hall }
         ensures others { IsAsOpen self.old self.new }
     {

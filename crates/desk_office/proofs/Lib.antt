@@ -1,2 +1,5 @@
 pub mod SeatLemmas
 pub mod Entries
+pub mod TurnLemmas
+pub mod Tenancies
+pub mod Sessions

@@ -60,31 +60,30 @@ says asks job (Ok outcome) h = shown_found asks job outcome h
 says asks job (Err refusal) h = tt
 
 -- an answer about a job changes no ask
-pub same_asks : (asks : List Asked) (call : Call) (job : ℕ) (said : Result Standing Refusal) → asks ≡ asks_after asks call (reply_of (ToldOf job) said)
+same_asks : (asks : List Asked) (call : Call) (job : ℕ) (said : Result Standing Refusal) → asks ≡ asks_after asks call (reply_of (ToldOf job) said)
 same_asks asks call job (Ok outcome) = refl
 same_asks asks call job (Err refusal) = refl
 
 -- and it answers a call that named that job
-pub told_to : (call : Call) (job : ℕ) (said : Result Standing Refusal) → (call ≡ Get job) ⊎ (call ≡ Wait job) → IsOfficeReplyTo call (reply_of (ToldOf job) said)
+told_to : (call : Call) (job : ℕ) (said : Result Standing Refusal) → (call ≡ Get job) ⊎ (call ≡ Wait job) → IsOfficeReplyTo call (reply_of (ToldOf job) said)
 told_to call job (Ok outcome) named = named
 told_to call job (Err refusal) named = tt
 
--- a look changes nothing that was asked
-pub seat_looks : (here : Option SeatOf) (before now : SeatOf) → here ≡ Some before → now ≡ seeing now.known before → map ask_of now.asked ≡ asks_of here
-seat_looks here before now is kept = ap (λ s. map ask_of s.asked) kept ∙ sym (ap asks_of is)
-
--- what the seat that is there shows of a job, once it has looked
-pub seat_shows : (here : Option SeatOf) (before seat : SeatOf) (job : ℕ) (answer : Result Outcome Refusal) (said : Result Standing Refusal) → here ≡ Some before → seat ≡ seeing seat.known before
-    → IsShown (seat_asked_at seat.asked job) answer → said ≡ told_answer answer
-    → SaysTrue (asks_of here) (reply_of (ToldOf job) said) × IsToldOf job (asked_at (asks_of here) job) (reply_of (ToldOf job) said)
-seat_shows here before seat job answer said is kept shown says_so =
+-- what a seat tells of a job, once it has looked
+pub job_kept : (call : Call) (before seat : SeatOf) (job : ℕ) (answer : Result Outcome Refusal) → seat ≡ seeing seat.known before → IsShown (seat_asked_at seat.asked job) answer → (call ≡ Get job) ⊎ (call ≡ Wait job) →
+    (map ask_of seat.asked ≡ asks_after (map ask_of before.asked) call (reply_of (ToldOf job) (told_answer answer))) × SaysTrue (map ask_of before.asked) (reply_of (ToldOf job) (told_answer answer))
+    × IsToldOf job (asked_at (map ask_of before.asked) job) (reply_of (ToldOf job) (told_answer answer)) × IsOfficeReplyTo call (reply_of (ToldOf job) (told_answer answer))
+job_kept call before seat job answer kept shown named =
+    let same : map ask_of seat.asked ≡ map ask_of before.asked = ap (λ s. map ask_of s.asked) kept in
     let tells : IsToldOf job (asked_at (map ask_of seat.asked) job) (reply_of (ToldOf job) (told_answer answer)) =
     subst (λ o. IsToldOf job o (reply_of (ToldOf job) (told_answer answer))) (sym (asked_at-map seat.asked job)) (told_of job (seat_asked_at seat.asked job) answer shown) in
-    subst (λ asks. SaysTrue asks (reply_of (ToldOf job) said) × IsToldOf job (asked_at asks job) (reply_of (ToldOf job) said)) (seat_looks here before seat is kept)
-    (subst (λ t. SaysTrue (map ask_of seat.asked) (reply_of (ToldOf job) t) × IsToldOf job (asked_at (map ask_of seat.asked) job) (reply_of (ToldOf job) t)) (sym says_so) (says seat.asked job answer shown, tells))
+    (same ∙ same_asks (map ask_of before.asked) call job (told_answer answer),
+    subst (λ asks. SaysTrue asks (reply_of (ToldOf job) (told_answer answer))) same (says seat.asked job answer shown),
+    subst (λ asks. IsToldOf job (asked_at asks job) (reply_of (ToldOf job) (told_answer answer))) same tells,
+    told_to call job (told_answer answer) named)
 
 -- the numbers of refusals
-refused_by : (refusals : List Refusal) (refusal : Refusal) → Contains refusals refusal → Contains (map refusal_number refusals) (refusal_number refusal)
+pub refused_by : (refusals : List Refusal) (refusal : Refusal) → Contains refusals refusal → Contains (map refusal_number refusals) (refusal_number refusal)
 refused_by refusals refusal h = (h.0, subst (λ n. h.0 < n) (sym (length-map refusals refusal_number)) h.1, get_or-map refusal_number refusals h.0 refusal ∙ ap refusal_number h.2)
 
 -- nothing is asked under a number where the seat has nothing
@@ -93,7 +92,7 @@ unasked None h = refl
 unasked (Some asked) h = absurd (cc h)
 
 -- a seat cancels a job
-cancels : (before after : SeatOf) (job : ℕ) (answer : Result (Unit {0}) Refusal) → MatchResult answer (λ _. after ≡ stepped after.known before) (λ _. after ≡ seeing after.known before) → (seat_asked_at before.asked job ≡ None → (answer ≡ Err NoJob) × (after ≡ before)) → IfErr answer (Contains cancel_refusals)
+pub cancels : (before after : SeatOf) (job : ℕ) (answer : Result (Unit {0}) Refusal) → MatchResult answer (λ _. after ≡ stepped after.known before) (λ _. after ≡ seeing after.known before) → (seat_asked_at before.asked job ≡ None → (answer ≡ Err NoJob) × (after ≡ before)) → IfErr answer (Contains cancel_refusals)
     → KeepsAsks (map ask_of before.asked) (Cancel job) (reply_of (λ _. Ended job) answer) (map ask_of after.asked)
 cancels before after job (Ok done) share none refused =
     (ap (λ s. map ask_of s.asked) share, tt, (tt, λ h. absurd (cc (none (unasked (seat_asked_at before.asked job) (sym (asked_at-map before.asked job) ∙ h))).0)), refl)
@@ -101,20 +100,8 @@ cancels before after job (Err refusal) share none refused =
     let missing : seat_asked_at before.asked job ≡ None → refusal ≡ NoJob = λ h. cc (none h).0 in
     (ap (λ s. map ask_of s.asked) share, tt, (refused_by cancel_refusals refusal refused, λ h. ap (λ r. Refused (refusal_number r)) (missing (unasked (seat_asked_at before.asked job) (sym (asked_at-map before.asked job) ∙ h)))), tt)
 
--- what becomes of the asks by it
-pub seat_cancels : (here : Option SeatOf) (before after : SeatOf) (job : ℕ) (answer : Result (Unit {0}) Refusal) → here ≡ Some before → MatchResult answer (λ _. after ≡ stepped after.known before) (λ _. after ≡ seeing after.known before)
-    → (seat_asked_at before.asked job ≡ None → (answer ≡ Err NoJob) × (after ≡ before)) → IfErr answer (Contains cancel_refusals) → KeepsAsks (asks_of here) (Cancel job) (reply_of (λ _. Ended job) answer) (map ask_of after.asked)
-seat_cancels here before after job answer is share none refused =
-    subst (λ o. KeepsAsks (asks_of o) (Cancel job) (reply_of (λ _. Ended job) answer) (map ask_of after.asked)) (sym is) (cancels before after job answer share none refused)
-
 -- a seat reserves more
-reserves : (before after : SeatOf) (quota : Quota) (answer : Result (Unit {0}) Refusal) → MatchResult answer (λ _. after ≡ stepped after.known before) (λ _. after ≡ seeing after.known before) → IfErr answer (Contains reserve_refusals)
+pub reserves : (before after : SeatOf) (quota : Quota) (answer : Result (Unit {0}) Refusal) → MatchResult answer (λ _. after ≡ stepped after.known before) (λ _. after ≡ seeing after.known before) → IfErr answer (Contains reserve_refusals)
     → KeepsAsks (map ask_of before.asked) (Reserve quota) (reply_of (λ _. Reserved quota) answer) (map ask_of after.asked)
 reserves before after quota (Ok done) share refused = (ap (λ s. map ask_of s.asked) share, tt, tt, refl)
 reserves before after quota (Err refusal) share refused = (ap (λ s. map ask_of s.asked) share, tt, refused_by reserve_refusals refusal refused, tt)
-
--- what becomes of the asks by it: they stay
-pub seat_reserves : (here : Option SeatOf) (before after : SeatOf) (quota : Quota) (answer : Result (Unit {0}) Refusal) → here ≡ Some before → MatchResult answer (λ _. after ≡ stepped after.known before) (λ _. after ≡ seeing after.known before) → IfErr answer (Contains reserve_refusals)
-    → KeepsAsks (asks_of here) (Reserve quota) (reply_of (λ _. Reserved quota) answer) (map ask_of after.asked)
-seat_reserves here before after quota answer is share refused =
-    subst (λ o. KeepsAsks (asks_of o) (Reserve quota) (reply_of (λ _. Reserved quota) answer) (map ask_of after.asked)) (sym is) (reserves before after quota answer share refused)

@@ -1,1 +1,3 @@
 pub mod Offices
+pub mod Moments
+pub mod Rows

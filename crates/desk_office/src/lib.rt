@@ -24,9 +24,12 @@
 //! ```
 #![tactic(auto)]
 
+mod laws;
 mod office;
 mod outcomes;
+pub mod rows;
 mod serving;
 
+pub use laws::own_steps_are_what_was_asked;
 pub use office::DeskOffice;
-pub use serving::serve_desk;
+pub use serving::{serve_desk, serve_desk_seen};

@@ -1,10 +1,9 @@
 //! The office of one tenant.
 ghost use Rattle.std.specs.Prelude.{◌==◌};
-ghost use Rattle.session.specs.Asks.{KeepsAsks};
-ghost use Rattle.desk_office.specs.Offices.{asks_of};
+ghost use Rattle.desk_office.specs.Moments.{IsTurnAt};
 
 use crate::outcomes::told_answer;
-use desk::{Desk, DeskLedger, Refusal, Seat};
+use desk::{Desk, DeskLedger, Jamboree, Refusal, Seat, Step, Trace};
 use session::{Live, Office, Question, Standing};
 use std::alloc::{Allocator, Global};
 use std::sync::Wait;
@@ -17,6 +16,8 @@ pub struct DeskOffice<'a, L: DeskLedger, R: Wait, A: Allocator = Global> {
     desk: &'a Desk<L, A>,
     /// The tenant's seat; `None` where no tenant is there.
     seat: Option<Seat<L>>,
+    /// What the seat knew of the desk's history when its tenant left. It takes no bytes.
+    knew: Option<Trace<Step<Jamboree>, L>>,
 }
 
 impl<'a, L: DeskLedger, R: Wait, A: Allocator> DeskOffice<'a, L, R, A> {
@@ -24,27 +25,33 @@ impl<'a, L: DeskLedger, R: Wait, A: Allocator> DeskOffice<'a, L, R, A> {
 
     /// An office without a tenant.
     pub fn new(rt: &'a R, desk: &'a Desk<L, A>) -> DeskOffice<'a, L, R, A>
-        ensures { result.seat ≡ None }
+        ensures { (result.seat ≡ None) × (result.knew ≡ None) }
     {
         DeskOffice {
             rt,
             desk,
             seat: None,
+            knew: None,
         }
     }
 
-    /// Ends the office. Where a tenant is still there its seat is dropped, and the tenant doesn't leave.
-    pub fn close(self) {
+    /// Ends the office, and gives back what its seat knew when the tenant left. Where a tenant is still there its seat is
+    /// dropped, and the tenant doesn't leave.
+    pub fn close(self) -> Option<Trace<Step<Jamboree>, L>>
+        ensures { result ≡ self.knew }
+    {
         let DeskOffice {
             rt: _rt,
             desk: _desk,
             seat: _seat,
+            knew,
         } = self;
+        knew
     }
 }
 
 impl<L: DeskLedger, R: Wait, A: Allocator + Clone> Office for DeskOffice<'_, L, R, A> {
-    ghost does = { λ from call reply to. KeepsAsks (asks_of from.seat) call reply (asks_of to.seat) };
+    ghost does = { λ from call reply to. IsTurnAt L.begun (record { seat = from.seat; knew = from.knew }) call reply (record { seat = to.seat; knew = to.knew }) };
 
     ghost ready = { L.all == L.parts };
 
@@ -130,7 +137,7 @@ impl<L: DeskLedger, R: Wait, A: Allocator + Clone> Office for DeskOffice<'_, L, 
     /// happens where no tenant is there.
     fn leave(&mut self) {
         if let Some(seat) = self.seat.take() {
-            self.desk.leave(self.rt, seat);
+            self.knew = Some(self.desk.leave_seen(self.rt, seat));
         }
     }
 }

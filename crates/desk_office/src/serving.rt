@@ -1,9 +1,10 @@
 //! Sessions at a desk.
 ghost use Rattle.std.specs.Prelude.{◌≡◌};
 ghost use Rattle.session.specs.DoneLines.{TrueSession};
+ghost use Rattle.desk_office.specs.Moments.{SeenSession};
 
 use crate::office::DeskOffice;
-use desk::{Desk, DeskLedger};
+use desk::{Desk, DeskLedger, Jamboree, Step, Trace};
 use line_io::{Sink, Source};
 use session::{End, SessionFault, each_done_line_is_true, serve_lines};
 use std::alloc::Allocator;
@@ -12,9 +13,7 @@ use std::sync::Wait;
 /// Serves one session of one tenant at a desk, up to a line `BYE`, the end of the source, or a failure of source or
 /// sink (`serve_lines`); in each case the tenant has left when it returns. Each line `DONE k` that it writes has the
 /// minimax value and the best choice of the position and the depth of the k-th `ASK` line that was answered by `JOB`,
-/// and each line `TABLE k` with entries their table. The lines alone can't tell which steps led to a QUOTA, a LIVE, a
-/// SPENT or a refusal by 10 or 11 (`NoSegments`, `NoNodes`): the contracts of what lies under the desk's lock do
-/// (`desk`, `hall`).
+/// and each line `TABLE k` with entries their table. What else the lines say `serve_desk_seen` says.
 pub fn serve_desk<S: Source, K: Sink, L: DeskLedger, R: Wait, A: Allocator + Clone>(
     rt: &R,
     source: &mut S,
@@ -24,9 +23,30 @@ pub fn serve_desk<S: Source, K: Sink, L: DeskLedger, R: Wait, A: Allocator + Clo
     requires { L.all ≡ L.parts }
     ensures { TrueSession S.gives K.takes source.old sink.old source.new sink.new result }
 {
+    let (result, _knew) = serve_desk_seen(rt, source, sink, desk);
+    result
+}
+
+/// As `serve_desk`, and gives back what the tenant's seat knew of the desk's history when it left; `None` where no tenant
+/// came. Each call that a line made is one of an office at this desk (`IsTurnAt`): a step that was taken is the last of the
+/// history that the seat has then seen, and a refusal is the one that the core at its end gives; a DONE, TABLE, PENDING, SPENT,
+/// CANCELLED, QUOTA or LIVE line says what the tenant's own part of that history gives. What the seat has seen only grows.
+pub fn serve_desk_seen<S: Source, K: Sink, L: DeskLedger, R: Wait, A: Allocator + Clone>(
+    rt: &R,
+    source: &mut S,
+    sink: &mut K,
+    desk: &Desk<L, A>,
+) -> (
+    Result<End, SessionFault>,
+    Option<Trace<Step<Jamboree>, L>>,
+)
+    requires { L.all ≡ L.parts }
+    ensures lines { TrueSession S.gives K.takes source.old sink.old source.new sink.new result.0 }
+    ensures history { SeenSession L.begun S.gives K.takes source.old sink.old source.new sink.new result.0 result.1 }
+{
     let mut office = DeskOffice::new(rt, desk);
     let result = serve_lines(rt, source, sink, &mut office);
-    office.close();
+    let knew = office.close();
     each_done_line_is_true::<S, K, DeskOffice<'_, L, R, A>>();
-    result
+    (result, knew)
 }

@@ -1,6 +1,11 @@
 -- What the definitions of `promises` come to, part by part, and what holds of a value that there is.
-use Rattle.std.proofs.Common.{◌≡◌, ◌≢◌, ◌⊎◌, ℕ, List, true, Option, Some, None, Result, Ok, Err, inl, inr, ap, ◌∙◌}
-use Rattle.std.specs.Prelude.{IfOk, IfSome}
+use Rattle.std.proofs.Common.{◌≡◌, ◌≢◌, ◌⊎◌, ℕ, List, true, Option, Some, None, Result, Ok, Err, inl, inr, ap, sym, subst, ◌∙◌}
+use Rattle.std.specs.Prelude.{IfOk, IfErr, OnOk, IfSome, MatchResult, ◌++◌, ◌∷◌, []}
+use Rattle.sched_rules.specs.Headline.{IsAnswerTo}
+use Rattle.shared_history.specs.Views.{own, Known}
+use Rattle.hall.specs.Halls.{HallOf}
+use Rattle.desk.specs.Seats.{SeatOf, stepped, seeing}
+use Rattle.desk.specs.Histories.{core_at, IsToldOf, Saw}
 use Rattle.sched_rules.specs.declared.refusal.Refusal.{Refusal}
 use Rattle.sched_rules.specs.declared.refusal.Refusal.TheVariants.{Busy}
 use Rattle.sched_rules.specs.declared.step.StepOf.TheVariants.{Steal, Spend}
@@ -40,3 +45,29 @@ pub of-nine : (grain : ℕ) (before : List SearchStep) (said : List SearchAnswer
     lone_refusal (jamboree grain) (alone (jamboree grain) (own_steps 9 before said)) (Spend (record { tenant = 9; serial = serial })) ≡ Some refusal
 of-nine grain before said serial refusal (inl own) = own
 of-nine grain before said serial refusal (inr busy) = absurd (let free : None ≡ Some busy.worker = busy.free in cc)
+
+-- how a step of tenant 9's seat was answered
+pub told-nine : {X : Type 0} (begun : HallOf) (before now : Known SearchStep) (step : ℕ → SearchStep) (number : ℕ) (r : Result X Refusal) → number ≡ 9 → IsToldOf begun before (step number) r now → IsToldOf begun before (step 9) r now
+told-nine begun before now step number r nine told = subst (λ n. IsToldOf begun before (step n) r now) nine told
+
+-- a step of a seat that was taken, and one that was refused
+pub taken-of : {X : Type 0} (begun : HallOf) (before now : Known SearchStep) (step : SearchStep) (r : Result X Refusal) → IsToldOf begun before step r now →
+    OnOk r ((between : List (ℕ × SearchStep)) × (now.seen ≡ (before.seen ++ between) ++ (before.maker, step) ∷ []) × (own before.maker (before.seen ++ between) ≡ before.mine)
+    × (now.mine ≡ before.mine ++ step ∷ []) × (now.maker ≡ before.maker))
+taken-of begun before now step (Ok value) told = told
+taken-of begun before now step (Err refusal) told = tt
+
+pub refused-of : {X : Type 0} (begun : HallOf) (before now : Known SearchStep) (step : SearchStep) (r : Result X Refusal) → IsToldOf begun before step r now →
+    IfErr r (λ refusal. IsAnswerTo (jamboree begun.grain) (core_at begun now.seen) step (Err refusal))
+refused-of begun before now step (Ok value) told = tt
+refused-of begun before now step (Err refusal) told = told.1
+
+-- a call that changed the share and what is known of a seat, and nothing else of it
+pub kept-of : {X : Type 0} (before after : SeatOf) (r : Result X Refusal) → MatchResult r (λ value. after ≡ stepped after.known before) (λ refusal. after ≡ seeing after.known before) → before.tenant ≡ 9 →
+    (after.asked ≡ before.asked) × (after.tenant ≡ 9)
+kept-of before after (Ok value) is nine = (ap (λ (s : SeatOf). s.asked) is, ap (λ (s : SeatOf). s.tenant) is ∙ nine)
+kept-of before after (Err refusal) is nine = (ap (λ (s : SeatOf). s.asked) is, ap (λ (s : SeatOf). s.tenant) is ∙ nine)
+
+-- a maker's steps in what it has seen, by what it knew before
+pub seen-by : (before now : Known SearchStep) → Saw before now → own before.maker now.seen ≡ before.mine
+seen-by before now saw = ap (λ (m : ℕ). own m now.seen) (sym saw.3) ∙ saw.1 ∙ saw.2

@@ -1,22 +1,26 @@
 //! What a seat of tenant 9 knows after its calls at a desk.
-ghost use Rattle.std.specs.Prelude.{◌≡◌, ◌++◌, ◌∷◌, [], ℕ, List, Option, Some, None, Err, IfOk, IfErr, Contains};
-ghost use Rattle.sched_rules.specs.declared.refusal.Refusal.TheVariants.{Full, NoJob, OldTenant, OutOfMemory};
-ghost use Rattle.sched_rules.specs.declared.step.StepOf.TheVariants.{Admit, Leave};
+ghost use Rattle.std.specs.Prelude.{◌≡◌, ◌≢◌, ◌++◌, ◌∷◌, [], ℕ, List, length, Option, Some, None, Err, IfOk, OnOk, IfErr, Contains};
+ghost use Rattle.sched_rules.specs.declared.refusal.Refusal.TheVariants.{Full, Lower, NoJob, NoJobsLeft, NoNodes, NoSegments, NoTenant, OldTenant, OutOfMemory};
+ghost use Rattle.sched_rules.specs.declared.step.StepOf.TheVariants.{Admit, AdmitMore, Submit, Cancel, Leave};
 ghost use Rattle.sched_rules.specs.Runs.{alone, only};
 ghost use Rattle.sched_rules.specs.Views.{left_in_core, live_of, job_of};
+ghost use Rattle.sched_rules.specs.Headline.{IsAnswerTo};
 ghost use Rattle.sched_rules.specs.Cores.{tenant_in};
 ghost use Rattle.jamboree_rules.specs.Procedure.{jamboree};
+ghost use Rattle.jamboree_rules.specs.Places.{root_words, frame_size};
 ghost use Rattle.shared_history.specs.Views.{own};
 ghost use Rattle.jamboree_core.specs.declared.outcomes.Outcome.{Outcome as OutcomeOf};
 ghost use Rattle.jamboree_core.specs.Outcomes.{IsOutcomeIn};
 ghost use Rattle.desk.specs.declared.seat.SeatAsked.{SeatAsked as SeatAskedOf};
 ghost use Rattle.desk.specs.Seats.{seat_asked_at, IsToldBy};
 ghost use Rattle.desk.specs.Counts.{found_or_no_tenant};
-ghost use Rattle.desk.specs.Histories.{core_at, seat_steps, steps_of};
+ghost use Rattle.desk.specs.Histories.{core_at, seat_steps, steps_of, AreTaken};
+ghost use mathlib.Core.List.{IsPrefix};
 ghost use Rattle.promises.specs.Tenants.{SearchStep};
 
 use desk::{Desk, DeskLedger, Seat, Trace};
 use hall::{Jamboree, Outcome, Refusal, Step};
+use position_text::Position;
 use std::alloc::Allocator;
 use std::sync::Wait;
 use tenant_quota::{Left, Reserve};
@@ -34,6 +38,85 @@ pub fn a_new_seat<L: DeskLedger, A: Allocator + Clone, R: Wait>(
     ensures refused { IfErr result (Contains (Full ∷ OldTenant ∷ OutOfMemory ∷ [])) }
 {
     desk.admit(rt, reserve)
+}
+
+/// Tenant 9 asks for a search of depth 3, as its fifth job. Where it is taken, the history goes on from what the seat had seen,
+/// without a step of the seat's, and ends with just this Submit; where it is refused, it is for what the core at the end of what
+/// the seat has then seen is. Uses `desk::Desk::ask` (`asked`, `told`, `refused`).
+pub fn nine_asks<L: DeskLedger, A: Allocator + Clone, R: Wait>(
+    rt: &R,
+    desk: &Desk<L, A>,
+    seat: &mut Seat<L>,
+    position: &Position,
+) -> Result<u64, Refusal>
+    requires nine { seat.old.tenant ≡ 9 }
+    requires four { length seat.old.asked ≡ 4 }
+    ensures number { IfOk result (λ job. job ≡ 5) }
+    ensures taken { OnOk result ((between : List (ℕ × SearchStep))
+        × (seat.new.known.seen ≡ (seat.old.known.seen ++ between) ++ (seat.old.known.maker, Submit 9 (root_words position.now.board.own position.now.board.opp 3) frame_size) ∷ [])
+        × (own seat.old.known.maker (seat.old.known.seen ++ between) ≡ seat.old.known.mine)
+        × (seat.new.known.mine ≡ seat.old.known.mine ++ Submit 9 (root_words position.now.board.own position.now.board.opp 3) frame_size ∷ [])
+        × (seat.new.known.maker ≡ seat.old.known.maker)) }
+    ensures refused { IfErr result (λ refusal. IsAnswerTo (jamboree L.begun.grain) (core_at L.begun seat.new.known.seen)
+        (Submit 9 (root_words position.now.board.own position.now.board.opp 3) frame_size) (Err refusal)) }
+    ensures listed { IfErr result (Contains (NoTenant ∷ NoJobsLeft ∷ NoNodes ∷ NoSegments ∷ [])) }
+{
+    desk.ask(rt, seat, position, 3)
+}
+
+/// Tenant 9 has had its 256 jobs, and asks once more: nothing changes. Uses `desk::Desk::ask` (`full`).
+pub fn nine_asks_in_vain<L: DeskLedger, A: Allocator + Clone, R: Wait>(
+    rt: &R,
+    desk: &Desk<L, A>,
+    seat: &mut Seat<L>,
+    position: &Position,
+) -> Result<u64, Refusal>
+    requires { length seat.old.asked ≡ 256 }
+    ensures unchanged { seat.new ≡ seat.old }
+{
+    desk.ask(rt, seat, position, 12)
+}
+
+/// Tenant 9 reserves more: the history then ends with just this AdmitMore, or the core at its end refuses it.
+/// Uses `desk::Desk::reserve` (`share`, `told`, `refused`).
+pub fn nine_reserves<L: DeskLedger, A: Allocator + Clone, R: Wait>(
+    rt: &R,
+    desk: &Desk<L, A>,
+    seat: &mut Seat<L>,
+    reserve: Reserve,
+) -> Result<(), Refusal>
+    requires nine { seat.old.tenant ≡ 9 }
+    ensures taken { OnOk result ((between : List (ℕ × SearchStep))
+        × (seat.new.known.seen ≡ (seat.old.known.seen ++ between) ++ (seat.old.known.maker, AdmitMore 9 reserve) ∷ [])
+        × (own seat.old.known.maker (seat.old.known.seen ++ between) ≡ seat.old.known.mine)
+        × (seat.new.known.mine ≡ seat.old.known.mine ++ AdmitMore 9 reserve ∷ [])
+        × (seat.new.known.maker ≡ seat.old.known.maker)) }
+    ensures refused { IfErr result (λ refusal. IsAnswerTo (jamboree L.begun.grain) (core_at L.begun seat.new.known.seen) (AdmitMore 9 reserve) (Err refusal)) }
+    ensures kept { (seat.new.asked ≡ seat.old.asked) × (seat.new.tenant ≡ 9) }
+    ensures listed { IfErr result (Contains (NoTenant ∷ Lower ∷ Full ∷ OutOfMemory ∷ [])) }
+{
+    desk.reserve(rt, seat, reserve)
+}
+
+/// Tenant 9 cancels its job 3: the history then ends with just this Cancel, or the core at its end refuses it; and where the seat
+/// never asked for such a job, nothing changes. Uses `desk::Desk::cancel` (`share`, `none`, `told`, `refused`).
+pub fn nine_cancels<L: DeskLedger, A: Allocator + Clone, R: Wait>(
+    rt: &R,
+    desk: &Desk<L, A>,
+    seat: &mut Seat<L>,
+) -> Result<(), Refusal>
+    requires nine { seat.old.tenant ≡ 9 }
+    ensures none { seat_asked_at seat.old.asked 3 ≡ None → (result ≡ Err NoJob) × (seat.new ≡ seat.old) }
+    ensures taken { seat_asked_at seat.old.asked 3 ≢ None → OnOk result ((between : List (ℕ × SearchStep))
+        × (seat.new.known.seen ≡ (seat.old.known.seen ++ between) ++ (seat.old.known.maker, Cancel 9 3) ∷ [])
+        × (own seat.old.known.maker (seat.old.known.seen ++ between) ≡ seat.old.known.mine)
+        × (seat.new.known.mine ≡ seat.old.known.mine ++ Cancel 9 3 ∷ [])
+        × (seat.new.known.maker ≡ seat.old.known.maker)) }
+    ensures refused { seat_asked_at seat.old.asked 3 ≢ None → IfErr result (λ refusal. IsAnswerTo (jamboree L.begun.grain) (core_at L.begun seat.new.known.seen) (Cancel 9 3) (Err refusal)) }
+    ensures kept { (seat.new.asked ≡ seat.old.asked) × (seat.new.tenant ≡ 9) }
+    ensures listed { IfErr result (Contains (NoTenant ∷ NoJob ∷ [])) }
+{
+    desk.cancel(rt, seat, 3)
 }
 
 /// What tenant 9 is told that it has left is what it has at the end of the history that its seat has then seen. There the tenant
@@ -82,8 +165,8 @@ pub fn job_three_of_nine<L: DeskLedger, A: Allocator + Clone, R: Wait>(
     desk.wait_seen(rt, seat, 3)
 }
 
-/// Tenant 9 leaves: the history then ends with just its Leave, which is the last of the seat's own steps.
-/// Uses `desk::Desk::leave_seen` (`told`).
+/// Tenant 9 leaves: the history then ends with just its Leave, which is the last of the seat's own steps, and all seat steps of
+/// tenant 9 in it are the seat's own. Uses `desk::Desk::leave_seen` (`told`, `true_to`).
 pub fn nine_leaves<L: DeskLedger, A: Allocator + Clone, R: Wait>(
     rt: &R,
     desk: &Desk<L, A>,
@@ -96,6 +179,23 @@ pub fn nine_leaves<L: DeskLedger, A: Allocator + Clone, R: Wait>(
         × (own seat.known.maker (seat.known.seen ++ between) ≡ seat.known.mine)
         × (result.mine ≡ seat.known.mine ++ Leave 9 ∷ [])
         × (result.maker ≡ seat.known.maker) }
+    ensures legal { AreTaken (jamboree L.begun.grain) L.begun.shared (steps_of result.seen) }
+    ensures own { seat_steps 9 (steps_of result.seen) ≡ result.mine }
 {
     desk.leave_seen(rt, seat)
+}
+
+/// What two sessions of one server know is of one history: what each has seen is a beginning of it, all steps of each in it are
+/// those that it knows, and each step of it was taken. Uses `desk::Desk::compare` (`one`, `other`, `history`, `legal`).
+pub fn two_sessions<L: DeskLedger, A: Allocator + Clone, R: Wait>(
+    rt: &R,
+    desk: &Desk<L, A>,
+    one: &mut Trace<Step<Jamboree>, L>,
+    other: &mut Trace<Step<Jamboree>, L>,
+)
+    ensures begin { IsPrefix one.old.seen one.new.seen × IsPrefix other.old.seen one.new.seen }
+    ensures own { (own one.old.maker one.new.seen ≡ one.old.mine) × (own other.old.maker one.new.seen ≡ other.old.mine) }
+    ensures legal { AreTaken (jamboree L.begun.grain) L.begun.shared (steps_of one.new.seen) }
+{
+    desk.compare(rt, one, other)
 }

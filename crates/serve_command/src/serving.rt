@@ -1,5 +1,10 @@
 //! The command `serve`: a listener on 127.0.0.1, a hall under a desk, and what is said once the workers were started
 //! and at the end.
+//!
+//! When the last session has ended, the hall is taken out of the desk with the badge that the pool ended with. If that
+//! gives the share with all parts of the desk's ledger, every step in the hall is one that a seat or a badge counted:
+//! no accepted step was lost, and nobody else took one. Nobody can make such a share up, so `serve_at` gives it back,
+//! and only where it is there the status is 0.
 ghost use Rattle.std.specs.Prelude.{◌≡◌, ◌≤◌, true, IfOk, Ok};
 ghost use Rattle.line_io.specs.Writes.{IsWritten};
 ghost use Rattle.hall.specs.Halls.{empty_hall};
@@ -14,9 +19,9 @@ use std::alloc::Global;
 use std::io;
 use std::net::{Ipv4Addr, Net, SocketAddr, TcpListener, TcpStream};
 use std::sync::Wait;
-use std::sync::ledger::Blank;
+use std::sync::ledger::{Blank, Share};
 use std::thread::Threads;
-use tcp_server::desk::{Config, Desk, DeskLedger, Hall, Jamboree, Opened, PARTS, Step};
+use tcp_server::desk::{Badge, Config, Desk, DeskLedger, Hall, Jamboree, Opened, PARTS, Step};
 use tcp_server::steal_pool::{Announce, OpenGate};
 use tcp_server::{ServeFault, ServerConfig, serve_announced};
 use thiserror::Error;
@@ -39,6 +44,9 @@ pub enum Unserved {
     /// The server failed while it began or served.
     #[error("{0}")]
     Ended(ServeFault),
+    /// All sessions have ended, but some seat or badge hasn't come back, so steps may be uncounted.
+    #[error("not every step is accounted for")]
+    Uncounted,
 }
 
 impl From<ServeFault> for Unserved {
@@ -99,8 +107,8 @@ impl<K: Sink> Announce for Listening<'_, K> {
 
 /// Runs the server that is asked for, and returns the exit status when all its sessions have ended or it has failed.
 /// The output gets `listening 127.0.0.1:port` once the listener listens and all workers were started, and `ended k`
-/// after the last of the k sessions. At status 0 both lines were written, and nothing else; else the status is 1, and
-/// the reason is written on the errors.
+/// after the last of the k sessions. At status 0 both lines were written, and nothing else, and every step of the hall is
+/// accounted for; else the status is 1, and the reason is written on the errors.
 pub fn serve_as_asked<L, R, K: Sink, E: Sink>(
     rt: &R,
     alloc: Global,
@@ -121,7 +129,7 @@ where
     ensures told { result ≡ 0 → IsServed K.takes sink.old asked.sessions sink.new }
 {
     match serve_at::<L, R, K>(rt, alloc, blank, opened, asked, sink) {
-        Ok(()) => EXIT_OK,
+        Ok(_whole) => EXIT_OK,
         Err(why) => failed(errors, why),
     }
 }
@@ -135,7 +143,8 @@ pub(crate) fn failed<E: Sink>(errors: &mut E, why: Unserved) -> u8
 }
 
 /// Listens at the port that is asked for, makes a hall and its desk, and serves there (`serve_from`). `Ok` where both
-/// lines `listening` and `ended` were written.
+/// lines `listening` and `ended` were written and every step of the hall is accounted for: with it comes the share that
+/// has all parts of the desk's ledger, which nobody can make up.
 fn serve_at<L, R, K: Sink>(
     rt: &R,
     alloc: Global,
@@ -143,7 +152,7 @@ fn serve_at<L, R, K: Sink>(
     opened: Opened<Step<Jamboree>>,
     asked: Service,
     sink: &mut K,
-) -> Result<(), Unserved>
+) -> Result<Share<L>, Unserved>
 where
     L: DeskLedger + Send + Sync,
     R: Net<Listener = TcpListener, Stream = TcpStream> + Threads + Wait + Sync,
@@ -151,7 +160,8 @@ where
     requires parts { (blank.parts ≡ L.parts) × (L.all ≡ L.parts) × (L.all ≡ PARTS) }
     requires history { opened ≡ L.table }
     requires begun { L.begun ≡ empty_hall asked.grain asked.config }
-    ensures { IfOk result (λ _. IsServed K.takes sink.old asked.sessions sink.new) }
+    ensures told { IfOk result (λ _. IsServed K.takes sink.old asked.sessions sink.new) }
+    ensures whole { IfOk result (λ whole. whole.parts ≡ L.parts) }
 {
     let listener = match TcpListener::bind(rt, (Ipv4Addr::LOCALHOST, asked.port)) {
         Ok(listener) => listener,
@@ -161,12 +171,45 @@ where
         return Err(Unserved::OutOfMemory);
     };
     let desk: Desk<L> = Desk::new(hall, blank, opened);
-    serve_from(rt, alloc, &desk, listener, asked, sink)
+    serve_to_the_end(rt, alloc, desk, listener, asked, sink)
+}
+
+/// Serves at this desk (`serve_from`), and then takes the hall out of it. `Ok` as for `serve_at`.
+fn serve_to_the_end<L, R, K: Sink>(
+    rt: &R,
+    alloc: Global,
+    desk: Desk<L>,
+    listener: TcpListener,
+    asked: Service,
+    sink: &mut K,
+) -> Result<Share<L>, Unserved>
+where
+    L: DeskLedger + Send + Sync,
+    R: Net<Listener = TcpListener, Stream = TcpStream> + Threads + Wait + Sync,
+    requires { L.all ≡ L.parts }
+    ensures told { IfOk result (λ _. IsServed K.takes sink.old asked.sessions sink.new) }
+    ensures whole { IfOk result (λ whole. whole.parts ≡ L.parts) }
+{
+    let badge = serve_from(rt, alloc, &desk, listener, asked, sink)?;
+    accounted(desk, badge)
+}
+
+/// The share that has all parts of the desk's ledger, where this badge has all that no seat and no other badge gave
+/// back: then every step of the hall is accounted for. Else `Uncounted`.
+fn accounted<L: DeskLedger>(desk: Desk<L>, badge: Badge<L>) -> Result<Share<L>, Unserved>
+    requires { L.all ≡ L.parts }
+    ensures { IfOk result (λ whole. whole.parts ≡ L.parts) }
+{
+    let (_hall, whole) = desk.into_hall(badge);
+    match whole {
+        Some(whole) => Ok(whole),
+        None => Err(Unserved::Uncounted),
+    }
 }
 
 /// Serves the sessions that are asked for at this desk, and returns when they have ended or the server has failed.
-/// Writes the line `listening` once all workers were started, and `ended` after the last session; `Ok` where both were
-/// written.
+/// Writes the line `listening` once all workers were started, and `ended` after the last session. `Ok` where both were
+/// written: then the badge of all workers is returned.
 fn serve_from<L, R, K: Sink>(
     rt: &R,
     alloc: Global,
@@ -174,7 +217,7 @@ fn serve_from<L, R, K: Sink>(
     listener: TcpListener,
     asked: Service,
     sink: &mut K,
-) -> Result<(), Unserved>
+) -> Result<Badge<L>, Unserved>
 where
     L: DeskLedger + Send + Sync,
     R: Net<Listener = TcpListener, Stream = TcpStream> + Threads + Wait + Sync,
@@ -191,10 +234,10 @@ where
         address,
     };
     let config = ServerConfig::new(asked.sessions, asked.workers);
-    let (told, _end) = serve_announced(rt, alloc, desk, listener, config, &OpenGate, call)?;
+    let (told, end) = serve_announced(rt, alloc, desk, listener, config, &OpenGate, call)?;
     let Listening { sink: told, .. } = told;
     if is_ended(alloc, told, asked.sessions) {
-        Ok(())
+        Ok(end.badge)
     } else {
         Err(Unserved::Unwritten)
     }

@@ -1,12 +1,12 @@
-use Rattle.std.proofs.Common.{rules, ℕ, List, sym, ap, ◌∙◌, subst, refl}
+use Rattle.std.proofs.Common.{rules, ◌≡◌, ℕ, List, sym, ap, ◌∙◌, subst, refl}
 use Rattle.sched_rules.specs.Runs.{tenant_of}
 use Rattle.sched_rules.specs.declared.step.StepOf.{StepOf}
 use Rattle.hall.specs.jamboree_rules.declared.leaf.LeafAnswer.{LeafAnswer}
-use Rattle.shared_history.specs.Views.{Known}
-use Rattle.desk.specs.Histories.{with_taken, AreSeats, HasNoLeave, IsComeBy}
+use Rattle.shared_history.specs.Views.{Known, own as own_by}
+use Rattle.desk.specs.Histories.{with_taken, AreSeats, HasNoLeave, IsComeBy, IsTrueTo}
 use Rattle.desk.proofs.Offering.{offered}
 use Rattle.desk.proofs.Coming.{come_offered, leave_taken, no_leave_taken, told}
-use Rattle.desk.proofs.Owners.{seats_taken}
+use Rattle.desk.proofs.Owners.{seats_taken, steps_are_mine}
 use Rattle.desk.proofs.locked_hall.LockedHall.take.Goals as goal
 
 pub returns-clause-step : goal.returns-clause-step
@@ -42,3 +42,20 @@ pub returns-clause-left : goal.returns-clause-left
 returns-clause-left g c = λ is none_left.
     leave_taken g.L.DeskLedger.begun c.self.inside.hall c.offer-answer.new.self c.self.inside.history c.args.trace.now.maker c.args.trace.now.mine c.args.step.now c.offer-answer.result c.self.invariant.7 is c.requires.owner none_left
     c.note.ensures.own c.offer-answer.ensures.one
+
+pub returns-clause-true_to : goal.returns-clause-true_to
+returns-clause-true_to g c = λ own.
+    let begun = g.L.DeskLedger.begun in
+    let k = c.args.trace.now in
+    let now = c.offer-answer.new.self in
+    let t = tenant_of c.args.step.now in
+    let log : List (ℕ × StepOf LeafAnswer) = with_taken c.self.inside.history (k.maker, c.args.step.now) c.offer-answer.result in
+    let mine : List (StepOf LeafAnswer) = with_taken k.mine c.args.step.now c.offer-answer.result in
+    let come : IsComeBy begun now.grain now.shared log =
+    come_offered begun c.self.inside.hall now c.self.inside.history k.maker k.mine c.args.step.now c.offer-answer.result c.self.invariant.7 c.requires.admitted c.requires.owner
+    c.note.ensures.own c.offer-answer.ensures.one c.offer-answer.ensures.taken c.offer-answer.ensures.refused c.offer-answer.ensures.newest c.offer-answer.ensures.explained in
+    let is : c.note.new.trace ≡ record { maker = k.maker; seen = log; mine = mine } =
+    c.note.ensures.trace ∙ ap (λ (l : List (ℕ × StepOf LeafAnswer)). record { maker = k.maker; seen = l; mine = mine }) c.note.ensures.history in
+    let whose : own_by k.maker log ≡ mine = subst (λ (x : Known (StepOf LeafAnswer)). own_by x.maker x.seen ≡ x.mine) is c.recall.ensures in
+    subst (λ (x : Known (StepOf LeafAnswer)). IsTrueTo begun t x) (sym is)
+    (come.legal, steps_are_mine k.maker t log mine come.owners (seats_taken t k.mine c.args.step.now c.offer-answer.result (c.requires.owner own) own refl) whose)

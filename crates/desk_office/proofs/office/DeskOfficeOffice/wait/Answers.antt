@@ -1,13 +1,14 @@
-use Rattle.std.proofs.Common.{inr, refl, ◌∙◌}
-use Rattle.session.specs.Calls.{Wait}
-use Rattle.desk_office.specs.Offices.{asks_of}
-use Rattle.desk_office.proofs.SeatLemmas.{same_asks, seat_looks, seat_shows, told_to}
+use Rattle.desk_office.specs.Moments.{OfficeOf}
+use Rattle.desk_office.proofs.TurnLemmas.{wait_turn, wait_none}
 use Rattle.desk_office.proofs.office.DeskOfficeOffice.wait.Goals as goal
 
 pub returns-in-Some : goal.returns-in-Some
 returns-in-Some g c =
-    let seat = c.wait_seen.new.seat in
-    let kept = c.wait_seen.ensures.look.kept in
-    let looks = seat_looks c.args.self.now.seat c.in-Some.seat seat c.in-Some.is kept in
-    let shows = seat_shows c.args.self.now.seat c.in-Some.seat seat c.args.job c.wait_seen.result c.told_answer.result c.in-Some.is kept c.wait_seen.ensures.shown c.told_answer.ensures in
-    (looks ∙ same_asks (asks_of c.args.self.now.seat) (Wait c.args.job) c.args.job c.told_answer.result, shows.0, shows.1, told_to (Wait c.args.job) c.args.job c.told_answer.result (inr refl))
+    let from : OfficeOf = record { seat = c.args.self.now.seat; knew = c.args.self.now.knew } in
+    let told = c.wait_seen.ensures in
+    wait_turn g.L.DeskLedger.begun from c.in-Some.seat c.wait_seen.new.seat c.args.job c.wait_seen.result c.told_answer.result c.in-Some.is told.look told.shown told.told c.told_answer.ensures
+
+pub returns-in-None : goal.returns-in-None
+returns-in-None g c =
+    let from : OfficeOf = record { seat = c.args.self.now.seat; knew = c.args.self.now.knew } in
+    wait_none g.L.DeskLedger.begun from c.args.job c.in-None.is

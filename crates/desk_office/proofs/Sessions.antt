@@ -1,0 +1,25 @@
+-- A session over an office at a desk, seen by what contracts see of the office.
+use Rattle.std.proofs.Common.{◌≡◌, List, [], ◌∷◌, Option, None, Result, sym, ap, subst}
+use Rattle.line_io.specs.Leads.{Leads}
+use Rattle.line_io.specs.Streams.{ReadAnswer, WriteAnswer}
+use Rattle.sched_rules.specs.declared.step.StepOf.{StepOf}
+use Rattle.shared_history.specs.Views.{Known}
+use Rattle.desk.specs.hall.jamboree_rules.declared.leaf.LeafAnswer.{LeafAnswer}
+use Rattle.desk.specs.hall.Halls.{HallOf}
+use Rattle.session.specs.declared.faults.End.{End}
+use Rattle.session.specs.declared.faults.SessionFault.{SessionFault}
+use Rattle.session.specs.Calls.{Call, OfficeReply}
+use Rattle.session.specs.Sessions.{Called, Session, calls_for}
+use Rattle.desk_office.specs.Moments.{OfficeOf, vacant, IsTurnAt, SeenSession}
+
+module _ {O : Type 0} (seen : O → OfficeOf) (begun : HallOf) (does : O → Call → OfficeReply → O → Type 0) (turns : (from : O) (call : Call) (reply : OfficeReply) (to : O) → does from call reply to → IsTurnAt begun (seen from) call reply (seen to)) where
+  led : (from : O) (made : List (Call × OfficeReply)) (to : O) → Leads (Called does) from made to → Leads (Called (IsTurnAt begun)) (seen from) made (seen to)
+  led from [] to h = ap seen h
+  led from (made ∷ more) to h = (seen h.0, turns from made.0 made.1 h.0 h.1, led h.0 more to h.2)
+
+  pub seen_session : {S K : Type 0} (gives : S → ReadAnswer → S → Type 0) (takes : K → WriteAnswer → K → Type 0) (s s' : S) (k k' : K) (o o' : O) (r : Result End SessionFault) (known : Option (Known (StepOf LeafAnswer))) →
+      (seen o).seat ≡ None → (seen o).knew ≡ None → known ≡ (seen o').knew → Session gives takes does s k o s' k' o' r → SeenSession begun gives takes s k s' k' r known
+  seen_session gives takes s s' k k' o o' r known no_seat none_left is x =
+      let new : seen o ≡ vacant = λ i. record { seat = no_seat i; knew = none_left i } in
+      let made = subst (λ (z : OfficeOf). Leads (Called (IsTurnAt begun)) z (calls_for x.answered x.replies) (seen o')) new (led o (calls_for x.answered x.replies) o' x.made) in
+      record { office = seen o'; knew = sym is; session = record { blocks = x.blocks; last = x.last; answered = x.answered; replies = x.replies; pieces = x.pieces; reads = x.reads; ends = x.ends; lines = x.lines; made = made; writes = x.writes; written = x.written } }

@@ -1,0 +1,198 @@
+-- Meaning: what each call of an office does to what its seat knows of the desk's history, and what the reply is by the history
+-- that the seat has then seen.
+use Rattle.std.specs.Prelude.{◌≡◌, ◌⊎◌, ℕ, ◌+◌, Bool, true, false, if◌then◌else◌, List, [], ◌∷◌, ◌++◌, length, sum_by, Option, Some, None, option_map, option_and_then, Result, Err}
+use mathlib.Core.List.{IsPrefix}
+use Rattle.line_io.specs.Streams.{ReadAnswer, WriteAnswer}
+use Rattle.othello_board.specs.declared.boards.Board.{Board}
+use Rattle.othello_board.specs.Words.{cells}
+use Rattle.sched_rules.specs.declared.refusal.Refusal.{Refusal}
+use Rattle.sched_rules.specs.Refusals.{refusal_number}
+use Rattle.sched_rules.specs.declared.step.StepOf.{StepOf}
+use Rattle.sched_rules.specs.declared.step.StepOf.TheVariants.{Admit, AdmitMore, Submit, Cancel as CancelStep, Leave as LeaveStep}
+use Rattle.sched_rules.specs.Trees.{Tenant, left, job_at}
+use Rattle.sched_rules.specs.Headline.{IsAnswerTo}
+use Rattle.shared_history.specs.Views.{Known}
+use Rattle.desk.specs.hall.jamboree_rules.Places.{root_words, frame_size}
+use Rattle.desk.specs.hall.jamboree_rules.Procedure.{jamboree}
+use Rattle.desk.specs.hall.jamboree_rules.declared.leaf.LeafAnswer.{LeafAnswer}
+use Rattle.desk.specs.hall.Halls.{HallOf}
+use Rattle.desk.specs.jamboree_core.declared.outcomes.Outcome.{Outcome}
+use Rattle.desk.specs.jamboree_core.Outcomes.{IsOutcomeIn}
+use Rattle.desk.specs.declared.seat.SeatAsked.{SeatAsked}
+use Rattle.desk.specs.Counts.{found_or_no_tenant}
+use Rattle.desk.specs.Seats.{SeatOf, seeing, seat_asked_at, IsShown, IsToldBy}
+use Rattle.desk.specs.Histories.{core_at, tenant_at, IsAdmitted, IsLook, IsTrueTo, Saw, Took}
+use Rattle.session.specs.declared.faults.End.{End}
+use Rattle.session.specs.declared.faults.SessionFault.{SessionFault}
+use Rattle.session.specs.declared.standings.Live.{Live}
+use Rattle.session.specs.Asks.{KeepsAsks}
+use Rattle.session.specs.Calls.{Call, Hello, Reserve, Ask, Get, Wait, Cancel, AskQuota, AskLive, Leave, OfficeReply, Welcome, Reserved, Job, Told, Ended, Rest, Alive, Gone, Refused, reply_of}
+use Rattle.session.specs.Sessions.{Session}
+use Rattle.desk_office.specs.Offices.{asks_of, told_answer}
+
+-- what contracts see of an office: its seat while a tenant is there, and what the seat knew when the tenant left
+pub record OfficeOf : Type 0 where
+  pub seat : Option SeatOf
+  pub knew : Option (Known (StepOf LeafAnswer))
+
+-- an office to which no tenant has come yet
+abbrev pub vacant : OfficeOf
+vacant = record { seat = None; knew = None }
+
+-- the office with this seat
+abbrev pub with_seat : SeatOf → OfficeOf → OfficeOf
+with_seat seat office = record { seat = Some seat; knew = office.knew }
+
+-- the step that a call asks of the desk for its tenant, None where it only looks; these are the words of an Ask's board
+abbrev pub step_for : ℕ → Board → Call → Option (StepOf LeafAnswer)
+step_for number words (Hello quota) = Some (Admit number quota)
+step_for number words (Reserve quota) = Some (AdmitMore number quota)
+step_for number words (Ask depth board side) = Some (Submit number (root_words words.own words.opp depth) frame_size)
+step_for number words (Cancel job) = Some (CancelStep number job)
+step_for number words Leave = Some (LeaveStep number)
+step_for number words _ = None
+
+-- these are the words of the board that a call asks for, if it is an Ask
+abbrev pub IsBoardIn : Board → Call → Type 0
+IsBoardIn words (Ask depth board side) = board ≡ cells words
+IsBoardIn words _ = Unit {0}
+
+-- the reply to a call whose step was taken, where its tenant had asked for so many jobs
+abbrev pub taken_reply : ℕ → Call → OfficeReply
+taken_reply jobs (Hello quota) = Welcome quota
+taken_reply jobs (Reserve quota) = Reserved quota
+taken_reply jobs (Ask depth board side) = Job (jobs + 1)
+taken_reply jobs (Cancel job) = Ended job
+taken_reply jobs _ = Gone
+
+-- what a tenant has asked for after such a call
+abbrev pub asked_after : List SeatAsked → Board → Call → List SeatAsked
+asked_after asked words (Ask depth board side) = asked ++ record { board = words; depth = depth } ∷ []
+asked_after asked words _ = asked
+
+-- the two refusals without a step: the tenant has asked for 256 jobs, or for no job of this number
+abbrev pub IsRefusedAtOnce : List SeatAsked → Call → OfficeReply → Type 0
+IsRefusedAtOnce asked (Ask depth board side) reply = (length asked ≡ 256) × (reply ≡ Refused 13)
+IsRefusedAtOnce asked (Cancel job) reply = (seat_asked_at asked job ≡ None) × (reply ≡ Refused 17)
+IsRefusedAtOnce asked _ reply = ⊥
+
+-- the reply about a job, by what its tenant has come to, and what the tenant asked for
+abbrev pub IsJobTold : List SeatAsked → Option Tenant → ℕ → OfficeReply → Type 0
+IsJobTold asked tenant job reply = (answer : Result Outcome Refusal) × (told : Option Outcome)
+    × (reply ≡ reply_of (Told job) (told_answer answer))
+    × IsShown (seat_asked_at asked job) answer
+    × IsOutcomeIn (option_and_then (λ its. job_at its.jobs job) tenant) told
+    × IsToldBy (seat_asked_at asked job) told answer
+
+-- what LIVE says of a tenant: how many frames it has, and how many words these have together
+abbrev pub live_in : Tenant → Live
+live_in its = record { frames = length its.frames; words = sum_by (λ frame. length frame.value) its.frames }
+
+-- the reply to a call that only looks, by what its tenant has come to, and what the tenant asked for
+abbrev pub IsReplyOf : List SeatAsked → Option Tenant → Call → OfficeReply → Type 0
+IsReplyOf asked tenant (Get job) reply = IsJobTold asked tenant job reply
+IsReplyOf asked tenant (Wait job) reply = IsJobTold asked tenant job reply
+IsReplyOf asked tenant AskQuota reply = reply ≡ reply_of Rest (found_or_no_tenant (option_map left tenant))
+IsReplyOf asked tenant AskLive reply = reply ≡ reply_of Alive (found_or_no_tenant (option_map live_in tenant))
+IsReplyOf asked tenant _ reply = ⊥
+
+-- a seat's step was taken: the history that it has then seen ends with it
+pub record IsTaken (before : SeatOf) (words : Board) (step : StepOf LeafAnswer) (call : Call) (reply : OfficeReply) (now : SeatOf) : Type 0 where
+  pub took : Took before.known step now.known
+  pub seat : now ≡ record { tenant = before.tenant; share = before.share + 1; asked = asked_after before.asked words call; known = now.known }
+  pub said : reply ≡ taken_reply (length before.asked) call
+
+-- a seat's step was refused, as the core at the end of the history that it has then seen refuses it
+pub record IsRefused (begun : HallOf) (before : SeatOf) (step : StepOf LeafAnswer) (reply : OfficeReply) (now : SeatOf) : Type 0 where
+  pub refusal : Refusal
+  pub saw : Saw before.known now.known
+  pub right : IsAnswerTo (jamboree begun.grain) (core_at begun now.known.seen) step (Err refusal)
+  pub seat : now ≡ seeing now.known before
+  pub said : reply ≡ Refused (refusal_number refusal)
+
+-- a call for a seat's step: it is taken or refused, or refused at once without a change
+pub record IsStepBy (begun : HallOf) (before : SeatOf) (call : Call) (reply : OfficeReply) (now : SeatOf) : Type 0 where
+  pub words : Board
+  pub board : IsBoardIn words call
+  pub step : StepOf LeafAnswer
+  pub asks : step_for before.tenant words call ≡ Some step
+  pub came : IsTaken before words step call reply now ⊎ (IsRefused begun before step reply now ⊎ ((now ≡ before) × IsRefusedAtOnce before.asked call reply))
+
+-- a call that looks: the seat has then seen the history go on (IsLook), and the reply is what the tenant's own part of that
+-- history gives
+pub record IsLookBy (begun : HallOf) (before : SeatOf) (call : Call) (reply : OfficeReply) (now : SeatOf) : Type 0 where
+  pub look : IsLook begun before now
+  pub said : IsReplyOf now.asked (tenant_at begun now.known.seen now.tenant) call reply
+
+-- HELLO: there is a new tenant with its seat, or a refusal
+abbrev pub IsHello : Call → OfficeReply → OfficeOf → OfficeOf → Type 0
+IsHello (Hello quota) reply from to =
+    ((seat : SeatOf) × (to ≡ with_seat seat from) × IsAdmitted quota seat × (seat.asked ≡ []) × (reply ≡ Welcome quota))
+    ⊎ ((to ≡ from) × (number : ℕ) × (reply ≡ Refused number))
+IsHello call reply from to = to ≡ from
+
+-- the tenant leaves: its Leave is the end of the history that its seat knew then, all steps of that were taken, and its seat
+-- steps of the tenant are just the seat's own
+abbrev pub IsGone : HallOf → SeatOf → OfficeReply → OfficeOf → Type 0
+IsGone begun before reply to = (now : Known (StepOf LeafAnswer))
+    × (to ≡ record { seat = None; knew = Some now }) × Took before.known (LeaveStep before.tenant) now × IsTrueTo begun before.tenant now × (reply ≡ Gone)
+
+-- one call of an office with this seat, at a desk that was made with this hall
+abbrev pub IsTurnOf : HallOf → Option SeatOf → Call → OfficeReply → OfficeOf → OfficeOf → Type 0
+IsTurnOf begun None call reply from to = IsHello call reply from to
+IsTurnOf begun (Some before) (Hello quota) reply from to = (to ≡ from) × (number : ℕ) × (reply ≡ Refused number)
+IsTurnOf begun (Some before) (Reserve quota) reply from to = (now : SeatOf) × (to ≡ with_seat now from) × IsStepBy begun before (Reserve quota) reply now
+IsTurnOf begun (Some before) (Ask depth board side) reply from to = (now : SeatOf) × (to ≡ with_seat now from) × IsStepBy begun before (Ask depth board side) reply now
+IsTurnOf begun (Some before) (Cancel job) reply from to = (now : SeatOf) × (to ≡ with_seat now from) × IsStepBy begun before (Cancel job) reply now
+IsTurnOf begun (Some before) Leave reply from to = IsGone begun before reply to
+IsTurnOf begun (Some before) call reply from to = (now : SeatOf) × (to ≡ with_seat now from) × IsLookBy begun before call reply now
+
+-- one call of an office at a desk that was made with this hall: the asks of its tenant are kept, and the history has it
+abbrev pub IsTurnAt : HallOf → OfficeOf → Call → OfficeReply → OfficeOf → Type 0
+IsTurnAt begun from call reply to = IsTurnOf begun from.seat call reply from to × KeepsAsks (asks_of from.seat) call reply (asks_of to.seat)
+
+-- a session whose calls are made of an office at a desk that was made with this hall, and what the tenant's seat knew when it
+-- left, if one came
+pub record SeenSession {S K : Type 0} (begun : HallOf) (gives : S → ReadAnswer → S → Type 0) (takes : K → WriteAnswer → K → Type 0) (source : S) (sink : K) (source' : S) (sink' : K) (r : Result End SessionFault) (known : Option (Known (StepOf LeafAnswer))) : Type 0 where
+  pub office : OfficeOf
+  pub knew : office.knew ≡ known
+  pub session : Session gives takes (IsTurnAt begun) source sink vacant source' sink' office r
+
+-- whether a reply says that a step of the tenant was taken
+abbrev pub is_taken : OfficeReply → Bool
+is_taken (Welcome quota) = true
+is_taken (Reserved quota) = true
+is_taken (Job number) = true
+is_taken (Ended job) = true
+is_taken Gone = true
+is_taken _ = false
+
+-- these steps of a tenant are just those that these calls asked for and that were taken, in order
+abbrev pub AreStepsOf : ℕ → List (Call × OfficeReply) → List (StepOf LeafAnswer) → Type 0
+AreStepsOf number [] steps = steps ≡ []
+AreStepsOf number (made ∷ more) steps =
+    if is_taken made.1
+    then (words : Board) × (step : StepOf LeafAnswer) × (later : List (StepOf LeafAnswer)) × IsBoardIn words made.0 × (step_for number words made.0 ≡ Some step) × (steps ≡ step ∷ later) × AreStepsOf number more later
+    else AreStepsOf number more steps
+
+-- whether a call is none by which the tenant leaves
+abbrev pub is_stay : Call → Bool
+is_stay Leave = false
+is_stay _ = true
+
+-- none of these calls is one by which the tenant leaves
+abbrev pub AllStay : List (Call × OfficeReply) → Type 0
+AllStay [] = Unit {0}
+AllStay (made ∷ more) = (is_stay made.0 ≡ true) × AllStay more
+
+-- a tenant was there with this seat, these calls were made for it, and it left: the history that its seat then knew goes on from
+-- what the seat had seen and ends with the Leave. Each step of it was taken. The tenant's seat steps in it are the seat's own, and
+-- those since then are just what these calls asked for
+pub record IsTenancy (begun : HallOf) (first : SeatOf) (calls : List (Call × OfficeReply)) (to : OfficeOf) : Type 0 where
+  pub known : Known (StepOf LeafAnswer)
+  pub knew : to.knew ≡ Some known
+  pub goes_on : IsPrefix first.known.seen known.seen
+  pub true_to : IsTrueTo begun first.tenant known
+  pub steps : List (StepOf LeafAnswer)
+  pub mine : known.mine ≡ first.known.mine ++ (steps ++ LeaveStep first.tenant ∷ [])
+  pub asked : AreStepsOf first.tenant calls steps

@@ -1,0 +1,18 @@
+use Rattle.std.proofs.Common.{ℕ}
+use Rattle.sched_rules.specs.declared.step.StepOf.TheVariants.{Submit}
+use Rattle.jamboree_rules.specs.Places.{root_words, frame_size}
+use Rattle.promises.specs.Tenants.{SearchStep}
+use Rattle.promise_uses.proofs.Parts.{told-nine, taken-of, refused-of}
+use Rattle.promise_uses.proofs.desks.nine_asks.Goals as goal
+
+pub returns-clause-taken : goal.returns-clause-taken
+returns-clause-taken g c =
+    let board = c.args.position.now.board in
+    let step : ℕ → SearchStep = λ n. Submit n (root_words board.own board.opp 3) frame_size in
+    taken-of g.L.DeskLedger.begun _ _ _ _ (told-nine g.L.DeskLedger.begun _ _ step _ _ c.requires.nine (c.ask.ensures.told search))
+
+pub returns-clause-refused : goal.returns-clause-refused
+returns-clause-refused g c =
+    let board = c.args.position.now.board in
+    let step : ℕ → SearchStep = λ n. Submit n (root_words board.own board.opp 3) frame_size in
+    refused-of g.L.DeskLedger.begun _ _ _ _ (told-nine g.L.DeskLedger.begun _ _ step _ _ c.requires.nine (c.ask.ensures.told search))
