@@ -20,7 +20,7 @@ use Rattle.session.specs.Asks.{Asked, asked_at, asks_after, IsAnalysisOf, IsOffi
 use Rattle.session.specs.declared.standings.Standing.{Standing}
 use Rattle.desk.specs.declared.seat.SeatAsked.{SeatAsked}
 use Rattle.desk.specs.Seats.{SeatOf, cancel_refusals, reserve_refusals, seeing, stepped, IsShown, seat_asked_at}
-use Rattle.desk_office.specs.Offices.{ask_of, asks_of, analysis_of, standing_of, told_answer}
+use Rattle.desk_office.specs.Offices.{ask_of, analysis_of, standing_of, told_answer}
 
 -- what was asked under a number
 asked_at-map : (asks : List SeatAsked) (job : ℕ) → asked_at (map ask_of asks) job ≡ option_map ask_of (seat_asked_at asks job)
@@ -76,11 +76,12 @@ pub job_kept : (call : Call) (before seat : SeatOf) (job : ℕ) (answer : Result
 job_kept call before seat job answer kept shown named =
     let same : map ask_of seat.asked ≡ map ask_of before.asked = ap (λ s. map ask_of s.asked) kept in
     let tells : IsToldOf job (asked_at (map ask_of seat.asked) job) (reply_of (ToldOf job) (told_answer answer)) =
-    subst (λ o. IsToldOf job o (reply_of (ToldOf job) (told_answer answer))) (sym (asked_at-map seat.asked job)) (told_of job (seat_asked_at seat.asked job) answer shown) in
-    (same ∙ same_asks (map ask_of before.asked) call job (told_answer answer),
-    subst (λ asks. SaysTrue asks (reply_of (ToldOf job) (told_answer answer))) same (says seat.asked job answer shown),
-    subst (λ asks. IsToldOf job (asked_at asks job) (reply_of (ToldOf job) (told_answer answer))) same tells,
-    told_to call job (told_answer answer) named)
+    subst (λ o. IsToldOf job o (reply_of (ToldOf job) (told_answer answer))) (sym (asked_at-map seat.asked job)) (told_of job (seat_asked_at seat.asked job) answer shown) in (
+      same ∙ same_asks (map ask_of before.asked) call job (told_answer answer),
+      subst (λ asks. SaysTrue asks (reply_of (ToldOf job) (told_answer answer))) same (says seat.asked job answer shown),
+      subst (λ asks. IsToldOf job (asked_at asks job) (reply_of (ToldOf job) (told_answer answer))) same tells,
+      told_to call job (told_answer answer) named,
+    )
 
 -- the numbers of refusals
 pub refused_by : (refusals : List Refusal) (refusal : Refusal) → Contains refusals refusal → Contains (map refusal_number refusals) (refusal_number refusal)

@@ -1,6 +1,6 @@
 -- From a tenant's seat to its Leave.
-use Rattle.std.proofs.Common.{◌≡◌, ℕ, List, [], ◌∷◌, ◌++◌, Bool, true, false, if◌then◌else◌, Option, Some, None, Result, Ok, Err, refl, sym, ap, subst, ◌∙◌, inl, inr}
-use Rattle.std.specs.Prelude.{◌⊎◌}
+use Rattle.std.proofs.Common.{◌≡◌, ℕ, List, [], ◌∷◌, ◌++◌, Bool, true, false, Option, Some, Result, Ok, Err, refl, sym, ap, subst, ◌∙◌, inl, inr}
+use Rattle.std.specs.Prelude.{◌⊎◌, option_map}
 use Rattle.std.proofs.lemmas.List.{append_assoc}
 use mathlib.Core.List.{IsPrefix}
 use Rattle.othello_board.specs.declared.boards.Board.{Board}
@@ -8,14 +8,17 @@ use Rattle.line_io.specs.Leads.{Leads}
 use Rattle.sched_rules.specs.declared.refusal.Refusal.{Refusal}
 use Rattle.sched_rules.specs.declared.step.StepOf.{StepOf}
 use Rattle.sched_rules.specs.declared.step.StepOf.TheVariants.{Leave as LeaveStep}
+use Rattle.sched_rules.specs.Trees.{left}
 use Rattle.shared_history.specs.Views.{Known}
 use Rattle.desk.specs.hall.jamboree_rules.declared.leaf.LeafAnswer.{LeafAnswer}
 use Rattle.desk.specs.hall.Halls.{HallOf}
 use Rattle.desk.specs.Seats.{SeatOf}
-use Rattle.desk.specs.Histories.{IsTrueTo, Took}
-use Rattle.session.specs.Calls.{Call, Hello, Reserve, Ask, Get, Wait, Cancel, AskQuota, AskLive, Leave, OfficeReply, Gone, Refused, reply_of}
+use Rattle.desk.specs.Counts.{found_or_no_tenant}
+use Rattle.desk.specs.Histories.{tenant_at, IsTrueTo, Took}
+use Rattle.session.specs.Calls.{Call, Hello, Reserve, Ask, Get, Wait, Cancel, AskQuota, AskLive, Leave, OfficeReply, Told, Rest, Alive, Gone, reply_of}
 use Rattle.session.specs.Sessions.{Called}
-use Rattle.desk_office.specs.Moments.{OfficeOf, with_seat, step_for, taken_reply, is_taken, is_stay, AllStay, AreStepsOf, IsBoardIn, IsGone, IsLookBy, IsRefused, IsRefusedAtOnce, IsStepBy, IsTaken, IsTenancy, IsTurnAt, IsTurnOf}
+use Rattle.desk_office.specs.Offices.{told_answer}
+use Rattle.desk_office.specs.Moments.{OfficeOf, live_in, with_seat, step_for, taken_reply, is_taken, is_stay, AllStay, AreStepsOf, BeginsWith, IsBoardIn, IsGone, IsLookBy, IsRefused, IsRefusedAtOnce, IsStepBy, IsTaken, IsTenancy, IsTurnAt, IsTurnOf}
 
 abbrev Step : Type 0
 Step = StepOf LeafAnswer
@@ -51,28 +54,40 @@ by_step begun from next first now call reply takes any at_once to b = by_came b.
     by_came (inl t) =
         let yes : is_taken reply ≡ true = ap is_taken t.said ∙ any _ ∙ takes in
         record {
-          now = now; seat = ap (λ (o : OfficeOf). o.seat) to; tenant = ap (λ (s : SeatOf). s.tenant) t.seat; goes_on = took_more first.known now.known b.step t.took;
+          now = now;
+          seat = ap (λ (o : OfficeOf). o.seat) to;
+          tenant = ap (λ (s : SeatOf). s.tenant) t.seat;
+          goes_on = took_more first.known now.known b.step t.took;
           added = subst (λ (v : Bool). Added v first call now) (sym yes) (b.words, b.step, b.board, b.asks, t.took.3);
         }
     by_came (inr (inl r)) =
-        let no : is_taken reply ≡ false = ap is_taken r.said in
+        let untaken : is_taken reply ≡ false = ap is_taken r.said in
         record {
-          now = now; seat = ap (λ (o : OfficeOf). o.seat) to; tenant = ap (λ (s : SeatOf). s.tenant) r.seat; goes_on = r.saw.0;
-          added = subst (λ (v : Bool). Added v first call now) (sym no) r.saw.2;
+          now = now;
+          seat = ap (λ (o : OfficeOf). o.seat) to;
+          tenant = ap (λ (s : SeatOf). s.tenant) r.seat;
+          goes_on = r.saw.0;
+          added = subst (λ (v : Bool). Added v first call now) (sym untaken) r.saw.2;
         }
     by_came (inr (inr r)) =
-        let no : is_taken reply ≡ false = at_once r.1 in
+        let untaken : is_taken reply ≡ false = at_once r.1 in
         record {
-          now = now; seat = ap (λ (o : OfficeOf). o.seat) to; tenant = ap (λ (s : SeatOf). s.tenant) r.0; goes_on = subst (λ (s : SeatOf). IsPrefix first.known.seen s.known.seen) (sym r.0) (prefix_self first.known.seen);
-          added = subst (λ (v : Bool). Added v first call now) (sym no) (ap (λ (s : SeatOf). s.known.mine) r.0);
+          now = now;
+          seat = ap (λ (o : OfficeOf). o.seat) to;
+          tenant = ap (λ (s : SeatOf). s.tenant) r.0;
+          goes_on = subst (λ (s : SeatOf). IsPrefix first.known.seen s.known.seen) (sym r.0) (prefix_self first.known.seen);
+          added = subst (λ (v : Bool). Added v first call now) (sym untaken) (ap (λ (s : SeatOf). s.known.mine) r.0);
         }
 
 -- a look adds nothing
 by_look : (begun : HallOf) (from next : OfficeOf) (first now : SeatOf) (call : Call) (reply : OfficeReply) → is_taken reply ≡ false → next ≡ with_seat now from → IsLookBy begun first call reply now → Moves from next first call reply
-by_look begun from next first now call reply no to l =
+by_look begun from next first now call reply untaken to l =
     record {
-      now = now; seat = ap (λ (o : OfficeOf). o.seat) to; tenant = ap (λ (s : SeatOf). s.tenant) l.look.kept; goes_on = l.look.saw.0;
-      added = subst (λ (v : Bool). Added v first call now) (sym no) l.look.saw.2;
+      now = now;
+      seat = ap (λ (o : OfficeOf). o.seat) to;
+      tenant = ap (λ (s : SeatOf). s.tenant) l.look.kept;
+      goes_on = l.look.saw.0;
+      added = subst (λ (v : Bool). Added v first call now) (sym untaken) l.look.saw.2;
     }
 
 -- what is told is no step
@@ -82,18 +97,18 @@ told_is_none said (Err refusal) none = refl
 
 moves : (begun : HallOf) (from next : OfficeOf) (first : SeatOf) (call : Call) (reply : OfficeReply) → from.seat ≡ Some first → is_stay call ≡ true → IsTurnOf begun (Some first) call reply from next → Moves from next first call reply
 moves begun from next first (Hello quota) reply here stays t =
-    let no : is_taken reply ≡ false = ap is_taken t.2 in
-    record { now = first; seat = ap (λ (o : OfficeOf). o.seat) t.0 ∙ here; tenant = refl; goes_on = prefix_self first.known.seen; added = subst (λ (v : Bool). Added v first (Hello quota) first) (sym no) refl }
+    let untaken : is_taken reply ≡ false = ap is_taken t.2 in
+    record { now = first; seat = ap (λ (o : OfficeOf). o.seat) t.0 ∙ here; tenant = refl; goes_on = prefix_self first.known.seen; added = subst (λ (v : Bool). Added v first (Hello quota) first) (sym untaken) refl }
 moves begun from next first (Reserve quota) reply here stays t = by_step begun from next first t.0 (Reserve quota) reply refl (λ jobs. refl) (λ none. absurd none) t.1 t.2
 moves begun from next first (Ask depth board side) reply here stays t = by_step begun from next first t.0 (Ask depth board side) reply refl (λ jobs. refl) (λ full. ap is_taken full.1) t.1 t.2
 moves begun from next first (Cancel job) reply here stays t = by_step begun from next first t.0 (Cancel job) reply refl (λ jobs. refl) (λ none. ap is_taken none.1) t.1 t.2
 moves begun from next first Leave reply here stays t = absurd (cc stays)
 moves begun from next first (Get job) reply here stays t =
-    let said = t.2.said in by_look begun from next first t.0 (Get job) reply (ap is_taken said.2 ∙ told_is_none _ _ (λ x. refl)) t.1 t.2
+    let said = t.2.said in by_look begun from next first t.0 (Get job) reply (ap is_taken said.2 ∙ told_is_none (Told job) (told_answer said.0) (λ x. refl)) t.1 t.2
 moves begun from next first (Wait job) reply here stays t =
-    let said = t.2.said in by_look begun from next first t.0 (Wait job) reply (ap is_taken said.2 ∙ told_is_none _ _ (λ x. refl)) t.1 t.2
-moves begun from next first AskQuota reply here stays t = by_look begun from next first t.0 AskQuota reply (ap is_taken t.2.said ∙ told_is_none _ _ (λ x. refl)) t.1 t.2
-moves begun from next first AskLive reply here stays t = by_look begun from next first t.0 AskLive reply (ap is_taken t.2.said ∙ told_is_none _ _ (λ x. refl)) t.1 t.2
+    let said = t.2.said in by_look begun from next first t.0 (Wait job) reply (ap is_taken said.2 ∙ told_is_none (Told job) (told_answer said.0) (λ x. refl)) t.1 t.2
+moves begun from next first AskQuota reply here stays t = by_look begun from next first t.0 AskQuota reply (ap is_taken t.2.said ∙ told_is_none Rest (found_or_no_tenant (option_map left (tenant_at begun t.0.known.seen t.0.tenant))) (λ x. refl)) t.1 t.2
+moves begun from next first AskLive reply here stays t = by_look begun from next first t.0 AskLive reply (ap is_taken t.2.said ∙ told_is_none Alive (found_or_no_tenant (option_map live_in (tenant_at begun t.0.known.seen t.0.tenant))) (λ x. refl)) t.1 t.2
 
 -- one call more before a tenancy
 more_before : (begun : HallOf) (first now : SeatOf) (call : Call) (reply : OfficeReply) (more : List (Call × OfficeReply)) (to : OfficeOf) → now.tenant ≡ first.tenant → IsPrefix first.known.seen now.known.seen →
@@ -110,7 +125,7 @@ more_before begun first now call reply more to same goes_on true is a rest =
       true_to = subst (λ n. IsTrueTo begun n rest.known) same rest.true_to;
       steps = a.1 ∷ rest.steps;
       mine = mine;
-      asked = subst (λ (v : Bool). if v then (words : Board) × (step : Step) × (later : List Step) × IsBoardIn words call × (step_for first.tenant words call ≡ Some step) × (a.1 ∷ rest.steps ≡ step ∷ later) × AreStepsOf first.tenant more later else AreStepsOf first.tenant more (a.1 ∷ rest.steps)) (sym is)
+      asked = subst (λ (v : Bool). BeginsWith v first.tenant call (λ later. AreStepsOf first.tenant more later) (a.1 ∷ rest.steps)) (sym is)
           (a.0, a.1, rest.steps, a.2, a.3, refl, asked);
     }
 more_before begun first now call reply more to same goes_on false is a rest =
@@ -124,7 +139,7 @@ more_before begun first now call reply more to same goes_on false is a rest =
       true_to = subst (λ n. IsTrueTo begun n rest.known) same rest.true_to;
       steps = rest.steps;
       mine = mine;
-      asked = subst (λ (v : Bool). if v then (words : Board) × (step : Step) × (later : List Step) × IsBoardIn words call × (step_for first.tenant words call ≡ Some step) × (rest.steps ≡ step ∷ later) × AreStepsOf first.tenant more later else AreStepsOf first.tenant more rest.steps) (sym is)
+      asked = subst (λ (v : Bool). BeginsWith v first.tenant call (λ later. AreStepsOf first.tenant more later) rest.steps) (sym is)
           asked;
     }
 

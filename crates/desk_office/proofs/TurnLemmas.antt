@@ -45,7 +45,7 @@ no_turn begun from call reply is one keeps =
     subst (λ o. IsTurnOf begun o call reply from from × KeepsAsks (asks_of o) call reply (asks_of o)) (sym is) (one, keeps)
 
 no_words : Board
-no_words = record { own = 0; opp = 0 }
+no_words = record { own = 0; opp = 0; disjoint = refl }
 
 -- the seat reserves more
 reserve_step : (begun : HallOf) (before after : SeatOf) (quota : Quota) (answer : Result (Unit {0}) Refusal) → MatchResult answer (λ _. after ≡ stepped after.known before) (λ _. after ≡ seeing after.known before) →

@@ -1,6 +1,6 @@
 -- Meaning: what each call of an office does to what its seat knows of the desk's history, and what the reply is by the history
 -- that the seat has then seen.
-use Rattle.std.specs.Prelude.{◌≡◌, ◌⊎◌, ℕ, ◌+◌, Bool, true, false, if◌then◌else◌, List, [], ◌∷◌, ◌++◌, length, sum_by, Option, Some, None, option_map, option_and_then, Result, Err}
+use Rattle.std.specs.Prelude.{◌≡◌, ◌⊎◌, ℕ, ◌+◌, Bool, true, false, List, [], ◌∷◌, ◌++◌, length, sum_by, Option, Some, None, option_map, option_and_then, Result, Err}
 use mathlib.Core.List.{IsPrefix}
 use Rattle.line_io.specs.Streams.{ReadAnswer, WriteAnswer}
 use Rattle.othello_board.specs.declared.boards.Board.{Board}
@@ -167,13 +167,16 @@ is_taken (Ended job) = true
 is_taken Gone = true
 is_taken _ = false
 
+-- these steps begin with the one that this call asked for, if it was taken, and the others are these
+abbrev pub BeginsWith : Bool → ℕ → Call → (List (StepOf LeafAnswer) → Type 0) → List (StepOf LeafAnswer) → Type 0
+BeginsWith true number call others steps =
+    (words : Board) × (step : StepOf LeafAnswer) × (later : List (StepOf LeafAnswer)) × IsBoardIn words call × (step_for number words call ≡ Some step) × (steps ≡ step ∷ later) × others later
+BeginsWith false number call others steps = others steps
+
 -- these steps of a tenant are just those that these calls asked for and that were taken, in order
 abbrev pub AreStepsOf : ℕ → List (Call × OfficeReply) → List (StepOf LeafAnswer) → Type 0
 AreStepsOf number [] steps = steps ≡ []
-AreStepsOf number (made ∷ more) steps =
-    if is_taken made.1
-    then (words : Board) × (step : StepOf LeafAnswer) × (later : List (StepOf LeafAnswer)) × IsBoardIn words made.0 × (step_for number words made.0 ≡ Some step) × (steps ≡ step ∷ later) × AreStepsOf number more later
-    else AreStepsOf number more steps
+AreStepsOf number (made ∷ more) steps = BeginsWith (is_taken made.1) number made.0 (λ later. AreStepsOf number more later) steps
 
 -- whether a call is none by which the tenant leaves
 abbrev pub is_stay : Call → Bool

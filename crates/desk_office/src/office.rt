@@ -38,7 +38,7 @@ impl<'a, L: DeskLedger, R: Wait, A: Allocator> DeskOffice<'a, L, R, A> {
     /// Ends the office, and gives back what its seat knew when the tenant left. Where a tenant is still there its seat is
     /// dropped, and the tenant doesn't leave.
     pub fn close(self) -> Option<Trace<Step<Jamboree>, L>>
-        ensures { result ≡ self.knew }
+        ensures { result ≡ self.entry.knew }
     {
         let DeskOffice {
             rt: _rt,

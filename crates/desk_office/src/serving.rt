@@ -36,10 +36,7 @@ pub fn serve_desk_seen<S: Source, K: Sink, L: DeskLedger, R: Wait, A: Allocator 
     source: &mut S,
     sink: &mut K,
     desk: &Desk<L, A>,
-) -> (
-    Result<End, SessionFault>,
-    Option<Trace<Step<Jamboree>, L>>,
-)
+) -> (Result<End, SessionFault>, Option<Trace<Step<Jamboree>, L>>)
     requires { L.all ≡ L.parts }
     ensures lines { TrueSession S.gives K.takes source.old sink.old source.new sink.new result.0 }
     ensures history { SeenSession L.begun S.gives K.takes source.old sink.old source.new sink.new result.0 result.1 }
