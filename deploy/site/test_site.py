@@ -77,6 +77,8 @@ def test_a_session_from_hello_to_bye(site):
     assert client.ask("BYE") == "BYE"
     assert client.read() == ""
     here.settle()
+    assert here.metric("values_total") == 1
+    assert here.metric("wait_seconds_count") == 1 and here.metric("hello_seconds_count") == 1
 
 
 def test_a_return_before_the_end_is_no_second_line(site):
