@@ -138,6 +138,10 @@ impl<R: Clock + Wait> House for Caller<'_, R> {
                 register.unlink(self.hall, number);
             }
             Note::Waits(waits) => self.wait(waits),
+            Note::Value => {
+                let mut register = self.shared.lock.lock(self.rt);
+                register.counts.values = register.counts.values.saturating_add(1);
+            }
             Note::Refused(cause) => self.refuse(cause),
             Note::Tells(number) => {
                 let register = self.shared.lock.lock(self.rt);

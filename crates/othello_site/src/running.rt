@@ -2,7 +2,7 @@
 use crate::ending::Why;
 use crate::paths::Paths;
 use crate::serving::serve_config;
-use site_book::Part;
+use site_book::{Part, Plan, Who};
 use site_config::{Config, amount_text, read_config};
 use std::alloc::{AllocError, Global};
 use std::fmt::{Display, Write};
@@ -155,18 +155,37 @@ fn check<R: Paths + Print + Eprint + AllocGlobal>(rt: &R, path: &str) -> u8 {
     }
 }
 
-/// What each hall has, and its guests.
+/// What each hall has and its guests may have, and each customer where it is at home.
 fn check_text(alloc: Global, config: &Config) -> Result<String, AllocError> {
     let mut out = String::new(alloc);
     for (hall, plan) in config.halls.iter().enumerate() {
         let number = hall.saturating_add(1);
         let whole = amount_text(alloc, plan.totals())?;
         let guests = amount_text(alloc, plan.limit(Part::Guests))?;
-        writeln!(out, "hall {number}: {whole}; of that all guests: {guests}")?;
+        writeln!(out, "hall {number}: {whole}; all guests: {guests}")?;
+        push_customers(&mut out, alloc, config, hall, plan)?;
     }
-    let many = config.directory.customers.len();
-    writeln!(out, "{many} customers")?;
     Ok(out)
+}
+
+/// Appends what the customers may have that are at home in a hall.
+fn push_customers(
+    out: &mut String,
+    alloc: Global,
+    config: &Config,
+    hall: usize,
+    plan: &Plan,
+) -> Result<(), AllocError> {
+    let number = hall.saturating_add(1);
+    for (place, terms) in config.directory.customers.iter().enumerate() {
+        if terms.hall as usize == hall {
+            let customer = Who::Named(u32::try_from(place).unwrap_or(u32::MAX));
+            let budget = amount_text(alloc, plan.budget(customer))?;
+            let name = terms.name.as_str();
+            writeln!(out, "hall {number}: {name}: {budget}")?;
+        }
+    }
+    Ok(())
 }
 
 /// Serves without a file.

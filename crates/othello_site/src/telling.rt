@@ -250,6 +250,13 @@ fn push_counts(out: &mut String, counts: &Counts) -> Result<(), AllocError> {
         "counter",
         u128::from(counts.lines),
     )?;
+    push_one(
+        out,
+        "values_total",
+        "Values that were told to a WAIT.",
+        "counter",
+        u128::from(counts.values),
+    )?;
     push_head(out, "reloads_total", "Files read again.", "counter")?;
     let (done, refused) = (counts.reloads, counts.reloads_refused);
     writeln!(

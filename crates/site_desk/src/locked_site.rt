@@ -89,6 +89,7 @@ impl<A: Allocator + Clone> LockedSite<A> {
     }
 
     /// What is to come of one who asks for a session.
+    #[tactic(auto, using(crate::proofs::Lists::alike))]
     fn met(&self, comer: &Comer) -> Coming
         ensures { result ≡ met self.now comer.now.who comer.now.ask comer.now.at comer.now.most }
     {
@@ -97,16 +98,16 @@ impl<A: Allocator + Clone> LockedSite<A> {
     }
 
     /// Lets one in whom the book allows it: its tenant is admitted, its grant entered, and itself listed.
+    #[tactic(auto, using(crate::proofs::Lists::has_place, crate::proofs::Lists::listed_open, crate::proofs::Comings::turned_away))]
     fn let_in(&mut self, comer: &Comer) -> Came
         requires { met self.old comer.now.who comer.now.ask comer.now.at comer.now.most ≡ Enters }
         ensures { IsCame self.old comer.now.who comer.now.ask comer.now.at comer.now.most result self.new }
     {
         match self.booked.admit(comer.who, comer.ask) {
             Ok(number) => {
-                let LockedSite { booked, roll, .. } = self;
                 // This read says that there is a place left in the roll.
-                let _grants = booked.book().grants();
-                roll.enter(comer.who, number, comer.at);
+                let _grants = self.booked.book().grants();
+                self.roll.enter(comer.who, number, comer.at);
                 Came::Seated(number)
             }
             Err(turned) => Came::Turned(turned),
@@ -114,6 +115,7 @@ impl<A: Allocator + Clone> LockedSite<A> {
     }
 
     /// Raises what a session reserves where the book allows it: in the hall and in the book, or in neither.
+    #[tactic(auto, using(crate::proofs::Lists::listed_raised))]
     pub(crate) fn raise(&mut self, seat: &Seat, ask: Reserve) -> Result<(), Turned>
         ensures raise { IsRaise self.old.booked seat.now.who seat.now.number ask result self.new.booked }
         ensures others { self.new ≡ record self.old { booked = self.new.booked } }
@@ -122,11 +124,15 @@ impl<A: Allocator + Clone> LockedSite<A> {
     }
 
     /// A session leaves: its tenant leaves the hall, its grant is taken back, and it is listed no more. False where it isn't there.
+    #[tactic(auto, using(crate::proofs::Lists::listed_close))]
     pub(crate) fn leave(&mut self, who: Who, number: u64) -> bool
         ensures { IsGone self.old who number result self.new }
     {
         let LockedSite {
-            booked, roll, left, ..
+            booked,
+            roll,
+            left,
+            ..
         } = self;
         if !booked.leave(who, number) {
             return false;
@@ -137,6 +143,7 @@ impl<A: Allocator + Clone> LockedSite<A> {
     }
 
     /// Notes something of these sessions.
+    #[tactic(auto, using(crate::proofs::Lists::names_marked))]
     pub(crate) fn mark(&mut self, whom: Whom, mark: Mark)
         ensures { self.new ≡ record self.old { roll = marked_all whom mark self.old.roll } }
     {
@@ -144,11 +151,12 @@ impl<A: Allocator + Clone> LockedSite<A> {
     }
 
     /// Tells those to end that don't stay under another plan.
+    #[tactic(auto, using(crate::proofs::Lists::alike, crate::proofs::Lists::names_told))]
     pub(crate) fn tell_by(&mut self, plan: &Plan)
         ensures { self.new ≡ record self.old { roll = told_by plan.now [] self.old.booked.book.grants self.old.roll } }
     {
-        let LockedSite { booked, roll, .. } = self;
-        roll.tell_by(plan, booked.book().grants());
+        let grants = self.booked.book().grants();
+        self.roll.tell_by(plan, grants);
     }
 
     /// Goes on by another plan where nothing forbids it, and returns the one that was there; else returns the plan and why it
@@ -367,9 +375,7 @@ impl<A: Allocator + Clone> LockedSite<A> {
         ensures { result.items ≡ self.now.roll }
     {
         let mut listed = ArrayVec::new();
-        listed
-            .try_extend_from_slice(self.roll.entries())
-            .unwrap();
+        listed.try_extend_from_slice(self.roll.entries()).unwrap();
         listed
     }
 

@@ -27,6 +27,7 @@
 //! ```
 #![tactic(auto)]
 
+mod laws;
 mod reception;
 mod requests;
 pub mod rows;
@@ -34,6 +35,7 @@ mod serving;
 mod tokens;
 mod turns;
 
+pub use laws::nobody_stays;
 pub use reception::{Greeted, Info, Reception};
 pub use requests::{SiteRequest, read_site_request};
 pub use serving::{Clerk, serve_site};

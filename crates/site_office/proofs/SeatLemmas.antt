@@ -1,6 +1,6 @@
 -- What a seat shows of its jobs, as a session has it.
 use Rattle.std.proofs.Common.{◌≡◌, ℕ, ◌-◌, ◌<◌, List, [], ◌∷◌, map, true, false, Option, Some, None, refl, sym, subst, ap, ap₂, ◌∙◌, Result, Ok, Err}
-use Rattle.std.specs.Prelude.{◌==◌, ◌⊎◌, if◌then◌else◌, Contains, IfErr, MatchResult}
+use Rattle.std.specs.Prelude.{◌==◌, ◌⊎◌, if◌then◌else◌, Contains, IfErr}
 use Rattle.std.specs.Option.{option_map}
 use Rattle.std.proofs.Math.ListN.{get_or-map}
 use Rattle.std.proofs.lemmas.List.{length-map}
@@ -19,7 +19,9 @@ use Rattle.session.specs.Calls.{Call, Get, Wait, Cancel, Reserve, Reserved, Ende
 use Rattle.session.specs.Asks.{Asked, asked_at, asks_after, IsAnalysisOf, IsOfficeReplyTo, IsToldOf, KeepsAsks, SaysTrue, ShowsFound}
 use Rattle.session.specs.declared.standings.Standing.{Standing}
 use Rattle.desk_rules.specs.declared.asked.SeatAsked.{SeatAsked}
-use Rattle.desk.specs.Seats.{SeatOf, cancel_refusals, reserve_refusals, stepped, IsShown, seat_asked_at}
+use Rattle.desk_rules.specs.Asked.{cancel_refusals, IsShown, seat_asked_at}
+use Rattle.site_desk.specs.Seats.{SeatOf}
+use Rattle.site_office.specs.Refusing.{raise_refusals}
 use Rattle.site_office.specs.Offices.{ask_of, asks_of, analysis_of, standing_of, told_answer}
 
 -- what was asked under a number
@@ -87,29 +89,22 @@ unasked : (o : Option SeatAsked) → option_map ask_of o ≡ None → o ≡ None
 unasked None h = refl
 unasked (Some asked) h = absurd (cc h)
 
--- a seat cancels a job
-cancels : (before after : SeatOf) (job : ℕ) (answer : Result (Unit {0}) Refusal) → MatchResult answer (λ _. after ≡ stepped before) (λ _. after ≡ before) → (seat_asked_at before.asked job ≡ None → answer ≡ Err NoJob) → IfErr answer (Contains cancel_refusals)
-    → KeepsAsks (map ask_of before.asked) (Cancel job) (reply_of (λ _. Ended job) answer) (map ask_of after.asked)
-cancels before after job (Ok done) share none refused =
-    (ap (λ s. map ask_of s.asked) share, tt, (tt, λ h. absurd (cc (none (unasked (seat_asked_at before.asked job) (sym (asked_at-map before.asked job) ∙ h))))), refl)
-cancels before after job (Err refusal) share none refused =
-    let missing : seat_asked_at before.asked job ≡ None → refusal ≡ NoJob = λ h. cc (none h) in
-    (ap (λ s. map ask_of s.asked) share, tt, (refused_by cancel_refusals refusal refused, λ h. ap (λ r. Refused (refusal_number r)) (missing (unasked (seat_asked_at before.asked job) (sym (asked_at-map before.asked job) ∙ h)))), tt)
+-- a seat that stays as it is cancels a job
+cancels : (asks : List SeatAsked) (job : ℕ) (answer : Result (Unit {0}) Refusal) → (seat_asked_at asks job ≡ None → answer ≡ Err NoJob) → IfErr answer (Contains cancel_refusals)
+    → KeepsAsks (map ask_of asks) (Cancel job) (reply_of (λ _. Ended job) answer) (map ask_of asks)
+cancels asks job (Ok done) none refused = (refl, tt, (tt, λ h. absurd (cc (none (unasked (seat_asked_at asks job) (sym (asked_at-map asks job) ∙ h))))), refl)
+cancels asks job (Err refusal) none refused =
+    let missing : seat_asked_at asks job ≡ None → refusal ≡ NoJob = λ h. cc (none h) in
+    (refl, tt, (refused_by cancel_refusals refusal refused, λ h. ap (λ r. Refused (refusal_number r)) (missing (unasked (seat_asked_at asks job) (sym (asked_at-map asks job) ∙ h)))), tt)
 
 -- what becomes of the asks by it
-pub seat_cancels : (here : Option SeatOf) (before after : SeatOf) (job : ℕ) (answer : Result (Unit {0}) Refusal) → here ≡ Some before → MatchResult answer (λ _. after ≡ stepped before) (λ _. after ≡ before)
-    → (seat_asked_at before.asked job ≡ None → answer ≡ Err NoJob) → IfErr answer (Contains cancel_refusals) → KeepsAsks (asks_of here) (Cancel job) (reply_of (λ _. Ended job) answer) (map ask_of after.asked)
-seat_cancels here before after job answer is share none refused =
-    subst (λ o. KeepsAsks (asks_of o) (Cancel job) (reply_of (λ _. Ended job) answer) (map ask_of after.asked)) (sym is) (cancels before after job answer share none refused)
+pub seat_cancels : (here : Option SeatOf) (seat : SeatOf) (job : ℕ) (answer : Result (Unit {0}) Refusal) → here ≡ Some seat
+    → (seat_asked_at seat.asked job ≡ None → answer ≡ Err NoJob) → IfErr answer (Contains cancel_refusals) → KeepsAsks (asks_of here) (Cancel job) (reply_of (λ _. Ended job) answer) (asks_of here)
+seat_cancels here seat job answer is none refused =
+    subst (λ o. KeepsAsks (asks_of o) (Cancel job) (reply_of (λ _. Ended job) answer) (asks_of o)) (sym is) (cancels seat.asked job answer none refused)
 
--- a seat reserves more
-reserves : (before after : SeatOf) (quota : Quota) (answer : Result (Unit {0}) Refusal) → MatchResult answer (λ _. after ≡ stepped before) (λ _. after ≡ before) → IfErr answer (Contains reserve_refusals)
-    → KeepsAsks (map ask_of before.asked) (Reserve quota) (reply_of (λ _. Reserved quota) answer) (map ask_of after.asked)
-reserves before after quota (Ok done) share refused = (ap (λ s. map ask_of s.asked) share, tt, tt, refl)
-reserves before after quota (Err refusal) share refused = (ap (λ s. map ask_of s.asked) share, tt, refused_by reserve_refusals refusal refused, tt)
-
--- what becomes of the asks by it: they stay
-pub seat_reserves : (here : Option SeatOf) (before after : SeatOf) (quota : Quota) (answer : Result (Unit {0}) Refusal) → here ≡ Some before → MatchResult answer (λ _. after ≡ stepped before) (λ _. after ≡ before) → IfErr answer (Contains reserve_refusals)
-    → KeepsAsks (asks_of here) (Reserve quota) (reply_of (λ _. Reserved quota) answer) (map ask_of after.asked)
-seat_reserves here before after quota answer is share refused =
-    subst (λ o. KeepsAsks (asks_of o) (Reserve quota) (reply_of (λ _. Reserved quota) answer) (map ask_of after.asked)) (sym is) (reserves before after quota answer share refused)
+-- asks stay where a reservation is raised, or refused
+pub raises : (asks : List Asked) (quota : Quota) (answer : Result (Unit {0}) Refusal) → IfErr answer (Contains raise_refusals)
+    → KeepsAsks asks (Reserve quota) (reply_of (λ _. Reserved quota) answer) asks
+raises asks quota (Ok done) refused = (refl, tt, tt, refl)
+raises asks quota (Err refusal) refused = (refl, tt, refused_by raise_refusals refusal refused, tt)

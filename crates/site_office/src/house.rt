@@ -38,6 +38,8 @@ pub enum Note {
     Ended(u64),
     /// It waits for a job from now on, or doesn't any more.
     Waits(bool),
+    /// It was told the value that it waited for.
+    Value,
     /// A line was refused.
     Refused(Cause),
     /// The session of this number was told to end: its connection is to be shut.

@@ -1,5 +1,6 @@
 //! The office of one connection.
-ghost use Rattle.std.specs.Prelude.{◌≡◌, [], IfOk, IfErr, Contains};
+ghost use Rattle.std.specs.Prelude.{◌≡◌, [], is_some, IfOk, IfErr, Contains};
+ghost use Rattle.session.specs.Turns.{seated_after};
 ghost use Rattle.session.specs.Asks.{KeepsAsks};
 ghost use Rattle.site_office.specs.Offices.{asks_of, IsSeatOf};
 ghost use Rattle.site_office.specs.Refusing.{comer_refusal, comer_refusals};
@@ -199,7 +200,8 @@ impl<'a, H: House, R: Wait + Clock, A: Allocator + Clone> SiteOffice<'a, H, R, A
 }
 
 impl<H: House, R: Wait + Clock, A: Allocator + Clone> Office for SiteOffice<'_, H, R, A> {
-    ghost does = { λ from call reply to. KeepsAsks (asks_of from.seat) call reply (asks_of to.seat) };
+    ghost does = { λ from call reply to. KeepsAsks (asks_of from.seat) call reply (asks_of to.seat)
+        × (is_some to.seat ≡ seated_after (is_some from.seat) reply) };
 
     /// Takes a seat at the desk for a new tenant of the customer that was greeted. `OldTenant` where a tenant is there already, or all
     /// numbers were given; `Full` where its budget has no room, or for a guest that of all guests; `OutOfMemory`.
@@ -263,6 +265,9 @@ impl<H: House, R: Wait + Clock, A: Allocator + Clone> Office for SiteOffice<'_, 
             None => Err(Refusal::NoJob),
         };
         self.house.note(Note::Waits(false));
+        if let Ok(Standing::Done(_)) = &answer {
+            self.house.note(Note::Value);
+        }
         self.noted = self.house.now();
         self.desk
             .mark(self.rt, Whom::One(number), Mark::Waits(false, self.noted));

@@ -1,8 +1,10 @@
 //! A session of bytes in and bytes out.
+ghost use Rattle.std.specs.Prelude.{◌≡◌, None};
+
 use crate::house::House;
 use crate::office::SiteOffice;
 use line_io::{LineFault, Sink, Source, TalkEnd};
-use site_lines::serve_site;
+use site_lines::{nobody_stays, serve_site};
 use std::alloc::Allocator;
 use std::sync::Wait;
 use std::time::Clock;
@@ -20,6 +22,11 @@ pub fn serve_connection<
     source: &mut S,
     sink: &mut K,
     office: &mut SiteOffice<'_, H, R, A>,
-) -> Result<TalkEnd, LineFault> {
-    serve_site(rt, source, sink, office)
+) -> Result<TalkEnd, LineFault>
+    requires { office.old.seat ≡ None }
+    ensures { office.new.seat ≡ None }
+{
+    let end = serve_site(rt, source, sink, office);
+    nobody_stays::<S, K, SiteOffice<'_, H, R, A>>();
+    end
 }

@@ -91,6 +91,7 @@ fn letter(note: Note) -> u8 {
         Note::Ended(_) => b'E',
         Note::Waits(true) => b'W',
         Note::Waits(false) => b'w',
+        Note::Value => b'v',
         Note::Refused(Cause::Budget) => b'b',
         Note::Refused(Cause::Guests) => b'g',
         Note::Refused(Cause::Rate) => b'r',
