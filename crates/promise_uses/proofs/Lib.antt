@@ -1,4 +1,4 @@
 mod Parts
 mod Solved
 mod Served
-mod Seen
+mod Turned

@@ -1,4 +1,4 @@
-use Rattle.promise_uses.proofs.Seen.{quota-seen}
+use Rattle.promise_uses.proofs.Turned.{quota-seen}
 use Rattle.promise_uses.proofs.seen.quota_after_hello.Goals as goal
 
 pub returns-clause-dones : goal.returns-clause-dones

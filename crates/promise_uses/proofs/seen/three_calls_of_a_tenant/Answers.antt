@@ -1,6 +1,6 @@
 use Rattle.std.proofs.Common.{◌≡◌, List, [], ◌∷◌, ◌++◌, refl, sym, ap, subst, ◌∙◌}
 use Rattle.session.specs.Calls.{Ask, AskQuota, Cancel, Job, Rest, Refused}
-use Rattle.promise_uses.proofs.Seen.{three-calls}
+use Rattle.promise_uses.proofs.Turned.{three-calls}
 use Rattle.promise_uses.proofs.seen.three_calls_of_a_tenant.Goals as goal
 
 pub returns : goal.returns
