@@ -1,7 +1,7 @@
 //! The files of the folder that the program runs in.
+use crate::configs::play_config;
 use crate::desks::play_sessions;
 use crate::solving::play_solve;
-use site_rows::play_config;
 use std::alloc::{AllocError, Global};
 use std::process::ExitCode;
 use std::rt::Files;

@@ -18,7 +18,7 @@ use std::net::{IpAddr, SocketAddr};
 use text_rows::{Row, Scene, Tally, Words};
 
 /// Plays a scene of a file.
-pub fn play_config(
+pub(crate) fn play_config(
     alloc: Global,
     file: &str,
     scene: &Scene<'_>,
