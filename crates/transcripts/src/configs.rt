@@ -104,9 +104,7 @@ fn who_in(config: &Config, asked: &str) -> Option<Who> {
     let token = bytes_of(words.word());
     let certificate = bytes_of(words.word());
     match IpAddr::parse_ascii(words.word().unwrap_or("").as_bytes()) {
-        Ok(ip) => config
-            .directory
-            .who(token, certificate, Address::of_ip(ip)),
+        Ok(ip) => config.directory.who(token, certificate, Address::of_ip(ip)),
         Err(_) => None,
     }
 }
@@ -146,11 +144,7 @@ fn push_config(config: &Config, came: &mut String) -> Result<(), AllocError> {
         push_line(came, path.as_str())?;
     }
     let workers = u64::from(config.workers.count.unwrap_or(0));
-    tell(
-        came,
-        "workers",
-        &[workers, u64::from(config.workers.grain)],
-    )?;
+    tell(came, "workers", &[workers, u64::from(config.workers.grain)])?;
     push_limits(config.limits, came)?;
     push_terms(&config.directory.guest, came)?;
     for terms in &config.directory.customers {
@@ -219,10 +213,6 @@ fn push_amount(came: &mut String, word: &str, amount: Amount) -> Result<(), Allo
     tell(
         came,
         word,
-        &[
-            u64::from(amount.sessions),
-            amount.segments,
-            amount.nodes,
-        ],
+        &[u64::from(amount.sessions), amount.segments, amount.nodes],
     )
 }
