@@ -15,7 +15,7 @@ from selenium import webdriver
 from selenium.common.exceptions import WebDriverException
 from selenium.webdriver.chrome.service import Service
 from selenium.webdriver.remote.file_detector import UselessFileDetector
-from stand import fail, free_port, said
+from stand import check, fail, free_port, said
 
 FIREFOX_PREFS = {"intl.accept_languages": "{language}", "layout.css.prefers-color-scheme.content-override": "{scheme}", "marionette.port": "{port}", "browser.shell.checkDefaultBrowser": False,
                  "datareporting.policy.dataSubmissionEnabled": False, "app.update.enabled": False, "browser.startup.page": 0, "dom.disable_beforeunload": True}  # fmt: skip
@@ -161,11 +161,14 @@ class Shown:
         return [line["message"] for line in self.driver.get_log("browser") if line["level"] in ("SEVERE", "WARNING")] if self.name == "chromium" else []
 
     def renderer(self):
-        """The process that draws the page: its first thread is the one that is busy while the page is."""
+        """The process that draws the page: its first thread is the one that is busy while the page is. On a busy machine it may get little in any time, so it gets work."""
         kinds = {one: pathlib.Path(f"/proc/{one}/cmdline").read_bytes() for one in below(self.root)}
         before = {one: main_thread(one) for one, words in kinds.items() if b"--type=renderer" in words or b"-contentproc" in words}
-        self.evaluate("(() => { const begun = performance.now(); while (performance.now() - begun < 500); })()")
-        return max(before, key=lambda one: main_thread(one) - before[one])
+        self.evaluate("(() => { let sum = 0; for (let n = 0; n < 5e8; n += 1) sum ^= n; return sum; })()")
+        taken = {one: main_thread(one) - before[one] for one in before}
+        most = max(taken, key=taken.get)
+        check(taken[most] > 100, f"{self.name}: no process draws the page: {taken}")
+        return most
 
     def known(self, seconds=240):
         self.until("all values", "document.documentElement.dataset.known === 'yes'", seconds)
