@@ -1,0 +1,7 @@
+use Rattle.std.proofs.Common.{◌≡◌, drop}
+use Rattle.site_desk.specs.Sites.{stays_in}
+use Rattle.site_desk.proofs.locked_site.stays_in.Given as goal
+
+-- those so far don't decide, so the rest does
+abbrev pub invariant-loop-present : goal.invariant-loop-present
+invariant-loop-present l = stays_in l.number (drop l.present-index l.roll) ≡ stays_in l.number l.roll

@@ -1,0 +1,97 @@
+-- Meaning: what lies under a site's lock, and what each call does to it.
+use Rattle.std.specs.Prelude.{◌≡◌, ℕ, ◌+◌, ◌%◌, ◌^◌, ◌==◌, Bool, true, false, not, ◌&&◌, ◌||◌, List, [], ◌∷◌, ◌++◌, map, is_none, Option, Some, None, Result, Ok, Err}
+use Rattle.frame_tree.specs.declared.names.FrameId.{FrameId}
+use Rattle.frame_tree.specs.Frames.{IsReadyAt}
+use Rattle.tenant_quota.specs.Quota.{Quota}
+use Rattle.sched_rules.specs.declared.refusal.Refusal.{Refusal}
+use Rattle.sched_rules.specs.declared.step.StepOf.{StepOf}
+use Rattle.sched_rules.specs.declared.step.DidOf.{DidOf}
+use Rattle.sched_rules.specs.Views.{job_of, named, ready_count}
+use Rattle.booked_hall.specs.Booked.{BookedOf, IsAdmission, IsRaise, IsEnd}
+use Rattle.booked_hall.specs.declared.turned.Turned.TheVariants.{ByBook, OldTenant, OutOfMemory}
+use Rattle.desk_rules.specs.hall.Halls.{IsDecided}
+use Rattle.desk_rules.specs.hall.jamboree_rules.declared.leaf.Leaf.{Leaf}
+use Rattle.desk_rules.specs.hall.jamboree_rules.declared.leaf.LeafAnswer.{LeafAnswer}
+use Rattle.desk_rules.specs.Changes.{is_some_live}
+use Rattle.site_book.specs.declared.held.Held.{Held}
+use Rattle.site_book.specs.declared.held.Overrun.{Overrun}
+use Rattle.site_book.specs.declared.refusal.Refusal.{Refusal as BookRefusal}
+use Rattle.site_book.specs.declared.who.Who.{Who}
+use Rattle.site_book.specs.Books.{BookOf, overrun_of}
+use Rattle.site_book.specs.Events.{names_of}
+use Rattle.site_book.specs.Plans.{PlanOf}
+use Rattle.site_roll.specs.declared.coming.Coming.{Coming}
+use Rattle.site_roll.specs.declared.coming.Coming.TheVariants.{Enters, Waits, Ends, Refused}
+use Rattle.site_roll.specs.declared.present.Mark.TheVariants.{Told as told_to}
+use Rattle.site_roll.specs.declared.present.Present.{Present}
+use Rattle.site_roll.specs.declared.present.Told.TheVariants.{ForAnother}
+use Rattle.site_roll.specs.declared.present.Whom.TheVariants.{One}
+use Rattle.site_roll.specs.Comings.{coming}
+use Rattle.site_roll.specs.Rolls.{marked_all, names_in, newcomer, without_present}
+use Rattle.site_desk.specs.declared.came.Came.{Came}
+use Rattle.site_desk.specs.declared.came.Came.TheVariants.{Seated, Waiting, Ending, Turned}
+
+-- the hall with its book, who is there, whether the desk is closed, how many workers sleep until a frame is ready, modulo 2^32, and how many
+-- sessions have left, modulo 2^64
+pub record SiteOf : Type 0 where
+  pub booked : BookedOf
+  pub roll : List Present
+  pub closed : Bool
+  pub sleepers : ℕ
+  pub left : ℕ
+
+-- who is there is who has a grant, and in the same order
+abbrev pub IsListed : BookOf → List Present → Type 0
+IsListed book roll = names_in roll ≡ names_of book.grants
+
+-- what comes of one who asks for a session there
+abbrev pub met : SiteOf → Who → Quota → ℕ → ℕ → Coming
+met site who ask now most = coming site.booked.book.plan site.booked.book.grants site.roll who ask now most
+
+-- what is done where one asks for a session: where it enters, its tenant is admitted, its grant entered and itself listed, all at once; where
+-- a guest is to end for it, that one is told so; and else nothing changes. It is turned away where the book refuses it and nobody's going
+-- would help, or where no number or no memory is left
+abbrev pub IsCame : SiteOf → Who → Quota → ℕ → ℕ → Came → SiteOf → Type 0
+IsCame before who ask now most (Seated number) after =
+    (met before who ask now most ≡ Enters) × IsAdmission before.booked who ask (Ok number) after.booked × (after ≡ record before { booked = after.booked; roll = before.roll ++ newcomer who number now ∷ [] })
+IsCame before who ask now most (Waiting refusal) after = (met before who ask now most ≡ Waits refusal) × (after ≡ before)
+IsCame before who ask now most (Ending session refusal) after =
+    (met before who ask now most ≡ Ends session refusal) × (after ≡ record before { roll = marked_all (One session) (told_to ForAnother) before.roll })
+IsCame before who ask now most (Turned (ByBook refusal)) after = (met before who ask now most ≡ Refused refusal) × (after ≡ before)
+IsCame before who ask now most (Turned OldTenant) after = (met before who ask now most ≡ Enters) × (after ≡ before) × IsAdmission before.booked who ask (Err OldTenant) after.booked
+IsCame before who ask now most (Turned OutOfMemory) after = (met before who ask now most ≡ Enters) × (after ≡ before) × IsAdmission before.booked who ask (Err OutOfMemory) after.booked
+
+-- what is done where a session leaves: its tenant leaves, its grant is taken back and it is listed no more, all at once; nothing where it isn't
+-- there
+abbrev pub IsGone : SiteOf → Who → ℕ → Bool → SiteOf → Type 0
+IsGone before who number true after =
+    IsEnd before.booked who number true after.booked × (after ≡ record before { booked = after.booked; roll = without_present who number before.roll; left = (before.left + 1) % 2 ^ 64 })
+IsGone before who number false after = IsEnd before.booked who number false after.booked × (after ≡ before)
+
+-- one step was offered to the hall, and nothing else was done
+abbrev pub IsOffered : SiteOf → StepOf LeafAnswer → Result (DidOf Leaf) Refusal → SiteOf → Type 0
+IsOffered before step answer after =
+    IsDecided before.booked.hall step answer after.booked.hall × (after ≡ record before { booked = record before.booked { hall = after.booked.hall } })
+
+-- whether one of these sessions has this number and wasn't told to end
+abbrev pub stays_in : ℕ → List Present → Bool
+stays_in number [] = false
+stays_in number (present ∷ roll) = (number == present.session) && is_none present.told || stays_in number roll
+
+-- whether a seat that waits for a job waits on: the desk isn't closed, the session wasn't told to end, and the job hasn't ended
+abbrev pub waits_on : SiteOf → ℕ → ℕ → Bool
+waits_on site number job = not site.closed && stays_in number site.roll && is_some_live (job_of site.booked.hall.shared number job)
+
+-- whether a worker that waits may go on: the desk is closed, or some frame is ready
+abbrev pub has_news : SiteOf → Bool
+has_news site = site.closed || not (ready_count site.booked.hall.shared.tenants == 0)
+
+-- the frame that a worker is given after it has waited, with its home: None exactly where the desk is closed or no frame is ready, else one that
+-- is ready
+abbrev pub IsNext : SiteOf → Option (FrameId × ℕ) → Type 0
+IsNext site None = (not site.closed && not (ready_count site.booked.hall.shared.tenants == 0)) ≡ false
+IsNext site (Some ready) = (site.closed ≡ false) × IsReadyAt (named site.booked.hall.shared ready.0) ready.1
+
+-- by how much each grant's part has more than a plan allows, in the order of the grants
+abbrev pub overruns_of : PlanOf → List Held → List Held → List (Option Overrun)
+overruns_of plan all grants = map (overrun_of plan all) grants

@@ -1,0 +1,15 @@
+use booked_hall::Turned as TurnedAway;
+use site_book::Refusal;
+
+/// What was done where one asked for a session.
+#[derive(Clone, Copy, Debug, PartialEq, Eq)]
+pub(crate) enum Came {
+    /// It has the session of this number.
+    Seated(u64),
+    /// It is refused, but there is room once those have left who were told to end.
+    Waiting(Refusal),
+    /// It is refused, and the guest's session of this number was told to end for it.
+    Ending(u64, Refusal),
+    /// It is turned away.
+    Turned(TurnedAway),
+}

@@ -1,0 +1,21 @@
+use crate::seat::Seat;
+use booked_hall::Turned;
+use site_book::Refusal;
+
+/// What comes of one who asks for a session.
+#[derive(Drop)]
+pub enum Entry {
+    /// It has this seat.
+    Seated(Seat),
+    /// It is refused now, but there is room once those have left who were told to end.
+    Later {
+        /// Why it is refused now.
+        refusal: Refusal,
+        /// The guest's session that was told to end for it just now.
+        ending: Option<u64>,
+        /// How many sessions had left by then.
+        left: u64,
+    },
+    /// It is turned away.
+    Turned(Turned),
+}

@@ -1,0 +1,66 @@
+//! The desk, held by a worker for several steps.
+//!
+//! A step under the lock takes less time than what it touches takes to come from another processor. So a worker keeps the lock over
+//! the steps that follow each other, and those who wait are woken once it lets go.
+ghost use Rattle.std.specs.Prelude.{◌≡◌, ◌≢◌, true, Err};
+ghost use Rattle.sched_rules.specs.declared.refusal.Refusal.TheVariants.{OutOfMemory};
+ghost use Rattle.desk_rules.specs.hall.Journals.{is_worker_step};
+
+use crate::locked_site::LockedSite;
+use desk_rules::{Backoff, Change};
+use hall::{DidOf, Jamboree, Step, StepAnswer};
+use std::alloc::{Allocator, Global};
+use std::sync::{Condvar, MutexGuard};
+
+/// The desk, locked by one worker for several steps. It can't be dropped: [`SiteGuard::release`] unlocks it, and wakes who waits for
+/// what the steps changed.
+pub struct SiteGuard<'d, A: Allocator = Global> {
+    pub(crate) kept: MutexGuard<'d, LockedSite<A>>,
+    pub(crate) ready: &'d Condvar,
+    pub(crate) ended: &'d Condvar,
+    /// How many frames became ready while some worker slept.
+    pub(crate) wakes: u32,
+    /// Whether one of the steps ended a job.
+    pub(crate) has_ended: bool,
+}
+
+impl<'d, A: Allocator + Clone> SiteGuard<'d, A> {
+    /// Offers a worker's step to the hall, and returns what it did or why it is refused, which is never `OutOfMemory`. Where the step
+    /// gives the worker a leaf, its waits follow the leaf's depth from then on. Nobody is woken before `release`.
+    pub fn offer(&mut self, backoff: &mut Backoff, step: &Step<Jamboree>) -> StepAnswer
+        requires { is_worker_step step.now ≡ true }
+        ensures { result ≢ Err OutOfMemory }
+    {
+        let answer = self.kept.offer(step);
+        if let Ok(DidOf::Computing(leaf)) = &answer {
+            backoff.before_leaf(leaf.depth);
+        }
+        match Change::of(&answer) {
+            Change::InReady if self.kept.has_sleepers() => {
+                self.wakes = self.wakes.saturating_add(1);
+            }
+            Change::InReady | Change::Nothing => {}
+            Change::Job => self.has_ended = true,
+        }
+        answer
+    }
+
+    /// Unlocks the desk, and then wakes a worker for each frame that became ready while one slept, and all seats that wait if a job
+    /// ended.
+    pub fn release(self) {
+        let SiteGuard {
+            kept,
+            ready,
+            ended,
+            wakes,
+            has_ended,
+        } = self;
+        drop(kept);
+        for _ in 0..wakes {
+            ready.notify_one();
+        }
+        if has_ended {
+            ended.notify_all();
+        }
+    }
+}

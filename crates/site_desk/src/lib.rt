@@ -1,0 +1,42 @@
+//! A site's desk: the lock over a hall, the book of its customers and the roll of who is there.
+//!
+//! A [`SiteDesk`] is shared by all threads of a site. Who comes asks for a [`Seat`] ([`SiteDesk::come`]): under one lock and by one
+//! call its budget is looked at, its tenant admitted, its grant entered and its session listed, or nothing of it. With a seat it
+//! reserves more, asks, gets, waits, cancels and leaves; leaving gives all back at once. Workers offer their steps by
+//! [`SiteDesk::hold`]. An operator reads who is there, tells sessions to end, and brings in another plan.
+//!
+//! What lies under the lock (`LockedSite`) is a hall with its book, of which the grants are the tenants (`booked_hall`), and the roll;
+//! its invariant is that those listed are those who have a grant, in the same order (`IsListed`). The contract of a call that locks
+//! can't say what the call did there: the contract of the method of the same name does (`specs/Sites.antt`), and tests show that the
+//! call calls that method.
+//!
+//! Why it is so:
+//!
+//! - Whoever ends a session only tells it so and wakes its WAIT; its own thread leaves. So no thread touches another's seat, and a
+//!   session's end is one call wherever it comes from. Who comes meanwhile is told `Later`, and waits for one to leave
+//!   ([`SiteDesk::await_left`]): sessions that have left are counted under the lock, so that none is missed.
+//! - Under the lock at most 64 grants and sessions are looked at, and no memory is taken but by an admission and a raise. Digests,
+//!   texts and files are the caller's, before it or behind it.
+//! - What desks have in common stands in `desk_rules`. There is no ledger here: a seat shows of a job only a reply to what was asked
+//!   under its number, and what the hall did is said by its own contract.
+//!
+//! ```text
+//! let desk = SiteDesk::new(BookedHall::new(hall, book));
+//! let Entry::Seated(mut seat) = desk.come(rt, &Comer { who, ask, at, most }) else { .. };
+//! let job = desk.ask(rt, &mut seat, &opening, 0)?;
+//! desk.wait(rt, &seat, job, now)? == Outcome::Done(reply)         // with workers that hold the desk
+//! desk.leave(rt, seat);
+//! ```
+#![tactic(auto)]
+
+mod came;
+mod entry;
+mod guard;
+mod locked_site;
+mod seat;
+mod site_desk;
+
+pub use entry::Entry;
+pub use guard::SiteGuard;
+pub use seat::Seat;
+pub use site_desk::SiteDesk;

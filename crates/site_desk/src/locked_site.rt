@@ -1,0 +1,407 @@
+//! What lies under a site's lock: the hall with its book, and the roll of who is there.
+ghost use Rattle.std.specs.Prelude.{◌≡◌, ◌≢◌, ◌+◌, ◌%◌, ◌^◌, ◌≤◌, ◌==◌, not, [], true, false, length, Ok, Err, Some, None, Contains, IfErr, Option, MatchResult};
+ghost use Rattle.sched_rules.specs.declared.refusal.Refusal.TheVariants.{NoJob, OutOfMemory};
+ghost use Rattle.sched_rules.specs.declared.step.StepOf.TheVariants.{Submit, Cancel};
+ghost use Rattle.sched_rules.specs.declared.step.DidOf.{DidOf};
+ghost use Rattle.sched_rules.specs.Views.{left_in_core, live_of, job_of};
+ghost use Rattle.booked_hall.specs.Booked.{IsRaise, is_within_seat};
+ghost use Rattle.desk_rules.specs.hall.Halls.{count_of};
+ghost use Rattle.desk_rules.specs.hall.Journals.{is_worker_step};
+ghost use Rattle.desk_rules.specs.hall.jamboree_rules.declared.leaf.Leaf.{Leaf as LeafOf};
+ghost use Rattle.desk_rules.specs.hall.jamboree_rules.Places.{root_words, frame_size};
+ghost use Rattle.desk_rules.specs.jamboree_core.Replies.{IsSearch};
+ghost use Rattle.desk_rules.specs.jamboree_core.declared.outcomes.Outcome.{Outcome as OutcomeOf};
+ghost use Rattle.desk_rules.specs.jamboree_core.Outcomes.{IsOutcomeIn};
+ghost use Rattle.desk_rules.specs.Asked.{ask_refusals, cancel_refusals, seat_asked_at, IsShown, IsToldBy, found_or_no_tenant};
+ghost use Rattle.site_book.specs.Books.{taken, why_not_replan, Replans};
+ghost use Rattle.site_roll.specs.Comings.{told_by};
+ghost use Rattle.site_roll.specs.declared.coming.Coming.TheVariants.{Enters};
+ghost use Rattle.site_roll.specs.Rolls.{marked_all};
+ghost use Rattle.site_desk.specs.Seats.{IsAsked};
+ghost use Rattle.site_desk.specs.Sites.{IsCame, IsGone, IsOffered, IsNext, has_news, met, overruns_of, stays_in, waits_on};
+
+use crate::came::Came;
+use crate::seat::Seat;
+use arrayvec::ArrayVec;
+use booked_hall::{BookedHall, Turned};
+use desk_rules::{JOBS, SeatAsked, seat_asked_at, shown};
+use frame_tree::FrameId;
+use hall::{Jamboree, Outcome, Refusal, Step, StepAnswer, StepOf, submit};
+use position_text::Position;
+use site_book::{Book, Overrun, Plan, Refusal as BookRefusal, Who};
+use site_roll::{Comer, Coming, MOST, Mark, Present, Roll, Told, Whom, what_comes_of};
+use std::alloc::{Allocator, Global};
+use std::marker::Model;
+use tenant_quota::{Left, Reserve};
+
+/// What lies under a site's lock.
+#[derive(Drop)]
+pub(crate) struct LockedSite<A: Allocator = Global> {
+    booked: BookedHall<A>,
+    roll: Roll,
+    /// Whether the desk is closed, so that nobody waits any more.
+    closed: bool,
+    /// How many workers sleep until a frame is ready.
+    sleepers: u32,
+    /// How many sessions have left.
+    left: u64,
+}
+
+// Clauses see the hall with its book, who is there, whether the desk is closed, and the two counts.
+impl<A: Allocator> Model for LockedSite<A> {
+    ghost use Rattle.site_desk.specs.Sites.{SiteOf, IsListed};
+
+    ghost Value = { SiteOf };
+
+    ghost view = { λ k. record { booked = k.booked; roll = k.roll; closed = k.closed; sleepers = k.sleepers; left = k.left } };
+
+    ghost invariant = { λ k. IsListed k.booked.book k.roll };
+}
+
+impl<A: Allocator + Clone> LockedSite<A> {
+    /// A hall with its book, where nobody is.
+    pub(crate) fn new(booked: BookedHall<A>) -> LockedSite<A>
+        requires { booked.book.grants ≡ [] }
+        ensures { result ≡ record { booked = booked; roll = []; closed = false; sleepers = 0; left = 0 } }
+    {
+        LockedSite {
+            booked,
+            roll: Roll::new(),
+            closed: false,
+            sleepers: 0,
+            left: 0,
+        }
+    }
+
+    /// What comes of one who asks for a session: it enters where the book allows it.
+    pub(crate) fn come(&mut self, comer: &Comer) -> Came
+        ensures { IsCame self.old comer.now.who comer.now.ask comer.now.at comer.now.most result self.new }
+    {
+        match self.met(comer) {
+            Coming::Enters => self.let_in(comer),
+            Coming::Waits(refusal) => Came::Waiting(refusal),
+            Coming::Ends(session, refusal) => {
+                self.mark(Whom::One(session), Mark::Told(Told::ForAnother));
+                Came::Ending(session, refusal)
+            }
+            Coming::Refused(refusal) => Came::Turned(Turned::ByBook(refusal)),
+        }
+    }
+
+    /// What is to come of one who asks for a session.
+    #[tactic(auto, using(crate::proofs::Lists::alike))]
+    fn met(&self, comer: &Comer) -> Coming
+        ensures { result ≡ met self.now comer.now.who comer.now.ask comer.now.at comer.now.most }
+    {
+        let book = self.booked.book();
+        what_comes_of(book.plan(), book.grants(), self.roll.entries(), comer)
+    }
+
+    /// Lets one in whom the book allows it: its tenant is admitted, its grant entered, and itself listed.
+    #[tactic(auto, using(crate::proofs::Lists::has_place, crate::proofs::Lists::listed_open))]
+    fn let_in(&mut self, comer: &Comer) -> Came
+        requires { met self.old comer.now.who comer.now.ask comer.now.at comer.now.most ≡ Enters }
+        ensures { IsCame self.old comer.now.who comer.now.ask comer.now.at comer.now.most result self.new }
+    {
+        match self.booked.admit(comer.who, comer.ask) {
+            Ok(number) => {
+                let LockedSite { booked, roll, .. } = self;
+                // This read says that there is a place left in the roll.
+                let _grants = booked.book().grants();
+                roll.enter(comer.who, number, comer.at);
+                Came::Seated(number)
+            }
+            Err(turned) => Came::Turned(turned),
+        }
+    }
+
+    /// Raises what a session reserves where the book allows it: in the hall and in the book, or in neither.
+    #[tactic(auto, using(crate::proofs::Lists::listed_raised))]
+    pub(crate) fn raise(&mut self, seat: &Seat, ask: Reserve) -> Result<(), Turned>
+        ensures raise { IsRaise self.old.booked seat.now.who seat.now.number ask result self.new.booked }
+        ensures others { self.new ≡ record self.old { booked = self.new.booked } }
+    {
+        self.booked.raise(seat.who, seat.number, ask)
+    }
+
+    /// A session leaves: its tenant leaves the hall, its grant is taken back, and it is listed no more. False where it isn't there.
+    #[tactic(auto, using(crate::proofs::Lists::listed_close))]
+    pub(crate) fn leave(&mut self, who: Who, number: u64) -> bool
+        ensures { IsGone self.old who number result self.new }
+    {
+        let LockedSite {
+            booked, roll, left, ..
+        } = self;
+        if !booked.leave(who, number) {
+            return false;
+        }
+        roll.leave(who, number);
+        *left = left.wrapping_add(1);
+        true
+    }
+
+    /// Notes something of these sessions.
+    #[tactic(auto, using(crate::proofs::Lists::names_marked))]
+    pub(crate) fn mark(&mut self, whom: Whom, mark: Mark)
+        ensures { self.new ≡ record self.old { roll = marked_all whom mark self.old.roll } }
+    {
+        self.roll.mark(whom, mark);
+    }
+
+    /// Tells those to end that don't stay under another plan.
+    #[tactic(auto, using(crate::proofs::Lists::alike, crate::proofs::Lists::names_told))]
+    pub(crate) fn tell_by(&mut self, plan: &Plan)
+        ensures { self.new ≡ record self.old { roll = told_by plan.now [] self.old.booked.book.grants self.old.roll } }
+    {
+        let LockedSite { booked, roll, .. } = self;
+        roll.tell_by(plan, booked.book().grants());
+    }
+
+    /// Goes on by another plan where nothing forbids it, and returns the one that was there; else returns the plan and why it
+    /// doesn't come in.
+    pub(crate) fn replan(&mut self, plan: Plan) -> Result<Plan, (Plan, BookRefusal)>
+        ensures { MatchResult result
+            (λ was. (why_not_replan self.old.booked.book plan ≡ None) × (was ≡ self.old.booked.book.plan) × (self.new ≡ record self.old { booked = record self.old.booked { book = taken self.old.booked.book (Replans plan) } }))
+            (λ refused. (why_not_replan self.old.booked.book plan ≡ Some refused.1) × (refused.0 ≡ plan) × (self.new ≡ self.old)) }
+    {
+        match self.booked.book().why_not_replan(&plan) {
+            None => Ok(self.booked.replan(plan)),
+            Some(refusal) => Err((plan, refusal)),
+        }
+    }
+
+    /// Offers a step that neither begins nor ends a tenant, nor raises what it reserves.
+    fn take(&mut self, step: &Step<Jamboree>) -> StepAnswer
+        requires search { IsSearch step.now }
+        requires within { is_within_seat step.now ≡ true }
+        ensures step { IsOffered self.old step.now result self.new }
+        ensures memory { result ≢ Err OutOfMemory }
+    {
+        self.booked.offer(step)
+    }
+
+    /// Submits the search of a position for a seat, adds it to the seat's list, and returns the job's number, the list's new length.
+    /// Where the list has 256 entries the hall isn't asked, and the refusal is `NoJobsLeft`. At any refusal nothing changes.
+    pub(crate) fn ask(
+        &mut self,
+        seat: &mut Seat,
+        position: &Position,
+        depth: u8,
+    ) -> Result<u64, Refusal>
+        requires { depth ≤ 12 }
+        ensures asked { IsAsked (record { board = position.now.board; depth = depth }) seat.old result seat.new }
+        ensures refused { IfErr result (Contains ask_refusals) }
+        ensures full { length seat.old.asked ≡ 256 → self.new ≡ self.old }
+        ensures step { MatchResult result
+            (λ _. (did : DidOf LeafOf) × IsOffered self.old (Submit seat.old.number (root_words position.now.board.own position.now.board.opp depth) frame_size) (Ok did) self.new)
+            (λ refusal. length seat.old.asked ≢ 256 → IsOffered self.old (Submit seat.old.number (root_words position.now.board.own position.now.board.opp depth) frame_size) (Err refusal) self.new) }
+    {
+        if seat.asked.len() == JOBS {
+            return Err(Refusal::NoJobsLeft);
+        }
+        let search = submit(seat.number, position, depth);
+        self.take(&search)?;
+        seat.asked.push(SeatAsked {
+            board: position.board,
+            depth,
+        });
+        Ok(seat.asked.len() as u64)
+    }
+
+    /// Cancels a seat's job. Where the seat asked for no job of this number the hall isn't asked, and the refusal is `NoJob`; the
+    /// hall refuses with `NoJob` where the job has ended, and with `NoTenant`.
+    pub(crate) fn cancel(&mut self, seat: &Seat, job: u64) -> Result<(), Refusal>
+        ensures none { seat_asked_at seat.now.asked job ≡ None → (result ≡ Err NoJob) × (self.new ≡ self.old) }
+        ensures step { MatchResult result
+            (λ _. (did : DidOf LeafOf) × IsOffered self.old (Cancel seat.now.number job) (Ok did) self.new)
+            (λ refusal. seat_asked_at seat.now.asked job ≢ None → IsOffered self.old (Cancel seat.now.number job) (Err refusal) self.new) }
+        ensures refused { IfErr result (Contains cancel_refusals) }
+    {
+        if seat_asked_at(seat.asked.as_slice(), job).is_none() {
+            return Err(Refusal::NoJob);
+        }
+        let step = StepOf::Cancel(seat.number, job);
+        self.take(&step)?;
+        Ok(())
+    }
+
+    /// Offers a worker's step to the hall.
+    pub(crate) fn offer(&mut self, step: &Step<Jamboree>) -> StepAnswer
+        requires { is_worker_step step.now ≡ true }
+        ensures step { IsOffered self.old step.now result self.new }
+        ensures memory { result ≢ Err OutOfMemory }
+    {
+        self.take(step)
+    }
+
+    /// How a seat's job stands, as `shown` tells it; `NoJob` where the seat asked for no job of this number.
+    pub(crate) fn get(&self, seat: &Seat, job: u64) -> Result<Outcome, Refusal>
+        ensures shown { IsShown (seat_asked_at seat.now.asked job) result }
+        ensures told { (told : Option OutcomeOf) × IsOutcomeIn (job_of self.now.booked.hall.shared seat.now.number job) told × IsToldBy (seat_asked_at seat.now.asked job) told result }
+    {
+        let told = self.booked.hall().outcome(seat.number(), job);
+        match seat_asked_at(seat.asked(), job) {
+            Some(asked) => Ok(shown(asked, told)),
+            None => Err(Refusal::NoJob),
+        }
+    }
+
+    /// Whether a seat goes on waiting for this job: it is there and hasn't ended, the session wasn't told to end, and the desk isn't
+    /// closed.
+    pub(crate) fn keeps_waiting(&self, number: u64, job: u64) -> bool
+        ensures { result ≡ waits_on self.now number job }
+    {
+        match self.booked.hall().outcome(number, job) {
+            Some(Outcome::Pending) => !self.closed && self.stays(number),
+            _ => false,
+        }
+    }
+
+    /// Whether a session is there and wasn't told to end.
+    pub(crate) fn stays(&self, number: u64) -> bool
+        ensures { result ≡ stays_in number self.now.roll }
+    {
+        stays_in(self.roll.entries(), number)
+    }
+
+    /// The segments, nodes and steps that a tenant has left; `NoTenant` where it isn't there.
+    pub(crate) fn quota(&self, number: u64) -> Result<Left, Refusal>
+        ensures { result ≡ found_or_no_tenant (left_in_core self.now.booked.hall.shared number) }
+    {
+        self.booked
+            .hall()
+            .core()
+            .left(number)
+            .ok_or(Refusal::NoTenant)
+    }
+
+    /// How many frames a tenant has, and how many words these have together; `NoTenant` where it isn't there.
+    pub(crate) fn live(&self, number: u64) -> Result<(usize, usize), Refusal>
+        ensures { result ≡ found_or_no_tenant (live_of self.now.booked.hall.shared number) }
+    {
+        self.booked
+            .hall()
+            .core()
+            .live(number)
+            .ok_or(Refusal::NoTenant)
+    }
+
+    /// Whether a worker that waits may go on: the desk is closed, or some frame is ready.
+    pub(crate) fn has_news(&self) -> bool
+        ensures { result ≡ has_news self.now }
+    {
+        self.closed || self.booked.hall().core().any_ready().is_some()
+    }
+
+    /// A frame that is ready, with its home; `None` where no frame is ready or the desk is closed. The frame isn't taken: it stays
+    /// ready until a worker's step takes it.
+    pub(crate) fn next_ready(&self) -> Option<(FrameId, u8)>
+        ensures { IsNext self.now result }
+    {
+        if self.closed {
+            None
+        } else {
+            self.booked.hall().core().any_ready()
+        }
+    }
+
+    /// Counts one worker more that sleeps until a frame is ready, modulo 2^32.
+    pub(crate) fn begin_sleep(&mut self)
+        ensures { self.new ≡ record self.old { sleepers = (self.old.sleepers + 1) % 2 ^ 32 } }
+    {
+        self.sleepers = self.sleepers.wrapping_add(1);
+    }
+
+    /// Counts one worker fewer that sleeps, modulo 2^32.
+    pub(crate) fn end_sleep(&mut self)
+        ensures { self.new ≡ record self.old { sleepers = (self.old.sleepers + 4294967295) % 2 ^ 32 } }
+    {
+        self.sleepers = self.sleepers.wrapping_sub(1);
+    }
+
+    /// Whether some worker sleeps until a frame is ready.
+    pub(crate) fn has_sleepers(&self) -> bool
+        ensures { result ≡ not (self.now.sleepers == 0) }
+    {
+        self.sleepers > 0
+    }
+
+    /// Marks the desk as closed. To wake those who wait is the caller's part.
+    pub(crate) fn close(&mut self)
+        ensures { self.new ≡ record self.old { closed = true } }
+    {
+        self.closed = true;
+    }
+
+    /// How many steps the hall has taken since it was made.
+    pub(crate) fn count(&self) -> u128
+        ensures { result ≡ count_of self.now.booked.hall }
+    {
+        self.booked.hall().count()
+    }
+
+    /// How many sessions have left, modulo 2^64.
+    pub(crate) fn left(&self) -> u64
+        ensures { result ≡ self.now.left }
+    {
+        self.left
+    }
+
+    /// The book, for reading.
+    pub(crate) fn book(&self) -> &Book
+        ensures { result.now ≡ self.now.booked.book }
+    {
+        self.booked.book()
+    }
+
+    /// By how much each grant's part has more than a plan allows, in the order of the grants.
+    pub(crate) fn overruns(&self, plan: &Plan) -> ArrayVec<Option<Overrun>, MOST>
+        ensures { result.items ≡ overruns_of plan.now self.now.booked.book.grants self.now.booked.book.grants }
+    {
+        let book = self.booked.book();
+        let mut overruns = ArrayVec::new();
+        let mut rest = book.grants();
+        while let Some((held, later)) = rest.split_first() {
+            overruns.push(book.overrun(plan, held));
+            rest = later;
+        }
+        overruns
+    }
+
+    /// All who are there.
+    pub(crate) fn listed(&self) -> ArrayVec<Present, MOST>
+        ensures { result.items ≡ self.now.roll }
+    {
+        let mut listed = ArrayVec::new();
+        listed
+            .try_extend_from_slice(self.roll.entries())
+            .unwrap();
+        listed
+    }
+
+    /// Takes the hall and the book out.
+    pub(crate) fn into_booked(self) -> BookedHall<A>
+        ensures { result ≡ self.booked }
+    {
+        let LockedSite {
+            booked,
+            roll: _roll,
+            closed: _,
+            sleepers: _,
+            left: _,
+        } = self;
+        booked
+    }
+}
+
+/// Whether one of these sessions has this number and wasn't told to end.
+fn stays_in(roll: &[Present], number: u64) -> bool
+    ensures { result ≡ stays_in number roll.now }
+{
+    for present in roll {
+        if number == present.session && present.told.is_none() {
+            return true;
+        }
+    }
+    false
+}
