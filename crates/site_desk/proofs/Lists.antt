@@ -1,5 +1,5 @@
 -- Who is listed is who has a grant, after each call.
-use Rattle.std.proofs.Common.{◌≡◌, ℕ, ◌+◌, ◌<◌, ◌≤◌, ◌&&◌, inl, inr, Bool, true, false, cond, eqb, List, [], ◌∷◌, ◌++◌, length, refl, ap, sym, ◌∙◌, subst, arith, length-append}
+use Rattle.std.proofs.Common.{◌≡◌, ℕ, ◌<◌, ◌≤◌, ◌&&◌, inl, inr, Bool, true, false, cond, eqb, List, [], ◌∷◌, ◌++◌, length, refl, ap, sym, ◌∙◌, subst, arith, length-append}
 use Rattle.std.proofs.lemmas.Bool.{cases_Bool}
 use Rattle.std.specs.Prelude.{Result, Ok, Err}
 use Rattle.tenant_quota.specs.Quota.{Quota}
@@ -15,7 +15,7 @@ use Rattle.site_roll.specs.declared.present.Mark.TheVariants.{Spoke, Waits, Told
 use Rattle.site_roll.specs.declared.present.Present.{Present}
 use Rattle.site_roll.specs.declared.present.Whom.{Whom}
 use Rattle.site_roll.specs.Rolls.{is_meant, is_present_as, marked, marked_all, marked_if, names_in, newcomer, without_present}
-use Rattle.site_roll.specs.Comings.{stays, told_by, told_unless, told_to_end, with_staying}
+use Rattle.site_roll.specs.Comings.{stays, told_by, told_unless, with_staying}
 use Rattle.booked_hall.specs.declared.turned.Turned.{Turned}
 use Rattle.booked_hall.specs.declared.turned.Turned.TheVariants.{ByBook, OldTenant, OutOfMemory}
 use Rattle.booked_hall.specs.Booked.{BookedOf, IsRaise}

@@ -7,7 +7,7 @@ use Rattle.sched_rules.specs.declared.refusal.Refusal.{Refusal}
 use Rattle.sched_rules.specs.declared.step.StepOf.{StepOf}
 use Rattle.sched_rules.specs.declared.step.DidOf.{DidOf}
 use Rattle.sched_rules.specs.Views.{job_of, named, ready_count}
-use Rattle.booked_hall.specs.Booked.{BookedOf, IsAdmission, IsRaise, IsEnd}
+use Rattle.booked_hall.specs.Booked.{BookedOf, IsAdmission, IsEnd}
 use Rattle.booked_hall.specs.declared.turned.Turned.TheVariants.{ByBook, OldTenant, OutOfMemory}
 use Rattle.desk_rules.specs.hall.Halls.{IsDecided}
 use Rattle.desk_rules.specs.hall.jamboree_rules.declared.leaf.Leaf.{Leaf}
@@ -15,7 +15,6 @@ use Rattle.desk_rules.specs.hall.jamboree_rules.declared.leaf.LeafAnswer.{LeafAn
 use Rattle.desk_rules.specs.Changes.{is_some_live}
 use Rattle.site_book.specs.declared.held.Held.{Held}
 use Rattle.site_book.specs.declared.held.Overrun.{Overrun}
-use Rattle.site_book.specs.declared.refusal.Refusal.{Refusal as BookRefusal}
 use Rattle.site_book.specs.declared.who.Who.{Who}
 use Rattle.site_book.specs.Books.{BookOf, overrun_of}
 use Rattle.site_book.specs.Events.{names_of}

@@ -98,17 +98,16 @@ impl<A: Allocator + Clone> LockedSite<A> {
     }
 
     /// Lets one in whom the book allows it: its tenant is admitted, its grant entered, and itself listed.
-    #[tactic(auto, using(crate::proofs::Lists::has_place, crate::proofs::Lists::listed_open))]
+    #[tactic(auto, using(crate::proofs::Lists::has_place, crate::proofs::Lists::listed_open, crate::proofs::Comings::turned_away))]
     fn let_in(&mut self, comer: &Comer) -> Came
         requires { met self.old comer.now.who comer.now.ask comer.now.at comer.now.most ≡ Enters }
         ensures { IsCame self.old comer.now.who comer.now.ask comer.now.at comer.now.most result self.new }
     {
         match self.booked.admit(comer.who, comer.ask) {
             Ok(number) => {
-                let LockedSite { booked, roll, .. } = self;
                 // This read says that there is a place left in the roll.
-                let _grants = booked.book().grants();
-                roll.enter(comer.who, number, comer.at);
+                let _grants = self.booked.book().grants();
+                self.roll.enter(comer.who, number, comer.at);
                 Came::Seated(number)
             }
             Err(turned) => Came::Turned(turned),
@@ -130,7 +129,10 @@ impl<A: Allocator + Clone> LockedSite<A> {
         ensures { IsGone self.old who number result self.new }
     {
         let LockedSite {
-            booked, roll, left, ..
+            booked,
+            roll,
+            left,
+            ..
         } = self;
         if !booked.leave(who, number) {
             return false;
@@ -153,8 +155,8 @@ impl<A: Allocator + Clone> LockedSite<A> {
     pub(crate) fn tell_by(&mut self, plan: &Plan)
         ensures { self.new ≡ record self.old { roll = told_by plan.now [] self.old.booked.book.grants self.old.roll } }
     {
-        let LockedSite { booked, roll, .. } = self;
-        roll.tell_by(plan, booked.book().grants());
+        let grants = self.booked.book().grants();
+        self.roll.tell_by(plan, grants);
     }
 
     /// Goes on by another plan where nothing forbids it, and returns the one that was there; else returns the plan and why it
@@ -373,9 +375,7 @@ impl<A: Allocator + Clone> LockedSite<A> {
         ensures { result.items ≡ self.now.roll }
     {
         let mut listed = ArrayVec::new();
-        listed
-            .try_extend_from_slice(self.roll.entries())
-            .unwrap();
+        listed.try_extend_from_slice(self.roll.entries()).unwrap();
         listed
     }
 

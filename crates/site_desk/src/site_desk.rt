@@ -163,13 +163,7 @@ impl<A: Allocator + Clone> SiteDesk<A> {
 
     /// Waits until a job has ended, the session is told to end, or the desk is closed, and answers as `get` does then. The session
     /// counts as waiting from `now` on: `mark` says when it doesn't any more. Where the hall has no such job it answers at once.
-    pub fn wait<R: Wait>(
-        &self,
-        rt: &R,
-        seat: &Seat,
-        job: u64,
-        now: u64,
-    ) -> Result<Outcome, Refusal>
+    pub fn wait<R: Wait>(&self, rt: &R, seat: &Seat, job: u64, now: u64) -> Result<Outcome, Refusal>
         ensures { IsShown (seat_asked_at seat.now.asked job) result }
     {
         let number = seat.number();
@@ -264,12 +258,7 @@ impl<A: Allocator + Clone> SiteDesk<A> {
 
     /// Locks the desk and offers a worker's step to the hall. Returns what the step did or why it is refused, which is never
     /// `OutOfMemory`. A frame that became ready wakes a worker that sleeps, if one does, and the end of a job all seats that wait.
-    pub fn offer<R: Wait>(
-        &self,
-        rt: &R,
-        backoff: &mut Backoff,
-        step: &Step<Jamboree>,
-    ) -> StepAnswer
+    pub fn offer<R: Wait>(&self, rt: &R, backoff: &mut Backoff, step: &Step<Jamboree>) -> StepAnswer
         requires { is_worker_step step.now ≡ true }
         ensures { result ≢ Err OutOfMemory }
     {

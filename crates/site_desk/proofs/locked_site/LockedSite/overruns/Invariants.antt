@@ -4,10 +4,10 @@ use Rattle.site_desk.proofs.locked_site.LockedSite.overruns.Given as goal
 
 -- those so far and the rest are all
 abbrev pub invariant-loop-held : goal.invariant-loop-held
-invariant-loop-held l = record {
+invariant-loop-held g l = record {
   made : l.overruns.items ++ overruns_of l.plan l.self.booked.book.grants l.rest ≡ overruns_of l.plan l.self.booked.book.grants l.self.booked.book.grants;
   few : length l.overruns.items + length l.rest ≤ 64;
 }
 
 abbrev pub decreases-loop-held : goal.decreases-loop-held
-decreases-loop-held l = length l.rest
+decreases-loop-held g l = length l.rest
