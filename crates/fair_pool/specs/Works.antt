@@ -1,5 +1,5 @@
 -- Meaning: what one act of a worker comes to: its turn is the table's, and what it begins next is a task of its own deque or a pick.
-use Rattle.std.specs.Prelude.{◌≡◌, ◌⊎◌, ℕ, Bool, true, false, Option, Some, None, Result, Ok, Err}
+use Rattle.std.specs.Prelude.{◌≡◌, ◌⊎◌, ℕ, true, Option, Some, None, Result}
 use Rattle.frame_tree.specs.declared.names.FrameId.{FrameId}
 use Rattle.sched_rules.specs.declared.refusal.Refusal.{Refusal}
 use Rattle.sched_rules.specs.declared.step.DidOf.{DidOf}
