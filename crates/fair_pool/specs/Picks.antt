@@ -3,7 +3,8 @@ use Rattle.std.specs.Prelude.{◌≡◌, ◌⊎◌, ℕ, zero, suc, Some, None, 
 use Rattle.sched_rules.specs.Cores.{CoreState}
 use Rattle.sched_rules.specs.Views.{newest_ready_in}
 use Rattle.pool_rules.specs.declared.task.Task.{Task}
-use Rattle.fair_share.specs.Shares.{SharesOf, IsPick, IsNobody, tenant_at, seen}
+use Rattle.fair_share.specs.Lines.{place_named}
+use Rattle.fair_share.specs.Shares.{SharesOf, IsPick, IsNobody, tenant_at, seen, served_all}
 
 -- after it was seen of each of the first so many places whether its tenant has a ready frame
 unfoldable pub seen_up_to : CoreState → ℕ → SharesOf → SharesOf
@@ -25,3 +26,12 @@ pub record IsFairTask (core : CoreState) (shares : SharesOf) (task : Task) : Typ
 -- nobody comes next, or who does has no ready frame
 abbrev pub IsNoTask : CoreState → SharesOf → Type 0
 IsNoTask core shares = IsNobody shares ⊎ ((place : ℕ) × IsPick shares place × (newest_ready_in core (tenant_at shares place).name ≡ None))
+
+-- after the tenant at a place was served so much more, if it has one
+abbrev pub charged_at : Option ℕ → ℕ → SharesOf → SharesOf
+charged_at None amount shares = shares
+charged_at (Some place) amount shares = served_all place amount shares
+
+-- after this tenant was served so much more, if it is one that shares
+abbrev pub charged_to : ℕ → ℕ → SharesOf → SharesOf
+charged_to tenant amount shares = charged_at (place_named tenant shares.tenants.accounts) amount shares

@@ -1,6 +1,6 @@
 //! Which frame of a hall comes next, by who was served least.
 ghost use Rattle.std.specs.Prelude.{◌≡◌, IfSome, IfNone};
-ghost use Rattle.fair_pool.specs.Picks.{seen_all, IsFairTask, IsNoTask};
+ghost use Rattle.fair_pool.specs.Picks.{charged_to, seen_all, IsFairTask, IsNoTask};
 
 use fair_share::FairShare;
 use hall::Hall;
@@ -38,7 +38,9 @@ pub fn fair_task<A: Allocator>(hall: &Hall<A>, shares: &mut FairShare) -> Option
 }
 
 /// The tenant was served so much more, if it is one that shares.
-pub fn charge(shares: &mut FairShare, tenant: u64, amount: u64) {
+pub fn charge(shares: &mut FairShare, tenant: u64, amount: u64)
+    ensures { shares.new ≡ charged_to tenant amount shares.old }
+{
     if let Some(place) = shares.place_of(tenant) {
         shares.charge(place, amount);
     }

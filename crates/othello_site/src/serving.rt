@@ -18,6 +18,7 @@ use crate::web::serve_web;
 use crate::working::Workshop;
 use booked_hall::BookedHall;
 use fair_pool::run_pool;
+use fair_share::FairShare;
 use hall::{Config as Totals, Hall};
 use sched_rules::Worker;
 use site_book::{Book, Plan};
@@ -96,14 +97,23 @@ fn totals_of(plan: &Plan) -> Option<Totals>
     }
 }
 
-/// A desk for a hall with this plan; `None` where there is no such hall.
-fn desk_of(alloc: Global, plan: Plan, grain: u8) -> Result<Option<SiteDesk>, AllocError> {
+/// How many customers may be new in files that are read later, whose shares outlive their sessions.
+const LATER: usize = 4_096;
+
+/// A desk for a hall with this plan of so many named customers; `None` where there is no such hall.
+fn desk_of(
+    alloc: Global,
+    plan: Plan,
+    customers: usize,
+    grain: u8,
+) -> Result<Option<SiteDesk>, AllocError> {
     let Some(totals) = totals_of(&plan) else {
         return Ok(None);
     };
     let hall = Hall::new(alloc, totals, grain.min(6))?;
     let book = Book::new(alloc, plan)?;
-    Ok(Some(SiteDesk::new(BookedHall::new(hall, book))))
+    let shares = FairShare::new(alloc, customers.saturating_add(LATER))?;
+    Ok(Some(SiteDesk::new(BookedHall::new(hall, book), shares)))
 }
 
 /// The desks of a site, one for each plan; `None` where one's totals are beyond any hall's.
@@ -114,7 +124,7 @@ fn desks_of(alloc: Global, config: &Config) -> Result<Option<Vec<SiteDesk>>, All
         let Some(plan) = copied(alloc, plan, customers)? else {
             return Ok(None);
         };
-        match desk_of(alloc, plan, config.workers.grain)? {
+        match desk_of(alloc, plan, customers, config.workers.grain)? {
             Some(desk) => desks.push(desk)?,
             None => return Ok(None),
         }

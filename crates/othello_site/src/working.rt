@@ -1,11 +1,8 @@
 //! The workers of a hall.
-ghost use Rattle.std.specs.Prelude.{Unit};
-
 use desk_rules::Backoff;
-use fair_pool::{HeldHall, Hands, Site, steps};
-use hall::{Jamboree, Step, StepAnswer};
+use fair_pool::{Hands, Site};
 use sched_rules::Worker;
-use site_desk::{SiteDesk, SiteGuard};
+use site_desk::SiteDesk;
 use std::sync::Wait;
 use task_deques::pool_rules::{Holding, Task};
 
@@ -19,26 +16,6 @@ pub(crate) struct Workshop<'a> {
 #[derive(Clone, Copy)]
 pub(crate) struct Bench {
     backoff: Backoff,
-}
-
-/// A desk that a worker has locked.
-struct Held<'d, 'b> {
-    guard: SiteGuard<'d>,
-    backoff: &'b mut Backoff,
-}
-
-impl HeldHall for Held<'_, '_> {
-    ghost is_fair = { λ _ _. Unit {0} };
-
-    fn offer(&mut self, step: &Step<Jamboree>) -> StepAnswer {
-        self.guard.offer(self.backoff, step)
-    }
-
-    fn pick(&mut self) -> Option<Task> {
-        None
-    }
-
-    fn charge(&mut self, _tenant: u64, _amount: u64) {}
 }
 
 impl Site for Workshop<'_> {
@@ -66,26 +43,14 @@ impl Site for Workshop<'_> {
         hands: &mut Hands,
         holding: Holding,
     ) -> Holding {
-        let guard = self.desk.hold(rt, &mut badge.backoff);
-        let mut held = Held {
-            guard,
-            backoff: &mut badge.backoff,
-        };
-        let holding = steps(&mut held, worker, hands, holding);
-        let Held {
-            guard,
-            backoff: _backoff,
-        } = held;
-        guard.release();
-        holding
+        self.desk.work(rt, &mut badge.backoff, worker, hands, holding)
     }
 
-    fn pick<R: Wait>(&self, _rt: &R) -> Option<Task> {
-        None
+    fn pick<R: Wait>(&self, rt: &R) -> Option<Task> {
+        self.desk.pick(rt)
     }
 
     fn next_pick<R: Wait>(&self, rt: &R) -> Option<Task> {
-        let (frame, home) = self.desk.next_ready(rt)?;
-        Some(Task { frame, home })
+        self.desk.next_pick(rt)
     }
 }

@@ -1,5 +1,5 @@
 -- Meaning: what lies under a site's lock, and what each call does to it.
-use Rattle.std.specs.Prelude.{◌≡◌, ℕ, ◌+◌, ◌%◌, ◌^◌, ◌==◌, Bool, true, false, not, ◌&&◌, ◌||◌, List, [], ◌∷◌, ◌++◌, map, is_none, Option, Some, None, Result, Ok, Err}
+use Rattle.std.specs.Prelude.{◌≡◌, ℕ, ◌+◌, ◌%◌, ◌^◌, ◌==◌, Bool, true, false, not, ◌&&◌, ◌||◌, ◌⊎◌, List, [], ◌∷◌, ◌++◌, map, is_none, Option, Some, None, Result, Ok, Err}
 use Rattle.frame_tree.specs.declared.names.FrameId.{FrameId}
 use Rattle.frame_tree.specs.Frames.{IsReadyAt}
 use Rattle.tenant_quota.specs.Quota.{Quota}
@@ -27,14 +27,19 @@ use Rattle.site_roll.specs.declared.present.Told.TheVariants.{ForAnother}
 use Rattle.site_roll.specs.declared.present.Whom.TheVariants.{One}
 use Rattle.site_roll.specs.Comings.{coming}
 use Rattle.site_roll.specs.Rolls.{marked_all, names_in, newcomer, without_present}
+use Rattle.fair_share.specs.Shares.{SharesOf, entered}
+use Rattle.fair_pool.specs.Picks.{seen_all, IsFairTask, IsNoTask}
+use Rattle.pool_rules.specs.declared.task.Task.{Task}
+use Rattle.site_desk.specs.Sharing.{share_customer, share_network, unshared}
 use Rattle.site_desk.specs.declared.came.Came.{Came}
 use Rattle.site_desk.specs.declared.came.Came.TheVariants.{Seated, Waiting, Ending, Turned}
 
--- the hall with its book, who is there, whether the desk is closed, how many workers sleep until a frame is ready, modulo 2^32, and how many
--- sessions have left, modulo 2^64
+-- the hall with its book, who is there, who shares the workers and what each was served, whether the desk is closed, how many workers sleep
+-- until a frame is ready, modulo 2^32, and how many sessions have left, modulo 2^64
 pub record SiteOf : Type 0 where
   pub booked : BookedOf
   pub roll : List Present
+  pub shares : SharesOf
   pub closed : Bool
   pub sleepers : ℕ
   pub left : ℕ
@@ -47,12 +52,12 @@ IsListed book roll = names_in roll ≡ names_of book.grants
 abbrev pub met : SiteOf → Who → Quota → ℕ → ℕ → Coming
 met site who ask now most = coming site.booked.book.plan site.booked.book.grants site.roll who ask now most
 
--- what is done where one asks for a session: where it enters, its tenant is admitted, its grant entered and itself listed, all at once; where
--- a guest is to end for it, that one is told so; and else nothing changes. It is turned away where the book refuses it and nobody's going
--- would help, or where no number or no memory is left
+-- what is done where one asks for a session: where it enters, its tenant is admitted, its grant entered, itself listed and its share begun, all
+-- at once; where a guest is to end for it, that one is told so; and else nothing changes. It is turned away where the book refuses it and
+-- nobody's going would help, or where no number or no memory is left
 abbrev pub IsCame : SiteOf → Who → Quota → ℕ → ℕ → Came → SiteOf → Type 0
 IsCame before who ask now most (Seated number) after =
-    (met before who ask now most ≡ Enters) × IsAdmission before.booked who ask (Ok number) after.booked × (after ≡ record before { booked = after.booked; roll = before.roll ++ newcomer who number now ∷ [] })
+    (met before who ask now most ≡ Enters) × IsAdmission before.booked who ask (Ok number) after.booked × (after ≡ record before { booked = after.booked; roll = before.roll ++ newcomer who number now ∷ []; shares = entered number (share_customer who) (share_network who) before.shares })
 IsCame before who ask now most (Waiting refusal) after = (met before who ask now most ≡ Waits refusal) × (after ≡ before)
 IsCame before who ask now most (Ending session refusal) after =
     (met before who ask now most ≡ Ends session refusal) × (after ≡ record before { roll = marked_all (One session) (told_to ForAnother) before.roll })
@@ -60,11 +65,11 @@ IsCame before who ask now most (Turned (ByBook refusal)) after = (met before who
 IsCame before who ask now most (Turned OldTenant) after = (met before who ask now most ≡ Enters) × (after ≡ before) × IsAdmission before.booked who ask (Err OldTenant) after.booked
 IsCame before who ask now most (Turned OutOfMemory) after = (met before who ask now most ≡ Enters) × (after ≡ before) × IsAdmission before.booked who ask (Err OutOfMemory) after.booked
 
--- what is done where a session leaves: its tenant leaves, its grant is taken back and it is listed no more, all at once; nothing where it isn't
--- there
+-- what is done where a session leaves: its tenant leaves, its grant is taken back, it is listed no more and shares no more, all at once; nothing
+-- where it isn't there
 abbrev pub IsGone : SiteOf → Who → ℕ → Bool → SiteOf → Type 0
 IsGone before who number true after =
-    IsEnd before.booked who number true after.booked × (after ≡ record before { booked = after.booked; roll = without_present who number before.roll; left = (before.left + 1) % 2 ^ 64 })
+    IsEnd before.booked who number true after.booked × (after ≡ record before { booked = after.booked; roll = without_present who number before.roll; shares = unshared number before.shares; left = (before.left + 1) % 2 ^ 64 })
 IsGone before who number false after = IsEnd before.booked who number false after.booked × (after ≡ before)
 
 -- one step was offered to the hall, and nothing else was done
@@ -90,6 +95,25 @@ has_news site = site.closed || not (ready_count site.booked.hall.shared.tenants 
 abbrev pub IsNext : SiteOf → Option (FrameId × ℕ) → Type 0
 IsNext site None = (not site.closed && not (ready_count site.booked.hall.shared.tenants == 0)) ≡ false
 IsNext site (Some ready) = (site.closed ≡ false) × IsReadyAt (named site.booked.hall.shared ready.0) ready.1
+
+-- what a pick is and does: it is seen who has a ready frame, and the task is a fair one by then; None only where no tenant that shares has one.
+-- Nothing else is done: the frame isn't taken, and nobody is charged
+abbrev pub IsPicked : SiteOf → Option Task → SiteOf → Type 0
+IsPicked before None after = (after ≡ record before { shares = seen_all before.booked.hall.shared before.shares }) × IsNoTask before.booked.hall.shared after.shares
+IsPicked before (Some task) after = (after ≡ record before { shares = seen_all before.booked.hall.shared before.shares }) × IsFairTask before.booked.hall.shared after.shares task
+
+-- a ready frame of any tenant, as a task; None where none is ready
+abbrev pub IsAnyTask : SiteOf → Option Task → Type 0
+IsAnyTask site None = ready_count site.booked.hall.shared.tenants ≡ 0
+IsAnyTask site (Some task) = IsReadyAt (named site.booked.hall.shared task.frame) task.home
+
+-- the task that a worker is given after it has waited: a pick; or, where no tenant that shares has a ready frame, a ready frame of any tenant; None
+-- where the desk is closed, and where no frame is ready
+abbrev pub IsNextTask : SiteOf → Option Task → SiteOf → Type 0
+IsNextTask before None after =
+    ((before.closed ≡ true) × (after ≡ before)) ⊎ ((before.closed ≡ false) × IsPicked before None after × (ready_count before.booked.hall.shared.tenants ≡ 0))
+IsNextTask before (Some task) after =
+    (before.closed ≡ false) × (IsPicked before (Some task) after ⊎ (IsPicked before None after × IsReadyAt (named before.booked.hall.shared task.frame) task.home))
 
 -- by how much each grant's part has more than a plan allows, in the order of the grants
 abbrev pub overruns_of : PlanOf → List Held → List Held → List (Option Overrun)

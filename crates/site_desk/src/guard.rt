@@ -5,12 +5,16 @@
 ghost use Rattle.std.specs.Prelude.{◌≡◌, ◌≢◌, true, Err};
 ghost use Rattle.sched_rules.specs.declared.refusal.Refusal.TheVariants.{OutOfMemory};
 ghost use Rattle.desk_rules.specs.hall.Journals.{is_worker_step};
+ghost use Rattle.site_desk.specs.Sites.{IsOffered};
 
 use crate::locked_site::LockedSite;
 use desk_rules::{Backoff, Change};
+use fair_pool::HeldHall;
 use hall::{DidOf, Jamboree, Step, StepAnswer};
 use std::alloc::{Allocator, Global};
+use std::marker::Model;
 use std::sync::{Condvar, MutexGuard};
+use task_deques::pool_rules::Task;
 
 /// The desk, locked by one worker for several steps. It can't be dropped: [`SiteGuard::release`] unlocks it, and wakes who waits for
 /// what the steps changed.
@@ -24,17 +28,38 @@ pub struct SiteGuard<'d, A: Allocator = Global> {
     pub(crate) has_ended: bool,
 }
 
+// Clauses see what lies under the lock.
+impl<'d, A: Allocator> Model for SiteGuard<'d, A> {
+    ghost use Rattle.std.specs.Sync.Mutex.{mutex_guard_value};
+    ghost use Rattle.site_desk.specs.Sites.{SiteOf};
+
+    ghost Value = { SiteOf };
+
+    ghost view = { λ g. mutex_guard_value g.kept };
+}
+
 impl<'d, A: Allocator + Clone> SiteGuard<'d, A> {
     /// Offers a worker's step to the hall, and returns what it did or why it is refused, which is never `OutOfMemory`. Where the step
     /// gives the worker a leaf, its waits follow the leaf's depth from then on. Nobody is woken before `release`.
     pub fn offer(&mut self, backoff: &mut Backoff, step: &Step<Jamboree>) -> StepAnswer
         requires { is_worker_step step.now ≡ true }
-        ensures { result ≢ Err OutOfMemory }
+        ensures step { IsOffered self.old step.now result self.new }
+        ensures memory { result ≢ Err OutOfMemory }
     {
-        let answer = self.kept.offer(step);
+        let answer = self.take(step);
         if let Ok(DidOf::Computing(leaf)) = &answer {
             backoff.before_leaf(leaf.depth);
         }
+        answer
+    }
+
+    /// Offers a worker's step to the hall, and notes whom it wakes.
+    fn take(&mut self, step: &Step<Jamboree>) -> StepAnswer
+        requires { is_worker_step step.now ≡ true }
+        ensures step { IsOffered self.old step.now result self.new }
+        ensures memory { result ≢ Err OutOfMemory }
+    {
+        let answer = self.kept.offer(step);
         match Change::of(&answer) {
             Change::InReady if self.kept.has_sleepers() => {
                 self.wakes = self.wakes.saturating_add(1);
@@ -62,5 +87,24 @@ impl<'d, A: Allocator + Clone> SiteGuard<'d, A> {
         if has_ended {
             ended.notify_all();
         }
+    }
+}
+
+// What is said of a pick is that it is a fair one at the hall as it is then.
+impl<'d, A: Allocator + Clone> HeldHall for SiteGuard<'d, A> {
+    ghost use Rattle.fair_pool.specs.Picks.{IsFairTask};
+
+    ghost is_fair = { λ site task. IsFairTask site.booked.hall.shared site.shares task };
+
+    fn offer(&mut self, step: &Step<Jamboree>) -> StepAnswer {
+        self.take(step)
+    }
+
+    fn pick(&mut self) -> Option<Task> {
+        self.kept.pick()
+    }
+
+    fn charge(&mut self, tenant: u64, amount: u64) {
+        self.kept.charge(tenant, amount);
     }
 }

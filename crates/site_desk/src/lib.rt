@@ -1,14 +1,15 @@
-//! A site's desk: the lock over a hall, the book of its customers and the roll of who is there.
+//! A site's desk: the lock over a hall, the book of its customers, the roll of who is there, and who was served what.
 //!
 //! A [`SiteDesk`] is shared by all threads of a site. Who comes asks for a [`Seat`] ([`SiteDesk::come`]): under one lock and by one
 //! call its budget is looked at, its tenant admitted, its grant entered and its session listed, or nothing of it. With a seat it
 //! reserves more, asks, gets, waits, cancels and leaves; leaving gives all back at once. Workers offer their steps by
-//! [`SiteDesk::hold`]. An operator reads who is there, tells sessions to end, and brings in another plan.
+//! [`SiteDesk::hold`]; those of `fair_pool` by [`SiteDesk::work`], and they ask it for a fair pick among those who have a seat
+//! ([`SiteDesk::pick`]). An operator reads who is there, tells sessions to end, and brings in another plan.
 //!
-//! What lies under the lock (`LockedSite`) is a hall with its book, of which the grants are the tenants (`booked_hall`), and the roll;
-//! its invariant is that those listed are those who have a grant, in the same order (`IsListed`). The contract of a call that locks
-//! can't say what the call did there: the contract of the method of the same name does (`specs/Sites.antt`), and tests show that the
-//! call calls that method.
+//! What lies under the lock (`LockedSite`) is a hall with its book, of which the grants are the tenants (`booked_hall`), the roll, and
+//! the shares of those who have a seat (`fair_share`: a guest's network is its first 64 bits, `specs/Sharing.antt`); its invariant is
+//! that those listed are those who have a grant, in the same order (`IsListed`). The contract of a call that locks can't say what the
+//! call did there: the contract of the method of the same name does (`specs/Sites.antt`), and that the call calls that method is read.
 //!
 //! Why it is so:
 //!
@@ -21,7 +22,7 @@
 //!   under its number, and what the hall did is said by its own contract.
 //!
 //! ```text
-//! let desk = SiteDesk::new(BookedHall::new(hall, book));
+//! let desk = SiteDesk::new(BookedHall::new(hall, book), FairShare::new(alloc, 1 + named)?);
 //! let Entry::Seated(mut seat) = desk.come(rt, &Comer { who, ask, at, most }) else { .. };
 //! let job = desk.ask(rt, &mut seat, &opening, 0)?;
 //! desk.wait(rt, &seat, job, now)? == Outcome::Done(reply)         // with workers that hold the desk
@@ -34,6 +35,7 @@ mod entry;
 mod guard;
 mod locked_site;
 mod seat;
+mod sharing;
 mod site_desk;
 
 pub use entry::Entry;

@@ -1,4 +1,4 @@
-//! What lies under a site's lock: the hall with its book, and the roll of who is there.
+//! What lies under a site's lock: the hall with its book, the roll of who is there, and who shares the workers.
 ghost use Rattle.std.specs.Prelude.{◌≡◌, ◌≢◌, ◌+◌, ◌%◌, ◌^◌, ◌≤◌, ◌==◌, not, [], true, false, length, Ok, Err, Some, None, Contains, IfErr, Option, MatchResult};
 ghost use Rattle.sched_rules.specs.declared.refusal.Refusal.TheVariants.{NoJob, OutOfMemory};
 ghost use Rattle.sched_rules.specs.declared.step.StepOf.TheVariants.{Submit, Cancel};
@@ -17,14 +17,19 @@ ghost use Rattle.site_book.specs.Books.{taken, why_not_replan, Replans};
 ghost use Rattle.site_roll.specs.Comings.{told_by};
 ghost use Rattle.site_roll.specs.declared.coming.Coming.TheVariants.{Enters};
 ghost use Rattle.site_roll.specs.Rolls.{marked_all};
+ghost use Rattle.fair_share.specs.Lines.{empty_line};
+ghost use Rattle.fair_pool.specs.Picks.{charged_to};
 ghost use Rattle.site_desk.specs.Seats.{IsAsked};
-ghost use Rattle.site_desk.specs.Sites.{IsCame, IsGone, IsOffered, IsNext, has_news, met, overruns_of, stays_in, waits_on};
+ghost use Rattle.site_desk.specs.Sites.{IsCame, IsGone, IsOffered, IsNext, IsAnyTask, IsNextTask, IsPicked, has_news, met, overruns_of, stays_in, waits_on};
 
 use crate::came::Came;
 use crate::seat::Seat;
+use crate::sharing::{share, unshare};
 use arrayvec::ArrayVec;
 use booked_hall::{BookedHall, Turned};
 use desk_rules::{JOBS, SeatAsked, seat_asked_at, shown};
+use fair_pool::{charge, fair_task};
+use fair_share::FairShare;
 use frame_tree::FrameId;
 use hall::{Jamboree, Outcome, Refusal, Step, StepAnswer, StepOf, submit};
 use position_text::Position;
@@ -32,6 +37,7 @@ use site_book::{Book, Overrun, Plan, Refusal as BookRefusal, Who};
 use site_roll::{Comer, Coming, MOST, Mark, Present, Roll, Told, Whom, what_comes_of};
 use std::alloc::{Allocator, Global};
 use std::marker::Model;
+use task_deques::pool_rules::Task;
 use tenant_quota::{Left, Reserve};
 
 /// What lies under a site's lock.
@@ -39,6 +45,8 @@ use tenant_quota::{Left, Reserve};
 pub(crate) struct LockedSite<A: Allocator = Global> {
     booked: BookedHall<A>,
     roll: Roll,
+    /// Who shares the workers, and what each was served.
+    shares: FairShare,
     /// Whether the desk is closed, so that nobody waits any more.
     closed: bool,
     /// How many workers sleep until a frame is ready.
@@ -47,26 +55,28 @@ pub(crate) struct LockedSite<A: Allocator = Global> {
     left: u64,
 }
 
-// Clauses see the hall with its book, who is there, whether the desk is closed, and the two counts.
+// Clauses see the hall with its book, who is there, who shares the workers, whether the desk is closed, and the two counts.
 impl<A: Allocator> Model for LockedSite<A> {
     ghost use Rattle.site_desk.specs.Sites.{SiteOf, IsListed};
 
     ghost Value = { SiteOf };
 
-    ghost view = { λ k. record { booked = k.booked; roll = k.roll; closed = k.closed; sleepers = k.sleepers; left = k.left } };
+    ghost view = { λ k. record { booked = k.booked; roll = k.roll; shares = k.shares; closed = k.closed; sleepers = k.sleepers; left = k.left } };
 
     ghost invariant = { λ k. IsListed k.booked.book k.roll };
 }
 
 impl<A: Allocator + Clone> LockedSite<A> {
-    /// A hall with its book, where nobody is.
-    pub(crate) fn new(booked: BookedHall<A>) -> LockedSite<A>
-        requires { booked.book.grants ≡ [] }
-        ensures { result ≡ record { booked = booked; roll = []; closed = false; sleepers = 0; left = 0 } }
+    /// A hall with its book, where nobody is, and what customers were served before.
+    pub(crate) fn new(booked: BookedHall<A>, shares: FairShare) -> LockedSite<A>
+        requires nobody { booked.book.grants ≡ [] }
+        requires none_shares { shares.tenants ≡ empty_line }
+        ensures { result ≡ record { booked = booked; roll = []; shares = shares; closed = false; sleepers = 0; left = 0 } }
     {
         LockedSite {
             booked,
             roll: Roll::new(),
+            shares,
             closed: false,
             sleepers: 0,
             left: 0,
@@ -97,7 +107,7 @@ impl<A: Allocator + Clone> LockedSite<A> {
         what_comes_of(book.plan(), book.grants(), self.roll.entries(), comer)
     }
 
-    /// Lets one in whom the book allows it: its tenant is admitted, its grant entered, and itself listed.
+    /// Lets one in whom the book allows it: its tenant is admitted, its grant entered, itself listed, and its share begun.
     #[tactic(auto, using(crate::proofs::Lists::has_place, crate::proofs::Lists::listed_open, crate::proofs::Comings::turned_away))]
     fn let_in(&mut self, comer: &Comer) -> Came
         requires { met self.old comer.now.who comer.now.ask comer.now.at comer.now.most ≡ Enters }
@@ -108,6 +118,7 @@ impl<A: Allocator + Clone> LockedSite<A> {
                 // This read says that there is a place left in the roll.
                 let _grants = self.booked.book().grants();
                 self.roll.enter(comer.who, number, comer.at);
+                share(&mut self.shares, comer.who, number);
                 Came::Seated(number)
             }
             Err(turned) => Came::Turned(turned),
@@ -123,7 +134,8 @@ impl<A: Allocator + Clone> LockedSite<A> {
         self.booked.raise(seat.who, seat.number, ask)
     }
 
-    /// A session leaves: its tenant leaves the hall, its grant is taken back, and it is listed no more. False where it isn't there.
+    /// A session leaves: its tenant leaves the hall, its grant is taken back, it is listed no more, and shares no more.
+    /// False where it isn't there.
     #[tactic(auto, using(crate::proofs::Lists::listed_close))]
     pub(crate) fn leave(&mut self, who: Who, number: u64) -> bool
         ensures { IsGone self.old who number result self.new }
@@ -131,6 +143,7 @@ impl<A: Allocator + Clone> LockedSite<A> {
         let LockedSite {
             booked,
             roll,
+            shares,
             left,
             ..
         } = self;
@@ -138,6 +151,7 @@ impl<A: Allocator + Clone> LockedSite<A> {
             return false;
         }
         roll.leave(who, number);
+        unshare(shares, number);
         *left = left.wrapping_add(1);
         true
     }
@@ -307,6 +321,46 @@ impl<A: Allocator + Clone> LockedSite<A> {
         }
     }
 
+    /// The task that comes next, by who was served least: the newest ready frame of a tenant of a customer that none with a ready frame
+    /// was served less than; `None` where no tenant that shares has one. The frame isn't taken, and nobody is charged.
+    pub(crate) fn pick(&mut self) -> Option<Task>
+        ensures { IsPicked self.old result self.new }
+    {
+        let hall = self.booked.hall();
+        fair_task(hall, &mut self.shares)
+    }
+
+    /// The task that a worker is given after it has waited: a pick, or a ready frame of a tenant that doesn't share; `None` where no
+    /// frame is ready or the desk is closed. The frame isn't taken.
+    pub(crate) fn next_task(&mut self) -> Option<Task>
+        ensures { IsNextTask self.old result self.new }
+    {
+        if self.closed {
+            return None;
+        }
+        match self.pick() {
+            Some(task) => Some(task),
+            None => self.any_task(),
+        }
+    }
+
+    /// A ready frame of any tenant, as a task.
+    fn any_task(&self) -> Option<Task>
+        ensures { IsAnyTask self.now result }
+    {
+        match self.booked.hall().core().any_ready() {
+            Some((frame, home)) => Some(Task { frame, home }),
+            None => None,
+        }
+    }
+
+    /// This tenant was served so much more, if it is one that shares.
+    pub(crate) fn charge(&mut self, tenant: u64, amount: u64)
+        ensures { self.new ≡ record self.old { shares = charged_to tenant amount self.old.shares } }
+    {
+        charge(&mut self.shares, tenant, amount);
+    }
+
     /// Counts one worker more that sleeps until a frame is ready, modulo 2^32.
     pub(crate) fn begin_sleep(&mut self)
         ensures { self.new ≡ record self.old { sleepers = (self.old.sleepers + 1) % 2 ^ 32 } }
@@ -386,6 +440,7 @@ impl<A: Allocator + Clone> LockedSite<A> {
         let LockedSite {
             booked,
             roll: _roll,
+            shares: _shares,
             closed: _,
             sleepers: _,
             left: _,

@@ -4,6 +4,8 @@ ghost use Rattle.sched_rules.specs.declared.refusal.Refusal.TheVariants.{NoJob, 
 ghost use Rattle.booked_hall.specs.declared.turned.Turned.TheVariants.{OldTenant as NumbersOut};
 ghost use Rattle.desk_rules.specs.hall.Journals.{is_worker_step};
 ghost use Rattle.desk_rules.specs.Asked.{ask_refusals, cancel_refusals, seat_asked_at, IsShown};
+ghost use Rattle.fair_share.specs.Lines.{empty_line};
+ghost use Rattle.task_deques.specs.Deals.{posts};
 ghost use Rattle.site_desk.specs.Entries.{IsEntry};
 ghost use Rattle.site_desk.specs.Seats.{IsAsked};
 
@@ -15,9 +17,12 @@ use crate::seat::Seat;
 use arrayvec::ArrayVec;
 use booked_hall::{BookedHall, Turned};
 use desk_rules::Backoff;
+use fair_pool::{Hands, steps};
+use fair_share::FairShare;
 use frame_tree::FrameId;
 use hall::{Jamboree, Outcome, Refusal, Step, StepAnswer};
 use position_text::Position;
+use sched_rules::Worker;
 use site_book::{Amount, Overrun, Part, Plan, Refusal as BookRefusal};
 use site_roll::{Comer, MOST, Mark, Present, Told, Whom};
 use std::alloc::{Allocator, Global};
@@ -26,6 +31,7 @@ use std::sync::atomic::AtomicU64;
 use std::sync::{Condvar, CondvarTimeouts, Mutex, MutexGuard, Wait};
 use std::thread::yield_now;
 use std::time::{Clock, Duration};
+use task_deques::pool_rules::{Holding, Task};
 use tenant_quota::{Left, Reserve};
 
 /// A hall with its book and its roll under a lock, and the conditions that workers, seats and comers wait for. `A` is the hall's
@@ -53,12 +59,13 @@ impl<A: Allocator> Drop for SiteDesk<A> {
 }
 
 impl<A: Allocator + Clone> SiteDesk<A> {
-    /// Puts a hall with its book, where nobody is, under a lock.
-    pub fn new(booked: BookedHall<A>) -> SiteDesk<A>
-        requires { booked.book.grants ≡ [] }
+    /// Puts a hall with its book, where nobody is, under a lock, and who shares its workers, of whom nobody is there either.
+    pub fn new(booked: BookedHall<A>, shares: FairShare) -> SiteDesk<A>
+        requires nobody { booked.book.grants ≡ [] }
+        requires none_shares { shares.tenants ≡ empty_line }
     {
         SiteDesk {
-            lock: Mutex::new(LockedSite::new(booked)),
+            lock: Mutex::new(LockedSite::new(booked, shares)),
             ready: Condvar::new(),
             ended: Condvar::new(),
             left: Condvar::new(),
@@ -302,6 +309,43 @@ impl<A: Allocator + Clone> SiteDesk<A> {
     /// hall); `None` only where the desk is closed. The frame isn't taken: by the time that this worker offers to take it, another
     /// may have it.
     pub fn next_ready<R: Wait>(&self, rt: &R) -> Option<(FrameId, u8)> {
+        self.await_news(rt).next_ready()
+    }
+
+    /// Locks the desk, lets a worker of the fair pool take its steps there ([`steps`]), unlocks it and wakes those who wait for what
+    /// became of it. Returns what the worker holds then; where that is a leaf to compute, the worker's waits follow its depth.
+    pub fn work<R: Wait>(
+        &self,
+        rt: &R,
+        backoff: &mut Backoff,
+        worker: Worker,
+        hands: &mut Hands,
+        holding: Holding,
+    ) -> Holding
+        ensures { posts hands.new.ends ≡ posts hands.old.ends }
+    {
+        let mut held = self.hold(rt, backoff);
+        let holding = steps(&mut held, worker, hands, holding);
+        held.release();
+        if let Holding::Computing(_, leaf) = &holding {
+            backoff.before_leaf(leaf.depth);
+        }
+        holding
+    }
+
+    /// The task that comes next, by who was served least; `None` where nobody who has a seat has a ready frame.
+    pub fn pick<R: Wait>(&self, rt: &R) -> Option<Task> {
+        self.enter(rt).pick()
+    }
+
+    /// Waits until a frame is ready or the desk is closed, and returns the task that comes next, as `pick` does, or else a ready frame;
+    /// `None` only where the desk is closed.
+    pub fn next_pick<R: Wait>(&self, rt: &R) -> Option<Task> {
+        self.await_news(rt).next_task()
+    }
+
+    /// Waits until a frame is ready or the desk is closed.
+    fn await_news<R: Wait>(&self, rt: &R) -> MutexGuard<'_, LockedSite<A>> {
         let mut kept = match self.lock.try_lock() {
             Some(kept) => kept,
             None => self.enter_late(rt, Backoff::idle()),
@@ -311,7 +355,7 @@ impl<A: Allocator + Clone> SiteDesk<A> {
             kept = self.ready.wait_while(rt, kept, |kept| !kept.has_news());
             kept.end_sleep();
         }
-        kept.next_ready()
+        kept
     }
 
     /// Closes the desk for good, and wakes all who wait. From then on no worker and no seat waits: `next_ready` returns `None`, and

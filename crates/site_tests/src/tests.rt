@@ -2,6 +2,7 @@
 ghost use Rattle.std.specs.Prelude.{◌≡◌, true};
 
 use booked_hall::BookedHall;
+use fair_share::FairShare;
 use hall::{Config, Hall};
 use line_io::{FromReader, FromWriter};
 use site_book::{Amount, Book, Plan, Who};
@@ -57,12 +58,16 @@ fn desks_of(rt: &impl Abort, alloc: Global) -> Vec<SiteDesk> {
     let (Some(plan), Some(totals)) = (plan, Config::new(32, 320)) else {
         return desks;
     };
-    let (Ok(book), Ok(hall)) = (Book::new(alloc, plan), Hall::new(alloc, totals, 4)) else {
+    let (Ok(book), Ok(hall), Ok(shares)) = (
+        Book::new(alloc, plan),
+        Hall::new(alloc, totals, 4),
+        FairShare::new(alloc, 8),
+    ) else {
         return desks;
     };
     holds(
         rt,
-        desks.push(SiteDesk::new(BookedHall::new(hall, book))).is_ok(),
+        desks.push(SiteDesk::new(BookedHall::new(hall, book), shares)).is_ok(),
     );
     desks
 }
