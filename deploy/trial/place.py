@@ -201,7 +201,7 @@ class Site:
                      ("127.0.0.1:4720 port 4719", f"127.0.0.1:{self.inner} port {self.health}"), ("127.0.0.1:4730 port 4729", f"127.0.0.1:{free_port()} port {free_port()}")]
             if os.geteuid() != 0:  # only root may take another user and another root
                 moved += [(f"  {line}\n", "") for line in ("user haproxy", "group haproxy", "chroot /var/lib/haproxy")]
-            path.write_text(replaced((TOP / "deploy/haproxy-site.cfg").read_text(), moved))
+            path.write_text(replaced((TOP / "deploy/haproxy.cfg").read_text(), moved))
             with self.log.open("a") as log:
                 self.proxy = subprocess.Popen(["haproxy", "-db", "-f", str(path)], stdout=log, stderr=log)
             until(lambda: is_there(self.outer), 10, "HAProxy listens")
