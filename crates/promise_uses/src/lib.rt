@@ -10,6 +10,7 @@
 //! nobody meets.
 #![tactic(auto)]
 
+mod customers;
 mod desks;
 mod halls;
 mod isolation;
@@ -17,6 +18,10 @@ mod runs;
 mod sessions;
 mod solving;
 
+pub use customers::{
+    a_guest_at_its_limits, customer_seven_at_its_limits, nobody_is_left, plans_that_come_in,
+    room_for_nine, seven_and_the_guests, within_all_budgets,
+};
 pub use desks::{a_new_seat, job_three_of_nine, live_of_nine, nine_leaves, quota_of_nine};
 pub use halls::{entry_of_nine, seven_and_nine, seven_cancels, value_of_nine, value_of_seven};
 pub use isolation::seven_in_a_running_core;
