@@ -27,14 +27,11 @@ kept = []  # a lock for each port that this trial was given
 
 
 class Session(coluwen.Session):
-    """A session whose answers are those of `solve` below: ("DONE", value, move), ("SPENT",), ("CANCELLED",) or ("PENDING",)."""
+    """A session whose `wait` gives what `solve` below gives: ("DONE", value, move), ("SPENT",) or ("CANCELLED",)."""
 
     @property
     def socket(self):
         return self._socket
-
-    def get(self, job):
-        return words_of(super().get(job))
 
     def wait(self, job):
         return words_of(super().wait(job))
@@ -42,10 +39,6 @@ class Session(coluwen.Session):
     def quota(self):
         left = super().quota()
         return left.segments, left.nodes, left.steps
-
-    def live(self):
-        open_now = super().live()
-        return open_now.frames, open_now.words
 
 
 def words_of(state):
