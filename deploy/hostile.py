@@ -1,4 +1,4 @@
-"""Customers that mean the others no good, each from an address of its own: what deploy/try and deploy/soak set on a site.
+"""Customers that mean the others no good, each from an address of its own: what deploy/trial sets on a site.
 
 usage: deploy/hostile.py PORT CUSTOMERS SECONDS [KIND]      (KIND: all do this, and else each kind is done by some. In a process of
                                                         its own, so that it takes no time of those who measure. With the

@@ -1,27 +1,28 @@
 """What the trials of a site share: the program at free ports, alone or behind HAProxy, and clients from many addresses of this host."""
 from __future__ import annotations
 
-import contextlib
 import functools
 import http.client
 import os
 import pathlib
-import random
 import re
 import signal
 import socket
 import ssl
 import struct
 import subprocess
+import sys
 import tempfile
 import time
-from collections.abc import Callable, Iterator
+from collections.abc import Callable
 from typing import Any, Union
 
-import coluwen
-from coluwen import Board, Refused
-
 TOP = pathlib.Path(__file__).resolve().parents[2]
+sys.path.insert(0, str(TOP / "deploy"))
+import stage  # noqa: E402
+from coluwen import Refused  # noqa: E402
+from stage import OPENING, address_of, certificates, ended_after, free_port, header_of, is_there, replaced  # noqa: E402, F401
+
 Answer = Union["tuple[str, int, str]", "tuple[str]"]
 TOKEN, DIGEST = "secret", "2bb80d537b1da3e38bd30361aa855686bde0eacd7162fef6a25fe97bf527a25b"  # its SHA-256
 SCHOOL = f"""
@@ -39,23 +40,7 @@ burst = 1000
 # What is left for the guests beside the school.
 LEFT = [("[guests.together]          # in each hall\nsessions = 64\nsegments = 65536\nnodes = 4194304", "[guests.together]\nsessions = 56\nsegments = 57344\nnodes = 3670016")]
 DEPTH, SMALL, GREAT = 3, (64, 2048), (256, 20000)
-kept: list[socket.socket] = []  # a lock for each port that this trial was given
-
-
-def positions(count: int, seed: int, least: int = 8, most: int = 50) -> list[str]:
-    """Positions of random games, as a line has them."""
-    chance, found = random.Random(seed), list[str]()
-    while len(found) < count:
-        board = Board()
-        for _ in range(chance.randint(least, most)):
-            if not board.is_over:
-                board = board.push(chance.choice(board.legal))
-        found.append(str(board.position))
-    return found
-
-
-LINES = [f"{DEPTH} {position}" for position in positions(50, 1)]
-OPENING = str(Board().position)
+LINES = [f"{DEPTH} {position}" for position in stage.positions(50, 1)]
 
 
 @functools.cache
@@ -65,8 +50,8 @@ def program(name: str, word: str) -> str:
 
 def solve(lines: list[str]) -> list[Answer]:
     """What `othello solve` answers, as a session gives it."""
-    told = subprocess.run([program("OTHELLO", "--ready"), "solve"], input="".join(f"{line}\n" for line in lines), capture_output=True, text=True, check=True).stdout
-    return [("DONE", int(value), move) for value, move in (line.split() for line in told.splitlines())]
+    os.environ["OTHELLO"] = program("OTHELLO", "--ready")
+    return list(stage.solve(lines))
 
 
 def until(holds: Callable[[], object], seconds: float, what: str) -> None:
@@ -76,70 +61,8 @@ def until(holds: Callable[[], object], seconds: float, what: str) -> None:
         time.sleep(0.02)
 
 
-def free_port() -> int:
-    """A port that nobody listens at and no other trial on this machine is given."""
-    for port in random.sample(range(20000, 32000), 200):
-        lock = socket.socket(socket.AF_UNIX)
-        try:
-            lock.bind(f"\0othello {port}")
-        except OSError:
-            lock.close()
-            continue
-        kept.append(lock)
-        if not is_there(port):
-            return port
-    raise AssertionError("no port is free")
-
-
-def is_there(port: int) -> bool:
-    with socket.socket() as probe:
-        return probe.connect_ex(("127.0.0.1", port)) == 0
-
-
-def address_of(number: int) -> str:
-    """An address of this host, as another guest's."""
-    return f"127.1.{number // 200}.{number % 200 + 1}"
-
-
-def header_of(address: str) -> bytes:
-    """What a proxy says in front of a connection from an address (version 2 of the PROXY protocol)."""
-    start, family, size = b"\r\n\r\n\0\r\nQUIT\n\x21", socket.AF_INET6 if ":" in address else socket.AF_INET, 36 if ":" in address else 12
-    ours = socket.inet_pton(family, "::1" if ":" in address else "127.0.0.1")
-    return start + (b"\x21" if ":" in address else b"\x11") + struct.pack("!H", size) + socket.inet_pton(family, address) + ours + struct.pack("!HH", 1000, 4700)
-
-
-def replaced(text: str, changes: list[tuple[str, str]]) -> str:
-    """A text with these parts changed; each must be there."""
-    for old, new in changes:
-        assert old in text, f"nothing to change: {old!r}"
-        text = text.replace(old, new)
-    return text
-
-
-def certificates(folder: pathlib.Path) -> dict[str, str]:
-    """An authority, and certificates of the host, of a customer and of a stranger that it signed: their paths."""
-    made = {name: f"{folder}/{name}" for name in ("authority", "host", "site.example", "stranger")}
-    for name, path in made.items():
-        signed = [] if name == "authority" else ["-CA", made["authority"], "-CAkey", f"{made['authority']}.key"]
-        subprocess.run(["openssl", "req", "-x509", "-newkey", "ec", "-pkeyopt", "ec_paramgen_curve:prime256v1", "-nodes", "-days", "2", "-subj", f"/CN={name}", "-addext",
-                        "subjectAltName=DNS:localhost,IP:127.0.0.1,IP:::1", "-keyout", f"{path}.key", "-out", path, *signed], check=True, capture_output=True)
-        pathlib.Path(f"{path}.pem").write_text(pathlib.Path(path).read_text() + pathlib.Path(f"{path}.key").read_text())
-    return made
-
-
-class From(coluwen.Session):
+class From(stage.From):  # type: ignore[misc]
     """A session from another address of this host."""
-
-    def __init__(self, address: str, *words: Any, **more: Any):
-        self.address = address
-        super().__init__(*words, **more)
-
-    def _connect(self, host: str, port: int, timeout: float) -> Any:
-        return socket.create_connection((host, port), timeout, (self.address, 0))
-
-    @property
-    def socket(self) -> Any:
-        return self._socket
 
     def reset(self) -> None:
         """Ends the connection by a reset, without a BYE."""
@@ -148,22 +71,7 @@ class From(coluwen.Session):
 
     def is_answered(self, number: int, wanted: list[Answer]) -> bool:
         """Whether the session gives the right value of one of the trial's positions."""
-        state = self.wait(self.ask_line(LINES[number % len(LINES)]))
-        return isinstance(state, coluwen.Done) and ("DONE", state.value, state.move) == wanted[number % len(LINES)]
-
-
-@contextlib.contextmanager
-def ended_after(process: subprocess.Popen[Any]) -> Iterator[subprocess.Popen[Any]]:
-    try:
-        yield process
-    finally:
-        if process.poll() is None:
-            process.terminate()
-            try:
-                process.wait(20)
-            except subprocess.TimeoutExpired:
-                process.kill()
-        process.wait()
+        return bool(self.wait(self.ask_line(LINES[number % len(LINES)])) == wanted[number % len(LINES)])
 
 
 class Site:
@@ -201,7 +109,7 @@ class Site:
                      ("127.0.0.1:4720 port 4719", f"127.0.0.1:{self.inner} port {self.health}"), ("127.0.0.1:4730 port 4729", f"127.0.0.1:{free_port()} port {free_port()}")]
             if os.geteuid() != 0:  # only root may take another user and another root
                 moved += [(f"  {line}\n", "") for line in ("user haproxy", "group haproxy", "chroot /var/lib/haproxy")]
-            path.write_text(replaced((TOP / "deploy/haproxy-site.cfg").read_text(), moved))
+            path.write_text(replaced((TOP / "deploy/haproxy.cfg").read_text(), moved))
             with self.log.open("a") as log:
                 self.proxy = subprocess.Popen(["haproxy", "-db", "-f", str(path)], stdout=log, stderr=log)
             until(lambda: is_there(self.outer), 10, "HAProxy listens")

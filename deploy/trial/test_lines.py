@@ -3,6 +3,7 @@ from __future__ import annotations
 
 import concurrent.futures
 import contextlib
+import functools
 import random
 import socket
 import subprocess
@@ -11,11 +12,13 @@ from collections.abc import Iterator
 
 from place import LINES, Site, address_of, ended_after, header_of, program
 
+MOST = 1000  # sessions that a server alone takes before it ends
+
 
 @contextlib.contextmanager
 def server() -> Iterator[int]:
     """The port of a server of the specified protocol alone."""
-    words = ["--sessions", "60000", "--workers", "1", "--segments", "65536", "--nodes", "4194304", "--grain", "4"]
+    words = ["--sessions", str(MOST), "--workers", "1", "--segments", "65536", "--nodes", "4194304", "--grain", "4"]
     with ended_after(subprocess.Popen([program("OTHELLO", "--ready"), "serve", *words], stdout=subprocess.PIPE, text=True)) as process:
         assert process.stdout
         yield int(process.stdout.readline().rsplit(":", 1)[1])
@@ -52,9 +55,9 @@ def conversation(port: int, first: bytes, pieces: list[bytes], pause: float) -> 
 
 def test_lines_are_answered_as_by_a_server_alone(length: int) -> None:
     terms = [("rate = 10\nburst = 100", "rate = 100000\nburst = 60000\nconnections = 1000")]
-    with server() as alone, Site(terms=terms) as site, concurrent.futures.ThreadPoolExecutor(4) as many:
+    with Site(terms=terms) as site, concurrent.futures.ThreadPoolExecutor(4) as many:
 
-        def one(number: int) -> int:
+        def one(alone: int, number: int) -> int:
             chance = random.Random(number)
             pieces, pause = pieces_of(chance), chance.choice([0, 0, 0.002])
             with concurrent.futures.ThreadPoolExecutor(2) as both:
@@ -63,4 +66,8 @@ def test_lines_are_answered_as_by_a_server_alone(length: int) -> None:
                 assert first.result() == second.result(), (number, pieces)
             return b"".join(pieces).count(b"\n")
 
-        assert sum(many.map(one, range(100 * length))) > 3000 * length
+        lines = 0
+        for begun in range(0, 100 * length, MOST):
+            with server() as alone:
+                lines += sum(many.map(functools.partial(one, alone), range(begun, min(begun + MOST, 100 * length))))
+        assert lines > 2000 * length

@@ -46,9 +46,10 @@ def test_a_session_may_be_slow_and_ends_when_it_is_idle(wanted: list[Answer]) ->
 
 
 def test_who_takes_no_answer_is_ended() -> None:
-    with Site(terms=TERMS) as site:
+    with Site(terms=[*TERMS, ("rate = 10\nburst = 100", "rate = 1000000\nburst = 60000")]) as site:
         session = site.opened(address_of(1), *SMALL)
         session.wait(session.ask_line(f"2 {OPENING}"))
+        session.socket.setsockopt(socket.SOL_SOCKET, socket.SO_RCVBUF, 4096)
         session.socket.settimeout(1)
         with contextlib.suppress(OSError):
             session.socket.sendall(b"TABLE 1\n" * 400000)
