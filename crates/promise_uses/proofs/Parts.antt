@@ -1,11 +1,11 @@
 -- What the definitions of `promises` come to, part by part, and what holds of a value that there is.
-use Rattle.std.proofs.Common.{◌≡◌, ◌≢◌, ◌⊎◌, ℕ, List, true, Option, Some, None, Result, Ok, Err, inl, inr, ap, subst, ◌∙◌}
+use Rattle.std.proofs.Common.{◌≡◌, ◌≢◌, ◌⊎◌, ℕ, List, true, Option, Some, None, Result, Ok, Err, inl, inr, ap, sym, subst, ◌∙◌}
 use Rattle.std.specs.Prelude.{IfOk, IfErr, OnOk, IfSome, MatchResult, ◌++◌, ◌∷◌, []}
 use Rattle.sched_rules.specs.Headline.{IsAnswerTo}
 use Rattle.shared_history.specs.Views.{own, Known}
 use Rattle.hall.specs.Halls.{HallOf}
 use Rattle.desk.specs.Seats.{SeatOf, stepped, seeing}
-use Rattle.desk.specs.Histories.{core_at, IsToldOf}
+use Rattle.desk.specs.Histories.{core_at, IsToldOf, Saw}
 use Rattle.sched_rules.specs.declared.refusal.Refusal.{Refusal}
 use Rattle.sched_rules.specs.declared.refusal.Refusal.TheVariants.{Busy}
 use Rattle.sched_rules.specs.declared.step.StepOf.TheVariants.{Steal, Spend}
@@ -67,3 +67,7 @@ pub kept-of : {X : Type 0} (before after : SeatOf) (r : Result X Refusal) → Ma
     (after.asked ≡ before.asked) × (after.tenant ≡ 9)
 kept-of before after (Ok value) is nine = (ap (λ (s : SeatOf). s.asked) is, ap (λ (s : SeatOf). s.tenant) is ∙ nine)
 kept-of before after (Err refusal) is nine = (ap (λ (s : SeatOf). s.asked) is, ap (λ (s : SeatOf). s.tenant) is ∙ nine)
+
+-- a maker's steps in what it has seen, by what it knew before
+pub seen-by : (before now : Known SearchStep) → Saw before now → own before.maker now.seen ≡ before.mine
+seen-by before now saw = ap (λ (m : ℕ). own m now.seen) (sym saw.3) ∙ saw.1 ∙ saw.2

@@ -14,7 +14,8 @@ ghost use Rattle.jamboree_core.specs.Outcomes.{IsOutcomeIn};
 ghost use Rattle.desk.specs.declared.seat.SeatAsked.{SeatAsked as SeatAskedOf};
 ghost use Rattle.desk.specs.Seats.{seat_asked_at, IsToldBy};
 ghost use Rattle.desk.specs.Counts.{found_or_no_tenant};
-ghost use Rattle.desk.specs.Histories.{core_at, seat_steps, steps_of};
+ghost use Rattle.desk.specs.Histories.{core_at, seat_steps, steps_of, AreTaken};
+ghost use mathlib.Core.List.{IsPrefix};
 ghost use Rattle.promises.specs.Tenants.{SearchStep};
 
 use desk::{Desk, DeskLedger, Seat, Trace};
@@ -164,8 +165,8 @@ pub fn job_three_of_nine<L: DeskLedger, A: Allocator + Clone, R: Wait>(
     desk.wait_seen(rt, seat, 3)
 }
 
-/// Tenant 9 leaves: the history then ends with just its Leave, which is the last of the seat's own steps.
-/// Uses `desk::Desk::leave_seen` (`told`).
+/// Tenant 9 leaves: the history then ends with just its Leave, which is the last of the seat's own steps, and all seat steps of
+/// tenant 9 in it are the seat's own. Uses `desk::Desk::leave_seen` (`told`, `true_to`).
 pub fn nine_leaves<L: DeskLedger, A: Allocator + Clone, R: Wait>(
     rt: &R,
     desk: &Desk<L, A>,
@@ -178,6 +179,23 @@ pub fn nine_leaves<L: DeskLedger, A: Allocator + Clone, R: Wait>(
         × (own seat.known.maker (seat.known.seen ++ between) ≡ seat.known.mine)
         × (result.mine ≡ seat.known.mine ++ Leave 9 ∷ [])
         × (result.maker ≡ seat.known.maker) }
+    ensures legal { AreTaken (jamboree L.begun.grain) L.begun.shared (steps_of result.seen) }
+    ensures own { seat_steps 9 (steps_of result.seen) ≡ result.mine }
 {
     desk.leave_seen(rt, seat)
+}
+
+/// What two sessions of one server know is of one history: what each has seen is a beginning of it, all steps of each in it are
+/// those that it knows, and each step of it was taken. Uses `desk::Desk::compare` (`one`, `other`, `history`, `legal`).
+pub fn two_sessions<L: DeskLedger, A: Allocator + Clone, R: Wait>(
+    rt: &R,
+    desk: &Desk<L, A>,
+    one: &mut Trace<Step<Jamboree>, L>,
+    other: &mut Trace<Step<Jamboree>, L>,
+)
+    ensures begin { IsPrefix one.old.seen one.new.seen × IsPrefix other.old.seen one.new.seen }
+    ensures own { (own one.old.maker one.new.seen ≡ one.old.mine) × (own other.old.maker one.new.seen ≡ other.old.mine) }
+    ensures legal { AreTaken (jamboree L.begun.grain) L.begun.shared (steps_of one.new.seen) }
+{
+    desk.compare(rt, one, other)
 }

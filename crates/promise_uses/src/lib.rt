@@ -14,12 +14,13 @@ mod desks;
 mod halls;
 mod isolation;
 mod runs;
+mod seen;
 mod sessions;
 mod solving;
 
 pub use desks::{
     a_new_seat, job_three_of_nine, live_of_nine, nine_asks, nine_asks_in_vain, nine_cancels,
-    nine_leaves, nine_reserves, quota_of_nine,
+    nine_leaves, nine_reserves, quota_of_nine, two_sessions,
 };
 pub use halls::{entry_of_nine, seven_and_nine, seven_cancels, value_of_nine, value_of_seven};
 pub use isolation::seven_in_a_running_core;
@@ -27,5 +28,6 @@ pub use runs::{
     nine_by_its_own_steps, nine_is_undisturbed, refusals, seven_alone, seven_in_both,
     table_of_nine, three_answers, words_of_seven,
 };
+pub use seen::{quota_after_hello, three_calls_of_a_tenant};
 pub use sessions::third_answer;
 pub use solving::three_lines;
