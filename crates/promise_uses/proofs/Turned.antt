@@ -61,11 +61,17 @@ pub quota-seen : {S K : Type 0} (begun : HallOf) (gives : S → ReadAnswer → S
     × IsWrittenOf (write_result (talk_result r)) (concat pieces) (texts_for lines replies)
     × ((left : Left) → lines ≡ Whole (codes "HELLO 4 8") ∷ Whole (codes "QUOTA") ∷ [] → replies ≡ Welcome (record { segments = 4; nodes = 8 }) ∷ Rest left ∷ [] → IsLeftBy begun (record { segments = 4; nodes = 8 }) left)
 quota-seen begun gives takes source sink source' sink' r known served =
-    let session = served.session in
-    (session.answered, session.replies, session.pieces, session.writes, session.written, λ left lines replies.
-    of-quota begun served.office (record { segments = 4; nodes = 8 }) left
-    (subst (λ (p : List OfficeReply). Leads (Called (IsTurnAt begun)) vacant (calls_for (Whole (codes "HELLO 4 8") ∷ Whole (codes "QUOTA") ∷ []) p) served.office) replies
-    (subst (λ (l : List LineText). Leads (Called (IsTurnAt begun)) vacant (calls_for l session.replies) served.office) lines session.made)))
+    let session = served.session in (
+      session.answered,
+      session.replies,
+      session.pieces,
+      session.writes,
+      session.written,
+      λ left lines replies.
+          of-quota begun served.office (record { segments = 4; nodes = 8 }) left
+          (subst (λ (p : List OfficeReply). Leads (Called (IsTurnAt begun)) vacant (calls_for (Whole (codes "HELLO 4 8") ∷ Whole (codes "QUOTA") ∷ []) p) served.office) replies
+          (subst (λ (l : List LineText). Leads (Called (IsTurnAt begun)) vacant (calls_for l session.replies) served.office) lines session.made)),
+    )
 
 pub three-calls : (begun : HallOf) (first : SeatOf) (to : OfficeOf) (board : List Cell) (side : Side) (number : ℕ) (left : Left) →
     IsTenancy begun first ((Ask 3 board side, Job number) ∷ (AskQuota, Rest left) ∷ (Cancel 7, Refused 17) ∷ []) to →

@@ -44,10 +44,7 @@ pub fn quota_after_hello<S, K, L, R, A>(
     source: &mut S,
     sink: &mut K,
     desk: &Desk<L, A>,
-) -> (
-    Result<End, SessionFault>,
-    Option<Trace<Step<Jamboree>, L>>,
-)
+) -> (Result<End, SessionFault>, Option<Trace<Step<Jamboree>, L>>)
 where
     S: Source,
     K: Sink,
