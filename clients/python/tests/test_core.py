@@ -10,7 +10,7 @@ import hypothesis
 import hypothesis.strategies as st
 import pytest
 from coluwen import Broken, Closed, Late, Refused, TooDeep, Unreachable
-from coluwen._core import Core, Ended, Errand, Found, Info, Open, Options, Question, Send, Shut, Told, Wire, Work, ping
+from coluwen._core import Core, Ended, Errand, Found, Info, Open, Options, Question, Send, Shut, Told, Wire, Work, pause_after, ping
 from told import value_of
 
 OPENING = "---------------------------OX------XO--------------------------- X"
@@ -679,3 +679,24 @@ def test_who_waits_for_what_the_server_is_is_told_that_it_can_t_be_found_out() -
         hand.core.failed(key, "reset", hand.now)
         hand.does()
     assert isinstance(question.fault, Unreachable) and "reset" in str(question.fault) and not hand.core.closed
+
+
+def test_who_answers_hello_by_something_else_is_tried_again_after_a_pause() -> None:
+    hand = Hand(sessions=1)
+    hand.ask(Question(2, OPENING))
+    hand.core.opened(1, hand.now)
+    assert hand.does() == ["1 HELLO 256 8192"] and hand.hear(1, "HTTP/1.1 400 Bad Request") == ["shut 1"]
+    assert hand.waits(0.09) == [] and hand.waits(0.02) == ["open 2"]
+
+
+@pytest.mark.parametrize("answer, then", [("DONE 1 5 d3", [f"1 ASK 3 {OPENING}"]), ("SPENT 1", ["1 BYE"])])
+def test_a_job_that_ends_while_it_is_given_up(answer: str, then: list[str]) -> None:
+    """A session is kept, but where a job was spent in it."""
+    hand = Hand(sessions=1)
+    asked(hand, given := Question(2, OPENING))
+    hand.core.give_up(given, Closed("not wanted"), hand.now)
+    assert hand.ask(Question(3, OPENING)) == [] and hand.hear(1, answer) == then
+
+
+def test_how_long_a_job_is_left_alone() -> None:
+    assert [pause_after(seconds) for seconds in (0.0, 0.04, 0.08, 9.0)] == [0.0002, 0.01, 0.02, 0.02]

@@ -309,6 +309,8 @@ def test_small_things() -> None:
                        ("8/8/8/3OX3/3XO3/8/8/8 Q", "1:23: 'Q' is no side to move")):
         with pytest.raises(FormatError, match=re.escape(said)):
             position.read_fen(text, formats.Place("", 1))
+    assert [one.position for one in strictly(formats.read_line("(;GM[Othello]B[f5]W[d6];)", formats.Place("a", 7)))] == [OPENING, OPENING.play("f5")]
+    assert [str(one) for one in formats.read_line("(;GM[Go];)", formats.Place("a", 7))] == ["a:7:6: this is a game of Go"]
     data = wthor.write([random_game(1), random_game(2)], 2020)
     first, second = strictly(wthor.read(data, "a.wtb"))
     assert [one.place.column for one in (first, second)] == [17, 85] and first.theoretical == (first.result or 0) / 2 + 32
@@ -339,6 +341,8 @@ def test_wthor_byte_by_byte() -> None:
     begun = transcript.read("f5d6c3 33-31")
     assert wthor.write_names(["A"], ".jou") == bytes([20, 0, 1, 1]) + bytes(4) + b"\1\0" + bytes(6) + b"A" + bytes(19)
     head = bytes([20, 0, 1, 1, 1]) + bytes(5) + (2020).to_bytes(2, "little") + bytes([8, 0, 0, 0])
+    with pytest.raises(ValueError, match="from the opening alone"):
+        wthor.write([transcript.read("d6", OPENING.play("f5"))], 2020)
     assert wthor.write([begun], 2020) == head + bytes([0, 0, 0, 0, 0, 0, 33, 33, 56, 64, 33]) + bytes(57)
 
 

@@ -19,7 +19,7 @@ from ._driver import Driver
 from ._place import Served
 from .analyst import Asked, Many, Order, Outcome, Progress, Result, checked, moves_of, parts_of, result_of
 from .board import Position
-from .errors import Closed, ColuwenError, TooDeep
+from .errors import Closed, TooDeep
 from .score import Entry
 
 
@@ -80,10 +80,7 @@ class AsyncClient(Served):
                 asked, number, task = await ended.get()
                 del begun[number]
                 if number >= 0:
-                    fault = task.exception()
-                    if fault and not isinstance(fault, ColuwenError):
-                        raise fault
-                    many.settle(asked, number, fault if isinstance(fault, ColuwenError) else task.result())
+                    many.ended(asked, number, task)
                 elif (asked := task.result()) is _END:
                     is_over = True
                 else:

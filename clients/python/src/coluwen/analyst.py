@@ -143,6 +143,13 @@ class Many:
     def settle(self, asked: Any, number: int, answer: Result | ColuwenError) -> None:
         self.known[number] = Outcome(asked, answer, number)
 
+    def ended(self, asked: Any, number: int, future: Any) -> None:
+        """A question's future has ended. A fault that isn't of this package is raised."""
+        fault = future.exception()
+        if fault and not isinstance(fault, ColuwenError):
+            raise fault
+        self.settle(asked, number, fault or future.result())
+
     def ready(self) -> Iterator[Outcome]:
         """What may be given on."""
         while self.known and (not self.in_order or self.given in self.known):
@@ -225,10 +232,7 @@ class Analyst(abc.ABC):
                 while begun and (not ended.empty() or is_over or not many.has_room):
                     asked, number, future = ended.get()
                     del begun[number]
-                    fault = future.exception()
-                    if fault and not isinstance(fault, ColuwenError):
-                        raise fault
-                    many.settle(asked, number, fault if isinstance(fault, ColuwenError) else future.result())
+                    many.ended(asked, number, future)
                     if many.known and (not many.in_order or many.given in many.known):
                         break
                 yield from many.ready()

@@ -102,7 +102,8 @@ def game_of(text: str, tags: list[tuple[str, str, int]], place: Place, file: str
         fault = raised
     others = tuple((name, value) for name, value, _ in tags if name not in (*SIDES, *FIELDS, "BO", "GM", "RE", "TY"))
     black, white, event, date = (named.get(name, "") for name in FIELDS)
-    return Game(builder.start, tuple(builder.moves), black, white, event, date, number_of(named.get("RE", "").strip()), tags=others, place=place, is_whole=is_whole and not fault), fault
+    result = number_of(named.get("RE", "").strip())
+    return Game(builder.start, tuple(builder.moves), black, white, event, date, result, tags=others, place=place, is_whole=is_whole and not fault), fault
 
 
 def board_of(text: str) -> Position | None:

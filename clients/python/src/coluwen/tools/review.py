@@ -17,13 +17,14 @@ from collections.abc import Iterator, Sequence
 
 from .. import formats
 from ..analyst import Analyst, Result
-from ..board import EMPTY, NAMES, PASS, SQUARES, Board, Position
+from ..board import NAMES, PASS, SQUARES, Board, Position
 from ..errors import ColuwenError, Late, TooDeep
 from ..formats import Game, transcript
 from ..score import GREATEST_EVALUATION, Score, loss_of
 from .command import LONG_OUTAGE, NO_VALUE, analyst_of, ending, parser, say
 
 NAME = "coluwen-review"
+COLOURS = {"X": "\033[30m●", "O": "\033[97m●", ".": "\033[32m·", "*": "\033[93m*", "!": "\033[93m!"}
 
 
 @dataclasses.dataclass(frozen=True)
@@ -66,16 +67,10 @@ def review(analyst: Analyst, board: Board, depth: int) -> Iterator[Row]:
 
 def drawn(position: Position, marks: dict[str, str], colours: bool) -> str:
     """A board for the terminal; marks are written where the cells are empty."""
-    discs = {"X": "\033[30m●", "O": "\033[97m●", "-": "\033[32m·"} if colours else {"X": "X", "O": "O", "-": "."}
-    lines = ["    a b c d e f g h"]
-    for row in range(8):
-        line = []
-        for at in range(8 * row, 8 * row + 8):
-            cell, mark = position.cells[at], marks.get(SQUARES[at])
-            line.append((f"\033[93m{mark}" if colours else mark) if mark and cell == EMPTY else discs[cell])
-        middle = " ".join(line)
-        lines.append(f"  {row + 1} " + (f"\033[42m{middle} \033[0m" if colours else middle))
-    return "\n".join(lines)
+    lines = [line[:2] + line[3:] for line in position.drawn(marks).split("\n")[:9]]
+    if colours:
+        lines[1:] = [f"{line[:2]}\033[42m{''.join(COLOURS.get(cell, cell) for cell in line[2:])} \033[0m" for line in lines[1:]]
+    return "\n".join(f"  {line}" for line in lines)
 
 
 def shown(row: Row, colours: bool) -> str:
