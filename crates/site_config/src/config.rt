@@ -82,13 +82,8 @@ impl Config {
     /// `None` never, since the sums fit.
     pub fn without_file(alloc: Global, port: u16) -> Result<Option<Config>, AllocError> {
         let guest = guest_terms(alloc, Limits::USUAL.connections, crate::rates::USUAL)?;
-        let Some(plan) = Plan::new(
-            FULL_HALL,
-            Vec::new(alloc),
-            FULL_HALL,
-            FULL_HALL,
-            FULL_HALL,
-        ) else {
+        let Some(plan) = Plan::new(FULL_HALL, Vec::new(alloc), FULL_HALL, FULL_HALL, FULL_HALL)
+        else {
             return Ok(None);
         };
         let mut halls = Vec::new(alloc);

@@ -50,9 +50,10 @@ pub(crate) fn guests_in(
 ) -> Result<Guests, FileFault> {
     let totals = amount_or(file.part("hall", "hall")?, FULL_HALL)?;
     if totals.sessions > 64 {
-        return Err(file
-            .table("hall", "hall")?
-            .fault("sessions", "a hall has 64 sessions at most"));
+        return Err(
+            file.table("hall", "hall")?
+                .fault("sessions", "a hall has 64 sessions at most"),
+        );
     }
     let each = amount_in(each)?;
     let together = amount_or(

@@ -3,8 +3,8 @@ ghost use Rattle.std.specs.Prelude.{◌≡◌, Some, option_copied};
 ghost use Rattle.site_directory.specs.Keys.{by_address, by_connection, by_name, by_token, closer, closest, customer_of_digest, customer_of_name};
 
 use crate::address::{Address, Network};
-use site_book::Who;
 use sha2::{Digest, Sha256};
+use site_book::Who;
 
 /// A token of a customer, by its SHA-256 digest.
 #[derive(Clone, Copy)]
