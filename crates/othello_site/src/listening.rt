@@ -1,7 +1,7 @@
 //! Connections taken, each in a thread of its own.
 use crate::client::serve_client;
 use crate::counts::FULL;
-use crate::ending::{Ending, Why};
+use crate::ending::Why;
 use crate::shared::Shared;
 use site_rules::Port;
 use std::alloc::Global;
@@ -50,7 +50,6 @@ pub(crate) fn take_all<'s, E, R>(
     rt: &'s R,
     alloc: Global,
     shared: &'s Shared,
-    ending: &Ending,
     listener: TcpListener,
     port: Port,
 )
@@ -63,7 +62,7 @@ where
             Ok(Some(stream)) => start(scope, rt, alloc, shared, stream, port),
             Ok(None) => {}
             Err(error) => {
-                ending.tell(rt, Why::Deaf(error));
+                shared.ending.tell(rt, Why::Deaf(error));
                 return;
             }
         }

@@ -31,7 +31,7 @@ use std::net::{Net, SocketAddr, TcpListener, TcpStream};
 use std::os::unix::net::UnixListener;
 use std::sync::atomic::AtomicU64;
 use std::sync::{Arc, Mutex, Wait};
-use std::thread::{self, Builder, Threads};
+use std::thread::{self, Builder, Scope, Threads};
 use std::time::{Clock, Instant};
 
 /// Where a site listens.
@@ -152,6 +152,7 @@ fn shared_of<R: Clock + AllocGlobal>(
     rt: &R,
     path: &str,
     config: Config,
+    ending: Arc<Ending, Global>,
 ) -> io::Result<Option<Shared>> {
     let alloc = rt.alloc();
     let start = Some(Instant::now(rt)?);
@@ -168,6 +169,7 @@ fn shared_of<R: Clock + AllocGlobal>(
         log: Log::new(alloc),
         start,
         path,
+        ending,
     }))
 }
 
@@ -189,7 +191,8 @@ where
 {
     let workers = workers_of(rt, &config);
     let ends = ends_of(rt, &config)?;
-    let Some(shared) = shared_of(rt, path, config)? else {
+    let (ending, theirs) = endings(rt.alloc())?;
+    let Some(shared) = shared_of(rt, path, config, theirs)? else {
         return Ok(None);
     };
     let site = Site {
@@ -197,9 +200,8 @@ where
         ends,
         workers,
     };
-    let (ending, theirs) = endings(rt.alloc())?;
     let host = *rt;
-    let _ = Builder::new().spawn(rt, move || serve_site(&host, site, &theirs))?;
+    let _ = Builder::new().spawn(rt, move || serve_site(&host, site))?;
     Ok(Some(ending.wait(rt)))
 }
 
@@ -223,18 +225,50 @@ fn say_listening<R: Print>(rt: &R, listener: &Option<TcpListener>) {
 fn run_workers<R: Threads + Wait + Sync>(
     rt: &R,
     alloc: Global,
-    desk: &SiteDesk,
+    shared: &Shared,
+    hall: usize,
     workers: Worker,
-    ending: &Ending,
 ) {
-    let workshop = Workshop { desk };
-    if run_pool(rt, alloc, &workshop, workers, None).is_err() {
-        ending.tell(rt, Why::Idle);
+    if let Some(desk) = shared.desks.get(hall) {
+        let workshop = Workshop { desk };
+        if run_pool(rt, alloc, &workshop, workers, None).is_err() {
+            shared.ending.tell(rt, Why::Idle);
+        }
+    }
+}
+
+/// Starts the workers of all halls.
+fn start_workers<'s, E, R: Threads + Wait + Sync>(
+    scope: &'s Scope<'s, E>,
+    rt: &'s R,
+    alloc: Global,
+    shared: &'s Shared,
+    workers: Worker,
+) {
+    for hall in 0..shared.desks.len() {
+        let _ = scope.spawn(move || run_workers(rt, alloc, shared, hall, workers));
+    }
+}
+
+/// Starts taking connections at a port, if the site listens there.
+fn start_port<'s, E, R>(
+    scope: &'s Scope<'s, E>,
+    rt: &'s R,
+    alloc: Global,
+    shared: &'s Shared,
+    listener: Option<TcpListener>,
+    port: Port,
+)
+where
+    R: Net<Listener = TcpListener, Stream = TcpStream> + Threads + Wait + Clock + Sync,
+{
+    if let Some(listener) = listener {
+        let _ = scope.spawn(move || take_all(scope, rt, alloc, shared, listener, port));
     }
 }
 
 /// Serves.
-fn serve_site<R>(rt: &R, site: Site, ending: &Ending)
+fn serve_site<R>(rt: &R, site: Site)
 where
     R: Net<Listener = TcpListener, Stream = TcpStream>
         + Threads
@@ -261,28 +295,24 @@ where
     say_listening(rt, &proxied);
     let many = AtomicU64::new(0);
     let (shared, many) = (&shared, &many);
-    let alloc = rt.alloc();
     thread::scope(thread::scope_env(), rt, |scope| {
-        for desk in &shared.desks {
-            let _ = scope.spawn(move || run_workers(rt, alloc, desk, workers, ending));
-        }
-        let _ = scope.spawn(move || shared.log.write_all(rt, alloc));
-        let _ = scope.spawn(move || watch_all(rt, shared, ending));
+        start_workers(scope, rt, rt.alloc(), shared, workers);
+        let _ = scope.spawn(move || shared.log.write_all(rt, rt.alloc()));
+        let _ = scope.spawn(move || watch_all(rt, shared));
         if let Some(control) = control {
             let _ = scope.spawn(move || serve_control(scope, rt, shared, control));
         }
         if let Some(health) = health {
             let _ = scope.spawn(move || serve_web(scope, rt, shared, many, health));
         }
-        if let Some(plain) = plain {
-            let _ = scope.spawn(move || take_all(
-                scope, rt, alloc, shared, ending, plain, Port::Plain,
-            ));
-        }
-        if let Some(proxied) = proxied {
-            let _ = scope.spawn(move || take_all(
-                scope, rt, alloc, shared, ending, proxied, Port::Proxied,
-            ));
-        }
+        start_port(scope, rt, rt.alloc(), shared, plain, Port::Plain);
+        start_port(
+            scope,
+            rt,
+            rt.alloc(),
+            shared,
+            proxied,
+            Port::Proxied,
+        );
     });
 }

@@ -1,8 +1,10 @@
 //! What all threads share.
+use crate::ending::Ending;
 use crate::logging::Log;
 use crate::register::Register;
 use site_desk::SiteDesk;
-use std::sync::Mutex;
+use std::alloc::Global;
+use std::sync::{Arc, Mutex};
 use std::time::{Clock, Duration, Instant};
 
 /// What all threads share.
@@ -20,6 +22,8 @@ pub(crate) struct Shared {
     pub(crate) start: Option<Instant>,
     /// The file; empty where there is none.
     pub(crate) path: String,
+    /// Why the site ends.
+    pub(crate) ending: Arc<Ending, Global>,
 }
 
 impl Shared {

@@ -1,5 +1,5 @@
 //! Each second: sessions whose client is gone, and connections that are to be shut.
-use crate::ending::{Ending, Why};
+use crate::ending::Why;
 use crate::shared::Shared;
 use site_roll::{Told, Whom};
 use site_book::Part;
@@ -11,12 +11,12 @@ use std::time::{Clock, Duration};
 const BETWEEN: u64 = 1_000;
 
 /// Looks each second, until all have left where the operator asked for it.
-pub(crate) fn watch_all<R: Clock + Wait>(rt: &R, shared: &Shared, ending: &Ending) {
+pub(crate) fn watch_all<R: Clock + Wait>(rt: &R, shared: &Shared) {
     for _ in rt.forever() {
         thread::sleep(rt, Duration::from_millis(BETWEEN));
         end_gone(rt, shared);
         if is_drained(rt, shared) {
-            ending.tell(rt, Why::Drained);
+            shared.ending.tell(rt, Why::Drained);
             return;
         }
         shut_told(rt, shared);

@@ -39,7 +39,7 @@ fn home_of(left: &mut [Amount], wanted: Option<u32>, budget: Amount) -> u32 {
     match wanted {
         Some(hall) => hall,
         None => match first_with_room(left, budget) {
-            Some(hall) => hall as u32,
+            Some(hall) => u32::try_from(hall).unwrap_or(0),
             None => 0,
         },
     }

@@ -1,7 +1,7 @@
 -- What a seat shows of its jobs, as a session has it.
 use Rattle.std.proofs.Common.{◌≡◌, ℕ, ◌-◌, ◌<◌, List, [], ◌∷◌, map, true, false, Option, Some, None, refl, sym, subst, ap, ap₂, ◌∙◌, Result, Ok, Err}
 use Rattle.std.specs.Prelude.{◌==◌, ◌⊎◌, if◌then◌else◌, Contains, IfErr}
-use Rattle.std.specs.Option.{option_map}
+use Rattle.std.specs.Option.{option_map, is_some}
 use Rattle.std.proofs.Math.ListN.{get_or-map}
 use Rattle.std.proofs.lemmas.List.{length-map}
 use Rattle.othello_board.specs.Words.{cells, cells_of}
@@ -108,3 +108,8 @@ pub raises : (asks : List Asked) (quota : Quota) (answer : Result (Unit {0}) Ref
     → KeepsAsks asks (Reserve quota) (reply_of (λ _. Reserved quota) answer) asks
 raises asks quota (Ok done) refused = (refl, tt, tt, refl)
 raises asks quota (Err refusal) refused = (refl, tt, refused_by raise_refusals refusal refused, tt)
+
+-- nothing is there
+pub none_of : {X : Type 0} (o : Option X) → is_some o ≡ false → o ≡ None
+none_of None h = refl
+none_of (Some x) h = absurd (cc h)

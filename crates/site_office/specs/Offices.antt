@@ -1,5 +1,5 @@
 -- Representation: what a session sees of a seat: its asks, and how its jobs stand.
-use Rattle.std.specs.Prelude.{◌≡◌, List, [], map, Option, Some, None, Result, Ok, Err}
+use Rattle.std.specs.Prelude.{List, [], map, Option, Some, None, Result, Ok, Err}
 use Rattle.othello_board.specs.Words.{cells}
 use Rattle.othello_eval.specs.Minimax.{minimax, best_choice}
 use Rattle.sched_rules.specs.declared.refusal.Refusal.{Refusal}
@@ -40,7 +40,7 @@ abbrev pub told_answer : Result Outcome Refusal → Result Standing Refusal
 told_answer (Ok outcome) = Ok (standing_of outcome)
 told_answer (Err refusal) = Err refusal
 
--- whose a seat is, if there is one
-abbrev pub IsSeatOf : Who → Option SeatOf → Type 0
-IsSeatOf who None = Unit {0}
-IsSeatOf who (Some seat) = seat.who ≡ who
+-- whose the seat is; where there is none, this customer
+abbrev pub owner_of : Who → Option SeatOf → Who
+owner_of who None = who
+owner_of who (Some seat) = seat.who

@@ -2,11 +2,10 @@
 ghost use Rattle.std.specs.Prelude.{◌≡◌};
 ghost use Rattle.site_office.specs.Refusing.{comer_refusal, raise_refusal};
 
+use crate::house::Cause;
 use booked_hall::Turned;
 use hall::Refusal;
 use site_book::Refusal as BookRefusal;
-
-use crate::house::Cause;
 
 /// How HELLO is refused.
 pub(crate) fn comer_refusal(turned: Turned) -> Refusal

@@ -2,7 +2,8 @@
 ghost use Rattle.std.specs.Prelude.{◌≡◌, [], is_some, IfOk, IfErr, Contains};
 ghost use Rattle.session.specs.Turns.{seated_after};
 ghost use Rattle.session.specs.Asks.{KeepsAsks};
-ghost use Rattle.site_office.specs.Offices.{asks_of, IsSeatOf};
+ghost use Rattle.session.specs.Calls.{Get, Wait as to_wait, Cancel, Told, Ended, reply_of};
+ghost use Rattle.site_office.specs.Offices.{asks_of, owner_of};
 ghost use Rattle.site_office.specs.Refusing.{comer_refusal, comer_refusals};
 
 use crate::entering::{cause_of, comer_refusal, raise_refusal};
@@ -48,7 +49,7 @@ pub struct SiteOffice<'a, H: House, R: Wait + Clock, A: Allocator = Global> {
     noted: u64,
     /// The depth of the leaves that workers compute.
     grain: u8,
-    ghost seated: { IsSeatOf who seat },
+    ghost seated: { owner_of who seat ≡ who },
 }
 
 impl<'a, H: House, R: Wait + Clock, A: Allocator + Clone> SiteOffice<'a, H, R, A> {
@@ -81,7 +82,7 @@ impl<'a, H: House, R: Wait + Clock, A: Allocator + Clone> SiteOffice<'a, H, R, A
 
     /// Ends the office, and gives the house back. Where a tenant is still there its seat is dropped, and the tenant doesn't leave.
     pub fn close(self) -> H
-        ensures { result ≡ self.house }
+        ensures { result ≡ self.entry.house }
     {
         let SiteOffice {
             rt: _,
@@ -190,6 +191,69 @@ impl<'a, H: House, R: Wait + Clock, A: Allocator + Clone> SiteOffice<'a, H, R, A
         }
     }
 
+    /// How the session's job stands now; `NoJob` where there is no session.
+    fn got(&self, job: u64) -> Result<Standing, Refusal>
+        ensures { KeepsAsks (asks_of self.now.seat) (Get job) (reply_of (Told job) result) (asks_of self.now.seat) }
+    {
+        match &self.seat {
+            Some(seat) => told_answer(self.desk.get(self.rt, seat, job)),
+            None => Err(Refusal::NoJob),
+        }
+    }
+
+    /// How the session's job stands once it has ended, the session is told to end, or the desk is closed; `NoJob` where there is no session.
+    fn waited(&self, job: u64, now: u64) -> Result<Standing, Refusal>
+        ensures { KeepsAsks (asks_of self.now.seat) (to_wait job) (reply_of (Told job) result) (asks_of self.now.seat) }
+    {
+        match &self.seat {
+            Some(seat) => told_answer(self.desk.wait(self.rt, seat, job, now)),
+            None => Err(Refusal::NoJob),
+        }
+    }
+
+    /// Cancels the session's job; `NoJob` where there is no session.
+    fn cancelled(&self, job: u64) -> Result<(), Refusal>
+        ensures { KeepsAsks (asks_of self.now.seat) (Cancel job) (reply_of (λ _. Ended job) result) (asks_of self.now.seat) }
+    {
+        match &self.seat {
+            Some(seat) => self.desk.cancel(self.rt, seat, job),
+            None => Err(Refusal::NoJob),
+        }
+    }
+
+    /// The session waits for a job from now on. Returns the time.
+    fn begin_wait(&mut self) -> u64
+        ensures same_seat { self.new.seat ≡ self.old.seat }
+        ensures same_who { self.new.who ≡ self.old.who }
+    {
+        self.house.note(Note::Waits(true));
+        self.house.now()
+    }
+
+    /// The session doesn't wait any more; it was told this.
+    fn end_wait(&mut self, answer: &Result<Standing, Refusal>)
+        ensures same_seat { self.new.seat ≡ self.old.seat }
+        ensures same_who { self.new.who ≡ self.old.who }
+    {
+        self.house.note(Note::Waits(false));
+        if let Ok(Standing::Done(_)) = answer {
+            self.house.note(Note::Value);
+        }
+        self.noted = self.house.now();
+        if let Some(number) = self.number() {
+            self.desk
+                .mark(self.rt, Whom::One(number), Mark::Waits(false, self.noted));
+        }
+    }
+
+    /// What the session's customer may have and has.
+    fn amounts(&self) -> (Amount, Amount) {
+        match &self.seat {
+            Some(seat) => self.desk.budget(self.rt, seat),
+            None => (Amount::NOTHING, Amount::NOTHING),
+        }
+    }
+
     /// The number of the session, if there is one.
     fn number(&self) -> Option<u64> {
         match &self.seat {
@@ -247,40 +311,21 @@ impl<H: House, R: Wait + Clock, A: Allocator + Clone> Office for SiteOffice<'_, 
     /// How the job stands now, without waiting for it.
     fn get(&mut self, job: u64) -> Result<Standing, Refusal> {
         self.hear_any();
-        match &self.seat {
-            Some(seat) => told_answer(self.desk.get(self.rt, seat, job)),
-            None => Err(Refusal::NoJob),
-        }
+        self.got(job)
     }
 
     /// How the job stands once it has ended, the session is told to end, or the desk is closed.
     fn wait(&mut self, job: u64) -> Result<Standing, Refusal> {
-        let Some(number) = self.number() else {
-            return Err(Refusal::NoJob);
-        };
-        self.house.note(Note::Waits(true));
-        let now = self.house.now();
-        let answer = match &self.seat {
-            Some(seat) => told_answer(self.desk.wait(self.rt, seat, job, now)),
-            None => Err(Refusal::NoJob),
-        };
-        self.house.note(Note::Waits(false));
-        if let Ok(Standing::Done(_)) = &answer {
-            self.house.note(Note::Value);
-        }
-        self.noted = self.house.now();
-        self.desk
-            .mark(self.rt, Whom::One(number), Mark::Waits(false, self.noted));
+        let now = self.begin_wait();
+        let answer = self.waited(job, now);
+        self.end_wait(&answer);
         answer
     }
 
     /// Cancels the job and removes its frames.
     fn cancel(&mut self, job: u64) -> Result<(), Refusal> {
         self.hear_any();
-        match &self.seat {
-            Some(seat) => self.desk.cancel(self.rt, seat, job),
-            None => Err(Refusal::NoJob),
-        }
+        self.cancelled(job)
     }
 
     /// What the tenant has left of its reservation now.
@@ -359,13 +404,7 @@ impl<H: House, R: Wait + Clock, A: Allocator + Clone> Reception for SiteOffice<'
     /// What the session's customer may have and has.
     fn inform(&mut self) -> Info {
         self.hear_any();
-        let (may, has) = match &self.seat {
-            Some(seat) => self.desk.budget(self.rt, seat),
-            None => (
-                Amount::NOTHING,
-                Amount::NOTHING,
-            ),
-        };
+        let (may, has) = self.amounts();
         Info {
             grain: self.grain,
             may_segments: may.segments,

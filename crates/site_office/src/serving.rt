@@ -11,13 +11,7 @@ use std::time::Clock;
 
 /// Serves the sessions of one connection up to a line `BYE`, the end of the source, or a failure of source or sink; in each case no tenant
 /// of it is there when it returns.
-pub fn serve_connection<
-    S: Source,
-    K: Sink,
-    H: House,
-    R: Wait + Clock,
-    A: Allocator + Clone,
->(
+pub fn serve_connection<S: Source, K: Sink, H: House, R: Wait + Clock, A: Allocator + Clone>(
     rt: &R,
     source: &mut S,
     sink: &mut K,
