@@ -43,7 +43,8 @@ impl Site for Workshop<'_> {
         hands: &mut Hands,
         holding: Holding,
     ) -> Holding {
-        self.desk.work(rt, &mut badge.backoff, worker, hands, holding)
+        self.desk
+            .work(rt, &mut badge.backoff, worker, hands, holding)
     }
 
     fn pick<R: Wait>(&self, rt: &R) -> Option<Task> {

@@ -67,7 +67,9 @@ fn desks_of(rt: &impl Abort, alloc: Global) -> Vec<SiteDesk> {
     };
     holds(
         rt,
-        desks.push(SiteDesk::new(BookedHall::new(hall, book), shares)).is_ok(),
+        desks
+            .push(SiteDesk::new(BookedHall::new(hall, book), shares))
+            .is_ok(),
     );
     desks
 }
