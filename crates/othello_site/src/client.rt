@@ -93,13 +93,7 @@ fn greet<R: Clock + Wait>(
 }
 
 /// Counts a connection that is refused, and says it.
-fn refuse<R: Clock + Wait>(
-    rt: &R,
-    alloc: Global,
-    shared: &Shared,
-    address: Address,
-    place: usize,
-) {
+fn refuse<R: Clock + Wait>(rt: &R, alloc: Global, shared: &Shared, address: Address, place: usize) {
     {
         let mut register = shared.lock.lock(rt);
         register.counts.refuse(place);
@@ -121,10 +115,7 @@ fn times_of<R: Wait>(rt: &R, shared: &Shared) -> (Times, Duration) {
         welcome: millis(limits.welcome),
         idle: millis(limits.idle),
     };
-    (
-        times,
-        Duration::from_millis(millis(limits.write.max(1))),
-    )
+    (times, Duration::from_millis(millis(limits.write.max(1))))
 }
 
 /// Both names of a connection.
@@ -167,7 +158,14 @@ pub(crate) fn serve_client<R: Clock + Wait>(
         ahead: Received::new(),
         given: 0,
     };
-    let known = greet(rt, alloc, shared, port, &mut source, Address::of_ip(peer.ip()))?;
+    let known = greet(
+        rt,
+        alloc,
+        shared,
+        port,
+        &mut source,
+        Address::of_ip(peer.ip()),
+    )?;
     source.given = known.used;
     let mut sink = Outgoing { stream: outgoing };
     receive(rt, alloc, shared, &talk, &mut source, &mut sink, own, known);
@@ -230,7 +228,13 @@ fn receive<R: Clock + Wait>(
     let end = serve_connection(rt, source, sink, &mut office);
     let caller = office.close();
     caller.leave();
-    tell_end(rt, alloc, shared, &caller, words_of(end, talk.reading.get()));
+    tell_end(
+        rt,
+        alloc,
+        shared,
+        &caller,
+        words_of(end, talk.reading.get()),
+    );
     if talk.reading.get() == Reading::Late && !talk.pace.get().welcomed {
         refuse(rt, alloc, shared, known.address, SILENCE);
     }

@@ -24,7 +24,8 @@ const A_COMMAND: u64 = 5;
 const A_PAUSE: u64 = 100;
 
 /// What is said to a line that is no command.
-const USAGE: &str = "ERR STATS, END CUSTOMER name, END ADDRESS address, END SESSION hall number, DRAIN seconds, RELOAD or RELOAD END\n";
+const USAGE: &str =
+    "ERR STATS, END CUSTOMER name, END ADDRESS address, END SESSION hall number, DRAIN seconds, RELOAD or RELOAD END\n";
 
 /// Reads the file again. The text says OK, or why all stays as it is.
 fn reloaded<R: Paths + AllocGlobal + Clock + Wait>(

@@ -228,7 +228,9 @@ where
 {
     match serve_config(rt, path, config) {
         Ok(None) => {
-            let _ = eprintln!(rt; "othello_site: a hall has 65,536 segments and 4,194,304 nodes at most");
+            let _ = eprintln!(rt;
+                "othello_site: a hall has 65,536 segments and 4,194,304 nodes at most"
+            );
             EXIT_REFUSED
         }
         Ok(Some(Why::Drained)) => EXIT_OK,

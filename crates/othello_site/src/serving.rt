@@ -296,13 +296,6 @@ where
             let _ = scope.spawn(move || serve_web(scope, rt, shared, many, health));
         }
         start_port(scope, rt, rt.alloc(), shared, plain, Port::Plain);
-        start_port(
-            scope,
-            rt,
-            rt.alloc(),
-            shared,
-            proxied,
-            Port::Proxied,
-        );
+        start_port(scope, rt, rt.alloc(), shared, proxied, Port::Proxied);
     });
 }

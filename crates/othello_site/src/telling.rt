@@ -180,12 +180,7 @@ pub(crate) fn metrics_of<R: AllocGlobal + Clock + Wait>(
         let register = shared.lock.lock(rt);
         (register.counts, register.all)
     };
-    push_head(
-        &mut out,
-        "build_info",
-        "The version that runs.",
-        "gauge",
-    )?;
+    push_head(&mut out, "build_info", "The version that runs.", "gauge")?;
     writeln!(out, "othello_site_build_info{{version=\"1.0.0\"}} 1")?;
     push_one(
         &mut out,
@@ -283,5 +278,10 @@ fn push_counts(out: &mut String, counts: &Counts) -> Result<(), AllocError> {
         "From HELLO to its WELCOME.",
         &counts.hello,
     )?;
-    push_histogram(out, "wait_seconds", "From WAIT to its answer.", &counts.wait)
+    push_histogram(
+        out,
+        "wait_seconds",
+        "From WAIT to its answer.",
+        &counts.wait,
+    )
 }

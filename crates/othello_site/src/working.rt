@@ -1,8 +1,7 @@
 //! The workers of a hall.
-ghost use Rattle.std.specs.Prelude.{Unit};
 
 use desk_rules::Backoff;
-use fair_pool::{HeldHall, Hands, Site, steps};
+use fair_pool::{Hands, HeldHall, Site, steps};
 use hall::{Jamboree, Step, StepAnswer};
 use sched_rules::Worker;
 use site_desk::{SiteDesk, SiteGuard};

@@ -62,7 +62,9 @@ fn desks_of(rt: &impl Abort, alloc: Global) -> Vec<SiteDesk> {
     };
     holds(
         rt,
-        desks.push(SiteDesk::new(BookedHall::new(hall, book))).is_ok(),
+        desks
+            .push(SiteDesk::new(BookedHall::new(hall, book)))
+            .is_ok(),
     );
     desks
 }
