@@ -1,5 +1,5 @@
 -- Meaning: which frame of a hall comes next, by who was served least.
-use Rattle.std.specs.Prelude.{◌≡◌, ◌⊎◌, ℕ, zero, suc, Some, None, is_some}
+use Rattle.std.specs.Prelude.{◌≡◌, ◌⊎◌, ℕ, zero, suc, Option, Some, None, is_some}
 use Rattle.sched_rules.specs.Cores.{CoreState}
 use Rattle.sched_rules.specs.Views.{newest_ready_in}
 use Rattle.pool_rules.specs.declared.task.Task.{Task}
