@@ -227,6 +227,18 @@ fn run_workers<R: Threads + Wait + Sync>(
     }
 }
 
+/// Starts the workers of a hall, in a thread of their own.
+fn start_hall<'s, E, R: Threads + Wait + Sync>(
+    scope: &'s Scope<'s, E>,
+    rt: &'s R,
+    alloc: Global,
+    shared: &'s Shared,
+    hall: usize,
+    workers: Worker,
+) {
+    let _ = scope.spawn(move || run_workers(rt, alloc, shared, hall, workers));
+}
+
 /// Starts the workers of all halls.
 fn start_workers<'s, E, R: Threads + Wait + Sync>(
     scope: &'s Scope<'s, E>,
@@ -236,7 +248,7 @@ fn start_workers<'s, E, R: Threads + Wait + Sync>(
     workers: Worker,
 ) {
     for hall in 0..shared.desks.len() {
-        let _ = scope.spawn(move || run_workers(rt, alloc, shared, hall, workers));
+        start_hall(scope, rt, alloc, shared, hall, workers);
     }
 }
 
