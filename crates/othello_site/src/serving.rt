@@ -48,7 +48,7 @@ struct Ends {
 struct Site {
     shared: Shared,
     ends: Ends,
-    workers: Worker,
+    workers: u8,
 }
 
 /// The listener at an address, if there is one.
@@ -133,17 +133,13 @@ fn desks_of(alloc: Global, config: &Config) -> Result<Option<Vec<SiteDesk>>, All
 }
 
 /// How many workers a hall has.
-fn workers_of<R: Threads>(rt: &R, config: &Config) -> Worker {
-    let count = match config.workers.count {
+fn workers_of<R: Threads>(rt: &R, config: &Config) -> u8 {
+    match config.workers.count {
         Some(count) => count,
         None => match thread::available_parallelism(rt) {
             Ok(count) => u8::try_from(count.get().min(32)).unwrap_or(1),
             Err(_) => 1,
         },
-    };
-    match Worker::new(count) {
-        Some(worker) => worker,
-        None => Worker::new(1).unwrap(),
     }
 }
 
@@ -227,14 +223,30 @@ fn run_workers<R: Threads + Wait + Sync>(
     alloc: Global,
     shared: &Shared,
     hall: usize,
-    workers: Worker,
+    workers: u8,
 ) {
+    let Some(last) = Worker::new(workers) else {
+        shared.ending.tell(rt, Why::Idle);
+        return;
+    };
     if let Some(desk) = shared.desks.get(hall) {
         let workshop = Workshop { desk };
-        if run_pool(rt, alloc, &workshop, workers, None).is_err() {
+        if run_pool(rt, alloc, &workshop, last, None).is_err() {
             shared.ending.tell(rt, Why::Idle);
         }
     }
+}
+
+/// Starts the workers of a hall, in a thread of their own.
+fn start_hall<'s, E, R: Threads + Wait + Sync>(
+    scope: &'s Scope<'s, E>,
+    rt: &'s R,
+    alloc: Global,
+    shared: &'s Shared,
+    hall: usize,
+    workers: u8,
+) {
+    let _ = scope.spawn(move || run_workers(rt, alloc, shared, hall, workers));
 }
 
 /// Starts the workers of all halls.
@@ -243,10 +255,10 @@ fn start_workers<'s, E, R: Threads + Wait + Sync>(
     rt: &'s R,
     alloc: Global,
     shared: &'s Shared,
-    workers: Worker,
+    workers: u8,
 ) {
     for hall in 0..shared.desks.len() {
-        let _ = scope.spawn(move || run_workers(rt, alloc, shared, hall, workers));
+        start_hall(scope, rt, alloc, shared, hall, workers);
     }
 }
 
