@@ -1,5 +1,5 @@
 -- What a session's calls come to, where it asks for its quota.
-use Rattle.std.proofs.Common.{◌≡◌, ◌⊎◌, ℕ, List, [], ◌∷◌, ◌++◌, Option, Some, None, Result, refl, sym, ap, subst, ◌∙◌, inl, inr, codes}
+use Rattle.std.proofs.Common.{◌≡◌, ℕ, List, [], ◌∷◌, ◌++◌, Option, Some, None, Result, sym, ap, subst, ◌∙◌, inl, inr, codes}
 use Rattle.std.specs.Prelude.{option_map}
 use Rattle.std.specs.List.{concat}
 use mathlib.Core.List.{IsPrefix}
@@ -15,7 +15,7 @@ use Rattle.line_io.specs.Writes.{writes_of}
 use Rattle.tenant_quota.specs.Quota.{Quota}
 use Rattle.tenant_quota.specs.declared.account.Left.{Left}
 use Rattle.sched_rules.specs.declared.step.StepOf.TheVariants.{Admit, Submit, Leave as LeaveStep}
-use Rattle.sched_rules.specs.Trees.{Tenant, left as left_of}
+use Rattle.sched_rules.specs.Trees.{left as left_of}
 use Rattle.sched_rules.specs.Runs.{alone, only}
 use Rattle.jamboree_rules.specs.Procedure.{jamboree}
 use Rattle.jamboree_rules.specs.Places.{root_words, frame_size}
@@ -23,10 +23,10 @@ use Rattle.shared_history.specs.Views.{Known}
 use Rattle.hall.specs.Halls.{HallOf}
 use Rattle.desk.specs.Seats.{SeatOf}
 use Rattle.desk.specs.Counts.{found_or_no_tenant}
-use Rattle.desk.specs.Histories.{seat_steps, steps_of, tenant_at, AreTaken}
+use Rattle.desk.specs.Histories.{seat_steps, steps_of, AreTaken}
 use Rattle.session.specs.declared.faults.End.{End}
 use Rattle.session.specs.declared.faults.SessionFault.{SessionFault}
-use Rattle.session.specs.Calls.{Call, Hello, Ask, AskQuota, Cancel, Leave, OfficeReply, Welcome, Job, Rest, Gone, Refused, reply_of}
+use Rattle.session.specs.Calls.{Hello, Ask, AskQuota, Cancel, Leave, OfficeReply, Welcome, Job, Rest, Gone, Refused, reply_of}
 use Rattle.session.specs.Sessions.{Called, calls_for, talk_result, texts_for, IsWrittenOf}
 use Rattle.desk_office.specs.Moments.{OfficeOf, vacant, IsHello, IsTenancy, IsTurnAt, IsTurnOf, SeenSession}
 use Rattle.promises.specs.Tenants.{SearchStep}
