@@ -1,19 +1,23 @@
-"""Customers that mean the others no good, each from an address of its own: what deploy/try and deploy/soak set on a site.
+"""Customers that mean the others no good, each from an address of its own: what deploy/trial sets on a site.
 
 usage: deploy/hostile.py PORT CUSTOMERS SECONDS [KIND]      (KIND: all do this, and else each kind is done by some. In a process of
-                                                        its own, so that it takes no time of those who measure)
+                                                        its own, so that it takes no time of those who measure. With the
+                                                        variable TLS each connection is one of TLS)
 
 It prints how often they were welcomed, refused and cut off.
 """
 import contextlib
+import os
 import random
 import socket
+import ssl
 import struct
 import sys
 import threading
 import time
 
 HOST = "127.0.0.1"
+TLS = ssl._create_unverified_context() if os.environ.get("TLS") else None
 GREAT = "---------------------------OX------XO--------------------------- X"
 counts = {"connections": 0, "WELCOME": 0, "RESERVED": 0, "ERR 14": 0, "cut off": 0}
 lock = threading.Lock()
@@ -29,6 +33,8 @@ class Line:
 
     def __init__(self, address, port):
         self.socket = socket.create_connection((HOST, port), 10, (address, 0))
+        if TLS:
+            self.socket = TLS.wrap_socket(self.socket)
         self.lines = self.socket.makefile("rb")
         count("connections")
 

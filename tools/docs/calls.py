@@ -20,7 +20,7 @@ class Calls:
     @staticmethod
     def programs():
         """The crates with a `main` that ship: tests and players of rows aren't among them."""
-        shipped = ("othello_server", "othello_gate", "othello_site")
+        shipped = ("othello_server", "othello_site")
         return [name for name in shipped if (CRATES / name / "src/main.rt").exists() and re.search(rf"^{name}\b", (TOP / "crates.txt").read_text(), re.M)]
 
     def crate(self, name):

@@ -30,12 +30,14 @@ READERS = [TOP / f"docs/{name}.md" for name in ("SITE", "TESTER", "TEACHER", "PR
 MOST, MOST_FOR_A_READER = 18_000, 1_200  # words
 VERSIONED = {  # where the version stands beside VERSION itself; in documents it stands in the names of a release's files
     "crates/command_line/src/commands.rt": r'const VERSION: &str = "(.*?)"',
-    "crates/othello_gate/src/running.rt": r'"othello_gate (.*?)\\n"',
+    "crates/othello_site/src/running.rt": r'"othello_site (.*?)\\n"',
+    "crates/othello_site/src/telling.rt": r'version=\\"(.*?)\\"',
     "crates/server_tests/src/tests/servers/commands.rt": r'"othello (\d.*?)\\n"',
     "clients/python/src/coluwen/__init__.py": r'__version__ = "(.*?)"',
     "clients/javascript/package.json": r'"version": "(.*?)"',
     "clients/java/pom.xml": r"<artifactId>coluwen</artifactId>\s*<version>(.*?)</version>",
     "CITATION.cff": r"^version: (.*)$",
+    "crates/site_lines/specs/Turns.antt": r'codes " (\d+\.\d+\.\d+)"',
 }
 MADE = [["tools/docs/promises.py"], ["docs/pictures/draw.py"]]
 # Names of the toolchain, its library, the system and other tools, which the tree need not say.
@@ -72,7 +74,6 @@ def known(files):
                 if name.endswith((".rt", ".antt")):  # a comment shows nothing
                     text = re.sub(r"^\s*(//|--).*", "", text, flags=re.M)
                 words.update(WORD.findall(text))
-                words.update(re.findall(r"def try_(\w+)", text))  # the trials of deploy/try
             except UnicodeDecodeError:
                 pass
     return words

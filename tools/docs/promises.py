@@ -350,11 +350,7 @@ class Pages:
         for name, clause in sorted({*self.uses} - there):
             yield f"promise_uses cites {name}#{clause}, which no page has"
         for name, clause in sorted(there - {*self.uses}):
-            if name.split("::")[0] not in REPLACED:
-                yield f"no use in promise_uses cites {name}#{clause}"
-
-
-REPLACED = {"customer_book"}  # its laws get their uses with the book that takes its place
+            yield f"no use in promise_uses cites {name}#{clause}"
 
 
 def differing(pages):

@@ -10,6 +10,7 @@
 //! nobody meets.
 #![tactic(auto)]
 
+mod customers;
 mod desks;
 mod halls;
 mod isolation;
@@ -18,6 +19,10 @@ mod seen;
 mod sessions;
 mod solving;
 
+pub use customers::{
+    a_guest_at_its_limits, customer_seven_at_its_limits, nobody_is_left, plans_that_come_in,
+    room_for_nine, seven_and_the_guests, within_all_budgets,
+};
 pub use desks::{
     a_new_seat, job_three_of_nine, live_of_nine, nine_asks, nine_asks_in_vain, nine_cancels,
     nine_leaves, nine_reserves, quota_of_nine, two_sessions,

@@ -13,7 +13,7 @@ use tenant_quota::Reserve;
 
 /// What a line asks for.
 #[derive(Clone, Copy)]
-pub(crate) enum Request {
+pub enum Request {
     /// Nothing: the line has this fault, its first.
     Fault(ProtocolFault),
     /// A new tenant with this reservation.
@@ -97,7 +97,7 @@ fn early_request(form: Form<'_>) -> Request
 }
 
 /// What a line asks for, where a tenant is there (`seated`) or not. A line that is too long or no command is a fault.
-pub(crate) fn read_request(seated: bool, line: Line<'_>) -> Request
+pub fn read_request(seated: bool, line: Line<'_>) -> Request
     ensures { request_seen result ≡ request seated (text_of line.entry) }
 {
     let Line::Whole(bytes) = line else {

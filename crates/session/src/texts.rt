@@ -15,7 +15,7 @@ use tenant_quota::{Left, Reserve};
 const ANSWER_BYTES: usize = 1115;
 
 /// Room for one answer: at most 1,114 bytes and an LF. A session has one, which is passed by reference alone.
-pub(crate) type SessionText = ArrayVec<u8, ANSWER_BYTES>;
+pub type SessionText = ArrayVec<u8, ANSWER_BYTES>;
 
 /// Writes a word of at most 10 bytes, with the space after it where more follows, over the last answer.
 fn write_word(text: &mut SessionText, word: &[u8])

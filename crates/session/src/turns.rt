@@ -16,7 +16,7 @@ use line_io::Line;
 use tenant_quota::Reserve;
 
 /// Calls the office's `leave` if the session has a tenant (`seated`); else nothing happens.
-pub(crate) fn leave_if_seated<O: Office>(office: &mut O, seated: bool)
+pub fn leave_if_seated<O: Office>(office: &mut O, seated: bool)
     requires { O.ready ≡ true }
     ensures { LeavesIf O.does seated office.old office.new }
 {
@@ -74,7 +74,7 @@ fn tell_table<O: Office>(office: &mut O, text: &mut SessionText, job: u64)
 
 /// Answers a request: makes the call that it asks for, writes the text of the answer, and keeps in `seated` whether the
 /// session has a tenant.
-fn answer_request<O: Office>(
+pub fn answer_request<O: Office>(
     office: &mut O,
     seated: &mut bool,
     text: &mut SessionText,

@@ -1,7 +1,7 @@
 //! The files of the folder that the program runs in.
+use crate::configs::play_config;
 use crate::desks::play_sessions;
 use crate::solving::play_solve;
-use site_laws::play_site;
 use std::alloc::{AllocError, Global};
 use std::process::ExitCode;
 use std::rt::Files;
@@ -59,7 +59,7 @@ enum Kind {
     Solve,
     Session,
     Steps,
-    Site,
+    Config,
 }
 
 /// What plays a file of this name, by its ending.
@@ -75,7 +75,7 @@ fn kind_of(file: &str) -> Option<Kind> {
         return Some(Kind::Steps);
     }
     if ending == "rows" {
-        return Some(Kind::Site);
+        return Some(Kind::Config);
     }
     None
 }
@@ -106,7 +106,9 @@ fn play_scene<R: Wait>(
     tally: &mut Tally,
 ) -> Result<(), AllocError> {
     match kind {
-        Kind::Site => play_site(rt, alloc, file, scene, tally),
+        Kind::Config if scene.head.text.starts_with("config") => {
+            play_config(alloc, file, scene, tally)
+        }
         Kind::Solve if scene.head.text.starts_with("solve ") => {
             play_solve(alloc, file, scene, tally)
         }

@@ -7,7 +7,7 @@
 //! - `NAME.solve` (`solving`): the lines of `othello solve`, at each grain that the head names, or by `--visited`;
 //! - `NAME.session` (`sessions`): sessions at a desk, whose jobs one worker runs (`crew`) at each WAIT;
 //! - `NAME.steps` (`text_rows`): steps of a core, and looks at its state;
-//! - `NAME.rows` (`site_laws`): a site's gate, its files, books, sessions and texts of numbers.
+//! - `NAME.rows` (`configs`): a file of `othello_site`: what it is read to, or refused for, and whose a connection is.
 //!
 //! A session or a solve is what a client would meet but for the sockets and the threads: lines go through `solve_bytes`,
 //! `solve_visited` and `serve_lines` with a `DeskOffice`. Printed are the first rows that disagree, and last how many rows of
@@ -23,13 +23,17 @@
 #![tactic(auto)]
 
 mod compared;
+mod configs;
 mod crew;
 mod desks;
+mod file_lines;
 mod files;
 mod guests;
 mod pieces;
 mod sessions;
 mod solving;
+mod turns;
+mod words;
 
 use std::io;
 use std::process::ExitCode;

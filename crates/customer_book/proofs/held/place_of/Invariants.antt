@@ -1,7 +1,0 @@
-use Rattle.std.proofs.Common.{◌≡◌, ◌+◌, drop}
-use Rattle.customer_book.specs.Grants.{place_of}
-use Rattle.customer_book.proofs.held.place_of.Given as goal
-
--- none of those before is of the session
-abbrev pub invariant-loop-place : goal.invariant-loop-place
-invariant-loop-place l = l.place + place_of l.who l.session (drop l.place l.grants) ≡ place_of l.who l.session l.grants

@@ -1,6 +1,0 @@
-mod DealLemmas
-mod SeatLemmas
-mod AdmitLemmas
-mod GreetLemmas
-mod LawLemmas
-pub mod KnownLemmas

@@ -1,0 +1,152 @@
+//! The house of a connection's office: clock, keys and rates, and what it is told.
+use crate::counts::{NAMES, place_of};
+use crate::links::Talk;
+use crate::shared::Shared;
+use crate::telling::log_refusal;
+use site_book::Who;
+use site_directory::Address;
+use site_office::{Cause, House, Met, Note};
+use std::alloc::Global;
+use std::net::{Shutdown, TcpStream};
+use std::sync::{Arc, Wait};
+use std::time::Clock;
+
+/// The house of a connection's office.
+#[derive(Drop)]
+pub(crate) struct Caller<'a, R> {
+    pub(crate) rt: &'a R,
+    pub(crate) alloc: Global,
+    pub(crate) shared: &'a Shared,
+    pub(crate) stream: Arc<TcpStream, Global>,
+    pub(crate) talk: &'a Talk,
+    /// Whose the connection is, and where it comes from.
+    pub(crate) own: Who,
+    pub(crate) address: Address,
+    /// As whose it counts; `None` where as nobody's.
+    pub(crate) account: Option<Who>,
+    /// The hall of its session, or of the next.
+    pub(crate) hall: usize,
+    /// Its session, and whose that is.
+    pub(crate) session: Option<(u64, Who)>,
+    /// When its session began, in milliseconds.
+    pub(crate) since: u64,
+    /// When the line came whose answer is timed, in microseconds.
+    pub(crate) asked: u64,
+}
+
+impl<R: Clock + Wait> Caller<'_, R> {
+    /// Its session has begun.
+    fn begin(&mut self, number: u64, who: Who) {
+        let took = self.shared.micros(self.rt).saturating_sub(self.asked);
+        self.session = Some((number, who));
+        self.since = self.shared.now(self.rt);
+        self.talk.welcome();
+        let kept = match Arc::try_clone(&self.stream) {
+            Ok(stream) => {
+                let mut register = self.shared.lock.lock(self.rt);
+                register.counts.welcomed = register.counts.welcomed.saturating_add(1);
+                register.counts.hello.note(took);
+                register.link(self.hall, number, self.address, stream)
+            }
+            Err(_) => false,
+        };
+        if !kept {
+            let _ = self.stream.shutdown(Shutdown::Both);
+        }
+    }
+
+    /// A refusal is counted, and said.
+    fn refuse(&mut self, cause: Cause) {
+        let place = place_of(cause);
+        {
+            let mut register = self.shared.lock.lock(self.rt);
+            register.counts.refuse(place);
+        }
+        log_refusal(
+            self.rt,
+            self.alloc,
+            self.shared,
+            self.address,
+            NAMES.get(place).copied().unwrap_or(""),
+        );
+    }
+
+    /// Its session waits for a job, or doesn't any more.
+    fn wait(&mut self, waits: bool) {
+        let now = self.shared.micros(self.rt);
+        let Some((number, _)) = self.session else {
+            return;
+        };
+        let mut register = self.shared.lock.lock(self.rt);
+        register.set_waiting(self.hall, number, waits);
+        if waits {
+            self.asked = now;
+        } else {
+            register.counts.wait.note(now.saturating_sub(self.asked));
+        }
+    }
+
+    /// The connection has ended.
+    pub(crate) fn leave(&self) {
+        let mut register = self.shared.lock.lock(self.rt);
+        register.counts.lines = register.counts.lines.saturating_add(self.talk.lines.get());
+        register.depart(self.account);
+    }
+}
+
+impl<R: Clock + Wait> House for Caller<'_, R> {
+    fn now(&self) -> u64 {
+        self.shared.now(self.rt)
+    }
+
+    fn guest_idle(&self) -> u64 {
+        let register = self.shared.lock.lock(self.rt);
+        u64::from(register.config.limits.guest).saturating_mul(1_000)
+    }
+
+    fn meet(&mut self, token: Option<&[u8]>) -> Met {
+        self.asked = self.shared.micros(self.rt);
+        let mut register = self.shared.lock.lock(self.rt);
+        let who = match token {
+            None => Some(self.own),
+            Some(token) => register.config.directory.keys.by_token(token),
+        };
+        let Some(who) = who else {
+            return Met::Nobody;
+        };
+        if register.draining.is_some() || !register.belong(self.account, who) {
+            return Met::Crowded;
+        }
+        self.account = Some(who);
+        self.talk.is_extra.set(false);
+        self.hall = register.hall_of(who);
+        Met::Is(who, self.hall)
+    }
+
+    fn pay(&mut self, who: Who) -> bool {
+        let now = self.shared.micros(self.rt);
+        let mut register = self.shared.lock.lock(self.rt);
+        let rate = register.config.directory.terms(who).rate;
+        register.rates.pay(who, rate, now)
+    }
+
+    fn note(&mut self, note: Note) {
+        match note {
+            Note::Begins(number, who) => self.begin(number, who),
+            Note::Ended(number) => {
+                let mut register = self.shared.lock.lock(self.rt);
+                register.unlink(self.hall, number);
+            }
+            Note::Waits(waits) => self.wait(waits),
+            Note::Value => {
+                let mut register = self.shared.lock.lock(self.rt);
+                register.counts.values = register.counts.values.saturating_add(1);
+            }
+            Note::Refused(cause) => self.refuse(cause),
+            Note::Tells(number) => {
+                let register = self.shared.lock.lock(self.rt);
+                register.shut(self.hall, number);
+            }
+        }
+    }
+}

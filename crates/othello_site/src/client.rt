@@ -1,0 +1,284 @@
+//! One connection, from its first byte to its last.
+ghost use Rattle.std.specs.Prelude.{◌≤◌, length};
+
+use crate::caller::Caller;
+use crate::counts::{FULL, HEADER, NAMES, SILENCE};
+use crate::links::{Incoming, MOST_BYTES, Outgoing, Reading, Received, Talk};
+use crate::shared::Shared;
+use crate::telling::{address_text, log_refusal};
+use line_io::{LineFault, Sink, TalkEnd};
+use site_book::Who;
+use site_directory::Address;
+use site_office::{SiteOffice, serve_connection};
+use site_rules::{Arrival, Caller as Origin, Port, Times, identify};
+use std::alloc::{AllocError, Global};
+use std::net::TcpStream;
+use std::sync::{Arc, Wait};
+use std::time::{Clock, Duration};
+
+/// What is said to who has too many connections.
+const NO_ROOM: &[u8] = b"ERR 14\n";
+
+/// A connection whose customer is known.
+#[derive(Clone, Copy)]
+struct Known {
+    who: Who,
+    address: Address,
+    /// How many bytes its header had.
+    used: usize,
+}
+
+/// What came of a connection's first bytes.
+enum Met {
+    Is(Known),
+    Unfinished,
+    Foreign,
+}
+
+/// Milliseconds of so many seconds.
+fn millis(seconds: u32) -> u64 {
+    u64::from(seconds).saturating_mul(1_000)
+}
+
+/// Whose a connection is that begins with these bytes.
+fn identified<R: Wait>(rt: &R, shared: &Shared, port: Port, bytes: &[u8], peer: Address) -> Met {
+    match identify(port, bytes, peer) {
+        Origin::From {
+            address,
+            certificate,
+            used,
+        } => {
+            let register = shared.lock.lock(rt);
+            let who = register
+                .config
+                .directory
+                .keys
+                .by_connection(certificate, address);
+            Met::Is(Known { who, address, used })
+        }
+        Origin::Unfinished => Met::Unfinished,
+        Origin::Foreign => Met::Foreign,
+    }
+}
+
+/// Reads until it is known whose the connection is; `None` where it is to be closed.
+fn greet<R: Clock + Wait>(
+    rt: &R,
+    alloc: Global,
+    shared: &Shared,
+    port: Port,
+    source: &mut Incoming<'_, R>,
+    peer: Address,
+) -> Option<Known> {
+    for _ in 0..MOST_BYTES {
+        match identified(rt, shared, port, source.ahead.bytes(), peer) {
+            Met::Is(known) => return Some(known),
+            Met::Foreign => {
+                refuse(rt, alloc, shared, peer, HEADER);
+                return None;
+            }
+            Met::Unfinished => {}
+        }
+        let mut block = [0; 512];
+        let most = source.ahead.left().min(block.len());
+        let Some(count) = source.read(&mut block[..most]) else {
+            return None;
+        };
+        if count == 0 {
+            return None;
+        }
+        source.ahead.keep(&block[..count.min(most)]);
+    }
+    None
+}
+
+/// Counts a connection that is refused, and says it.
+fn refuse<R: Clock + Wait>(rt: &R, alloc: Global, shared: &Shared, address: Address, place: usize) {
+    {
+        let mut register = shared.lock.lock(rt);
+        register.counts.refuse(place);
+    }
+    log_refusal(
+        rt,
+        alloc,
+        shared,
+        address,
+        NAMES.get(place).copied().unwrap_or(""),
+    );
+}
+
+/// How long connections may be silent, and take for a byte.
+fn times_of<R: Wait>(rt: &R, shared: &Shared) -> (Times, Duration) {
+    let register = shared.lock.lock(rt);
+    let limits = register.config.limits;
+    let times = Times {
+        welcome: millis(limits.welcome),
+        idle: millis(limits.idle),
+    };
+    (times, Duration::from_millis(millis(limits.write.max(1))))
+}
+
+/// Both names of a connection.
+fn names_of(
+    alloc: Global,
+    stream: TcpStream,
+) -> Result<(Arc<TcpStream, Global>, Arc<TcpStream, Global>), AllocError> {
+    let stream = Arc::new(alloc, stream)?;
+    let other = Arc::try_clone(&stream)?;
+    Ok((stream, other))
+}
+
+/// Serves one connection.
+pub(crate) fn serve_client<R: Clock + Wait>(
+    rt: &R,
+    alloc: Global,
+    shared: &Shared,
+    stream: TcpStream,
+    port: Port,
+) -> Option<()> {
+    let Ok(peer) = stream.peer_addr() else {
+        return None;
+    };
+    let (times, write) = times_of(rt, shared);
+    let _ = stream.set_nodelay(true);
+    let _ = stream.set_write_timeout(Some(write));
+    let Ok((incoming, outgoing)) = names_of(alloc, stream) else {
+        return None;
+    };
+    let Ok(own) = Arc::try_clone(&outgoing) else {
+        return None;
+    };
+    let talk = Talk::new(shared.now(rt), false);
+    let mut source = Incoming {
+        rt,
+        shared,
+        stream: incoming,
+        talk: &talk,
+        times,
+        ahead: Received::new(),
+        given: 0,
+    };
+    let known = greet(
+        rt,
+        alloc,
+        shared,
+        port,
+        &mut source,
+        Address::of_ip(peer.ip()),
+    )?;
+    source.given = known.used;
+    let mut sink = Outgoing { stream: outgoing };
+    receive(rt, alloc, shared, &talk, &mut source, &mut sink, own, known);
+    Some(())
+}
+
+/// Takes a connection in whose customer is known, if there is a place for it, and serves it.
+fn receive<R: Clock + Wait>(
+    rt: &R,
+    alloc: Global,
+    shared: &Shared,
+    talk: &Talk,
+    source: &mut Incoming<'_, R>,
+    sink: &mut Outgoing,
+    stream: Arc<TcpStream, Global>,
+    known: Known,
+) {
+    let (arrival, hall) = {
+        let mut register = shared.lock.lock(rt);
+        (register.arrive(known.who), register.hall_of(known.who))
+    };
+    let account = match arrival {
+        Arrival::Counted => Some(known.who),
+        Arrival::Heard => {
+            talk.is_extra.set(true);
+            None
+        }
+        Arrival::Closed => {
+            refuse(rt, alloc, shared, known.address, FULL);
+            let _ = sink.put(NO_ROOM);
+            return;
+        }
+    };
+    let caller = Caller {
+        rt,
+        alloc,
+        shared,
+        stream,
+        talk,
+        own: known.who,
+        address: known.address,
+        account,
+        hall,
+        session: None,
+        since: 0,
+        asked: 0,
+    };
+    let Some(desk) = shared.desks.get(hall) else {
+        caller.leave();
+        return;
+    };
+    let mut office = SiteOffice::new(
+        rt,
+        shared.desks.as_slice(),
+        desk,
+        caller,
+        known.who,
+        shared.grain,
+    );
+    let end = serve_connection(rt, source, sink, &mut office);
+    let caller = office.close();
+    caller.leave();
+    tell_end(
+        rt,
+        alloc,
+        shared,
+        &caller,
+        words_of(end, talk.reading.get()),
+    );
+    if talk.reading.get() == Reading::Late && !talk.pace.get().welcomed {
+        refuse(rt, alloc, shared, known.address, SILENCE);
+    }
+}
+
+/// What ended a connection, in a word.
+fn words_of(end: Result<TalkEnd, LineFault>, reading: Reading) -> &'static str {
+    match (end, reading) {
+        (Ok(TalkEnd::Line), _) => "bye",
+        (Ok(TalkEnd::Input), _) => "input",
+        (Err(LineFault::Write), _) => "unwritten",
+        (Err(_), Reading::Late) => "silence",
+        (Err(_), _) => "lost",
+    }
+}
+
+/// Says the session's line of the log, if there was a session.
+fn tell_end<R: Clock + Wait>(
+    rt: &R,
+    alloc: Global,
+    shared: &Shared,
+    caller: &Caller<'_, R>,
+    end: &str,
+) {
+    let Some((number, who)) = caller.session else {
+        return;
+    };
+    let seconds = shared.now(rt).saturating_sub(caller.since) / 1_000;
+    let lines = caller.talk.lines.get();
+    let hall = caller.hall.saturating_add(1);
+    let name = {
+        let register = shared.lock.lock(rt);
+        register.config.directory.name_of(alloc, who)
+    };
+    let Ok(name) = name else {
+        return;
+    };
+    let Ok(address) = address_text(alloc, caller.address) else {
+        return;
+    };
+    let line = format!(in alloc;
+        "event=session hall={hall} session={number} customer=\"{name}\" address={address} seconds={seconds} lines={lines} end={end}\n"
+    );
+    if let Ok(line) = line {
+        shared.log.say(rt, line.as_str());
+    }
+}

@@ -1,0 +1,47 @@
+//! Why the site ends: told by whichever thread knows it to the one that waits for it.
+use std::io;
+use std::sync::{Condvar, Mutex, Wait};
+
+/// Why the site ends.
+#[derive(Drop)]
+pub(crate) enum Why {
+    /// No more connections can be taken.
+    Deaf(io::Error),
+    /// A hall's workers couldn't be started.
+    Idle,
+    /// All have left, as the operator asked.
+    Drained,
+}
+
+/// Why the site ends; nothing while it serves.
+#[derive(Drop)]
+pub(crate) struct Ending {
+    why: Mutex<Option<Why>>,
+    told: Condvar,
+}
+
+impl Ending {
+    /// That of a site that serves.
+    pub(crate) fn new() -> Ending {
+        Ending {
+            why: Mutex::new(None),
+            told: Condvar::new(),
+        }
+    }
+
+    /// Says why the site ends.
+    pub(crate) fn tell<R: Wait>(&self, rt: &R, reason: Why) {
+        let mut why = self.why.lock(rt);
+        *why = Some(reason);
+        drop(why);
+        self.told.notify_all();
+    }
+
+    /// Waits until it is said why the site ends.
+    pub(crate) fn wait<R: Wait>(&self, rt: &R) -> Why {
+        let mut why = self
+            .told
+            .wait_while(rt, self.why.lock(rt), |why| why.is_none());
+        why.take().unwrap()
+    }
+}

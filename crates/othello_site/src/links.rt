@@ -1,0 +1,264 @@
+//! Connections as sources and sinks, with limits in time.
+ghost use Rattle.std.specs.Prelude.{◌≤◌, length, IfSome};
+
+use crate::shared::Shared;
+use line_io::{ReadFailed, Sink, Source, WriteFailed};
+use site_rules::{Pace, Times};
+use std::alloc::Global;
+use std::cell::Cell;
+use std::io::{ErrorKind, Read, Write};
+use std::net::TcpStream;
+use std::sync::Arc;
+use std::time::{Clock, Duration};
+
+/// How often a read that a signal interrupts is made again.
+const READ_TRIES: u32 = 65_536;
+
+/// The byte that ends a line.
+const LF: u8 = 10;
+
+/// The most bytes that are kept of a beginning.
+pub(crate) const MOST_BYTES: usize = 4_096;
+
+/// How a connection's reads ended.
+#[derive(Clone, Copy, PartialEq, Eq)]
+pub(crate) enum Reading {
+    /// They go on.
+    GoesOn,
+    /// Its time was over.
+    Late,
+    /// It failed.
+    Failed,
+    /// Its client ended its input.
+    Ended,
+}
+
+/// What a connection's source and its office both know.
+#[derive(Drop)]
+pub(crate) struct Talk {
+    /// How far it has come.
+    pub(crate) pace: Cell<Pace>,
+    /// Whether it is heard for its first line alone.
+    pub(crate) is_extra: Cell<bool>,
+    /// Whether the bytes that were read last had a line's end.
+    had_line: Cell<bool>,
+    /// Lines so far.
+    pub(crate) lines: Cell<u64>,
+    /// How its reads ended.
+    pub(crate) reading: Cell<Reading>,
+}
+
+impl Talk {
+    /// That of a connection that comes now.
+    pub(crate) fn new(now: u64, is_extra: bool) -> Talk {
+        Talk {
+            pace: Cell::new(Pace::new(now)),
+            is_extra: Cell::new(is_extra),
+            had_line: Cell::new(false),
+            lines: Cell::new(0),
+            reading: Cell::new(Reading::GoesOn),
+        }
+    }
+
+    /// Its HELLO was welcomed.
+    pub(crate) fn welcome(&self) {
+        self.pace.set(Pace {
+            welcomed: true,
+            ..self.pace.get()
+        });
+    }
+
+    /// Counts the lines that end in these bytes.
+    fn hear(&self, bytes: &[u8]) {
+        let mut ends: u64 = 0;
+        for byte in bytes {
+            if *byte == LF {
+                ends = ends.saturating_add(1);
+            }
+        }
+        self.lines.set(self.lines.get().saturating_add(ends));
+        self.had_line.set(ends > 0);
+    }
+
+    /// All lines that came were answered.
+    fn answered(&self, now: u64) {
+        if self.had_line.get() {
+            self.pace.set(Pace {
+                last: now,
+                ..self.pace.get()
+            });
+        }
+    }
+
+    /// Whether it was heard for its first line alone, and that was answered.
+    fn is_over(&self) -> bool {
+        self.is_extra.get() && self.lines.get() > 0
+    }
+}
+
+/// The bytes of a connection.
+#[derive(Drop)]
+pub(crate) struct Incoming<'a, R> {
+    pub(crate) rt: &'a R,
+    pub(crate) shared: &'a Shared,
+    pub(crate) stream: Arc<TcpStream, Global>,
+    pub(crate) talk: &'a Talk,
+    pub(crate) times: Times,
+    /// The bytes that were read with the header.
+    pub(crate) ahead: Received,
+    /// How many of them were given.
+    pub(crate) given: usize,
+}
+
+impl<R: Clock> Incoming<'_, R> {
+    /// Reads a block, as long as it may take. None at a failure, and where it takes longer.
+    pub(crate) fn read(&mut self, block: &mut [u8]) -> Option<usize>
+        ensures { IfSome result (λ n. n ≤ length block.new) }
+    {
+        for _ in 0..READ_TRIES {
+            let now = self.shared.now(self.rt);
+            let Some(left) = self.talk.pace.get().left(&self.times, now) else {
+                self.talk.reading.set(Reading::Late);
+                return None;
+            };
+            if self
+                .stream
+                .set_read_timeout(Some(Duration::from_millis(left.max(1))))
+                .is_err()
+            {
+                self.talk.reading.set(Reading::Failed);
+                return None;
+            }
+            match (&*self.stream).read(block) {
+                Ok(count) => return Some(count),
+                Err(error) => {
+                    if !self.goes_on(error.kind()) {
+                        return None;
+                    }
+                }
+            }
+        }
+        None
+    }
+
+    /// Whether a read is made again that failed so.
+    fn goes_on(&self, kind: ErrorKind) -> bool {
+        match kind {
+            ErrorKind::Interrupted => true,
+            ErrorKind::WouldBlock | ErrorKind::TimedOut => {
+                self.talk.reading.set(Reading::Late);
+                false
+            }
+            _ => {
+                self.talk.reading.set(Reading::Failed);
+                false
+            }
+        }
+    }
+
+    /// The bytes that were read with the header, as many as the block has room for.
+    fn take_ahead(&mut self, block: &mut [u8]) -> usize
+        ensures { result ≤ length block.new }
+    {
+        let bytes = self.ahead.bytes();
+        let from = self.given.min(bytes.len());
+        let count = (bytes.len() - from).min(block.len());
+        block[..count].copy_from_slice(&bytes[from..from + count]);
+        self.given = from + count;
+        count
+    }
+}
+
+impl<R: Clock> Source for Incoming<'_, R> {
+    ghost gives = { λ _ _ _. Unit {0} };
+
+    fn fill(&mut self, block: &mut [u8]) -> Result<usize, ReadFailed> {
+        let ahead = self.take_ahead(block);
+        if ahead > 0 {
+            self.talk.hear(&block[..ahead]);
+            return Ok(ahead);
+        }
+        self.talk.answered(self.shared.now(self.rt));
+        if self.talk.is_over() {
+            return Ok(0);
+        }
+        match self.read(block) {
+            Some(count) => {
+                if count == 0 {
+                    self.talk.reading.set(Reading::Ended);
+                }
+                self.talk.hear(&block[..count]);
+                Ok(count)
+            }
+            None => Err(ReadFailed),
+        }
+    }
+}
+
+/// What goes to a connection.
+#[derive(Drop)]
+pub(crate) struct Outgoing {
+    pub(crate) stream: Arc<TcpStream, Global>,
+}
+
+impl Sink for Outgoing {
+    ghost takes = { λ _ _ _. Unit {0} };
+
+    fn put(&mut self, bytes: &[u8]) -> Result<usize, WriteFailed> {
+        // (one that takes a part alone has waited for its whole time)
+        match (&*self.stream).write(bytes) {
+            Ok(count) if count > 0 && count == bytes.len() => Ok(count),
+            _ => Err(WriteFailed),
+        }
+    }
+}
+
+/// The first bytes of a connection.
+#[derive(Drop)]
+pub(crate) struct Received {
+    block: [u8; MOST_BYTES],
+    size: usize,
+}
+
+impl Received {
+    /// No byte yet.
+    pub(crate) fn new() -> Received {
+        Received {
+            block: [0; MOST_BYTES],
+            size: 0,
+        }
+    }
+
+    /// The bytes that came.
+    pub(crate) fn bytes(&self) -> &[u8]
+        ensures { length result.now ≤ 4096 }
+    {
+        &self.block[..self.size.min(MOST_BYTES)]
+    }
+
+    /// Where further bytes go.
+    pub(crate) fn room(&mut self) -> &mut [u8] {
+        let from = self.size.min(MOST_BYTES);
+        &mut self.block[from..]
+    }
+
+    /// So many bytes came.
+    pub(crate) fn grow(&mut self, count: usize) {
+        self.size = self.size.saturating_add(count).min(MOST_BYTES);
+    }
+
+    /// Keeps these bytes, as many as there is room for.
+    pub(crate) fn keep(&mut self, bytes: &[u8]) {
+        for byte in bytes {
+            if self.size < MOST_BYTES {
+                self.block[self.size] = *byte;
+                self.size += 1;
+            }
+        }
+    }
+
+    /// How many more bytes there is room for.
+    pub(crate) fn left(&self) -> usize {
+        MOST_BYTES.saturating_sub(self.size)
+    }
+}

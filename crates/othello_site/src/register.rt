@@ -1,0 +1,236 @@
+//! What all connections share beside the desks, under one lock: the file's words, rates, connections, who can be shut, and the counts.
+use crate::counts::Counts;
+use crate::rates::Rates;
+use crate::tallies::Tallies;
+use site_book::Who;
+use site_config::Config;
+use site_directory::Address;
+use site_rules::{Arrival, Crowd, Seen, Watch, arrival_of};
+use std::alloc::Global;
+use std::io::ErrorKind;
+use std::net::{Shutdown, TcpStream};
+use std::sync::Arc;
+
+/// A session that is there, and its connection.
+#[derive(Drop)]
+pub(crate) struct Link {
+    /// Its hall, from 0.
+    pub(crate) hall: usize,
+    /// Its number.
+    pub(crate) session: u64,
+    /// Where its connection comes from.
+    pub(crate) address: Address,
+    stream: Arc<TcpStream, Global>,
+    /// Whether it waits for a job, so that its thread doesn't read.
+    waits: bool,
+    watch: Watch,
+}
+
+/// What connections share.
+#[derive(Drop)]
+pub(crate) struct Register {
+    pub(crate) config: Arc<Config, Global>,
+    pub(crate) rates: Rates,
+    tallies: Tallies,
+    /// Connections in all, and those that count as nobody's.
+    pub(crate) all: u32,
+    pub(crate) extra: u32,
+    pub(crate) links: Vec<Link>,
+    pub(crate) counts: Counts,
+    /// Until when those stay who are there, where nobody else may come.
+    pub(crate) draining: Option<u64>,
+}
+
+impl Register {
+    /// Nobody is there.
+    pub(crate) fn new(alloc: Global, config: Arc<Config, Global>) -> Register {
+        Register {
+            config,
+            rates: Rates::new(alloc),
+            tallies: Tallies::new(alloc),
+            all: 0,
+            extra: 0,
+            links: Vec::new(alloc),
+            counts: Counts::new(),
+            draining: None,
+        }
+    }
+
+    /// One connection more; false where there may be none.
+    pub(crate) fn come(&mut self) -> bool {
+        if self.draining.is_some() || self.all >= self.config.limits.connections {
+            return false;
+        }
+        self.all = self.all.saturating_add(1);
+        true
+    }
+
+    /// One connection less.
+    pub(crate) fn go(&mut self) {
+        self.all = self.all.saturating_sub(1);
+    }
+
+    /// How a connection of this customer is taken. (It is one of all already.)
+    pub(crate) fn arrive(&mut self, who: Who) -> Arrival {
+        let crowd = Crowd {
+            own: self.tallies.of(who),
+            most_own: self.config.directory.terms(who).connections,
+            extra: self.extra,
+            all: self.all.saturating_sub(1),
+            most_all: self.config.limits.connections,
+        };
+        let arrival = arrival_of(&crowd);
+        match arrival {
+            Arrival::Counted => {
+                let _ = self.tallies.arrive(who);
+            }
+            Arrival::Heard => self.extra = self.extra.saturating_add(1),
+            Arrival::Closed => {}
+        }
+        arrival
+    }
+
+    /// A connection leaves that counts as this customer's, or as nobody's.
+    pub(crate) fn depart(&mut self, account: Option<Who>) {
+        match account {
+            Some(who) => self.tallies.depart(who),
+            None => self.extra = self.extra.saturating_sub(1),
+        }
+    }
+
+    /// Has a connection count as another customer's, if that may have one more.
+    pub(crate) fn belong(&mut self, account: Option<Who>, who: Who) -> bool {
+        if let Some(own) = account {
+            if own.is(who) {
+                return true;
+            }
+        }
+        if self.tallies.of(who) >= self.config.directory.terms(who).connections {
+            return false;
+        }
+        let _ = self.tallies.arrive(who);
+        self.depart(account);
+        true
+    }
+
+    /// The hall of a customer's sessions: the file says it, and of a guest the address.
+    pub(crate) fn hall_of(&self, who: Who) -> usize {
+        let many = (self.config.halls.len() as u64).max(1);
+        let hall = match who {
+            Who::Named(_) => u64::from(self.config.directory.terms(who).hall),
+            Who::V4(address) => u64::from(address),
+            Who::V6(network) => network,
+        };
+        (hall % many) as usize
+    }
+
+    /// Keeps a session's connection, so that it can be shut; false where there is no memory.
+    pub(crate) fn link(
+        &mut self,
+        hall: usize,
+        session: u64,
+        address: Address,
+        stream: Arc<TcpStream, Global>,
+    ) -> bool {
+        self.links
+            .push(Link {
+                hall,
+                session,
+                address,
+                stream,
+                waits: false,
+                watch: Watch::NOTHING,
+            })
+            .is_ok()
+    }
+
+    /// The place of a session's connection.
+    fn place_of(&self, hall: usize, session: u64) -> Option<usize> {
+        for (place, link) in self.links.iter().enumerate() {
+            if link.hall == hall && link.session == session {
+                return Some(place);
+            }
+        }
+        None
+    }
+
+    /// Forgets a session's connection.
+    pub(crate) fn unlink(&mut self, hall: usize, session: u64) {
+        if let Some(place) = self.place_of(hall, session) {
+            if place < self.links.len() {
+                let _ = self.links.swap_remove(place);
+            }
+        }
+    }
+
+    /// Shuts a session's connection.
+    pub(crate) fn shut(&self, hall: usize, session: u64) {
+        if let Some(place) = self.place_of(hall, session) {
+            if let Some(link) = self.links.get(place) {
+                let _ = link.stream.shutdown(Shutdown::Both);
+            }
+        }
+    }
+
+    /// A session waits for a job from now on, or doesn't any more.
+    pub(crate) fn set_waiting(&mut self, hall: usize, session: u64, waits: bool) {
+        if let Some(place) = self.place_of(hall, session) {
+            if let Some(link) = self.links.get_mut(place) {
+                link.waits = waits;
+                link.watch = Watch::NOTHING;
+            }
+        }
+    }
+
+    /// Where the connection of a session comes from.
+    pub(crate) fn address_of(&self, hall: usize, session: u64) -> Option<Address> {
+        let place = self.place_of(hall, session)?;
+        let link = self.links.get(place)?;
+        Some(link.address)
+    }
+
+    /// Looks at the connection at a place, if it waits for a job: its hall and session where its client is gone.
+    pub(crate) fn look(&mut self, place: usize, now: u64) -> Option<(usize, u64)> {
+        let hangup = u64::from(self.config.limits.hangup).saturating_mul(1_000);
+        let link = self.links.get_mut(place)?;
+        if !link.waits {
+            return None;
+        }
+        let seen = seen_of(&link.stream);
+        link.watch = link.watch.after(seen, now);
+        if link.watch.is_gone(seen, now, hangup) {
+            Some((link.hall, link.session))
+        } else {
+            None
+        }
+    }
+}
+
+/// What is seen of a connection that nobody reads.
+fn seen_of(stream: &TcpStream) -> Seen {
+    if stream.set_nonblocking(true).is_err() {
+        return Seen::Lost;
+    }
+    let mut block = [0; 1];
+    let peeked = stream.peek(&mut block);
+    let seen = match peeked {
+        Ok(0) => Seen::Ended,
+        Ok(_) => seen_by(stream),
+        Err(error) => match error.kind() {
+            ErrorKind::WouldBlock | ErrorKind::Interrupted => Seen::Silent,
+            _ => Seen::Lost,
+        },
+    };
+    if stream.set_nonblocking(false).is_err() {
+        return Seen::Lost;
+    }
+    seen
+}
+
+/// What is seen of a connection whose bytes wait to be read.
+fn seen_by(stream: &TcpStream) -> Seen {
+    match stream.take_error() {
+        Ok(None) => Seen::Silent,
+        _ => Seen::Lost,
+    }
+}

@@ -1,0 +1,323 @@
+//! The threads of a site that serves.
+//!
+//! They run in a scope of a thread of their own, which ends with the last session. The thread that began it waits for one thing alone: that
+//! it is told why the site ends ([`Ending`]). Then the program ends at once, and its sessions with it, so that whoever supervises it can
+//! start it again.
+ghost use Rattle.std.specs.Prelude.{◌≡◌, IfSome};
+
+use crate::control::serve_control;
+use crate::ending::{Ending, Why};
+use crate::listening::take_all;
+use crate::logging::Log;
+use crate::paths::Paths;
+use crate::register::Register;
+use crate::reloading::copied;
+use crate::shared::Shared;
+use crate::watching::watch_all;
+use crate::web::serve_web;
+use crate::working::Workshop;
+use booked_hall::BookedHall;
+use fair_pool::run_pool;
+use fair_share::FairShare;
+use hall::{Config as Totals, Hall};
+use sched_rules::Worker;
+use site_book::{Book, Plan};
+use site_config::Config;
+use site_desk::SiteDesk;
+use site_rules::Port;
+use std::alloc::{AllocError, Global};
+use std::io;
+use std::net::{Net, SocketAddr, TcpListener, TcpStream};
+use std::os::unix::net::UnixListener;
+use std::sync::atomic::AtomicU64;
+use std::sync::{Arc, Mutex, Wait};
+use std::thread::{self, Builder, Scope, Threads};
+use std::time::{Clock, Instant};
+
+/// Where a site listens.
+#[derive(Drop)]
+struct Ends {
+    plain: Option<TcpListener>,
+    proxied: Option<TcpListener>,
+    health: Option<TcpListener>,
+    control: Option<UnixListener>,
+}
+
+/// What a site serves with.
+#[derive(Drop)]
+struct Site {
+    shared: Shared,
+    ends: Ends,
+    workers: u8,
+}
+
+/// The listener at an address, if there is one.
+fn listener_at<R>(rt: &R, address: Option<SocketAddr>) -> io::Result<Option<TcpListener>>
+where
+    R: Net<Listener = TcpListener, Stream = TcpStream>,
+{
+    match address {
+        Some(address) => Ok(Some(TcpListener::bind(rt, address)?)),
+        None => Ok(None),
+    }
+}
+
+/// Listens as a file says.
+fn ends_of<R>(rt: &R, config: &Config) -> io::Result<Ends>
+where
+    R: Net<Listener = TcpListener, Stream = TcpStream> + Paths,
+{
+    let plain = listener_at(rt, config.entrances.plain)?;
+    let proxied = listener_at(rt, config.entrances.proxied)?;
+    let health = listener_at(rt, config.entrances.health)?;
+    let control = match &config.control {
+        Some(path) => Some(rt.socket_at(path.as_str())?),
+        None => None,
+    };
+    Ok(Ends {
+        plain,
+        proxied,
+        health,
+        control,
+    })
+}
+
+/// The totals of a hall by its plan; `None` where they are beyond any hall's.
+fn totals_of(plan: &Plan) -> Option<Totals>
+    ensures segments { IfSome result (λ totals. totals.segments ≡ plan.now.totals.segments) }
+    ensures nodes { IfSome result (λ totals. totals.nodes ≡ plan.now.totals.nodes) }
+{
+    let totals = plan.totals();
+    let Ok(segments) = u32::try_from(totals.segments) else {
+        return None;
+    };
+    match u32::try_from(totals.nodes) {
+        Ok(nodes) => Totals::new(segments, nodes),
+        Err(_) => None,
+    }
+}
+
+/// How many customers may be new in files that are read later, whose shares outlive their sessions.
+const LATER: usize = 4_096;
+
+/// A desk for a hall with this plan of so many named customers; `None` where there is no such hall.
+fn desk_of(
+    alloc: Global,
+    plan: Plan,
+    customers: usize,
+    grain: u8,
+) -> Result<Option<SiteDesk>, AllocError> {
+    let Some(totals) = totals_of(&plan) else {
+        return Ok(None);
+    };
+    let hall = Hall::new(alloc, totals, grain.min(6))?;
+    let book = Book::new(alloc, plan)?;
+    let shares = FairShare::new(alloc, customers.saturating_add(LATER))?;
+    Ok(Some(SiteDesk::new(BookedHall::new(hall, book), shares)))
+}
+
+/// The desks of a site, one for each plan; `None` where one's totals are beyond any hall's.
+fn desks_of(alloc: Global, config: &Config) -> Result<Option<Vec<SiteDesk>>, AllocError> {
+    let mut desks = Vec::new(alloc);
+    for plan in &config.halls {
+        let customers = config.directory.customers.len();
+        let Some(plan) = copied(alloc, plan, customers)? else {
+            return Ok(None);
+        };
+        match desk_of(alloc, plan, customers, config.workers.grain)? {
+            Some(desk) => desks.push(desk)?,
+            None => return Ok(None),
+        }
+    }
+    Ok(Some(desks))
+}
+
+/// How many workers a hall has.
+fn workers_of<R: Threads>(rt: &R, config: &Config) -> u8 {
+    match config.workers.count {
+        Some(count) => count,
+        None => match thread::available_parallelism(rt) {
+            Ok(count) => u8::try_from(count.get().min(32)).unwrap_or(1),
+            Err(_) => 1,
+        },
+    }
+}
+
+/// What the threads share, where nobody is there; `None` where a hall's totals are beyond any hall's.
+fn shared_of<R: Clock + AllocGlobal>(
+    rt: &R,
+    path: &str,
+    config: Config,
+    ending: Arc<Ending, Global>,
+) -> io::Result<Option<Shared>> {
+    let alloc = rt.alloc();
+    let start = Some(Instant::now(rt)?);
+    let Some(desks) = desks_of(alloc, &config)? else {
+        return Ok(None);
+    };
+    let grain = config.workers.grain;
+    let path = String::from_str(alloc, path)?;
+    let config = Arc::new(alloc, config)?;
+    Ok(Some(Shared {
+        desks,
+        grain,
+        lock: Mutex::new(Register::new(alloc, config)),
+        log: Log::new(alloc),
+        start,
+        path,
+        ending,
+    }))
+}
+
+/// Listens as a file says, and serves until it is told why the site ends; `None` where a hall's totals are beyond any hall's.
+pub(crate) fn serve_config<R>(rt: &R, path: &str, config: Config) -> io::Result<Option<Why>>
+where
+    R: Net<Listener = TcpListener, Stream = TcpStream>
+        + Threads
+        + Wait
+        + Clock
+        + Paths
+        + Print
+        + Eprint
+        + AllocGlobal
+        + Copy
+        + Send
+        + Sync
+        + 'static,
+{
+    let workers = workers_of(rt, &config);
+    let ends = ends_of(rt, &config)?;
+    let (ending, theirs) = endings(rt.alloc())?;
+    let Some(shared) = shared_of(rt, path, config, theirs)? else {
+        return Ok(None);
+    };
+    let site = Site {
+        shared,
+        ends,
+        workers,
+    };
+    let host = *rt;
+    let _ = Builder::new().spawn(rt, move || serve_site(&host, site))?;
+    Ok(Some(ending.wait(rt)))
+}
+
+/// What is told why the site ends, and what waits for it.
+fn endings(alloc: Global) -> Result<(Arc<Ending, Global>, Arc<Ending, Global>), AllocError> {
+    let ending = Arc::new(alloc, Ending::new())?;
+    let theirs = Arc::try_clone(&ending)?;
+    Ok((ending, theirs))
+}
+
+/// Says where a site listens.
+fn say_listening<R: Print>(rt: &R, listener: &Option<TcpListener>) {
+    if let Some(listener) = listener {
+        if let Ok(address) = listener.local_addr() {
+            let _ = println!(rt; "listening {address}");
+        }
+    }
+}
+
+/// Runs the workers of a hall, until its desk is closed.
+fn run_workers<R: Threads + Wait + Sync>(
+    rt: &R,
+    alloc: Global,
+    shared: &Shared,
+    hall: usize,
+    workers: u8,
+) {
+    let Some(last) = Worker::new(workers) else {
+        shared.ending.tell(rt, Why::Idle);
+        return;
+    };
+    if let Some(desk) = shared.desks.get(hall) {
+        let workshop = Workshop { desk };
+        if run_pool(rt, alloc, &workshop, last, None).is_err() {
+            shared.ending.tell(rt, Why::Idle);
+        }
+    }
+}
+
+/// Starts the workers of a hall, in a thread of their own.
+fn start_hall<'s, E, R: Threads + Wait + Sync>(
+    scope: &'s Scope<'s, E>,
+    rt: &'s R,
+    alloc: Global,
+    shared: &'s Shared,
+    hall: usize,
+    workers: u8,
+) {
+    let _ = scope.spawn(move || run_workers(rt, alloc, shared, hall, workers));
+}
+
+/// Starts the workers of all halls.
+fn start_workers<'s, E, R: Threads + Wait + Sync>(
+    scope: &'s Scope<'s, E>,
+    rt: &'s R,
+    alloc: Global,
+    shared: &'s Shared,
+    workers: u8,
+) {
+    for hall in 0..shared.desks.len() {
+        start_hall(scope, rt, alloc, shared, hall, workers);
+    }
+}
+
+/// Starts taking connections at a port, if the site listens there.
+fn start_port<'s, E, R>(
+    scope: &'s Scope<'s, E>,
+    rt: &'s R,
+    alloc: Global,
+    shared: &'s Shared,
+    listener: Option<TcpListener>,
+    port: Port,
+)
+where
+    R: Net<Listener = TcpListener, Stream = TcpStream> + Threads + Wait + Clock + Sync,
+{
+    if let Some(listener) = listener {
+        let _ = scope.spawn(move || take_all(scope, rt, alloc, shared, listener, port));
+    }
+}
+
+/// Serves.
+fn serve_site<R>(rt: &R, site: Site)
+where
+    R: Net<Listener = TcpListener, Stream = TcpStream>
+        + Threads
+        + Wait
+        + Clock
+        + Paths
+        + Print
+        + Eprint
+        + AllocGlobal
+        + Sync,
+{
+    let Site {
+        shared,
+        ends,
+        workers,
+    } = site;
+    let Ends {
+        plain,
+        proxied,
+        health,
+        control,
+    } = ends;
+    say_listening(rt, &plain);
+    say_listening(rt, &proxied);
+    let many = AtomicU64::new(0);
+    let (shared, many) = (&shared, &many);
+    thread::scope(thread::scope_env(), rt, |scope| {
+        start_workers(scope, rt, rt.alloc(), shared, workers);
+        let _ = scope.spawn(move || shared.log.write_all(rt, rt.alloc()));
+        let _ = scope.spawn(move || watch_all(rt, shared));
+        if let Some(control) = control {
+            let _ = scope.spawn(move || serve_control(scope, rt, shared, control));
+        }
+        if let Some(health) = health {
+            let _ = scope.spawn(move || serve_web(scope, rt, shared, many, health));
+        }
+        start_port(scope, rt, rt.alloc(), shared, plain, Port::Plain);
+        start_port(scope, rt, rt.alloc(), shared, proxied, Port::Proxied);
+    });
+}

@@ -1,0 +1,287 @@
+//! What the site says of itself: STATS and metrics.
+use crate::counts::{BOUNDS, Buckets, Counts, NAMES};
+use crate::shared::Shared;
+use site_book::{Amount, Part};
+use site_directory::Address;
+use std::alloc::{AllocError, Global};
+use std::fmt::Write;
+use std::net::{Ipv4Addr, Ipv6Addr};
+use std::sync::{Arc, Wait};
+use std::time::Clock;
+
+/// An address in words.
+pub(crate) fn address_text(alloc: Global, address: Address) -> Result<String, AllocError> {
+    match address {
+        Address::V4(address) => {
+            let ip = Ipv4Addr::from_octets(address.to_be_bytes());
+            format!(in alloc; "{ip}")
+        }
+        Address::V6(high, low) => {
+            let mut octets = [0; 16];
+            octets[..8].copy_from_slice(&high.to_be_bytes());
+            octets[8..].copy_from_slice(&low.to_be_bytes());
+            let ip = Ipv6Addr::from_octets(octets);
+            format!(in alloc; "{ip}")
+        }
+    }
+}
+
+/// Says why somebody was refused, unless too many were in this second.
+pub(crate) fn log_refusal<R: Clock + Wait>(
+    rt: &R,
+    alloc: Global,
+    shared: &Shared,
+    address: Address,
+    reason: &str,
+) {
+    if !shared.log.has_room(rt, shared.now(rt) / 1_000) {
+        return;
+    }
+    let Ok(address) = address_text(alloc, address) else {
+        return;
+    };
+    let line = format!(in alloc; "event=refused reason={reason} address={address}\n");
+    if let Ok(line) = line {
+        shared.log.say(rt, line.as_str());
+    }
+}
+
+/// The answer to STATS: a line for each hall, for the guests and each customer of it that is there, and for each session, and an empty one.
+pub(crate) fn stats_of<R: AllocGlobal + Clock + Wait>(
+    rt: &R,
+    shared: &Shared,
+) -> Result<String, AllocError> {
+    let mut out = String::new(rt.alloc());
+    let (all, extra) = {
+        let register = shared.lock.lock(rt);
+        (register.all, register.extra)
+    };
+    writeln!(out, "connections={all} heard={extra}")?;
+    for hall in 0..shared.desks.len() {
+        push_hall(rt, shared, hall, &mut out)?;
+    }
+    out.push_str("\n")?;
+    Ok(out)
+}
+
+/// Appends what some of the sessions have and may have.
+fn push_amounts(out: &mut String, may: Amount, has: Amount) -> Result<(), AllocError> {
+    let (sessions, segments, nodes) = (has.sessions, has.segments, has.nodes);
+    let (places, room, budget) = (may.sessions, may.segments, may.nodes);
+    writeln!(
+        out,
+        "sessions={sessions} segments={segments} nodes={nodes} may_sessions={places} may_segments={room} may_nodes={budget}"
+    )
+}
+
+/// Appends the lines of a hall.
+fn push_hall<R: AllocGlobal + Clock + Wait>(
+    rt: &R,
+    shared: &Shared,
+    hall: usize,
+    out: &mut String,
+) -> Result<(), AllocError> {
+    let Some(desk) = shared.desks.get(hall) else {
+        return Ok(());
+    };
+    let config = Arc::try_clone(&shared.lock.lock(rt).config)?;
+    let number = hall.saturating_add(1);
+    let (may, has) = desk.part(rt, Part::All);
+    write!(out, "hall={number} ")?;
+    push_amounts(out, may, has)?;
+    let (may, has) = desk.part(rt, Part::Guests);
+    write!(out, "guests hall={number} ")?;
+    push_amounts(out, may, has)?;
+    let now = shared.now(rt);
+    let roll = desk.roll(rt);
+    for (place, present) in roll.as_slice().iter().enumerate() {
+        let name = config.directory.name_of(rt.alloc(), present.who)?;
+        let is_first = !roll.as_slice()[..place]
+            .iter()
+            .any(|other| other.who.is(present.who));
+        if is_first {
+            let (may, has) = desk.part(rt, Part::Own(present.who));
+            write!(out, "customer=\"{name}\" hall={number} ")?;
+            push_amounts(out, may, has)?;
+        }
+        let address = shared.lock.lock(rt).address_of(hall, present.session);
+        let address = match address {
+            Some(address) => address_text(rt.alloc(), address)?,
+            None => String::from_str(rt.alloc(), "-")?,
+        };
+        let session = present.session;
+        let since = now.saturating_sub(present.since) / 1_000;
+        let idle = now.saturating_sub(present.last) / 1_000;
+        let (waits, ends) = (u8::from(present.waits), u8::from(present.told.is_some()));
+        writeln!(
+            out,
+            "session={session} hall={number} customer=\"{name}\" address={address} since={since} idle={idle} waits={waits} ends={ends}"
+        )?;
+    }
+    Ok(())
+}
+
+/// Appends what stands in front of a metric's lines.
+fn push_head(out: &mut String, name: &str, help: &str, kind: &str) -> Result<(), AllocError> {
+    writeln!(
+        out,
+        "# HELP othello_site_{name} {help}\n# TYPE othello_site_{name} {kind}"
+    )
+}
+
+/// Appends a metric without labels.
+fn push_one(
+    out: &mut String,
+    name: &str,
+    help: &str,
+    kind: &str,
+    value: u128,
+) -> Result<(), AllocError> {
+    push_head(out, name, help, kind)?;
+    writeln!(out, "othello_site_{name} {value}")
+}
+
+/// Appends a histogram.
+fn push_histogram(
+    out: &mut String,
+    name: &str,
+    help: &str,
+    buckets: &Buckets,
+) -> Result<(), AllocError> {
+    push_head(out, name, help, "histogram")?;
+    let mut sum: u64 = 0;
+    for (place, count) in buckets.counts.iter().enumerate() {
+        sum = sum.saturating_add(*count);
+        match BOUNDS.get(place) {
+            Some(bound) => {
+                let (seconds, rest) = (*bound / 1_000_000, *bound % 1_000_000);
+                writeln!(
+                    out,
+                    "othello_site_{name}_bucket{{le=\"{seconds}.{rest:06}\"}} {sum}"
+                )?;
+            }
+            None => writeln!(out, "othello_site_{name}_bucket{{le=\"+Inf\"}} {sum}")?,
+        }
+    }
+    let (seconds, rest) = (buckets.sum / 1_000_000, buckets.sum % 1_000_000);
+    writeln!(
+        out,
+        "othello_site_{name}_sum {seconds}.{rest:06}\nothello_site_{name}_count {sum}"
+    )
+}
+
+/// All metrics, in the text format of Prometheus (version 0.0.4).
+pub(crate) fn metrics_of<R: AllocGlobal + Clock + Wait>(
+    rt: &R,
+    shared: &Shared,
+) -> Result<String, AllocError> {
+    let mut out = String::new(rt.alloc());
+    let (counts, connections) = {
+        let register = shared.lock.lock(rt);
+        (register.counts, register.all)
+    };
+    push_head(&mut out, "build_info", "The version that runs.", "gauge")?;
+    writeln!(out, "othello_site_build_info{{version=\"1.0.0\"}} 1")?;
+    push_one(
+        &mut out,
+        "connections",
+        "Connections now.",
+        "gauge",
+        u128::from(connections),
+    )?;
+    push_halls(rt, shared, &mut out)?;
+    push_counts(&mut out, &counts)?;
+    Ok(out)
+}
+
+/// Appends what the halls have.
+fn push_halls<R: Wait>(rt: &R, shared: &Shared, out: &mut String) -> Result<(), AllocError> {
+    push_head(out, "sessions", "Sessions now.", "gauge")?;
+    for (hall, desk) in shared.desks.iter().enumerate() {
+        let number = hall.saturating_add(1);
+        let (_, all) = desk.part(rt, Part::All);
+        let (_, guests) = desk.part(rt, Part::Guests);
+        let named = all.sessions.saturating_sub(guests.sessions);
+        let guests = guests.sessions;
+        writeln!(
+            out,
+            "othello_site_sessions{{hall=\"{number}\",who=\"guests\"}} {guests}\nothello_site_sessions{{hall=\"{number}\",who=\"customers\"}} {named}"
+        )?;
+    }
+    push_head(out, "segments", "Segments that are reserved now.", "gauge")?;
+    for (hall, desk) in shared.desks.iter().enumerate() {
+        let (number, all) = (hall.saturating_add(1), desk.part(rt, Part::All).1);
+        let segments = all.segments;
+        writeln!(out, "othello_site_segments{{hall=\"{number}\"}} {segments}")?;
+    }
+    push_head(out, "steps_total", "Steps of searches.", "counter")?;
+    for (hall, desk) in shared.desks.iter().enumerate() {
+        let (number, steps) = (hall.saturating_add(1), desk.count(rt));
+        writeln!(out, "othello_site_steps_total{{hall=\"{number}\"}} {steps}")?;
+    }
+    Ok(())
+}
+
+/// Appends what was counted.
+fn push_counts(out: &mut String, counts: &Counts) -> Result<(), AllocError> {
+    push_one(
+        out,
+        "welcomed_total",
+        "Sessions that were welcomed.",
+        "counter",
+        u128::from(counts.welcomed),
+    )?;
+    push_head(out, "refused_total", "Refusals by their reason.", "counter")?;
+    for (reason, count) in NAMES.iter().zip(counts.refused.iter()) {
+        writeln!(
+            out,
+            "othello_site_refused_total{{reason=\"{reason}\"}} {count}"
+        )?;
+    }
+    push_one(
+        out,
+        "lines_total",
+        "Lines of connections that have ended.",
+        "counter",
+        u128::from(counts.lines),
+    )?;
+    push_one(
+        out,
+        "values_total",
+        "Values that were told to a WAIT.",
+        "counter",
+        u128::from(counts.values),
+    )?;
+    push_head(out, "reloads_total", "Files read again.", "counter")?;
+    let (done, refused) = (counts.reloads, counts.reloads_refused);
+    writeln!(
+        out,
+        "othello_site_reloads_total{{result=\"done\"}} {done}\nothello_site_reloads_total{{result=\"refused\"}} {refused}"
+    )?;
+    push_one(
+        out,
+        "ended_total",
+        "Commands of the operator that ended sessions.",
+        "counter",
+        u128::from(counts.ended),
+    )?;
+    push_one(
+        out,
+        "gone_total",
+        "Sessions that were ended as their client was gone while a job ran.",
+        "counter",
+        u128::from(counts.gone),
+    )?;
+    push_histogram(
+        out,
+        "hello_seconds",
+        "From HELLO to its WELCOME.",
+        &counts.hello,
+    )?;
+    push_histogram(
+        out,
+        "wait_seconds",
+        "From WAIT to its answer.",
+        &counts.wait,
+    )
+}

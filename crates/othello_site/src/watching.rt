@@ -1,0 +1,88 @@
+//! Each second: sessions whose client is gone, and connections that are to be shut.
+use crate::ending::Why;
+use crate::shared::Shared;
+use site_book::Part;
+use site_roll::{Told, Whom};
+use std::sync::Wait;
+use std::thread;
+use std::time::{Clock, Duration};
+
+/// Milliseconds between two looks.
+const BETWEEN: u64 = 1_000;
+
+/// Looks each second, until all have left where the operator asked for it.
+pub(crate) fn watch_all<R: Clock + Wait>(rt: &R, shared: &Shared) {
+    for _ in rt.forever() {
+        thread::sleep(rt, Duration::from_millis(BETWEEN));
+        end_gone(rt, shared);
+        if is_drained(rt, shared) {
+            shared.ending.tell(rt, Why::Drained);
+            return;
+        }
+        shut_told(rt, shared);
+    }
+}
+
+/// Ends the sessions whose client is gone while they wait for a job.
+fn end_gone<R: Clock + Wait>(rt: &R, shared: &Shared) {
+    let now = shared.now(rt);
+    let many = shared.lock.lock(rt).links.len();
+    for place in 0..many {
+        let gone = shared.lock.lock(rt).look(place, now);
+        if let Some((hall, session)) = gone {
+            let mut register = shared.lock.lock(rt);
+            register.counts.gone = register.counts.gone.saturating_add(1);
+            drop(register);
+            tell(rt, shared, hall, Whom::One(session), Told::Gone);
+        }
+    }
+}
+
+/// Tells sessions of a hall to end.
+pub(crate) fn tell<R: Wait>(rt: &R, shared: &Shared, hall: usize, whom: Whom, why: Told) {
+    if let Some(desk) = shared.desks.get(hall) {
+        desk.tell(rt, whom, why);
+    }
+}
+
+/// Shuts the connections of all sessions that were told to end, and returns how many these are.
+pub(crate) fn shut_told<R: Wait>(rt: &R, shared: &Shared) -> u64 {
+    let mut many: u64 = 0;
+    for (hall, desk) in shared.desks.iter().enumerate() {
+        let roll = desk.roll(rt);
+        for present in roll.as_slice() {
+            if present.told.is_some() {
+                many = many.saturating_add(1);
+                shared.lock.lock(rt).shut(hall, present.session);
+            }
+        }
+    }
+    many
+}
+
+/// Whether all have left, where nobody else may come. Those who stay longer than they may are told to end.
+fn is_drained<R: Clock + Wait>(rt: &R, shared: &Shared) -> bool {
+    let draining = shared.lock.lock(rt).draining;
+    let Some(until) = draining else {
+        return false;
+    };
+    if are_empty(rt, shared) {
+        return true;
+    }
+    if until <= shared.now(rt) {
+        for hall in 0..shared.desks.len() {
+            tell(rt, shared, hall, Whom::Each(Part::All), Told::ByOperator);
+        }
+    }
+    false
+}
+
+/// Whether nobody is in any hall.
+fn are_empty<R: Wait>(rt: &R, shared: &Shared) -> bool {
+    for desk in &shared.desks {
+        if !desk.roll(rt).is_empty() {
+            return false;
+        }
+    }
+    true
+}

@@ -1,0 +1,137 @@
+//! Health and metrics by HTTP.
+use crate::links::{MOST_BYTES, Received};
+use crate::shared::Shared;
+use crate::telling::metrics_of;
+use std::alloc::AllocError;
+use std::io::{Read, Write};
+use std::net::{TcpListener, TcpStream};
+use std::sync::Wait;
+use std::sync::atomic::{AtomicU64, Ordering};
+use std::thread::{self, Scope};
+use std::time::{Clock, Duration};
+
+/// Seconds in which a request is whole, and in which its answer is taken.
+const A_REQUEST: u64 = 2;
+
+/// Milliseconds before a connection is taken again, where none could be.
+const A_PAUSE: u64 = 100;
+
+/// The most connections that are answered at once.
+const MOST: u64 = 256;
+
+/// What a request asks for.
+#[derive(Clone, Copy)]
+enum Asked {
+    Health,
+    Metrics,
+    Missing,
+}
+
+/// What a request asks for; `None` where it isn't whole yet.
+fn asked_by(request: &[u8]) -> Option<Asked> {
+    let end = request.iter().position(|byte| *byte == b'\n')?;
+    let line = request.get(..end)?;
+    Some(if line.starts_with(b"GET /health ".as_slice()) {
+        Asked::Health
+    } else if line.starts_with(b"GET /metrics ".as_slice()) {
+        Asked::Metrics
+    } else {
+        Asked::Missing
+    })
+}
+
+/// The answer to what a request asks for.
+fn answer<R: AllocGlobal + Clock + Wait>(
+    rt: &R,
+    shared: &Shared,
+    asked: Asked,
+) -> Result<String, AllocError> {
+    match asked {
+        Asked::Health => {
+            let is_draining = shared.lock.lock(rt).draining.is_some();
+            String::from_str(
+                rt.alloc(),
+                if is_draining {
+                    "HTTP/1.0 503 Service Unavailable\r\nContent-Length: 9\r\n\r\ndraining\n"
+                } else {
+                    "HTTP/1.0 200 OK\r\nContent-Length: 3\r\n\r\nok\n"
+                },
+            )
+        }
+        Asked::Metrics => {
+            let body = metrics_of(rt, shared)?;
+            let size = body.len();
+            format!(in rt.alloc();
+                "HTTP/1.0 200 OK\r\nContent-Type: text/plain; version=0.0.4\r\nContent-Length: {size}\r\n\r\n{body}"
+            )
+        }
+        Asked::Missing => String::from_str(
+            rt.alloc(),
+            "HTTP/1.0 404 Not Found\r\nContent-Length: 0\r\n\r\n",
+        ),
+    }
+}
+
+/// Answers one connection.
+fn converse<R: AllocGlobal + Clock + Wait>(
+    rt: &R,
+    shared: &Shared,
+    stream: &TcpStream,
+) -> Option<()> {
+    let limit = Some(Duration::from_secs(A_REQUEST));
+    if stream.set_read_timeout(limit).is_err() || stream.set_write_timeout(limit).is_err() {
+        return None;
+    }
+    let mut received = Received::new();
+    for _ in 0..MOST_BYTES {
+        if let Some(asked) = asked_by(received.bytes()) {
+            return match answer(rt, shared, asked) {
+                Ok(text) => (&*stream).write_all(text.as_bytes()).ok(),
+                Err(_) => None,
+            };
+        }
+        let Ok(count) = (&*stream).read(received.room()) else {
+            return None;
+        };
+        if count == 0 {
+            return None;
+        }
+        received.grow(count);
+    }
+    None
+}
+
+/// One more, if there may be one.
+fn arrive(many: &AtomicU64) -> bool {
+    if many.load(Ordering::SeqCst) >= MOST {
+        return false;
+    }
+    many.fetch_add(1, Ordering::SeqCst);
+    true
+}
+
+/// Answers connections, each in a thread of its own, and few at once: more are closed.
+pub(crate) fn serve_web<'s, E, R: Clock + AllocGlobal + Wait + Sync>(
+    scope: &'s Scope<'s, E>,
+    rt: &'s R,
+    shared: &'s Shared,
+    many: &'s AtomicU64,
+    listener: TcpListener,
+) {
+    for stream in listener.incoming() {
+        let Ok(stream) = stream else {
+            thread::sleep(rt, Duration::from_millis(A_PAUSE));
+            continue;
+        };
+        if !arrive(many) {
+            continue;
+        }
+        let started = scope.spawn(move || {
+            let _ = converse(rt, shared, &stream);
+            many.fetch_sub(1, Ordering::SeqCst);
+        });
+        if started.is_err() {
+            many.fetch_sub(1, Ordering::SeqCst);
+        }
+    }
+}

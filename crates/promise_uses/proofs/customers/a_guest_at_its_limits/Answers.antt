@@ -1,0 +1,12 @@
+use Rattle.std.proofs.Common.{refl}
+use Rattle.site_book.specs.declared.who.Who.TheVariants.{V6}
+use Rattle.promise_uses.proofs.customers.a_guest_at_its_limits.Goals as goal
+
+pub returns-clause-own : goal.returns-clause-own
+returns-clause-own c plan ask grants none = ((c.a_refusal_is_ones_own.ensures.opens plan (V6 9) ask grants).0 none).own.segments
+
+pub returns-clause-network : goal.returns-clause-network
+returns-clause-network c plan ask grants none = (((c.a_refusal_is_ones_own.ensures.opens plan (V6 9) ask grants).0 none).network refl).sessions
+
+pub returns-clause-together : goal.returns-clause-together
+returns-clause-together c plan ask grants none = (((c.a_refusal_is_ones_own.ensures.opens plan (V6 9) ask grants).0 none).guests refl).nodes

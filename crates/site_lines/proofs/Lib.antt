@@ -1,0 +1,3 @@
+mod TokenLemmas
+mod ChainLemmas
+mod SeatLemmas

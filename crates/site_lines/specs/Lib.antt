@@ -1,0 +1,4 @@
+pub mod Tokens
+pub mod Lines
+pub mod Turns
+pub mod Views

@@ -1,0 +1,5 @@
+use Rattle.std.proofs.Common.{◌≡◌}
+use Rattle.site_office.proofs.office.SiteOffice.come.Given as goal
+
+abbrev pub invariant-loop : goal.invariant-loop
+invariant-loop g l = (l.self.seat ≡ l.initial.self.seat) × (l.self.who ≡ l.initial.self.who)

@@ -1,0 +1,33 @@
+-- Meaning: how HELLO and RESERVE are refused, by why the desk turned away.
+use Rattle.std.specs.Prelude.{List, [], ◌∷◌}
+use Rattle.booked_hall.specs.declared.turned.Turned.{Turned}
+use Rattle.booked_hall.specs.declared.turned.Turned.TheVariants.{ByBook, OldTenant, OutOfMemory}
+use Rattle.sched_rules.specs.declared.refusal.Refusal.{Refusal}
+use Rattle.sched_rules.specs.declared.refusal.Refusal.TheVariants.{Full, NoTenant, Lower, OldTenant as no_number, OutOfMemory as no_memory}
+use Rattle.site_book.specs.declared.refusal.Refusal.TheVariants.{OverBudget, OverNetwork, OverGuests, Gone, Lower as lower, Unfit, Beyond}
+
+-- how HELLO is refused: 14 where a budget has no room
+abbrev pub comer_refusal : Turned → Refusal
+comer_refusal (ByBook refusal) = Full
+comer_refusal OldTenant = no_number
+comer_refusal OutOfMemory = no_memory
+
+-- how RESERVE is refused: 1 where the session isn't there, 20 where it is no raise, 14 where a budget has no room, 19 for want of memory
+abbrev pub raise_refusal : Turned → Refusal
+raise_refusal (ByBook Gone) = NoTenant
+raise_refusal (ByBook lower) = Lower
+raise_refusal (ByBook OverBudget) = Full
+raise_refusal (ByBook OverNetwork) = Full
+raise_refusal (ByBook OverGuests) = Full
+raise_refusal (ByBook Unfit) = Full
+raise_refusal (ByBook Beyond) = Full
+raise_refusal OldTenant = no_memory
+raise_refusal OutOfMemory = no_memory
+
+-- the refusals of HELLO where no tenant is there
+abbrev pub comer_refusals : List Refusal
+comer_refusals = Full ∷ no_number ∷ no_memory ∷ []
+
+-- the refusals of RESERVE
+abbrev pub raise_refusals : List Refusal
+raise_refusals = NoTenant ∷ Lower ∷ Full ∷ no_memory ∷ []

@@ -1,0 +1,416 @@
+//! The office of one connection.
+ghost use Rattle.std.specs.Prelude.{◌≡◌, [], is_some, IfOk, IfErr, Contains};
+ghost use Rattle.session.specs.Turns.{seated_after};
+ghost use Rattle.session.specs.Asks.{KeepsAsks};
+ghost use Rattle.session.specs.Calls.{Get, Wait as to_wait, Cancel, Told, Ended, reply_of};
+ghost use Rattle.site_office.specs.Offices.{asks_of, owner_of};
+ghost use Rattle.site_office.specs.Refusing.{comer_refusal, comer_refusals};
+
+use crate::entering::{cause_of, comer_refusal, raise_refusal};
+use crate::house::{Cause, House, Met, Note};
+use crate::outcomes::told_answer;
+use booked_hall::Turned;
+use hall::Refusal;
+use session::{Live, Office, Question, Standing};
+use site_book::{Amount, Refusal as BookRefusal, Who};
+use site_desk::{Entry, Seat, SiteDesk};
+use site_lines::{Greeted, Info, Reception};
+use site_roll::{Comer, Mark, Whom};
+use std::alloc::{Allocator, Global};
+use std::sync::Wait;
+use std::time::{Clock, Duration};
+use tenant_quota::{Left, Reserve};
+
+/// Milliseconds that a HELLO waits for sessions that are to leave.
+const PATIENCE: u64 = 2_000;
+
+/// How often it asks again meanwhile.
+const MOST_TRIES: u32 = 256;
+
+/// Milliseconds between two notes that a session said something.
+const BETWEEN_NOTES: u64 = 1_000;
+
+/// The office of one connection at a site's desk. It has a seat from a HELLO that was welcomed until the tenant leaves; without a seat all
+/// calls but `hello` and `leave` are refused.
+pub struct SiteOffice<'a, H: House, R: Wait + Clock, A: Allocator = Global> {
+    rt: &'a R,
+    /// The desks of all halls.
+    desks: &'a [SiteDesk<A>],
+    /// The desk of the session, or of the next.
+    desk: &'a SiteDesk<A>,
+    house: H,
+    /// Whose the next session is to be; the seat's customer where one is there.
+    who: Who,
+    /// Whose the connection is.
+    own: Who,
+    /// The session's seat; `None` where no tenant is there.
+    seat: Option<Seat>,
+    /// When it was last noted that the session said something.
+    noted: u64,
+    /// The depth of the leaves that workers compute.
+    grain: u8,
+    ghost seated: { owner_of who seat ≡ who },
+}
+
+impl<'a, H: House, R: Wait + Clock, A: Allocator + Clone> SiteOffice<'a, H, R, A> {
+    ghost use Rattle.std.specs.Prelude.{None};
+
+    /// The office of a connection that is this customer's, at one of these desks, where no tenant is there.
+    pub fn new(
+        rt: &'a R,
+        desks: &'a [SiteDesk<A>],
+        desk: &'a SiteDesk<A>,
+        house: H,
+        own: Who,
+        grain: u8,
+    ) -> SiteOffice<'a, H, R, A>
+        ensures seat { result.seat ≡ None }
+        ensures who { result.who ≡ own }
+    {
+        SiteOffice {
+            rt,
+            desks,
+            desk,
+            house,
+            who: own,
+            own,
+            seat: None,
+            noted: 0,
+            grain,
+        }
+    }
+
+    /// Ends the office, and gives the house back. Where a tenant is still there its seat is dropped, and the tenant doesn't leave.
+    pub fn close(self) -> H
+        ensures { result ≡ self.entry.house }
+    {
+        let SiteOffice {
+            rt: _,
+            desks: _,
+            desk: _,
+            house,
+            who: _,
+            own: _,
+            seat: _seat,
+            noted: _,
+            grain: _,
+        } = self;
+        house
+    }
+
+    /// A seat for a session of the customer, for which it waits while others are to leave.
+    fn come(&mut self, reserve: Reserve) -> Result<Seat, Refusal>
+        ensures seat { IfOk result (λ seat. (seat.who ≡ self.old.who) × (seat.asked ≡ [])) }
+        ensures refused { IfErr result (Contains comer_refusals) }
+        ensures same_seat { self.new.seat ≡ self.old.seat }
+        ensures same_who { self.new.who ≡ self.old.who }
+    {
+        let start = self.house.now();
+        for _ in 0..MOST_TRIES {
+            let now = self.house.now();
+            let comer = Comer {
+                who: self.who,
+                ask: reserve,
+                at: now,
+                most: self.house.guest_idle(),
+            };
+            match self.desk.come(self.rt, &comer) {
+                Entry::Seated(seat) => return Ok(seat),
+                Entry::Turned(turned) => return Err(self.turned_away(turned)),
+                Entry::Later {
+                    refusal,
+                    ending,
+                    left,
+                } => {
+                    if !self.has_waited(start, ending, left) {
+                        return Err(self.turned_away(Turned::ByBook(refusal)));
+                    }
+                }
+            }
+        }
+        Err(self.turned_away(Turned::ByBook(BookRefusal::OverGuests)))
+    }
+
+    /// Waits for a session to leave after so many had, within the time that one who began to wait then has; false once that is over. A
+    /// session that was told to end for this one is shut.
+    fn has_waited(&mut self, start: u64, ending: Option<u64>, left: u64) -> bool
+        ensures same_seat { self.new.seat ≡ self.old.seat }
+        ensures same_who { self.new.who ≡ self.old.who }
+    {
+        if let Some(session) = ending {
+            self.house.note(Note::Tells(session));
+        }
+        let past = self.house.now().saturating_sub(start);
+        if past >= PATIENCE {
+            return false;
+        }
+        let most = Duration::from_millis(PATIENCE - past);
+        self.desk.await_left(self.rt, left, most);
+        true
+    }
+
+    /// How one who was turned away is refused.
+    fn turned_away(&mut self, turned: Turned) -> Refusal
+        ensures refusal { result ≡ comer_refusal turned }
+        ensures same_seat { self.new.seat ≡ self.old.seat }
+        ensures same_who { self.new.who ≡ self.old.who }
+    {
+        self.count(cause_of(turned));
+        comer_refusal(turned)
+    }
+
+    /// Has a refusal counted.
+    fn count(&mut self, cause: Option<Cause>)
+        ensures same_seat { self.new.seat ≡ self.old.seat }
+        ensures same_who { self.new.who ≡ self.old.who }
+    {
+        if let Some(cause) = cause {
+            self.house.note(Note::Refused(cause));
+        }
+    }
+
+    /// Notes that the session of this number said something, unless that was noted of late.
+    fn hear(&mut self, number: u64)
+        ensures same_seat { self.new.seat ≡ self.old.seat }
+        ensures same_who { self.new.who ≡ self.old.who }
+    {
+        let now = self.house.now();
+        if now.saturating_sub(self.noted) >= BETWEEN_NOTES {
+            self.noted = now;
+            self.desk.mark(self.rt, Whom::One(number), Mark::Spoke(now));
+        }
+    }
+
+    /// As `hear`, if there is a session.
+    fn hear_any(&mut self)
+        ensures same_seat { self.new.seat ≡ self.old.seat }
+        ensures same_who { self.new.who ≡ self.old.who }
+    {
+        if let Some(number) = self.number() {
+            self.hear(number);
+        }
+    }
+
+    /// How the session's job stands now; `NoJob` where there is no session.
+    fn got(&self, job: u64) -> Result<Standing, Refusal>
+        ensures { KeepsAsks (asks_of self.now.seat) (Get job) (reply_of (Told job) result) (asks_of self.now.seat) }
+    {
+        match &self.seat {
+            Some(seat) => told_answer(self.desk.get(self.rt, seat, job)),
+            None => Err(Refusal::NoJob),
+        }
+    }
+
+    /// How the session's job stands once it has ended, the session is told to end, or the desk is closed; `NoJob` where there is no session.
+    fn waited(&self, job: u64, now: u64) -> Result<Standing, Refusal>
+        ensures { KeepsAsks (asks_of self.now.seat) (to_wait job) (reply_of (Told job) result) (asks_of self.now.seat) }
+    {
+        match &self.seat {
+            Some(seat) => told_answer(self.desk.wait(self.rt, seat, job, now)),
+            None => Err(Refusal::NoJob),
+        }
+    }
+
+    /// Cancels the session's job; `NoJob` where there is no session.
+    fn cancelled(&self, job: u64) -> Result<(), Refusal>
+        ensures { KeepsAsks (asks_of self.now.seat) (Cancel job) (reply_of (λ _. Ended job) result) (asks_of self.now.seat) }
+    {
+        match &self.seat {
+            Some(seat) => self.desk.cancel(self.rt, seat, job),
+            None => Err(Refusal::NoJob),
+        }
+    }
+
+    /// The session waits for a job from now on. Returns the time.
+    fn begin_wait(&mut self) -> u64
+        ensures same_seat { self.new.seat ≡ self.old.seat }
+        ensures same_who { self.new.who ≡ self.old.who }
+    {
+        self.house.note(Note::Waits(true));
+        self.house.now()
+    }
+
+    /// The session doesn't wait any more; it was told this.
+    fn end_wait(&mut self, answer: &Result<Standing, Refusal>)
+        ensures same_seat { self.new.seat ≡ self.old.seat }
+        ensures same_who { self.new.who ≡ self.old.who }
+    {
+        self.house.note(Note::Waits(false));
+        if let Ok(Standing::Done(_)) = answer {
+            self.house.note(Note::Value);
+        }
+        self.noted = self.house.now();
+        if let Some(number) = self.number() {
+            self.desk
+                .mark(self.rt, Whom::One(number), Mark::Waits(false, self.noted));
+        }
+    }
+
+    /// What the session's customer may have and has.
+    fn amounts(&self) -> (Amount, Amount) {
+        match &self.seat {
+            Some(seat) => self.desk.budget(self.rt, seat),
+            None => (Amount::NOTHING, Amount::NOTHING),
+        }
+    }
+
+    /// The number of the session, if there is one.
+    fn number(&self) -> Option<u64> {
+        match &self.seat {
+            Some(seat) => Some(seat.number()),
+            None => None,
+        }
+    }
+}
+
+impl<H: House, R: Wait + Clock, A: Allocator + Clone> Office for SiteOffice<'_, H, R, A> {
+    ghost does = { λ from call reply to. KeepsAsks (asks_of from.seat) call reply (asks_of to.seat)
+        × (is_some to.seat ≡ seated_after (is_some from.seat) reply) };
+
+    /// Takes a seat at the desk for a new tenant of the customer that was greeted. `OldTenant` where a tenant is there already, or all
+    /// numbers were given; `Full` where its budget has no room, or for a guest that of all guests; `OutOfMemory`.
+    fn hello(&mut self, reserve: Reserve) -> Result<(), Refusal> {
+        if self.seat.is_some() {
+            return Err(Refusal::OldTenant);
+        }
+        let seat = self.come(reserve)?;
+        let (number, now) = (seat.number(), self.house.now());
+        self.seat = Some(seat);
+        self.noted = now;
+        self.house.note(Note::Begins(number, self.who));
+        Ok(())
+    }
+
+    /// Raises the reservation. `NoTenant` where no tenant is there; `Lower`, `Full` and `OutOfMemory`.
+    fn reserve(&mut self, reserve: Reserve) -> Result<(), Refusal> {
+        self.hear_any();
+        let answer = match &self.seat {
+            Some(seat) => self.desk.reserve(self.rt, seat, reserve),
+            None => return Err(Refusal::NoTenant),
+        };
+        match answer {
+            Ok(()) => Ok(()),
+            Err(turned) => {
+                self.count(cause_of(turned));
+                Err(raise_refusal(turned))
+            }
+        }
+    }
+
+    /// Submits the question's search and returns the job's number, without waiting for it.
+    fn ask(&mut self, question: &Question) -> Result<u64, Refusal> {
+        self.hear_any();
+        match &mut self.seat {
+            Some(seat) => self
+                .desk
+                .ask(self.rt, seat, &question.position, question.depth),
+            None => Err(Refusal::NoTenant),
+        }
+    }
+
+    /// How the job stands now, without waiting for it.
+    fn get(&mut self, job: u64) -> Result<Standing, Refusal> {
+        self.hear_any();
+        self.got(job)
+    }
+
+    /// How the job stands once it has ended, the session is told to end, or the desk is closed.
+    fn wait(&mut self, job: u64) -> Result<Standing, Refusal> {
+        let now = self.begin_wait();
+        let answer = self.waited(job, now);
+        self.end_wait(&answer);
+        answer
+    }
+
+    /// Cancels the job and removes its frames.
+    fn cancel(&mut self, job: u64) -> Result<(), Refusal> {
+        self.hear_any();
+        self.cancelled(job)
+    }
+
+    /// What the tenant has left of its reservation now.
+    fn quota(&mut self) -> Result<Left, Refusal> {
+        self.hear_any();
+        match &self.seat {
+            Some(seat) => self.desk.quota(self.rt, seat),
+            None => Err(Refusal::NoTenant),
+        }
+    }
+
+    /// How many frames and words the tenant has now.
+    fn live(&mut self) -> Result<Live, Refusal> {
+        self.hear_any();
+        let Some(seat) = &self.seat else {
+            return Err(Refusal::NoTenant);
+        };
+        let (frames, words) = self.desk.live(self.rt, seat)?;
+        Ok(Live {
+            frames: frames as u64,
+            words: words as u64,
+        })
+    }
+
+    /// The tenant leaves the desk, with its jobs, frames and reservation, and the office has no seat then.
+    fn leave(&mut self) {
+        if let Some(seat) = self.seat.take() {
+            let number = seat.number();
+            self.desk.leave(self.rt, seat);
+            self.house.note(Note::Ended(number));
+        }
+    }
+}
+
+impl<H: House, R: Wait + Clock, A: Allocator + Clone> Reception for SiteOffice<'_, H, R, A> {
+    ghost greets = { λ from token greeted to. to.seat ≡ from.seat };
+
+    ghost pays = { λ from paid to. (to.seat ≡ from.seat) × (to.who ≡ from.who) };
+
+    ghost informs = { λ from info to. (to.seat ≡ from.seat) × (to.who ≡ from.who) };
+
+    /// Whose the next session is to be. Nothing is asked where one is there.
+    fn greet(&mut self, token: Option<&[u8]>) -> Greeted {
+        if self.seat.is_some() {
+            return Greeted::Known;
+        }
+        self.who = self.own;
+        match self.house.meet(token) {
+            Met::Is(who, hall) => {
+                self.who = who;
+                if let Some(desk) = self.desks.get(hall) {
+                    self.desk = desk;
+                }
+                Greeted::Known
+            }
+            Met::Nobody => {
+                self.count(Some(Cause::Token));
+                Greeted::Unknown
+            }
+            Met::Crowded => {
+                self.count(Some(Cause::Connections));
+                Greeted::Crowded
+            }
+        }
+    }
+
+    /// Pays for a line by the customer's rate.
+    fn pay(&mut self) -> bool {
+        let passes = self.house.pay(self.who);
+        if !passes {
+            self.count(Some(Cause::Rate));
+        }
+        passes
+    }
+
+    /// What the session's customer may have and has.
+    fn inform(&mut self) -> Info {
+        self.hear_any();
+        let (may, has) = self.amounts();
+        Info {
+            grain: self.grain,
+            may_segments: may.segments,
+            may_nodes: may.nodes,
+            has_segments: has.segments,
+            has_nodes: has.nodes,
+        }
+    }
+}

@@ -1,0 +1,78 @@
+"""Each attack of hostile.py, by 64 addresses at once over TLS: everybody else is served beside it, and all comes back. With --length 60 ten minutes of all."""
+from __future__ import annotations
+
+import os
+import pathlib
+import statistics
+import subprocess
+import sys
+import threading
+import time
+
+import pytest
+from place import LEFT, SCHOOL, SMALL, Answer, Site, until
+from coluwen import Refused
+
+sys.path.insert(0, str(pathlib.Path(__file__).resolve().parents[1]))
+import hostile  # noqa: E402
+
+KINDS = [each.__name__ for each in hostile.KINDS]
+
+
+class Beside:
+    """A named customer and guests, each of whom opens a session, asks what is left and for a value, and leaves, again and again."""
+
+    def __init__(self, site: Site, wanted: list[Answer]):
+        self.site, self.wanted, self.stop = site, wanted, threading.Event()
+        self.took, self.faults = {"WELCOME": list[float](), "QUOTA": list[float](), "ASK": list[float]()}, list[str]()
+        self.threads = [threading.Thread(target=self.ask, args=(address,), daemon=True) for address in ("127.6.1.1", "127.3.1.1", "127.3.1.2")]
+
+    def ask(self, address: str) -> None:
+        number = 0
+        while not self.stop.is_set():
+            moments = [time.monotonic()]
+            try:
+                with self.site.opened(address, *SMALL, timeout=20) as session:
+                    moments.append(time.monotonic())
+                    session.quota()
+                    moments.append(time.monotonic())
+                    if not session.is_answered(number, self.wanted):
+                        self.faults.append("a wrong value")
+                    moments.append(time.monotonic())
+                for name, begun, ended in zip(self.took, moments, moments[1:]):
+                    self.took[name].append(ended - begun)
+            except (OSError, Refused) as reason:
+                self.faults.append(f"{address} after {time.monotonic() - moments[0]:.2f} s: {reason!r}")
+            number += 1
+            self.stop.wait(0.1)
+
+    def __enter__(self) -> Beside:
+        for each in self.threads:
+            each.start()
+        return self
+
+    def __exit__(self, *_: object) -> None:
+        self.stop.set()
+        for each in self.threads:
+            each.join(30)
+
+    def figures(self) -> str:
+        return ", ".join(f"{name} {statistics.median(took) * 1000:.1f} ms, 99.9 of 100 below {sorted(took)[len(took) * 999 // 1000] * 1000:.0f}" for name, took in self.took.items() if took)
+
+
+@pytest.mark.parametrize("kind", ["", *KINDS])
+def test_everybody_else_is_served(kind: str, made: dict[str, str], wanted: list[Answer], length: int, capsys: pytest.CaptureFixture[str]) -> None:
+    seconds = 10 * length if not kind else 4
+    terms = [*LEFT, ("[guests.each]\nsessions = 4\nsegments = 4096\nnodes = 131072", "[guests.each]\nsessions = 1\nsegments = 1024\nnodes = 65536")]
+    with Site(made, terms=terms, more=SCHOOL) as site, Beside(site, wanted) as beside:
+        command = [sys.executable, str(pathlib.Path(hostile.__file__)), str(site.port), "54", str(seconds), *([kind] if kind else [])]
+        said = subprocess.run(["nice", *command], capture_output=True, text=True, check=True, env={**os.environ, "TLS": "yes"}).stdout
+        time.sleep(0.5)
+        beside.stop.set()
+        for each in beside.threads:
+            each.join(30)
+        with capsys.disabled():
+            print(f"\n{kind or 'all'}: {said.strip()}\n  beside it: {beside.figures()}")
+        assert not beside.faults, beside.faults[:3]
+        assert all(len(took) > 3 and max(took) < 2 for took in beside.took.values()), beside.figures()
+        until(lambda: not site.has(), 30, "all is given back")

@@ -1,0 +1,73 @@
+"""Lines of any kind, cut anywhere, are answered as by `othello serve` alone, byte for byte but for what only a site knows."""
+from __future__ import annotations
+
+import concurrent.futures
+import contextlib
+import functools
+import random
+import socket
+import subprocess
+import time
+from collections.abc import Iterator
+
+from place import LINES, Site, address_of, ended_after, header_of, program
+
+MOST = 1000  # sessions that a server alone takes before it ends
+
+
+@contextlib.contextmanager
+def server() -> Iterator[int]:
+    """The port of a server of the specified protocol alone."""
+    words = ["--sessions", str(MOST), "--workers", "1", "--segments", "65536", "--nodes", "4194304", "--grain", "4"]
+    with ended_after(subprocess.Popen([program("OTHELLO", "--ready"), "serve", *words], stdout=subprocess.PIPE, text=True)) as process:
+        assert process.stdout
+        yield int(process.stdout.readline().rsplit(":", 1)[1])
+
+
+def pieces_of(chance: random.Random) -> list[bytes]:
+    """Lines of all kinds, some of them no lines, cut anywhere. Each job is waited for at once, so that answers don't depend on when it ends; none asks
+    for more than a guest may have, and none has what a site alone knows (INFO, a token)."""
+    position = LINES[0].split(" ", 1)[1].encode()
+    words = [b"HELLO 64 4096", b"HELLO 64 4096\r", b"HELLO 64 4096\r\r", b"HELLO 0 1", b"HELLO 5000 1", b"HELLO  64", b"QUOTA", b"LIVE", b"LIVE ", b"", b"\r", b"RESERVE 64 4096", b"RESERVE 64 4097",
+             b"RESERVE 65 9000\r", b"RESERVE 65 9000\r\r", b"RESERVE 63 9999", b"RESERVE 5000 1", b"RESERVE 00000128 00009999", b"RESERVE 1 1 1", b" RESERVE 900 9999", b"GET 2", b"TABLE 1", b"CANCEL 9",
+             b"\n".join([b"ASK 0 " + position, *(b"WAIT %d" % number for number in range(1, 61))]), b"ASK 13 " + position, b"hello 1 1", b"x" * 127, b"x" * 128, b"x" * 129, b"RESERVE 1 65536" * 40,
+             b"x" * 5000, chance.randbytes(50).replace(b"\n", b"").replace(b"INFO", b""), b"SOMETHING NEW", b"\xff\0", b"INF", b"INFO\0"]  # fmt: skip
+    data = b"\n".join(chance.choice(words) for _ in range(chance.randint(1, 60))) + (b"\n" if chance.random() < 0.7 else b"") + (b"BYE\nQUOTA\n" if chance.random() < 0.3 else b"")
+    cuts = sorted(chance.randrange(len(data) + 1) for _ in range(chance.randint(0, 6)))
+    return [piece for piece in (data[start:end] for start, end in zip([0, *cuts], [*cuts, len(data)])) if piece]
+
+
+def conversation(port: int, first: bytes, pieces: list[bytes], pause: float) -> bytes:
+    with socket.create_connection(("127.0.0.1", port), 60) as stream:
+        stream.sendall(first)
+        for piece in pieces:
+            with contextlib.suppress(ConnectionError):
+                stream.sendall(piece)
+            time.sleep(pause)
+        with contextlib.suppress(OSError):
+            stream.shutdown(socket.SHUT_WR)
+        found = b""
+        with contextlib.suppress(ConnectionError):
+            while piece := stream.recv(65536):
+                found += piece
+        return found
+
+
+def test_lines_are_answered_as_by_a_server_alone(length: int) -> None:
+    terms = [("rate = 10\nburst = 100", "rate = 100000\nburst = 60000\nconnections = 1000")]
+    with Site(terms=terms) as site, concurrent.futures.ThreadPoolExecutor(4) as many:
+
+        def one(alone: int, number: int) -> int:
+            chance = random.Random(number)
+            pieces, pause = pieces_of(chance), chance.choice([0, 0, 0.002])
+            with concurrent.futures.ThreadPoolExecutor(2) as both:
+                first = both.submit(conversation, alone, b"", pieces, pause)
+                second = both.submit(conversation, site.inner, header_of(address_of(number % 4000)), pieces, pause)
+                assert first.result() == second.result(), (number, pieces)
+            return b"".join(pieces).count(b"\n")
+
+        lines = 0
+        for begun in range(0, 100 * length, MOST):
+            with server() as alone:
+                lines += sum(many.map(functools.partial(one, alone), range(begun, min(begun + MOST, 100 * length))))
+        assert lines > 2000 * length

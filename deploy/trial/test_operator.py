@@ -1,0 +1,133 @@
+"""What an operator sees, ends and replaces."""
+from __future__ import annotations
+
+import contextlib
+import os
+import socket
+import stat
+import subprocess
+import time
+
+import pytest
+from place import LEFT, SCHOOL, SMALL, TOKEN, Answer, Site, address_of, is_there, program, until
+
+
+def test_stats_and_ends(wanted: list[Answer]) -> None:
+    with Site(terms=LEFT, more=SCHOOL) as site, contextlib.ExitStack() as open_ones:
+        assert stat.S_IMODE(os.stat(site.control).st_mode) == 0o660
+        sessions = [site.opened(address_of(number), *SMALL) for number in range(4)] + [site.opened("127.6.0.1", *SMALL) for _ in range(3)]
+        for session in sessions:
+            open_ones.callback(session.socket.close)
+        rows = [line for line in site.ask("STATS") if line.startswith("session=")]
+        assert len(rows) == 7 and sum(" address=127.1.0." in row for row in rows) == 4 and sum(' customer="school" ' in row for row in rows) == 3, rows
+        assert site.ask("END CUSTOMER school") == ["OK 3"] and site.ask(f"END ADDRESS {address_of(2)}") == ["OK 1"]
+        until(lambda: sum(has[0] for has in site.has().values()) == 3, 5, "they have ended")
+        for at, session in enumerate(sessions):
+            if at in (0, 1, 3):
+                assert session.is_answered(at, wanted)
+            else:
+                with pytest.raises(OSError):
+                    session.quota()
+        assert site.ask("END CUSTOMER nobody") != ["OK 1"] and site.ask("SOMETHING")[0].startswith("ERR")
+
+
+def test_an_end_wakes_a_wait() -> None:
+    with Site() as site, site.opened(address_of(1), 256, 65536) as session:
+        session.socket.sendall(f"ASK 12 {'-' * 27}OX------XO{'-' * 27} X\nWAIT 1\n".encode())
+        time.sleep(0.5)
+        begun = time.monotonic()
+        site.ask(f"END ADDRESS {address_of(1)}")
+        until(lambda: not site.has(), 3, "it has ended")
+        assert time.monotonic() - begun < 2
+
+
+def test_reload(wanted: list[Answer]) -> None:
+    with Site(terms=LEFT, more=SCHOOL) as site, contextlib.ExitStack() as open_ones:
+        sessions = [open_ones.enter_context(site.opened("127.6.0.1", *SMALL)) for _ in range(6)]
+        right = site.file.read_text()
+        for old, new in (("sessions = 56", "sessions = 57"), ("rate = 10\n", "rate = -1\n"), ('name = "school"\n', 'name = "school"\nmore = 1\n'), ("[guests.together]", "[guests.all]")):
+            assert old in right
+            site.file.write_text(right.replace(old, new, 1))
+            assert site.ask("RELOAD")[0].startswith("ERR "), new
+        site.file.write_text(right.replace("sessions = 8\nsegments = 8192", "sessions = 4\nsegments = 8192"))
+        refused = " ".join(site.ask("RELOAD"))
+        assert refused.startswith("ERR ") and "school" in refused, refused
+        assert all(session.is_answered(at, wanted) for at, session in enumerate(sessions)), "a session was lost by a reload that was refused"
+        assert site.ask("RELOAD END")[0].startswith("OK")
+        until(lambda: site.has()["school"][0] == 4, 5, "the latest two have ended")
+        assert all(session.is_answered(at, wanted) for at, session in enumerate(sessions[:4]))
+        assert site.told("127.6.0.1", *SMALL)[1] == 14
+        site.file.write_text(right)
+        assert site.ask("RELOAD")[0].startswith("OK") and site.told(address_of(7), *SMALL, token=TOKEN)[1] == 0
+
+
+def test_drain(wanted: list[Answer]) -> None:
+    with Site() as site, site.opened(address_of(1), *SMALL) as session:
+        assert site.get("/health")[0] == 200
+        assert site.ask("DRAIN 4")[0].startswith("OK") and site.get("/health")[0] == 503
+        assert session.is_answered(1, wanted), "who is there goes on"
+        with pytest.raises(OSError):
+            site.opened(address_of(2), *SMALL)
+        assert site.process and site.process.wait(8) == 0
+
+
+def test_health_and_metrics_stay_there_beside_idle_connections(wanted: list[Answer]) -> None:
+    with Site() as site, contextlib.ExitStack() as open_ones:
+        for _ in range(300):
+            open_ones.enter_context(socket.create_connection(("127.0.0.1", site.health), 5))
+        with site.opened(address_of(1), *SMALL) as session:
+            assert session.is_answered(1, wanted) and site.told(address_of(1), 4096, 65536)[1] == 14
+        assert site.get("/health") == (200, "ok\n")
+        status, text = site.get("/metrics")
+        assert status == 200 and len(text) < 20000 and "sessions" in text
+        assert site.get("/other")[0] == 404
+
+
+def test_killed_and_there_again(wanted: list[Answer]) -> None:
+    with Site() as site:
+        sessions = [site.opened(address_of(number), *SMALL) for number in range(8)]
+        site.kill()
+        begun = time.monotonic()
+        site.start()
+        with site.opened(address_of(1), *SMALL) as session:
+            assert session.is_answered(1, wanted) and time.monotonic() - begun < 2
+        for session in sessions:
+            session.socket.close()
+
+
+def test_faults_are_told() -> None:
+    with Site() as site:
+        command = program("SITE", "--ready-site")
+        told = subprocess.run([command, "--check", site.file], capture_output=True, text=True)
+        assert told.returncode == 0 and "64 sessions" in told.stdout, told
+        taken = subprocess.run([command, site.file], capture_output=True, text=True, timeout=20)
+        assert taken.returncode == 1 and str(site.inner) in taken.stderr + taken.stdout, taken
+        site.file.write_text(site.file.read_text().replace("rate = 10\n", "rate = 0\n"))
+        for words in ([site.file], ["--check", site.file], ["/nothing"], ["--what"]):
+            refused = subprocess.run([command, *words], capture_output=True, text=True, timeout=20)
+            assert refused.returncode == 2 and refused.stderr, words
+
+
+def test_without_a_file(wanted: list[Answer]) -> None:
+    if is_there(4711):
+        pytest.skip("port 4711 is taken")
+    process = subprocess.Popen([program("SITE", "--ready-site")], stdout=subprocess.DEVNULL, stderr=subprocess.DEVNULL)
+    try:
+        until(lambda: is_there(4711), 60, "it listens")
+        from place import From
+
+        with contextlib.ExitStack() as open_ones:
+            sessions = [open_ones.enter_context(From("127.0.0.1", "127.0.0.1", 4711, 1024, 65536)) for _ in range(64)]
+            assert all(session.is_answered(at, wanted) for at, session in enumerate(sessions)), "everybody may take what is free"
+    finally:
+        process.terminate()
+        process.wait(20)
+
+
+def test_a_log_line_can_not_be_forged() -> None:
+    with Site() as site:
+        site.said(address_of(1), b"HELLO 1 1 x\x1b[31m\revent=session\n")
+        site.said(address_of(1), b"HELLO 1 1\nBYE\n")
+        until(lambda: "address=127.1.0.2" in site.log.read_text(), 5, "the session is logged")
+        text = site.log.read_bytes()
+        assert b"\x1b" not in text and b"\r" not in text
