@@ -35,6 +35,7 @@ mod serving;
 mod shared;
 mod tallies;
 mod telling;
+mod visits;
 mod watching;
 mod web;
 mod working;
