@@ -4,7 +4,7 @@ use crate::links::Talk;
 use crate::shared::Shared;
 use crate::telling::log_refusal;
 use site_book::Who;
-use site_directory::Address;
+use site_file::Address;
 use site_office::{Cause, House, Met, Note};
 use std::alloc::Global;
 use std::net::{Shutdown, TcpStream};

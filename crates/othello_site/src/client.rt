@@ -8,7 +8,7 @@ use crate::shared::Shared;
 use crate::telling::{address_text, log_refusal};
 use line_io::{LineFault, Sink, TalkEnd};
 use site_book::Who;
-use site_directory::Address;
+use site_file::Address;
 use site_office::{SiteOffice, serve_connection};
 use site_rules::{Arrival, Caller as Origin, Port, Times, identify};
 use std::alloc::{AllocError, Global};

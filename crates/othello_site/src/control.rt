@@ -6,7 +6,7 @@ use crate::shared::Shared;
 use crate::telling::stats_of;
 use crate::watching::{shut_told, tell};
 use site_book::{Part, Who};
-use site_directory::Address;
+use site_file::Address;
 use site_roll::{Told, Whom};
 use site_rules::{Command, Whose, read_command};
 use std::alloc::{AllocError, Global};

@@ -1,5 +1,5 @@
 //! How many lines that ask for a reservation each customer has said of late.
-use line_rate::{Meter, Rate};
+use site_file::{Meter, Rate};
 use site_book::Who;
 use std::alloc::Global;
 

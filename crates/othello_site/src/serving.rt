@@ -22,7 +22,7 @@ use fair_share::FairShare;
 use hall::{Config as Totals, Hall};
 use sched_rules::Worker;
 use site_book::{Book, Plan};
-use site_config::Config;
+use site_file::Config;
 use site_desk::SiteDesk;
 use site_rules::Port;
 use std::alloc::{AllocError, Global};

@@ -7,9 +7,9 @@ use Rattle.proxy_header.specs.declared.headers.Origin.TheVariants.{Local, V4 as 
 use Rattle.proxy_header.specs.Fields.{field_of}
 use Rattle.proxy_header.specs.Headers.{HeaderOf}
 use Rattle.proxy_header.specs.Texts.{IsReading}
-use Rattle.site_directory.specs.Addresses.{v6_of}
-use Rattle.site_directory.specs.declared.address.Address.{Address}
-use Rattle.site_directory.specs.declared.address.Address.TheVariants.{V4}
+use Rattle.site_file.specs.Addresses.{v6_of}
+use Rattle.site_file.specs.declared.address.Address.{Address}
+use Rattle.site_file.specs.declared.address.Address.TheVariants.{V4}
 use Rattle.site_rules.specs.declared.callers.Port.{Port}
 use Rattle.site_rules.specs.declared.callers.Port.TheVariants.{Proxied, Plain}
 

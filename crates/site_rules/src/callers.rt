@@ -5,7 +5,7 @@ ghost use Rattle.site_rules.specs.Callers.{address_of, caller_by, IsIdentified};
 ghost use Rattle.site_rules.specs.Views.{caller_seen};
 
 use proxy_header::{Header, HeaderFault, Origin, field_of, read_header};
-use site_directory::Address;
+use site_file::Address;
 
 /// The field in which HAProxy hands on a certificate's name.
 const NAME_FIELD: u8 = 5;
