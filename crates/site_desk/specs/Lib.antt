@@ -1,4 +1,3 @@
-pub use Rattle.fair_share.specs as fair_share
 pub mod Seats
 pub mod Sharing
 pub mod Sites

@@ -27,7 +27,7 @@ use Rattle.site_roll.specs.declared.present.Told.TheVariants.{ForAnother}
 use Rattle.site_roll.specs.declared.present.Whom.TheVariants.{One}
 use Rattle.site_roll.specs.Comings.{coming}
 use Rattle.site_roll.specs.Rolls.{marked_all, names_in, newcomer, without_present}
-use Rattle.fair_share.specs.Shares.{SharesOf, entered}
+use Rattle.fair_pool.specs.Shares.{SharesOf, entered}
 use Rattle.fair_pool.specs.Picks.{seen_all, IsFairTask, IsNoTask}
 use Rattle.pool_rules.specs.declared.task.Task.{Task}
 use Rattle.site_desk.specs.Sharing.{share_customer, share_network, unshared}

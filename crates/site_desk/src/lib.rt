@@ -7,7 +7,7 @@
 //! ([`SiteDesk::pick`]). An operator reads who is there, tells sessions to end, and brings in another plan.
 //!
 //! What lies under the lock (`LockedSite`) is a hall with its book, of which the grants are the tenants (`booked_hall`), the roll, and
-//! the shares of those who have a seat (`fair_share`: a guest's network is its first 64 bits, `specs/Sharing.antt`); its invariant is
+//! the shares of those who have a seat (`FairShare`: a guest's network is its first 64 bits, `specs/Sharing.antt`); its invariant is
 //! that those listed are those who have a grant, in the same order (`IsListed`). The contract of a call that locks can't say what the
 //! call did there: the contract of the method of the same name does (`specs/Sites.antt`), and that the call calls that method is read.
 //!

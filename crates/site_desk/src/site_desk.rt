@@ -4,7 +4,7 @@ ghost use Rattle.sched_rules.specs.declared.refusal.Refusal.TheVariants.{NoJob, 
 ghost use Rattle.booked_hall.specs.declared.turned.Turned.TheVariants.{OldTenant as NumbersOut};
 ghost use Rattle.desk_rules.specs.hall.Journals.{is_worker_step};
 ghost use Rattle.desk_rules.specs.Asked.{ask_refusals, cancel_refusals, seat_asked_at, IsShown};
-ghost use Rattle.fair_share.specs.Lines.{empty_line};
+ghost use Rattle.fair_pool.specs.Lines.{empty_line};
 ghost use Rattle.task_deques.specs.Deals.{posts};
 ghost use Rattle.site_desk.specs.Entries.{IsEntry};
 ghost use Rattle.site_desk.specs.Seats.{IsAsked};
@@ -17,8 +17,7 @@ use crate::seat::Seat;
 use arrayvec::ArrayVec;
 use booked_hall::{BookedHall, Turned};
 use desk_rules::Backoff;
-use fair_pool::{Hands, steps};
-use fair_share::FairShare;
+use fair_pool::{FairShare, Hands, steps};
 use frame_tree::FrameId;
 use hall::{Jamboree, Outcome, Refusal, Step, StepAnswer};
 use position_text::Position;

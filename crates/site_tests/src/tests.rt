@@ -2,7 +2,7 @@
 ghost use Rattle.std.specs.Prelude.{◌≡◌, true};
 
 use booked_hall::BookedHall;
-use fair_share::FairShare;
+use fair_pool::FairShare;
 use hall::{Config, Hall};
 use line_io::{FromReader, FromWriter};
 use site_book::{Amount, Book, Plan, Who};
