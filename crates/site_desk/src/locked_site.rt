@@ -14,9 +14,9 @@ ghost use Rattle.desk_rules.specs.jamboree_core.declared.outcomes.Outcome.{Outco
 ghost use Rattle.desk_rules.specs.jamboree_core.Outcomes.{IsOutcomeIn};
 ghost use Rattle.desk_rules.specs.Asked.{ask_refusals, cancel_refusals, seat_asked_at, IsShown, IsToldBy, found_or_no_tenant};
 ghost use Rattle.site_book.specs.Books.{taken, why_not_replan, Replans};
-ghost use Rattle.site_roll.specs.Comings.{told_by};
-ghost use Rattle.site_roll.specs.declared.coming.Coming.TheVariants.{Enters};
-ghost use Rattle.site_roll.specs.Rolls.{marked_all};
+ghost use Rattle.site_book.specs.Comings.{told_by};
+ghost use Rattle.site_book.specs.declared.coming.Coming.TheVariants.{Enters};
+ghost use Rattle.site_book.specs.Rolls.{marked_all};
 ghost use Rattle.fair_pool.specs.Lines.{empty_line};
 ghost use Rattle.fair_pool.specs.Picks.{charged_to};
 ghost use Rattle.site_desk.specs.Seats.{IsAsked};
@@ -32,8 +32,10 @@ use fair_pool::{FairShare, charge, fair_task};
 use frame_tree::FrameId;
 use hall::{Jamboree, Outcome, Refusal, Step, StepAnswer, StepOf, submit};
 use position_text::Position;
-use site_book::{Book, Overrun, Plan, Refusal as BookRefusal, Who};
-use site_roll::{Comer, Coming, MOST, Mark, Present, Roll, Told, Whom, what_comes_of};
+use site_book::{
+    Book, Comer, Coming, MOST, Mark, Overrun, Plan, Present, Refusal as BookRefusal, Roll, Told,
+    Who, Whom, what_comes_of,
+};
 use std::alloc::{Allocator, Global};
 use std::marker::Model;
 use task_deques::pool_rules::Task;

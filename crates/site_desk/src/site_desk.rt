@@ -22,8 +22,9 @@ use frame_tree::FrameId;
 use hall::{Jamboree, Outcome, Refusal, Step, StepAnswer};
 use position_text::Position;
 use sched_rules::Worker;
-use site_book::{Amount, Overrun, Part, Plan, Refusal as BookRefusal};
-use site_roll::{Comer, MOST, Mark, Present, Told, Whom};
+use site_book::{
+    Amount, Comer, MOST, Mark, Overrun, Part, Plan, Present, Refusal as BookRefusal, Told, Whom,
+};
 use std::alloc::{Allocator, Global};
 use std::hint::spin_loop;
 use std::sync::atomic::AtomicU64;
