@@ -8,13 +8,14 @@
 ghost use Rattle.std.specs.Prelude.{◌≡◌, ◌≤◌, true, IfOk, Ok};
 ghost use Rattle.line_io.specs.Writes.{IsWritten};
 ghost use Rattle.hall.specs.Halls.{empty_hall};
-ghost use Rattle.serve_command.specs.Running.{IsServed, ended_text, listening_text};
+ghost use Rattle.commands.specs.Running.{IsServed, ended_text, listening_text};
 
+use crate::saying::say;
 use crate::service::Service;
+use crate::{EXIT_FAILED, EXIT_OK};
 use command_line::Options;
 use line_io::{Sink, write_text};
 use sched_rules::Worker;
-use solve_command::{EXIT_FAILED, EXIT_OK, say};
 use std::alloc::Global;
 use std::io;
 use std::net::{Ipv4Addr, Net, SocketAddr, TcpListener, TcpStream};
@@ -60,7 +61,7 @@ impl From<ServeFault> for Unserved {
 
 impl Service {
     ghost use Rattle.command_line.specs.CommandLine.{IsWithinLimits};
-    ghost use Rattle.serve_command.specs.Running.{IsAskedBy};
+    ghost use Rattle.commands.specs.Running.{IsAskedBy};
 
     /// The server that these options ask for, with each amount as it was read; `None` exactly where they ask for
     /// `solve`.

@@ -2,14 +2,16 @@
 ghost use Rattle.std.specs.Prelude.{map, Result};
 ghost use Rattle.command_line.specs.declared.options.Options.{Options};
 ghost use Rattle.command_line.specs.declared.faults.WordsFault.{WordsFault};
-ghost use Rattle.solve_command.specs.Answering.{IsReadOf};
-ghost use Rattle.serve_command.specs.Running.{IsFollowed};
+ghost use Rattle.commands.specs.Answering.{IsReadOf};
+ghost use Rattle.commands.specs.Running.{IsFollowed};
 
+use crate::answering::answer;
+use crate::saying::refuse;
 use crate::service::Service;
 use crate::serving::{Unserved, failed, serve_as_asked};
+use crate::streams::{Input, Output, Streams};
 use command_line::Options;
 use line_io::Sink;
-use solve_command::{Input, Output, Streams, answer, refuse};
 use std::alloc::Global;
 use std::convert::AsStr;
 use std::marker::Brand;

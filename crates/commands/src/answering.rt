@@ -3,7 +3,7 @@ ghost use Rattle.std.specs.Prelude.{◌≡◌, ◌≤◌, map, Ok, Result};
 ghost use Rattle.line_io.specs.declared.faults.LineFault.{LineFault};
 ghost use Rattle.command_line.specs.declared.options.Options.{Options};
 ghost use Rattle.command_line.specs.declared.faults.WordsFault.{WordsFault};
-ghost use Rattle.solve_command.specs.Answering.{IsAnsweredRun, IsSolveReadOf, IsSolvedAsAsked, status_of_run};
+ghost use Rattle.commands.specs.Answering.{IsAnsweredRun, IsSolveReadOf, IsSolvedAsAsked, status_of_run};
 
 use crate::saying::{refuse, say};
 use crate::streams::{Input, Output, Streams};

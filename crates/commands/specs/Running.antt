@@ -8,8 +8,8 @@ use Rattle.line_io.specs.Writes.{IsWritten}
 use Rattle.command_line.specs.declared.options.Options.{Options}
 use Rattle.command_line.specs.declared.options.Options.TheVariants.{Serve, Solve}
 use Rattle.command_line.specs.declared.faults.WordsFault.{WordsFault}
-use Rattle.solve_command.specs.Answering.{IsSolvedAsAsked}
-use Rattle.serve_command.specs.declared.service.Service.{Service}
+use Rattle.commands.specs.Answering.{IsSolvedAsAsked}
+use Rattle.commands.specs.declared.service.Service.{Service}
 
 -- what a server runs with: each amount as the options say it; None exactly where they ask for no server
 abbrev pub IsAskedBy : Options → Option Service → Type 0

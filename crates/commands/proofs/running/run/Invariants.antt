@@ -1,5 +1,5 @@
 use Rattle.hall.specs.Halls.{empty_hall}
-use Rattle.serve_command.proofs.running.run.Given as goal
+use Rattle.commands.proofs.running.run.Given as goal
 
 abbrev pub ghosts-serve_as_asked-L-Ledger : goal.ghosts-serve_as_asked-L-Ledger
 ghosts-serve_as_asked-L-Ledger g a = record { name = a.blank.name; parts = a.blank.parts }
