@@ -7,10 +7,10 @@ use Rattle.std.specs.Net.Grammar.{IsIpv4Text, IsIpv6Text}
 use Rattle.std.specs.declared.net.ipv4_addr.Ipv4Addr.{Ipv4Addr}
 use Rattle.std.specs.declared.net.ipv6_addr.Ipv6Addr.{Ipv6Addr}
 use Rattle.protocol.specs.Words.{split_at_space, word_number}
-use Rattle.proxy_header.specs.declared.faults.HeaderFault.{HeaderFault}
-use Rattle.proxy_header.specs.declared.faults.HeaderFault.TheVariants.{NoHeader, WrongText}
-use Rattle.proxy_header.specs.declared.headers.Origin.TheVariants.{Local, V4, V6}
-use Rattle.proxy_header.specs.Headers.{HeaderOf, whole, reading}
+use Rattle.site_rules.specs.declared.faults.HeaderFault.{HeaderFault}
+use Rattle.site_rules.specs.declared.faults.HeaderFault.TheVariants.{NoHeader, WrongText}
+use Rattle.site_rules.specs.declared.headers.Origin.TheVariants.{Local, V4, V6}
+use Rattle.site_rules.specs.Headers.{HeaderOf, whole, reading}
 
 -- what a header of version 1 says, before its addresses are read: it isn't whole yet; it is none; it begins as one and is none; no address is told; or
 -- these texts of the source's and the target's addresses, of IPv4 (true) or IPv6, and the source's port. `used` is how many bytes the header has

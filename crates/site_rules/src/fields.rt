@@ -1,7 +1,7 @@
 //! The fields after the addresses.
 ghost use Rattle.std.specs.Prelude.{◌≡◌, option_map};
 ghost use Rattle.std.specs.Option.{option_copied};
-ghost use Rattle.proxy_header.specs.Fields.{first_field, field_of};
+ghost use Rattle.site_rules.specs.Fields.{first_field, field_of};
 
 /// The first field: its type, its value, and what follows it. None where it is cut short.
 fn first_field(bytes: &[u8]) -> Option<(u8, &[u8], &[u8])>

@@ -1,8 +1,8 @@
 //! Reading a header of version 1: a line of text.
 ghost use Rattle.std.specs.Prelude.{◌≡◌, ◌<◌, length, IfSome};
-ghost use Rattle.proxy_header.specs.Headers.{whole};
-ghost use Rattle.proxy_header.specs.Texts.{IsSaid, IsTold4, IsTold6, port_of, line_end, line_by, text_reading, words_reading, addresses_reading, told_reading};
-ghost use Rattle.proxy_header.specs.Views.{read_seen, result_seen, text_seen};
+ghost use Rattle.site_rules.specs.Headers.{whole};
+ghost use Rattle.site_rules.specs.Texts.{IsSaid, IsTold4, IsTold6, port_of, line_end, line_by, text_reading, words_reading, addresses_reading, told_reading};
+ghost use Rattle.site_rules.specs.HeaderViews.{read_seen, result_seen, text_seen};
 
 use crate::faults::HeaderFault;
 use crate::headers::{Header, Origin};

@@ -1,7 +1,7 @@
 -- One field more.
 use Rattle.std.proofs.Common.{◌≡◌, ◌≢◌, ℕ, suc, List, cond, sym, ap, ◌∙◌, Option, Some}
 use Rattle.std.proofs.lemmas.Bool.{ne_eqb, eq-eqb}
-use Rattle.proxy_header.specs.Fields.{first_field, value_or, field_within}
+use Rattle.site_rules.specs.Fields.{first_field, value_or, field_within}
 
 at : (n m kind : ℕ) (bytes : List ℕ) (o : Option (ℕ × List ℕ × List ℕ)) → n ≡ suc m → o ≡ first_field bytes → field_within n kind bytes ≡ value_or kind o (λ rest. field_within m kind rest)
 at n m kind bytes o e f =

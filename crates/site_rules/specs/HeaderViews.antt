@@ -1,13 +1,13 @@
 -- Representation: the types of the code as data, and the numbers of faults.
 use Rattle.std.specs.Prelude.{ℕ, Option, Result, Ok, Err}
 use Rattle.std.specs.Option.{option_map}
-use Rattle.proxy_header.specs.declared.faults.HeaderFault.{HeaderFault}
-use Rattle.proxy_header.specs.declared.faults.HeaderFault.TheVariants.{NoHeader, Version, Command, LongHeader, Family, ShortAddress, WrongText}
-use Rattle.proxy_header.specs.declared.headers.Header.{Header}
-use Rattle.proxy_header.specs.declared.texts.Text.{Text}
-use Rattle.proxy_header.specs.declared.texts.Text.TheVariants.{Waiting as waiting, Foreign as foreign, Wrong as wrong, Unknown as unknown, Told as told}
-use Rattle.proxy_header.specs.Headers.{HeaderOf}
-use Rattle.proxy_header.specs.Texts.{TextOf, Waiting, Foreign, Wrong, Unknown, Told}
+use Rattle.site_rules.specs.declared.faults.HeaderFault.{HeaderFault}
+use Rattle.site_rules.specs.declared.faults.HeaderFault.TheVariants.{NoHeader, Version, Command, LongHeader, Family, ShortAddress, WrongText}
+use Rattle.site_rules.specs.declared.headers.Header.{Header}
+use Rattle.site_rules.specs.declared.texts.Text.{Text}
+use Rattle.site_rules.specs.declared.texts.Text.TheVariants.{Waiting as waiting, Foreign as foreign, Wrong as wrong, Unknown as unknown, Told as told}
+use Rattle.site_rules.specs.Headers.{HeaderOf}
+use Rattle.site_rules.specs.Texts.{TextOf, Waiting, Foreign, Wrong, Unknown, Told}
 
 -- a header with its fields as a list of bytes
 abbrev pub header_seen : Header → HeaderOf

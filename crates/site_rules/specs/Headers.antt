@@ -2,10 +2,10 @@
 -- and whose low half the command, 0 for LOCAL and 1 for PROXY; a byte of family; two bytes of length, the high one first; and so many bytes after that.
 use Rattle.std.specs.Prelude.{ℕ, ◌+◌, ◌-◌, ◌*◌, ◌/◌, ◌%◌, ◌==◌, List, [], ◌∷◌, length, take, drop, min, nat_lt, slice_index, if◌then◌else◌, Option, Some, None, Result, Ok, Err}
 use Rattle.std.specs.Str.{bytes_eq}
-use Rattle.proxy_header.specs.declared.faults.HeaderFault.{HeaderFault}
-use Rattle.proxy_header.specs.declared.faults.HeaderFault.TheVariants.{NoHeader, Version, Command, LongHeader, Family, ShortAddress}
-use Rattle.proxy_header.specs.declared.headers.Origin.{Origin}
-use Rattle.proxy_header.specs.declared.headers.Origin.TheVariants.{Local, V4, V6}
+use Rattle.site_rules.specs.declared.faults.HeaderFault.{HeaderFault}
+use Rattle.site_rules.specs.declared.faults.HeaderFault.TheVariants.{NoHeader, Version, Command, LongHeader, Family, ShortAddress}
+use Rattle.site_rules.specs.declared.headers.Origin.{Origin}
+use Rattle.site_rules.specs.declared.headers.Origin.TheVariants.{Local, V4, V6}
 
 -- a header: where the connection comes from, the bytes of its fields, and how many bytes it has
 pub record HeaderOf : Type 0 where

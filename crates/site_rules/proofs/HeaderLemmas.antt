@@ -2,10 +2,10 @@
 use Rattle.std.proofs.Common.{◌≡◌, ℕ, ◌+◌, ◌-◌, ◌≤◌, List, length, take, drop, cond, false, sym, ap, ◌∙◌, arith, nat_lt, Result, Ok, Err}
 use Rattle.std.proofs.lemmas.Bool.Decides.{nat_tests}
 use Rattle.std.proofs.lemmas.List.{take_all, length-drop}
-use Rattle.proxy_header.specs.declared.faults.HeaderFault.{HeaderFault}
-use Rattle.proxy_header.specs.declared.faults.HeaderFault.TheVariants.{ShortAddress}
-use Rattle.proxy_header.specs.declared.headers.Origin.TheVariants.{V6}
-use Rattle.proxy_header.specs.Headers.{HeaderOf, number_at, v6_reading}
+use Rattle.site_rules.specs.declared.faults.HeaderFault.{HeaderFault}
+use Rattle.site_rules.specs.declared.faults.HeaderFault.TheVariants.{ShortAddress}
+use Rattle.site_rules.specs.declared.headers.Origin.TheVariants.{V6}
+use Rattle.site_rules.specs.Headers.{HeaderOf, number_at, v6_reading}
 
 -- what follows some bytes, as a slice has it
 pub part-all : (n : ℕ) (xs : List ℕ) → take (length xs - n) (drop n xs) ≡ drop n xs

@@ -1,6 +1,6 @@
 use Rattle.std.proofs.Common.{◌≡◌, ◌-◌, length}
-use Rattle.proxy_header.specs.Fields.{field_within}
-use Rattle.proxy_header.proofs.fields.field_of.Given as goal
+use Rattle.site_rules.specs.Fields.{field_within}
+use Rattle.site_rules.proofs.fields.field_of.Given as goal
 
 abbrev pub invariant-loop : goal.invariant-loop
 invariant-loop l =

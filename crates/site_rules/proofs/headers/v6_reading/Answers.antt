@@ -1,6 +1,6 @@
 use Rattle.std.proofs.Common.{◌-◌, length, take, drop, sym, arith}
-use Rattle.proxy_header.proofs.HeaderLemmas.{v6-long, part-all}
-use Rattle.proxy_header.proofs.headers.v6_reading.Goals as goal
+use Rattle.site_rules.proofs.HeaderLemmas.{v6-long, part-all}
+use Rattle.site_rules.proofs.headers.v6_reading.Goals as goal
 
 pub returns : goal.returns
 returns c =

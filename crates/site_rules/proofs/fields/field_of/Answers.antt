@@ -1,6 +1,6 @@
 use Rattle.std.proofs.Common.{◌≡◌, ◌-◌, ◌+◌, suc, length, sym, ◌∙◌, arith}
-use Rattle.proxy_header.proofs.FieldLemmas.{field-found, field-next}
-use Rattle.proxy_header.proofs.fields.field_of.Goals as goal
+use Rattle.site_rules.proofs.FieldLemmas.{field-found, field-next}
+use Rattle.site_rules.proofs.fields.field_of.Goals as goal
 
 pub returns-then-found-kind : goal.returns-then-found-kind
 returns-then-found-kind c =

@@ -1,6 +1,6 @@
 //! Why bytes are no header.
 ghost use Rattle.std.specs.Prelude.{◌≡◌};
-ghost use Rattle.proxy_header.specs.Views.{header_fault_number};
+ghost use Rattle.site_rules.specs.HeaderViews.{header_fault_number};
 
 /// Why bytes are no header that is understood: the first fault, in this order. Each has a number.
 #[derive(Clone, Copy, PartialEq, Eq)]
