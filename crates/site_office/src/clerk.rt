@@ -3,8 +3,8 @@ ghost use Rattle.std.specs.Prelude.{◌≡◌, true, false};
 ghost use Rattle.session.specs.Forms.{is_bye};
 ghost use Rattle.session.specs.Sessions.{LeavesIf};
 ghost use Rattle.line_io.specs.Talks.{Talk};
-ghost use Rattle.site_lines.specs.Lines.{site_request};
-ghost use Rattle.site_lines.specs.Turns.{SiteTurned};
+ghost use Rattle.site_office.specs.Lines.{site_request};
+ghost use Rattle.site_office.specs.Turns.{SiteTurned};
 
 use crate::reception::Reception;
 use crate::turns::take_site_turn;

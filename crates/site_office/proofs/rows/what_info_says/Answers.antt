@@ -1,6 +1,6 @@
 use Rattle.std.proofs.Common.{refl}
 use Rattle.std.specs.Fmt.{digits}
-use Rattle.site_lines.proofs.rows.what_info_says.Goals as goal
+use Rattle.site_office.proofs.rows.what_info_says.Goals as goal
 
 pub returns : goal.returns
 unfolding digits

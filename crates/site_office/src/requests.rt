@@ -1,8 +1,8 @@
 //! What a line asks for.
 ghost use Rattle.std.specs.Prelude.{◌≡◌};
 ghost use Rattle.line_io.specs.Views.{text_of};
-ghost use Rattle.site_lines.specs.Lines.{info_request, site_request};
-ghost use Rattle.site_lines.specs.Views.{asked_seen};
+ghost use Rattle.site_office.specs.Lines.{info_request, site_request};
+ghost use Rattle.site_office.specs.Views.{asked_seen};
 
 use crate::tokens::{token_of, without_token};
 use line_io::Line;

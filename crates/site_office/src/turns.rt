@@ -3,9 +3,9 @@ ghost use Rattle.std.specs.Prelude.{◌≡◌, ◌+◌, ◌≤◌, ◌++◌, tru
 ghost use Rattle.std.specs.Option.{option_copied};
 ghost use Rattle.line_io.specs.Views.{text_of};
 ghost use Rattle.protocol.specs.Texts.{error_text};
-ghost use Rattle.site_lines.specs.Lines.{Greets, Raises, Informs, site_request};
-ghost use Rattle.site_lines.specs.Turns.{IsWelcomed, SiteTurned, info_text, number_after};
-ghost use Rattle.site_lines.specs.Views.{asked_seen};
+ghost use Rattle.site_office.specs.Lines.{Greets, Raises, Informs, site_request};
+ghost use Rattle.site_office.specs.Turns.{IsWelcomed, SiteTurned, info_text, number_after};
+ghost use Rattle.site_office.specs.Views.{asked_seen};
 
 use crate::reception::{Greeted, Info, Reception};
 use crate::requests::{SiteRequest, read_site_request};

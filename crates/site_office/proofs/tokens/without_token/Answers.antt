@@ -1,6 +1,6 @@
 use Rattle.std.proofs.Common.{◌<◌, length, arith}
-use Rattle.site_lines.proofs.TokenLemmas.{token-short}
-use Rattle.site_lines.proofs.tokens.without_token.Goals as goal
+use Rattle.site_office.proofs.TokenLemmas.{token-short}
+use Rattle.site_office.proofs.tokens.without_token.Goals as goal
 
 pub overflow_sub-result : goal.overflow_sub-result
 overflow_sub-result c =

@@ -1,12 +1,12 @@
 use Rattle.std.proofs.Common.{◌≡◌, ℕ, List, sym, ◌∙◌}
 use Rattle.line_io.specs.Lines.{LineText}
 use Rattle.session.specs.declared.office.Office.{Ghosts}
-use Rattle.site_lines.specs.declared.reception.Reception.{Ghosts as ReceptionGhosts}
-use Rattle.site_lines.specs.declared.serving.Clerk.{Clerk}
-use Rattle.site_lines.specs.Lines.{site_request}
-use Rattle.site_lines.specs.Turns.{SiteTurned}
-use Rattle.site_lines.proofs.SeatLemmas.{chain-holds, leaves, site_turned}
-use Rattle.site_lines.proofs.laws.nobody_stays.Goals as goal
+use Rattle.site_office.specs.declared.reception.Reception.{Ghosts as ReceptionGhosts}
+use Rattle.site_office.specs.declared.clerk.Clerk.{Clerk}
+use Rattle.site_office.specs.Lines.{site_request}
+use Rattle.site_office.specs.Turns.{SiteTurned}
+use Rattle.site_office.proofs.ClerkLemmas.{chain-holds, leaves, site_turned}
+use Rattle.site_office.proofs.laws.nobody_stays.Goals as goal
 
 -- how a clerk answers
 abbrev Answers-line : {O : Type 0} (office : Ghosts O) (reception : ReceptionGhosts O) → Clerk O office reception → LineText → List ℕ → Clerk O office reception → Type 0

@@ -7,12 +7,12 @@ ghost use Rattle.session.specs.Calls.{Call, OfficeReply};
 ghost use Rattle.session.specs.Forms.{is_bye};
 ghost use Rattle.session.specs.Sessions.{LeavesIf};
 ghost use Rattle.session.specs.Turns.{seated_after};
-ghost use Rattle.site_lines.specs.declared.reception.Greeted.{Greeted};
-ghost use Rattle.site_lines.specs.declared.reception.Info.{Info};
-ghost use Rattle.site_lines.specs.declared.serving.Clerk.{Clerk};
+ghost use Rattle.site_office.specs.declared.reception.Greeted.{Greeted};
+ghost use Rattle.site_office.specs.declared.reception.Info.{Info};
+ghost use Rattle.site_office.specs.declared.clerk.Clerk.{Clerk};
 
+use crate::clerk::Clerk;
 use crate::reception::Reception;
-use crate::serving::Clerk;
 use line_io::{Answer, Sink, Source};
 use session::Office;
 

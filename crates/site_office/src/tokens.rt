@@ -1,7 +1,7 @@
 //! The token in a line HELLO.
 ghost use Rattle.std.specs.Prelude.{◌≡◌};
 ghost use Rattle.std.specs.Option.{option_copied};
-ghost use Rattle.site_lines.specs.Tokens.{token_after, token_of, without_token};
+ghost use Rattle.site_office.specs.Tokens.{token_after, token_of, without_token};
 
 use protocol::split_at_space;
 

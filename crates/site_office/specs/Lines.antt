@@ -6,7 +6,7 @@ use Rattle.protocol.specs.declared.faults.ProtocolFault.TheVariants.{LongLine, N
 use Rattle.session.specs.Calls.{Hello, Reserve}
 use Rattle.session.specs.Requests.{Request, Fault, Makes, request}
 use Rattle.tenant_quota.specs.Quota.{Quota}
-use Rattle.site_lines.specs.Tokens.{token_of, without_token}
+use Rattle.site_office.specs.Tokens.{token_of, without_token}
 
 -- what a line asks for: a session with this reservation, perhaps by a token; that the session's reservation be raised to this; what the
 -- customer may have and has; or what concerns the session alone

@@ -5,10 +5,10 @@ use Rattle.session.specs.Calls.{Call, Hello, Reserve, OfficeReply}
 use Rattle.session.specs.Requests.{Makes}
 use Rattle.session.specs.Sessions.{Turned}
 use Rattle.tenant_quota.specs.Quota.{Quota}
-use Rattle.site_lines.specs.declared.reception.Greeted.{Greeted}
-use Rattle.site_lines.specs.declared.reception.Greeted.TheVariants.{Known, Unknown, Crowded}
-use Rattle.site_lines.specs.declared.reception.Info.{Info}
-use Rattle.site_lines.specs.Lines.{SiteRequest, Greets, Raises, Informs, Plain}
+use Rattle.site_office.specs.declared.reception.Greeted.{Greeted}
+use Rattle.site_office.specs.declared.reception.Greeted.TheVariants.{Known, Unknown, Crowded}
+use Rattle.site_office.specs.declared.reception.Info.{Info}
+use Rattle.site_office.specs.Lines.{SiteRequest, Greets, Raises, Informs, Plain}
 
 -- a number, and the space before it
 abbrev pub number_after : ℕ → List ℕ

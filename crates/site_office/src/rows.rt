@@ -4,8 +4,8 @@ ghost use Rattle.line_io.specs.Lines.{Whole, TooLong};
 ghost use Rattle.protocol.specs.declared.faults.ProtocolFault.TheVariants.{NoCommand, LongLine, NoNumber, NoHello, HelloAgain};
 ghost use Rattle.session.specs.Calls.{AskQuota, Get};
 ghost use Rattle.session.specs.Requests.{Fault, Makes, Ends};
-ghost use Rattle.site_lines.specs.Lines.{Greets, Raises, Informs, Plain, site_request};
-ghost use Rattle.site_lines.specs.Turns.{info_text};
+ghost use Rattle.site_office.specs.Lines.{Greets, Raises, Informs, Plain, site_request};
+ghost use Rattle.site_office.specs.Turns.{info_text};
 
 /// Lines before HELLO.
 pub fn lines_before_hello()

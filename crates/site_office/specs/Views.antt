@@ -1,9 +1,9 @@
 -- Representation: the types of the code as data.
 use Rattle.std.specs.Option.{option_copied}
 use Rattle.session.specs.Views.{request_seen}
-use Rattle.site_lines.specs.declared.requests.SiteRequest.{SiteRequest as Asked}
-use Rattle.site_lines.specs.declared.requests.SiteRequest.TheVariants.{Greets as greets, Raises as raises, Informs as informs, Plain as plain}
-use Rattle.site_lines.specs.Lines.{SiteRequest, Greets, Raises, Informs, Plain}
+use Rattle.site_office.specs.declared.requests.SiteRequest.{SiteRequest as Asked}
+use Rattle.site_office.specs.declared.requests.SiteRequest.TheVariants.{Greets as greets, Raises as raises, Informs as informs, Plain as plain}
+use Rattle.site_office.specs.Lines.{SiteRequest, Greets, Raises, Informs, Plain}
 
 -- a request of the code as the contracts see it
 abbrev pub asked_seen : Asked → SiteRequest

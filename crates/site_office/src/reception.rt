@@ -32,8 +32,8 @@ pub struct Info {
 /// calls may do.
 pub trait Reception {
     ghost use Rattle.std.specs.Prelude.{ℕ, List, Bool, Option};
-    ghost use Rattle.site_lines.specs.declared.reception.Greeted.{Greeted};
-    ghost use Rattle.site_lines.specs.declared.reception.Info.{Info};
+    ghost use Rattle.site_office.specs.declared.reception.Greeted.{Greeted};
+    ghost use Rattle.site_office.specs.declared.reception.Info.{Info};
 
     /// What `greet` may do: the state before it, the token, what is known, and the state after it.
     ghost greets: { Self → Option (List ℕ) → Greeted → Self → Type 0 };

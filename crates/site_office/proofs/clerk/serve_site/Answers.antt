@@ -2,12 +2,12 @@ use Rattle.std.proofs.Common.{◌≡◌, ℕ, List, sym, subst, rules, ◌∙◌
 use Rattle.line_io.specs.Lines.{LineText}
 use Rattle.session.specs.declared.office.Office.{Ghosts}
 use Rattle.session.specs.Sessions.{LeavesIf}
-use Rattle.site_lines.specs.declared.reception.Reception.{Ghosts as ReceptionGhosts}
-use Rattle.site_lines.specs.declared.serving.Clerk.{Clerk}
-use Rattle.site_lines.specs.Lines.{site_request}
-use Rattle.site_lines.specs.Turns.{SiteTurned}
-use Rattle.site_lines.proofs.ChainLemmas.{chain-keeps}
-use Rattle.site_lines.proofs.serving.serve_site.Goals as goal
+use Rattle.site_office.specs.declared.reception.Reception.{Ghosts as ReceptionGhosts}
+use Rattle.site_office.specs.declared.clerk.Clerk.{Clerk}
+use Rattle.site_office.specs.Lines.{site_request}
+use Rattle.site_office.specs.Turns.{SiteTurned}
+use Rattle.site_office.proofs.ChainLemmas.{chain-keeps}
+use Rattle.site_office.proofs.clerk.serve_site.Goals as goal
 
 -- how a clerk answers
 abbrev Answers-line : {O : Type 0} (office : Ghosts O) (reception : ReceptionGhosts O) → Clerk O office reception → LineText → List ℕ → Clerk O office reception → Type 0
