@@ -1,3 +1,5 @@
+pub mod BookedSeats
+pub mod Booked
 pub mod Seats
 pub mod Sharing
 pub mod Sites

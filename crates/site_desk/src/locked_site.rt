@@ -4,7 +4,7 @@ ghost use Rattle.sched_rules.specs.declared.refusal.Refusal.TheVariants.{NoJob, 
 ghost use Rattle.sched_rules.specs.declared.step.StepOf.TheVariants.{Submit, Cancel};
 ghost use Rattle.sched_rules.specs.declared.step.DidOf.{DidOf};
 ghost use Rattle.sched_rules.specs.Views.{left_in_core, live_of, job_of};
-ghost use Rattle.booked_hall.specs.Booked.{IsRaise, is_within_seat};
+ghost use Rattle.site_desk.specs.Booked.{IsRaise, is_within_seat};
 ghost use Rattle.desk_rules.specs.hall.Halls.{count_of};
 ghost use Rattle.desk_rules.specs.hall.Journals.{is_worker_step};
 ghost use Rattle.desk_rules.specs.hall.jamboree_rules.declared.leaf.Leaf.{Leaf as LeafOf};
@@ -22,11 +22,12 @@ ghost use Rattle.fair_pool.specs.Picks.{charged_to};
 ghost use Rattle.site_desk.specs.Seats.{IsAsked};
 ghost use Rattle.site_desk.specs.Sites.{IsCame, IsGone, IsOffered, IsNext, IsAnyTask, IsNextTask, IsPicked, has_news, met, overruns_of, stays_in, waits_on};
 
+use crate::booked::BookedHall;
 use crate::came::Came;
 use crate::seat::Seat;
 use crate::sharing::{share, unshare};
+use crate::turned::Turned;
 use arrayvec::ArrayVec;
-use booked_hall::{BookedHall, Turned};
 use desk_rules::{JOBS, SeatAsked, seat_asked_at, shown};
 use fair_pool::{FairShare, charge, fair_task};
 use frame_tree::FrameId;

@@ -1,12 +1,11 @@
 //! Sessions of bytes over a desk without workers.
 ghost use Rattle.std.specs.Prelude.{◌≡◌, true};
 
-use booked_hall::BookedHall;
 use fair_pool::FairShare;
 use hall::{Config, Hall};
 use line_io::{FromReader, FromWriter};
 use site_book::{Amount, Book, Comer, Plan, Who};
-use site_desk::{Entry, Seat, SiteDesk};
+use site_desk::{BookedHall, Entry, Seat, SiteDesk};
 use site_office::{Cause, House, Met, Note, SiteOffice, serve_connection};
 use std::alloc::Global;
 use std::process::Abort;

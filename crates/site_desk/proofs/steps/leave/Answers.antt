@@ -1,7 +1,7 @@
 use Rattle.std.proofs.Common.{sym, ◌∙◌}
 use Rattle.site_book.specs.Grants.{grant_of}
-use Rattle.booked_hall.proofs.Keepings.{found-of, tenant-of, booked-leave}
-use Rattle.booked_hall.proofs.steps.leave.Goals as goal
+use Rattle.site_desk.proofs.Keepings.{found-of, tenant-of, booked-leave}
+use Rattle.site_desk.proofs.steps.leave.Goals as goal
 
 pub let_go-requires : goal.let_go-requires
 let_go-requires g c =

@@ -1,6 +1,6 @@
 use Rattle.std.proofs.Common.{sym, ◌∙◌}
-use Rattle.booked_hall.proofs.Keepings.{may-raise, booked-raise}
-use Rattle.booked_hall.proofs.steps.raise.Goals as goal
+use Rattle.site_desk.proofs.Keepings.{may-raise, booked-raise}
+use Rattle.site_desk.proofs.steps.raise.Goals as goal
 
 pub raise_to-requires : goal.raise_to-requires
 raise_to-requires g c =

@@ -4,9 +4,9 @@ ghost use Rattle.sched_rules.specs.Trees.{admitted_with};
 ghost use Rattle.sched_rules.specs.declared.refusal.Refusal.TheVariants.{OldTenant as NoNumber, OutOfMemory as NoMemory};
 ghost use Rattle.sched_rules.specs.declared.step.StepOf.TheVariants.{Admit, AdmitMore, Cancel, Leave};
 ghost use Rattle.site_book.specs.declared.who.Who.TheVariants.{Named, V4};
-ghost use Rattle.booked_hall.specs.Booked.{is_within_seat, turned_by};
-ghost use Rattle.booked_hall.specs.Seats.{seats_in_book, seats_in_hall};
-ghost use Rattle.booked_hall.specs.declared.turned.Turned.TheVariants.{OldTenant, OutOfMemory};
+ghost use Rattle.site_desk.specs.Booked.{is_within_seat, turned_by};
+ghost use Rattle.site_desk.specs.BookedSeats.{seats_in_book, seats_in_hall};
+ghost use Rattle.site_desk.specs.declared.turned.Turned.TheVariants.{OldTenant, OutOfMemory};
 
 /// A seat is a number and what it reserves, whosever it is and whatever its tenant does.
 pub fn seats_are_read()

@@ -4,7 +4,7 @@ ghost use Rattle.sched_rules.specs.Cores.{is_full, is_beyond, reservations_in, t
 ghost use Rattle.sched_rules.specs.Lone.{is_lower};
 ghost use Rattle.sched_rules.specs.Trees.{Tenant};
 ghost use Rattle.sched_rules.specs.declared.step.StepOf.TheVariants.{Leave};
-ghost use Rattle.booked_hall.specs.Booked.{IsBooked, IsLetIn, IsRaisedTo, Took, turned_by, IsAdmission, IsRaise, IsEnd};
+ghost use Rattle.site_desk.specs.Booked.{IsBooked, IsLetIn, IsRaisedTo, Took, turned_by, IsAdmission, IsRaise, IsEnd};
 
 use crate::turned::Turned;
 use hall::{Hall, Refusal, StepOf};

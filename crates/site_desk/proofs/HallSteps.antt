@@ -17,7 +17,7 @@ use Rattle.sched_rules.specs.Cores.{CoreState, tenant_in, with_outcome, reservat
 use Rattle.sched_rules.specs.Headline.{AreNumbersGiven, IsOneStep, is_admission}
 use Rattle.sched_rules.proofs.Isolation.{IsTaken, step-taken, shared-after-taken}
 use Rattle.sched_laws.proofs.Shaped.{by-kinds, unless-passed}
-use Rattle.booked_hall.specs.Booked.{is_within_seat}
+use Rattle.site_desk.specs.Booked.{is_within_seat}
 
 -- a step within its seat is no admission
 pub no-admission : {A : Type 0} (step : StepOf A) → is_within_seat step ≡ true → is_admission step ≡ false

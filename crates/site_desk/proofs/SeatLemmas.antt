@@ -17,7 +17,7 @@ use Rattle.site_book.specs.Names.{same_who}
 use Rattle.site_book.specs.Amounts.{nothing, of_one, plus, IsWithin}
 use Rattle.site_book.specs.Grants.{used, is_held_as, grant_of, without, with_ask}
 use Rattle.site_book.proofs.AmountLemmas.{plus_swap}
-use Rattle.booked_hall.specs.Seats.{Seat, seats_in_book, seats_in_hall, number_of}
+use Rattle.site_desk.specs.BookedSeats.{Seat, seats_in_book, seats_in_hall, number_of}
 
 abbrev Entries : Type 0
 Entries = List (ℕ × Tenant)

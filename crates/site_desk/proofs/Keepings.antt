@@ -30,10 +30,10 @@ use Rattle.site_book.specs.Plans.{PlanOf}
 use Rattle.site_book.specs.Grants.{used, grant_of, without}
 use Rattle.site_book.specs.Books.{BookOf, Opens, Raises, Closes, taken, why_no_raise, why_not_replan}
 use Rattle.site_book.proofs.Keepings.{comes-in}
-use Rattle.booked_hall.specs.Booked.{IsBooked, Took, is_within_seat}
-use Rattle.booked_hall.specs.Seats.{Seat, seats_in_book, seats_in_hall, number_of}
-use Rattle.booked_hall.proofs.SeatLemmas.{set_seat, drop_seats, seat_at, amount_of, hall-same, hall-new, hall-set, hall-drop, IsThere, hall-at, book-push, book-set, book-drop, book-at, taken-upto, rising-push, rising-set, rising-drop, book-amount, used-found, not_full, not_beyond}
-use Rattle.booked_hall.proofs.HallSteps.{went, admit-outcome, more-outcome, leave-outcome, stayed, moved}
+use Rattle.site_desk.specs.Booked.{IsBooked, Took, is_within_seat}
+use Rattle.site_desk.specs.BookedSeats.{Seat, seats_in_book, seats_in_hall, number_of}
+use Rattle.site_desk.proofs.SeatLemmas.{set_seat, drop_seats, seat_at, amount_of, hall-same, hall-new, hall-set, hall-drop, IsThere, hall-at, book-push, book-set, book-drop, book-at, taken-upto, rising-push, rising-set, rising-drop, book-amount, used-found, not_full, not_beyond}
+use Rattle.site_desk.proofs.HallSteps.{went, admit-outcome, more-outcome, leave-outcome, stayed, moved}
 
 abbrev Step : Type 0
 Step = StepOf LeafAnswer

@@ -3,8 +3,8 @@ use Rattle.sched_rules.specs.declared.step.StepOf.TheVariants.{Leave}
 use Rattle.sched_rules.specs.declared.step.DidOf.TheVariants.{Left}
 use Rattle.hall.specs.Halls.{IsDecided}
 use Rattle.hall.specs.jamboree_rules.Procedure.{jamboree}
-use Rattle.booked_hall.proofs.HallSteps.{leave-taken}
-use Rattle.booked_hall.proofs.steps.let_go.Goals as goal
+use Rattle.site_desk.proofs.HallSteps.{leave-taken}
+use Rattle.site_desk.proofs.steps.let_go.Goals as goal
 
 pub returns : goal.returns
 returns g c =

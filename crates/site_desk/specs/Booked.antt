@@ -14,9 +14,9 @@ use Rattle.hall.specs.Halls.{HallOf, IsDecided}
 use Rattle.site_book.specs.declared.who.Who.{Who}
 use Rattle.site_book.specs.Books.{BookOf, Opens, Raises, Closes, taken, why_over, why_no_raise}
 use Rattle.site_book.specs.Grants.{grant_of}
-use Rattle.booked_hall.specs.declared.turned.Turned.{Turned}
-use Rattle.booked_hall.specs.declared.turned.Turned.TheVariants.{ByBook, OldTenant, OutOfMemory}
-use Rattle.booked_hall.specs.Seats.{seats_in_book, seats_in_hall, number_of}
+use Rattle.site_desk.specs.declared.turned.Turned.{Turned}
+use Rattle.site_desk.specs.declared.turned.Turned.TheVariants.{ByBook, OldTenant, OutOfMemory}
+use Rattle.site_desk.specs.BookedSeats.{seats_in_book, seats_in_hall, number_of}
 
 -- a hall and its book
 pub record BookedOf : Type 0 where

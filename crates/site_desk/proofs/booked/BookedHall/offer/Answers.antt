@@ -1,9 +1,9 @@
 use Rattle.std.proofs.Common.{subst}
 use Rattle.hall.specs.Halls.{IsDecided}
-use Rattle.booked_hall.specs.Booked.{BookedOf}
-use Rattle.booked_hall.proofs.Keepings.{booked-step}
-use Rattle.booked_hall.proofs.HallSteps.{no-admission}
-use Rattle.booked_hall.proofs.booked.BookedHall.offer.Goals as goal
+use Rattle.site_desk.specs.Booked.{BookedOf}
+use Rattle.site_desk.proofs.Keepings.{booked-step}
+use Rattle.site_desk.proofs.HallSteps.{no-admission}
+use Rattle.site_desk.proofs.booked.BookedHall.offer.Goals as goal
 
 pub invariant_of-self : goal.invariant_of-self
 invariant_of-self g c =

@@ -1,5 +1,5 @@
-use Rattle.booked_hall.proofs.Keepings.{has-room, booked-admit}
-use Rattle.booked_hall.proofs.steps.admit.Goals as goal
+use Rattle.site_desk.proofs.Keepings.{has-room, booked-admit}
+use Rattle.site_desk.proofs.steps.admit.Goals as goal
 
 pub let_in-requires : goal.let_in-requires
 let_in-requires g c = has-room c.args.hall.now c.args.book.now c.args.ask c.requires c.in_default.ensures.few c.in_default.ensures.room
