@@ -1,6 +1,6 @@
 //! Steps, read from texts.
-use crate::Words;
 use crate::values::FromWords;
+use crate::words::Words;
 use frame_tree::FrameId;
 use sched_core::{GivenWords, StepOf, Worker};
 use tenant_quota::Reserve;

@@ -1,13 +1,33 @@
-//! Scenes of steps.
+//! The player of texts of steps.
+//!
+//! A text of steps has the steps that a core takes, its answers, and looks at its state in between. A scene of it is played on a new core,
+//! by the procedure and of the totals that its head names. Its rows are steps with their answers, `Advance 2 1.3 -> Spawned 1.5`, and looks
+//! with what is seen, `left 1 = 7 3 119`. Each step is asked for by `refusal` before it is taken by `step`, and both must say the same; no
+//! step but an admission and a Leave may call the allocator. A head may name a growth that is refused. At the end the whole list is
+//! played again by one `run` on a new core, and the steps of each tenant that were taken once more on a core of its own:
+//! each is answered as before, and each tenant reads the same (the headline, tried).
+//!
+//! The procedures are those of `toys`, `Jamboree`, and one more for lists that are drawn from a seed, [`Reader`].
+//!
+//! ```text
+//! = core Reader segments 4 nodes 4
+//! Admit 1 4 4 -> Admitted
+//! Submit 1 4 0o43 0o5 -> Submitted 1 1.1
+//! Steal 1 0 1.1 -> Took
+//! Advance 1 1.1 -> Spawned 1.2
+//! frame 1.2 = under 1.1 Ready(1): 5 0 0 0
+//! ```
 use crate::answered::draw_answer;
 use crate::looks::draw_tenant;
 use crate::plain_core::{made, run};
 use crate::procedures::Made;
 use crate::reader::Reader;
 use crate::reading::tenant_of;
+use crate::scenes::{Row, Scene};
 use crate::stage::{Played, play_row, tell};
+use crate::tally::{Place, Tally};
 use crate::values::{FromWords, Input};
-use crate::{Place, Row, Scene, Tally, option, small_option};
+use crate::words::{option, small_option};
 use jamboree::Jamboree;
 use sched_core::{Config, Core, DidOf, Procedure, Refusal, Step};
 use std::alloc::{AllocError, Allocator, Global};

@@ -4,7 +4,7 @@ use Rattle.sched_rules.specs.declared.act.Act.{Act}
 use Rattle.sched_rules.specs.declared.act.InletAct.{InletAct}
 use Rattle.sched_rules.specs.declared.act.Continuation.{Continuation}
 use Rattle.sched_rules.specs.declared.act.Continuation.TheVariants.{Grow, Spawn, Go, Wait, Compute, Return}
-use Rattle.text_rows.specs.declared.reader.ReaderAnswer.{ReaderAnswer}
+use Rattle.transcripts.specs.declared.reader.ReaderAnswer.{ReaderAnswer}
 use Rattle.sched_rules.specs.Functions.{Functions}
 use Rattle.toys.specs.Toys.{word_at, toy}
 

@@ -1,4 +1,5 @@
-//! A text as its scenes.
+//! A text as its scenes. A scene begins with a head, a line `= ` and words: what is played, and its options, each a word and its numbers.
+//! The lines up to the next head are its rows. Empty lines and those that begin with `#` are remarks.
 use std::alloc::{AllocError, Global};
 
 /// A line of a text.

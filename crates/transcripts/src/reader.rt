@@ -17,7 +17,7 @@ pub type Reader = Toy<ReaderPlay>;
 pub struct ReaderAnswer(pub u64);
 
 impl ToyAnswer for ReaderAnswer {
-    ghost use Rattle.text_rows.specs.Reading.{reader_stored};
+    ghost use Rattle.transcripts.specs.Reading.{reader_stored};
 
     ghost asks_for = { λ answer. answer.0 };
 
@@ -38,7 +38,7 @@ impl ToyAnswer for ReaderAnswer {
 pub struct ReaderPlay;
 
 impl Play for ReaderPlay {
-    ghost use Rattle.text_rows.specs.Reading.{reader_act, reader_inlet};
+    ghost use Rattle.transcripts.specs.Reading.{reader_act, reader_inlet};
 
     type Answer = ReaderAnswer;
 

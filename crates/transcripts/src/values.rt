@@ -1,8 +1,8 @@
 //! Answers and inputs as words.
 ghost use Rattle.std.specs.Prelude.{◌≤◌};
 
-use crate::Words;
 use crate::reader::ReaderAnswer;
+use crate::words::Words;
 use jamboree::{Leaf, LeafAnswer};
 use othello_board::Board;
 use std::alloc::AllocError;

@@ -1,7 +1,7 @@
 //! Reader, tried on worked examples: each contract is computed from the definitions alone.
 ghost use Rattle.std.specs.Prelude.{◌≡◌, [], ◌∷◌, true, false};
 ghost use Rattle.sched_rules.specs.declared.act.Continuation.TheVariants.{Grow, Spawn, Go, Wait, Compute, Return};
-ghost use Rattle.text_rows.specs.Reading.{act_with_stores, reader_act, reader_inlet};
+ghost use Rattle.transcripts.specs.Reading.{act_with_stores, reader_act, reader_inlet};
 
 /// The acts of octal numbers: the lowest digit is done and taken off. A frame of 0o43 opens a child,
 /// waits, and returns.

@@ -1,7 +1,7 @@
 //! What is read of a core, as texts.
-use crate::Words;
 use crate::answered::draw_frame;
 use crate::reading::read_frame;
+use crate::words::Words;
 use cactus_stack::Words as FrameWords;
 use frame_tree::{FrameId, State};
 use sched_core::{Core, Job, Procedure};
