@@ -1,6 +1,5 @@
-//! Sessions of bytes over a desk without workers.
-ghost use Rattle.std.specs.Prelude.{◌≡◌, true};
-
+//! A site's sessions over a desk without workers: bytes in, bytes out, and a clock that goes on by a step at each look.
+use crate::tests::holds;
 use fair_pool::FairShare;
 use hall::{Config, Hall};
 use line_io::{FromReader, FromWriter};
@@ -24,13 +23,6 @@ const THIRD: Who = Who::V4(3);
 const SCHOOL: Who = Who::Named(0);
 
 const TOKEN: &[u8] = b"sesame";
-
-/// Fails the test where this isn't so.
-fn holds(rt: &impl Abort, is: bool)
-    ensures { is ≡ true }
-{
-    assert!(rt; is);
-}
 
 /// An amount.
 fn amount(sessions: u32, segments: u64, nodes: u64) -> Amount {
