@@ -15,7 +15,7 @@ use Rattle.hall.specs.jamboree_rules.declared.leaf.LeafAnswer.{LeafAnswer}
 use Rattle.hall.specs.jamboree_rules.Procedure.{jamboree}
 use Rattle.hall.specs.Journals.{is_worker_step}
 use Rattle.hall.specs.Halls.{HallOf}
-use Rattle.shared_history.specs.Views.{own, Known}
+use Rattle.desk.specs.Traces.{own, Known}
 use Rattle.sched_rules.specs.Views.{job_of}
 use Rattle.hall.specs.jamboree_core.declared.outcomes.Outcome.{Outcome}
 use Rattle.hall.specs.jamboree_core.Outcomes.{IsOutcomeIn}

@@ -7,7 +7,7 @@ use Rattle.hall.specs.jamboree_core.declared.outcomes.Outcome.{Outcome}
 use Rattle.hall.specs.jamboree_core.declared.outcomes.Outcome.TheVariants.{Pending, Done, Spent, Cancelled}
 use Rattle.sched_rules.specs.declared.step.StepOf.{StepOf}
 use Rattle.hall.specs.jamboree_rules.declared.leaf.LeafAnswer.{LeafAnswer}
-use Rattle.shared_history.specs.Views.{Known}
+use Rattle.desk.specs.Traces.{Known}
 use Rattle.desk.specs.declared.seat.SeatAsked.{SeatAsked}
 
 -- a seat: its tenant, the number of its own steps, what it asked, from job 1 on, and what it knows of the desk's history

@@ -13,13 +13,13 @@ ghost use Rattle.desk.specs.Histories.{core_at, steps_of, AreTaken, IsAdmitted, 
 
 use crate::backoff::Backoff;
 use crate::desk_guard::DeskGuard;
+use crate::history::{Opened, Trace};
 use crate::locked_hall::LockedHall;
 use crate::seat::Seat;
 use crate::shares::{Badge, DeskLedger, PARTS};
 use frame_tree::FrameId;
 use hall::{Hall, Jamboree, Outcome, Refusal, Step, StepAnswer};
 use position_text::Position;
-use shared_history::{Opened, Trace};
 use std::alloc::{Allocator, Global};
 use std::hint::spin_loop;
 use std::sync::atomic::AtomicU64;

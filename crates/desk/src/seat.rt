@@ -1,11 +1,11 @@
 //! A tenant's seat.
 ghost use Rattle.std.specs.Prelude.{◌≡◌, ◌≤◌, length};
 
+use crate::history::Trace;
 use crate::shares::DeskLedger;
 use arrayvec::ArrayVec;
 use hall::{Jamboree, Step};
 use othello_board::Board;
-use shared_history::Trace;
 use std::marker::Model;
 use std::sync::ledger::Share;
 

@@ -2,8 +2,9 @@
 ghost use Rattle.std.specs.Prelude.{◌≡◌, ℕ, ◌+◌, ◌*◌, ◌<◌, ◌≤◌};
 
 use crate::backoff::Backoff;
+use crate::history::Trace;
+use crate::passes::Naming;
 use hall::{Jamboree, Step};
-use shared_history::{Naming, Trace};
 use std::marker::{Brand, Model};
 use std::sync::ledger::{Ledger, Share};
 

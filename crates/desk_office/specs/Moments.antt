@@ -11,7 +11,7 @@ use Rattle.sched_rules.specs.declared.step.StepOf.{StepOf}
 use Rattle.sched_rules.specs.declared.step.StepOf.TheVariants.{Admit, AdmitMore, Submit, Cancel as CancelStep, Leave as LeaveStep}
 use Rattle.sched_rules.specs.Trees.{Tenant, left, job_at}
 use Rattle.sched_rules.specs.Headline.{IsAnswerTo}
-use Rattle.shared_history.specs.Views.{Known}
+use Rattle.desk.specs.Traces.{Known}
 use Rattle.desk.specs.hall.jamboree_rules.Places.{root_words, frame_size}
 use Rattle.desk.specs.hall.jamboree_rules.Procedure.{jamboree}
 use Rattle.desk.specs.hall.jamboree_rules.declared.leaf.LeafAnswer.{LeafAnswer}

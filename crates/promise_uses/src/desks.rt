@@ -8,7 +8,7 @@ ghost use Rattle.sched_rules.specs.Headline.{IsAnswerTo};
 ghost use Rattle.sched_rules.specs.Cores.{tenant_in};
 ghost use Rattle.jamboree_rules.specs.Procedure.{jamboree};
 ghost use Rattle.jamboree_rules.specs.Places.{root_words, frame_size};
-ghost use Rattle.shared_history.specs.Views.{own};
+ghost use Rattle.desk.specs.Traces.{own};
 ghost use Rattle.jamboree_core.specs.declared.outcomes.Outcome.{Outcome as OutcomeOf};
 ghost use Rattle.jamboree_core.specs.Outcomes.{IsOutcomeIn};
 ghost use Rattle.desk.specs.declared.seat.SeatAsked.{SeatAsked as SeatAskedOf};

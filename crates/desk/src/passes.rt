@@ -1,6 +1,6 @@
 //! The passes of the table, and what its steps do to them.
 ghost use Rattle.std.specs.Prelude.{◌≡◌, ◌<◌, [], true, false, ℕ};
-ghost use Rattle.shared_history.specs.Views.{own, keeper, sitter, holding, bare, given, noted, begun, IsTrue};
+ghost use Rattle.desk.specs.Traces.{own, keeper, sitter, holding, bare, given, noted, begun, IsTrue};
 
 use atomic_table::{Join, Play, Seat as Pass, Shared, Split, TableRule};
 use std::collections::LinkedList;
@@ -16,7 +16,7 @@ pub trait Naming {
 
 // So that a call may pass `Brand` for the name. The proof of that call then chooses the table; the one here isn't used.
 impl Naming for Brand {
-    ghost use Rattle.shared_history.specs.Views.{no_table};
+    ghost use Rattle.desk.specs.Traces.{no_table};
 
     ghost table = { no_table };
 }
@@ -39,7 +39,7 @@ pub struct Law;
 
 impl<S> TableRule<S, View<S>, ()> for Law {
     ghost use Rattle.std.specs.Prelude.{[]};
-    ghost use Rattle.shared_history.specs.Views.{keeper, Kept};
+    ghost use Rattle.desk.specs.Traces.{keeper, Kept};
 
     ghost holds = { λ _. Kept };
 
@@ -50,7 +50,7 @@ impl<S> TableRule<S, View<S>, ()> for Law {
 struct Noting;
 
 impl<S> Play<S, View<S>> for Noting {
-    ghost use Rattle.shared_history.specs.Views.{Notes};
+    ghost use Rattle.desk.specs.Traces.{Notes};
 
     ghost then = { Notes };
 }
@@ -59,7 +59,7 @@ impl<S> Play<S, View<S>> for Noting {
 struct Beginning;
 
 impl<S> Play<S, View<S>> for Beginning {
-    ghost use Rattle.shared_history.specs.Views.{Begins};
+    ghost use Rattle.desk.specs.Traces.{Begins};
 
     ghost then = { Begins };
 }
@@ -68,7 +68,7 @@ impl<S> Play<S, View<S>> for Beginning {
 struct Whole;
 
 impl<S> Split<View<S>> for Whole {
-    ghost use Rattle.shared_history.specs.Views.{nobody};
+    ghost use Rattle.desk.specs.Traces.{nobody};
 
     ghost left = { λ v. nobody };
 
@@ -79,7 +79,7 @@ impl<S> Split<View<S>> for Whole {
 struct Held;
 
 impl<S> Join<View<S>> for Held {
-    ghost use Rattle.shared_history.specs.Views.{holding, nobody};
+    ghost use Rattle.desk.specs.Traces.{holding, nobody};
 
     ghost both = { holding };
 
@@ -87,7 +87,7 @@ impl<S> Join<View<S>> for Held {
 }
 
 impl<S> Split<View<S>> for Held {
-    ghost use Rattle.shared_history.specs.Views.{bare, given};
+    ghost use Rattle.desk.specs.Traces.{bare, given};
 
     ghost left = { bare };
 

@@ -5,7 +5,7 @@ use mathlib.Core.Option.{Option, some, none}
 use lib.ListN.{get_elem?}
 use Rattle.atomic_table.specs.Table.{State, Me, Step as Move}
 use Rattle.atomic_table.specs.Seated.{TableId}
-use Rattle.shared_history.specs.declared.passes.View.{View}
+use Rattle.desk.specs.declared.passes.View.{View}
 
 -- a table that there is not
 abbrev pub no_table : TableId
