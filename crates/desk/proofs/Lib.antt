@@ -1,6 +1,5 @@
 pub mod Prefixes
 pub mod Keeping
-pub mod Asking
 pub mod Offering
 pub mod Refused
 pub mod Judged

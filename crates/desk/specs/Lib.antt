@@ -4,5 +4,4 @@ pub use Rattle.hall.specs.jamboree_core as jamboree_core
 pub mod Traces
 pub mod Seats
 pub mod Counts
-pub mod Waits
 pub mod Histories

@@ -52,24 +52,22 @@
 
 pub use hall::jamboree;
 
-mod backoff;
-mod change;
 mod desk;
 mod desk_guard;
 mod history;
 mod locked_hall;
 mod passes;
-pub mod rows;
 mod seat;
 mod shares;
 
 pub use desk::Desk;
 pub use desk_guard::DeskGuard;
+pub use desk_rules::SeatAsked;
 pub use hall::{
     Config, Did, DidOf, Hall, Jamboree, Leaf, LeafAnswer, Outcome, Refusal, Reply, Step,
     StepAnswer, StepOf, Worker,
 };
 pub use history::{History, Opened, Trace};
 pub use passes::Naming;
-pub use seat::{Seat, SeatAsked};
+pub use seat::Seat;
 pub use shares::{Badge, DeskLedger, PARTS};

@@ -18,9 +18,9 @@ use Rattle.desk.specs.hall.jamboree_rules.declared.leaf.LeafAnswer.{LeafAnswer}
 use Rattle.desk.specs.hall.Halls.{HallOf}
 use Rattle.desk.specs.jamboree_core.declared.outcomes.Outcome.{Outcome}
 use Rattle.desk.specs.jamboree_core.Outcomes.{IsOutcomeIn}
-use Rattle.desk.specs.declared.seat.SeatAsked.{SeatAsked}
-use Rattle.desk.specs.Counts.{found_or_no_tenant}
-use Rattle.desk.specs.Seats.{SeatOf, seeing, seat_asked_at, IsShown, IsToldBy}
+use Rattle.desk_rules.specs.declared.asked.SeatAsked.{SeatAsked}
+use Rattle.desk_rules.specs.Asked.{found_or_no_tenant, seat_asked_at, IsShown, IsToldBy}
+use Rattle.desk.specs.Seats.{SeatOf, seeing}
 use Rattle.desk.specs.Histories.{core_at, tenant_at, IsAdmitted, IsLook, IsTrueTo, Saw, Took}
 use Rattle.session.specs.declared.faults.End.{End}
 use Rattle.session.specs.declared.faults.SessionFault.{SessionFault}
