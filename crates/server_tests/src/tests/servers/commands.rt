@@ -6,9 +6,8 @@ mod streams;
 mod words;
 
 use super::holds;
+use commands::{Explained, Input, Output, Streams, run, run_solve};
 use line_io::{FromReader, FromWriter, Sink};
-use serve_command::run;
-use solve_command::{Explained, Input, Output, Streams, run_solve};
 use std::alloc::Global;
 use std::io::{self, Error, ErrorKind, IsTerminal, Read, Write};
 use std::net::{Net, TcpListener, TcpStream};

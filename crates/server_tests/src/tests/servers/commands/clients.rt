@@ -1,8 +1,8 @@
 //! Servers of the program, and clients that come once they are told where a server listens.
 use super::{followed, typed, written};
 use crate::tests::servers::{LAST, Row, SPENT, are_told, holds, is_answered};
+use commands::Output;
 use line_io::{Sink, WriteFailed};
-use solve_command::Output;
 use std::net::{Net, TcpListener, TcpStream};
 use std::sync::atomic::{AtomicBool, Ordering};
 use std::sync::{Arc, Wait};

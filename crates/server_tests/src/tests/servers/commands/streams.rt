@@ -1,9 +1,8 @@
 //! Streams that fail by each error that a process can meet, and terminals.
 use super::{Broken, LINE, followed, input, status_of, typed, written};
 use crate::tests::{holds, says};
+use commands::{Streams, Unserved};
 use line_io::FromWriter;
-use serve_command::Unserved;
-use solve_command::Streams;
 use std::alloc::Global;
 use std::io::ErrorKind;
 use std::net::{Net, TcpListener, TcpStream};

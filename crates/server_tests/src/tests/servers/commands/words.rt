@@ -2,7 +2,7 @@
 use super::memory;
 use crate::tests::holds;
 use command_line::{Options, WordsFault};
-use solve_command::words_of;
+use commands::words_of;
 use std::alloc::Global;
 use std::io::{Error, ErrorKind};
 use std::string::String;
