@@ -2,10 +2,8 @@
 use crate::counts::Counts;
 use crate::rates::Rates;
 use crate::tallies::Tallies;
-use site_book::Who;
-use site_config::Config;
-use site_directory::Address;
-use site_roll::Told;
+use site_book::{Told, Who};
+use site_file::{Address, Config};
 use site_rules::{Arrival, Crowd, Seen, Watch, arrival_of};
 use std::alloc::Global;
 use std::io::ErrorKind;

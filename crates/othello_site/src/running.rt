@@ -3,7 +3,7 @@ use crate::ending::{Unheard, Why};
 use crate::paths::Paths;
 use crate::serving::serve_config;
 use site_book::{Part, Plan, Who};
-use site_config::{Config, amount_text, read_config};
+use site_file::{Config, amount_text, read_config};
 use std::alloc::{AllocError, Global};
 use std::fmt::{Display, Write};
 use std::io;

@@ -1,8 +1,7 @@
 //! Each second: sessions whose client is gone, and connections that are to be shut.
 use crate::ending::Why;
 use crate::shared::Shared;
-use site_book::Part;
-use site_roll::{Present, Told, Whom};
+use site_book::{Part, Present, Told, Whom};
 use std::sync::Wait;
 use std::thread;
 use std::time::{Clock, Duration};
