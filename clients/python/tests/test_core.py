@@ -726,7 +726,7 @@ def test_how_a_server_is_found_out() -> None:
     assert hand.hear(1, "QUOTA 1 7899 1") == [f"1 ASK 2 {PROBES[1]}"]
     hand.hear(1, "JOB 3")
     assert hand.hear(1, "SPENT 3") == ["1 QUOTA"] and hand.hear(1, "QUOTA 1 7899 1") == ["1 BYE"]
-    assert errand.found == Info(0) == hand.core.info
+    assert errand.found == Info(0) == hand.core.info and [(info.sure, info.mostly) for info in (Info(0), Info(7), Info(9))] == [(4, 5), (11, 12), (12, 12)]
 
 
 def test_how_long_a_server_is_tried_that_was_never_there() -> None:
