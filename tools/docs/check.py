@@ -37,7 +37,7 @@ VERSIONED = {  # where the version stands beside VERSION itself; in documents it
     "clients/javascript/package.json": r'"version": "(.*?)"',
     "clients/java/pom.xml": r"<artifactId>coluwen</artifactId>\s*<version>(.*?)</version>",
     "CITATION.cff": r"^version: (.*)$",
-    "crates/site_lines/specs/Turns.antt": r'codes " (\d+\.\d+\.\d+)"',
+    "crates/site_office/specs/Turns.antt": r'codes " (\d+\.\d+\.\d+)"',
 }
 MADE = [["tools/docs/promises.py"], ["docs/pictures/draw.py"]]
 # Names of the toolchain, its library, the system and other tools, which the tree need not say.

@@ -11,7 +11,7 @@ use Rattle.session.specs.protocol.Words.{split_at_space}
 use Rattle.tenant_quota.specs.Quota.{Quota}
 use Rattle.sched_rules.specs.declared.step.StepOf.{StepOf}
 use Rattle.sched_rules.specs.declared.step.StepOf.TheVariants.{Admit, Leave as LeaveStep}
-use Rattle.shared_history.specs.Views.{Known}
+use Rattle.desk.specs.Traces.{Known}
 use Rattle.desk.specs.hall.jamboree_rules.declared.leaf.LeafAnswer.{LeafAnswer}
 use Rattle.desk.specs.hall.Halls.{HallOf}
 use Rattle.desk.specs.Seats.{SeatOf}

@@ -7,8 +7,8 @@ use crate::links::{Incoming, MOST_BYTES, Outgoing, Reading, Received, Talk};
 use crate::shared::Shared;
 use crate::telling::{address_text, log_refusal};
 use line_io::{LineFault, Sink, TalkEnd};
-use site_book::Who;
-use site_directory::Address;
+use site_book::{Told, Who};
+use site_file::Address;
 use site_office::{SiteOffice, serve_connection};
 use site_rules::{Arrival, Caller as Origin, Port, Times, identify};
 use std::alloc::{AllocError, Global};
@@ -210,6 +210,7 @@ fn receive<R: Clock + Wait>(
         account,
         hall,
         session: None,
+        told: None,
         since: 0,
         asked: 0,
     };
@@ -233,7 +234,7 @@ fn receive<R: Clock + Wait>(
         alloc,
         shared,
         &caller,
-        words_of(end, talk.reading.get()),
+        word_of(end, talk.reading.get(), caller.told),
     );
     if talk.reading.get() == Reading::Late && !talk.pace.get().welcomed {
         refuse(rt, alloc, shared, known.address, SILENCE);
@@ -241,13 +242,25 @@ fn receive<R: Clock + Wait>(
 }
 
 /// What ended a connection, in a word.
-fn words_of(end: Result<TalkEnd, LineFault>, reading: Reading) -> &'static str {
-    match (end, reading) {
+fn word_of(end: Result<TalkEnd, LineFault>, reading: Reading, told: Option<Told>) -> &'static str {
+    match (end, told) {
         (Ok(TalkEnd::Line), _) => "bye",
-        (Ok(TalkEnd::Input), _) => "input",
-        (Err(LineFault::Write), _) => "unwritten",
-        (Err(_), Reading::Late) => "silence",
-        (Err(_), _) => "lost",
+        (_, Some(why)) => word_told(why),
+        (Ok(TalkEnd::Input), None) => "input",
+        (Err(LineFault::Write), None) => "unwritten",
+        (Err(_), None) if reading == Reading::Late => "silence",
+        (Err(_), None) => "lost",
+    }
+}
+
+/// Why a session was told to end, in a word.
+fn word_told(why: Told) -> &'static str {
+    match why {
+        Told::Gone => "gone",
+        Told::Idle => "idle",
+        Told::ForAnother => "another",
+        Told::ByOperator => "operator",
+        Told::ByPlan => "reload",
     }
 }
 

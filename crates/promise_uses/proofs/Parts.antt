@@ -5,7 +5,7 @@ use Rattle.othello_eval.specs.declared.bound.BoundKind.TheVariants.{Low, High, E
 use Rattle.othello_eval.specs.Tables.{Says}
 use Rattle.std.specs.Prelude.{IfOk, IfErr, OnOk, IfSome, MatchResult, ◌++◌, ◌∷◌, []}
 use Rattle.sched_rules.specs.Headline.{IsAnswerTo}
-use Rattle.shared_history.specs.Views.{own, Known}
+use Rattle.desk.specs.Traces.{own, Known}
 use Rattle.hall.specs.Halls.{HallOf}
 use Rattle.desk.specs.Seats.{SeatOf, stepped, seeing}
 use Rattle.desk.specs.Histories.{core_at, IsToldOf, Saw}

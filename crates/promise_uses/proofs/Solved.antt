@@ -12,7 +12,7 @@ use Rattle.line_io.specs.Lines.{LineText, Whole, lines_of}
 use Rattle.line_io.specs.Streams.{ReadAnswer, WriteAnswer, Gave, Ended, Failed}
 use Rattle.line_io.specs.Runs.{IsEnding, IsOutput, bytes_due, write_result}
 use Rattle.line_io.specs.Writes.{writes_of, written_texts}
-use Rattle.solve_engine.specs.Solving.{SolvedRun, answers_unless, line_question, question_answer, solve_line_unless, solve_out_unless, solved_unless}
+use Rattle.promises.specs.solve_engine.Solving.{SolvedRun, answers_unless, line_question, question_answer, solve_line_unless, solve_out_unless, solved_unless}
 
 ended : (r : Result (Unit {0}) LineFault) (bytes : List ℕ) (last : List ReadAnswer) (written due : List ℕ) → IsEnding r bytes last → IsOutput (write_result r) written due → r ≡ Ok tt → (last ≡ Ended ∷ []) × (written ≡ due)
 ended (Ok it) bytes last written due ends output is = (ends, output)

@@ -10,7 +10,7 @@ ghost use Rattle.line_io.specs.Lines.{LineText, Whole, lines_of};
 ghost use Rattle.line_io.specs.Streams.{ReadAnswer, Gave, Ended, Failed};
 ghost use Rattle.line_io.specs.Runs.{bytes_due, write_result};
 ghost use Rattle.line_io.specs.Writes.{writes_of, written_texts};
-ghost use Rattle.solve_engine.specs.Solving.{line_question};
+ghost use Rattle.promises.specs.solve_engine.Solving.{line_question};
 
 use line_io::{LineFault, Sink, Source};
 use promises::solve;
