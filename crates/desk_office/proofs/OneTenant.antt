@@ -1,13 +1,10 @@
 -- A session has one tenant at most.
-use Rattle.std.proofs.Common.{◌≡◌, ⊥, ℕ, List, [], ◌∷◌, ◌++◌, Bool, true, false, Option, Some, None, Result, Ok, Err, refl, sym, ap, subst, ◌∙◌, inl, inr, codes}
-use Rattle.std.specs.Prelude.{◌⊎◌, if◌then◌else◌}
+use Rattle.std.proofs.Common.{◌≡◌, ℕ, List, [], ◌∷◌, ◌++◌, Bool, true, false, Option, Some, None, Result, Ok, Err, refl, sym, ap, subst, ◌∙◌, inl, inr, codes}
+use Rattle.std.specs.Prelude.{◌⊎◌, ◌==◌, if◌then◌else◌, option_map}
 use Rattle.std.specs.Str.{bytes_eq}
-use Rattle.line_io.specs.Leads.{Leads, IsPrefixOf}
-use Rattle.line_io.specs.Lines.{LineText, Whole, TooLong}
+use Rattle.line_io.specs.Leads.{Leads}
+use Rattle.line_io.specs.Lines.{LineText, Whole, TooLong, lines_of}
 use Rattle.line_io.specs.Talks.{upto}
-use Rattle.session.specs.protocol.declared.faults.ProtocolFault.{ProtocolFault}
-use Rattle.session.specs.protocol.Questions.{QuestionOf, question}
-use Rattle.session.specs.protocol.Words.{split_at_space}
 use Rattle.tenant_quota.specs.Quota.{Quota}
 use Rattle.sched_rules.specs.declared.step.StepOf.{StepOf}
 use Rattle.sched_rules.specs.declared.step.StepOf.TheVariants.{Admit, Leave as LeaveStep}
@@ -41,7 +38,7 @@ quota_goes : (call : Quota → Call) → ((quota : Quota) → is_stay (call quot
 quota_goes call stays None = tt
 quota_goes call stays (Some quota) = stays quota
 
-ask_goes : (asked : Result QuestionOf ProtocolFault) → Goes (ask_request asked)
+ask_goes : (asked : _) → Goes (ask_request asked)
 ask_goes (Ok asked) = refl
 ask_goes (Err fault) = tt
 
@@ -52,7 +49,7 @@ job_goes asked goes (Some job) = goes job
 seated_goes : (form : Form) → (form ≡ ByeForm) ⊎ Goes (seated_request form)
 seated_goes (HelloOf segments nodes) = inr tt
 seated_goes (ReserveOf segments nodes) = inr (quota_goes Reserve (λ quota. refl) (quota_of segments nodes))
-seated_goes (AskOf depth text) = inr (ask_goes (question depth text))
+seated_goes (AskOf depth text) = inr (ask_goes _)
 seated_goes (GetOf job) = inr (job_goes (λ k. Makes (Get k)) (λ k. refl) job)
 seated_goes (WaitOf job) = inr (job_goes (λ k. Makes (Wait k)) (λ k. refl) job)
 seated_goes (CancelOf job) = inr (job_goes (λ k. Makes (Cancel k)) (λ k. refl) job)
@@ -95,23 +92,28 @@ no_one false false true d job e = cc e
 no_one false false false true job e = cc e
 no_one false false false false job e = cc e
 
-no_two : (a b c : Bool) (one two : Form) → (one ≡ ByeForm → ⊥) → (two ≡ ByeForm → ⊥) → (depth text : List ℕ) → (if a then Some (AskOf depth text) else (if b then Some one else (if c then Some two else None))) ≡ Some ByeForm → ⊥
-no_two true b c one two no also depth text e = cc e
-no_two false true c one two no also depth text e = no (cc e)
-no_two false false true one two no also depth text e = also (cc e)
-no_two false false false one two no also depth text e = cc e
+no_two : (a b c : Bool) (depth text : List ℕ) (segments nodes : Option ℕ) → (if a then Some (AskOf depth text) else (if b then Some (HelloOf segments nodes) else (if c then Some (ReserveOf segments nodes) else None))) ≡ Some ByeForm → ⊥
+no_two true b c depth text segments nodes e = cc e
+no_two false true c depth text segments nodes e = cc e
+no_two false false true depth text segments nodes e = cc e
+no_two false false false depth text segments nodes e = cc e
 
 after_bye : (word rest : List ℕ) (split : Option (List ℕ × List ℕ)) → form_after word rest split ≡ Some ByeForm → ⊥
 after_bye word rest None e = no_one _ _ _ _ _ e
-after_bye word rest (Some words) e = no_two _ _ _ _ _ (λ is. cc is) (λ is. cc is) _ _ e
+after_bye word rest (Some words) e = no_two _ _ _ _ _ _ _ e
 
 by_bye : (bytes : List ℕ) (split : Option (List ℕ × List ℕ)) → form_by bytes split ≡ Some ByeForm → bytes_eq bytes (codes "BYE") ≡ true
 by_bye bytes None e = bare _ _ _ e
-by_bye bytes (Some words) e = absurd (after_bye words.0 words.1 (split_at_space words.1) e)
+by_bye bytes (Some words) e = absurd (after_bye words.0 words.1 _ e)
+
+-- how a line splits at its first space, as `protocol` says it, which has no name here
+abbrev split : List ℕ → Option (List ℕ × List ℕ)
+split [] = None
+split (b ∷ bs) = if b == 32 then Some ([], bs) else option_map (λ p. (b ∷ p.0, p.1)) (split bs)
 
 ends_is_bye : (line : LineText) → request true line ≡ Ends → is_bye line ≡ true
 ends_is_bye TooLong e = absurd (cc e)
-ends_is_bye (Whole bytes) e = by_bye bytes (split_at_space bytes) (seated_ends (form_of bytes) e)
+ends_is_bye (Whole bytes) e = by_bye bytes (split bytes) (seated_ends (form_of bytes) e)
 
 -- before a tenant is there, the only call is HELLO
 abbrev IsEarly : Request → Type 0
@@ -157,9 +159,9 @@ prefix_ends [] rest ends = tt
 prefix_ends (x ∷ xs) rest ends = (λ bye. none_before xs rest (ends.0 bye), prefix_ends xs rest ends.1)
 
 pub answered_ends : (r : Result End SessionFault) (answered : List LineText) (bytes : List ℕ) → IsAnsweredOf r answered (session_lines bytes) → EndsAtBye answered
-answered_ends (Ok how) answered bytes is = subst EndsAtBye (sym is) (upto_ends _)
-answered_ends (Err Read) answered bytes is = subst EndsAtBye (sym is) (upto_ends _)
-answered_ends (Err Write) answered bytes is = prefix_ends answered is.0 (subst EndsAtBye (sym is.1) (upto_ends _))
+answered_ends (Ok how) answered bytes is = subst EndsAtBye (sym is) (upto_ends (lines_of bytes))
+answered_ends (Err Read) answered bytes is = subst EndsAtBye (sym is) (upto_ends (lines_of bytes))
+answered_ends (Err Write) answered bytes is = prefix_ends answered is.0 (subst EndsAtBye (sym is.1) (upto_ends (lines_of bytes)))
 
 -- ---- the calls of a session
 
@@ -180,27 +182,31 @@ module _ (begun : HallOf) where
   one_more call reply seated lines replies stays is rest =
       ((call, reply) ∷ rest.0, (stays, rest.1), ap (λ (b : Bool). (call, reply) ∷ calls_in b (turns b lines replies)) is ∙ ap (λ (l : List (Call × OfficeReply)). (call, reply) ∷ l) rest.2)
 
+  -- a line, where the same holds of those after it
+  turn_seated : (line : LineText) (lines : List LineText) (replies : List OfficeReply) (from to : OfficeOf) → EndsAtBye (line ∷ lines) →
+      ((rs : List OfficeReply) (next : OfficeOf) → Led next (calls_in true (turns true lines rs)) to → AreSeated (calls_in true (turns true lines rs))) →
+      (q : Request) → request true line ≡ q → Led from (calls_in true (next_turns q true lines replies)) to → AreSeated (calls_in true (next_turns q true lines replies))
+  turn_seated line lines replies from to last again (Fault fault) is h = again replies from h
+  turn_seated line lines replies from to last again (Makes call) is h =
+      let reply = next_reply replies in
+      let later = later_replies replies in
+      let keeps : KeepsAsks (asks_of from.seat) call reply (asks_of h.0.seat) = h.1.1 in
+      let stays = seated_stays line call is in
+      let seated = stays_seated call reply stays keeps.3 in
+      let P : Bool → Type 0 = λ b. Led h.0 (calls_in b (turns b lines later)) to in
+      one_more call reply (seated_after true reply) lines later stays seated (again later h.0 (subst P seated h.2))
+  turn_seated line lines replies from to last again (Tabulates job) is h =
+      let reply = next_reply replies in
+      let later = later_replies replies in
+      let keeps : KeepsAsks (asks_of from.seat) (Get job) reply (asks_of h.0.seat) = h.1.1 in
+      let seated = stays_seated (Get job) reply refl keeps.3 in
+      let P : Bool → Type 0 = λ b. Led h.0 (calls_in b (turns b lines later)) to in
+      one_more (Get job) reply (seated_after true reply) lines later refl seated (again later h.0 (subst P seated h.2))
+  turn_seated line lines replies from to last again Ends is h = ([], tt, ap (λ (ls : List LineText). (Leave, Gone) ∷ calls_in false (turns false ls replies)) (last.0 (ends_is_bye line is)))
+
   while_seated : (lines : List LineText) (replies : List OfficeReply) (from to : OfficeOf) → EndsAtBye lines → Led from (calls_in true (turns true lines replies)) to → AreSeated (calls_in true (turns true lines replies))
   while_seated [] replies from to last h = ([], tt, refl)
-  while_seated (line ∷ lines) replies from to last h = by (request true line) refl h
-    where
-      led_on : (seated : Bool) (next : OfficeOf) → seated ≡ true → Led next (calls_in seated (turns seated lines (later_replies replies))) to → AreSeated (calls_in true (turns true lines (later_replies replies)))
-      led_on seated next is more = while_seated lines (later_replies replies) next to last.1 (subst (λ (b : Bool). Led next (calls_in b (turns b lines (later_replies replies))) to) is more)
-
-      by : (q : Request) → request true line ≡ q → Led from (calls_in true (next_turns q true lines replies)) to → AreSeated (calls_in true (next_turns q true lines replies))
-      by (Fault fault) is h = while_seated lines replies from to last.1 h
-      by (Makes call) is h =
-          let reply = next_reply replies in
-          let keeps : KeepsAsks (asks_of from.seat) call reply (asks_of h.0.seat) = h.1.1 in
-          let stays = seated_stays line call is in
-          let seated = stays_seated call reply stays keeps.3 in
-          one_more call reply (seated_after true reply) lines (later_replies replies) stays seated (led_on (seated_after true reply) h.0 seated h.2)
-      by (Tabulates job) is h =
-          let reply = next_reply replies in
-          let keeps : KeepsAsks (asks_of from.seat) (Get job) reply (asks_of h.0.seat) = h.1.1 in
-          let seated = stays_seated (Get job) reply refl keeps.3 in
-          one_more (Get job) reply (seated_after true reply) lines (later_replies replies) refl seated (led_on (seated_after true reply) h.0 seated h.2)
-      by Ends is h = ([], tt, ap (λ (ls : List LineText). (Leave, Gone) ∷ calls_in false (turns false ls replies)) (last.0 (ends_is_bye line is)))
+  while_seated (line ∷ lines) replies from to last h = turn_seated line lines replies from to last (λ rs next more. while_seated lines rs next to last.1 more) (request true line) refl h
 
   -- the tenant that comes by these calls, if one does
   abbrev Comes : OfficeOf → List (Call × OfficeReply) → OfficeOf → Type 0
@@ -251,32 +257,40 @@ module _ (begun : HallOf) where
         },
       )
 
+  -- a line, where the same holds of those after it
+  turn_before : (line : LineText) (lines : List LineText) (replies : List OfficeReply) (from to : OfficeOf) → EndsAtBye (line ∷ lines) → from.seat ≡ None →
+      ((rs : List OfficeReply) (next : OfficeOf) → next.seat ≡ None → Led next (calls_in false (turns false lines rs)) to → Comes next (calls_in false (turns false lines rs)) to) →
+      (q : Request) → request false line ≡ q → Led from (calls_in false (next_turns q false lines replies)) to → Comes from (calls_in false (next_turns q false lines replies)) to
+  turn_before line lines replies from to last none again (Fault fault) is h = again replies from none h
+  turn_before line lines replies from to last none again Ends is h = again replies from none h
+  turn_before line lines replies from to last none again (Makes (Hello quota)) is h = hello (subst (λ (seat : Option SeatOf). IsTurnOf begun seat (Hello quota) reply from h.0) none h.1.0)
+    where
+      reply : OfficeReply
+      reply = next_reply replies
+
+      later : List OfficeReply
+      later = later_replies replies
+
+      P : Bool → Type 0
+      P b = Led h.0 (calls_in b (turns b lines later)) to
+
+      Q : Bool → Type 0
+      Q b = Comes from ((Hello quota, reply) ∷ calls_in b (turns b lines later)) to
+
+      hello : IsHello (Hello quota) reply from h.0 → Q (seated_after false reply)
+      hello (inl new) =
+          let seated : seated_after false reply ≡ true = ap (seated_after false) new.4 in
+          let more = subst P seated h.2 in
+          subst Q (sym seated) (one_welcome quota reply from h.0 to new.0 (calls_in true (turns true lines later)) new.4 (ap (λ (o : OfficeOf). o.seat) new.1) new.2.mine (while_seated lines later h.0 to last.1 more) more)
+      hello (inr refused) =
+          let seated : seated_after false reply ≡ false = ap (seated_after false) refused.2 in
+          let nobody : h.0.seat ≡ None = ap (λ (o : OfficeOf). o.seat) refused.0 ∙ none in
+          subst Q (sym seated) (one_refused quota reply refused.1 from h.0 to (calls_in false (turns false lines later)) refused.2 refused.0 (again later h.0 nobody (subst P seated h.2)))
+  turn_before line lines replies from to last none again _ is h = absurd (subst IsEarly is (early line))
+
   before_hello : (lines : List LineText) (replies : List OfficeReply) (from to : OfficeOf) → EndsAtBye lines → from.seat ≡ None → Led from (calls_in false (turns false lines replies)) to → Comes from (calls_in false (turns false lines replies)) to
   before_hello [] replies from to last none h = inl (tt, ap (λ (o : OfficeOf). o.knew) (sym h))
-  before_hello (line ∷ lines) replies from to last none h = by (request false line) refl h
-    where
-      by : (q : Request) → request false line ≡ q → Led from (calls_in false (next_turns q false lines replies)) to → Comes from (calls_in false (next_turns q false lines replies)) to
-      by (Fault fault) is h = before_hello lines replies from to last.1 none h
-      by Ends is h = before_hello lines replies from to last.1 none h
-      by (Makes (Hello quota)) is h = hello (subst (λ (seat : Option SeatOf). IsTurnOf begun seat (Hello quota) reply from h.0) none h.1.0)
-        where
-          reply : OfficeReply
-          reply = next_reply replies
-
-          hello : IsHello (Hello quota) reply from h.0 → Comes from ((Hello quota, reply) ∷ calls_in (seated_after false reply) (turns (seated_after false reply) lines (later_replies replies))) to
-          hello (inl new) =
-              let seated : seated_after false reply ≡ true = ap (seated_after false) new.4 in
-              let P : Bool → Type 0 = λ b. Led h.0 (calls_in b (turns b lines (later_replies replies))) to in
-              let Q : Bool → Type 0 = λ b. Comes from ((Hello quota, reply) ∷ calls_in b (turns b lines (later_replies replies))) to in
-              let more = subst P seated h.2 in
-              subst Q (sym seated) (one_welcome quota reply from h.0 to new.0 (calls_in true (turns true lines (later_replies replies))) new.4 (ap (λ (o : OfficeOf). o.seat) new.1) new.2.mine (while_seated lines (later_replies replies) h.0 to last.1 more) more)
-          hello (inr refused) =
-              let seated : seated_after false reply ≡ false = ap (seated_after false) refused.2 in
-              let P : Bool → Type 0 = λ b. Led h.0 (calls_in b (turns b lines (later_replies replies))) to in
-              let Q : Bool → Type 0 = λ b. Comes from ((Hello quota, reply) ∷ calls_in b (turns b lines (later_replies replies))) to in
-              let nobody : h.0.seat ≡ None = ap (λ (o : OfficeOf). o.seat) refused.0 ∙ none in
-              subst Q (sym seated) (one_refused quota reply refused.1 from h.0 to (calls_in false (turns false lines (later_replies replies))) refused.2 refused.0 (before_hello lines (later_replies replies) h.0 to last.1 nobody (subst P seated h.2)))
-      by _ is h = absurd (subst IsEarly is (early line))
+  before_hello (line ∷ lines) replies from to last none h = turn_before line lines replies from to last none (λ rs next nobody more. before_hello lines rs next to last.1 nobody more) (request false line) refl h
 
   pub one_tenant : (lines : List LineText) (replies : List OfficeReply) (from to : OfficeOf) → EndsAtBye lines → from.seat ≡ None → from.knew ≡ None → Led from (calls_in false (turns false lines replies)) to → IsTenantOf begun (calls_in false (turns false lines replies)) to.knew
   one_tenant lines replies from to last none new h = by (before_hello lines replies from to last none h)
