@@ -11,7 +11,7 @@ use Rattle.sched_rules.specs.Functions.{Functions}
 use Rattle.sched_rules.specs.Trees.{Tenant}
 use Rattle.sched_rules.specs.Lone.{Outcome, lone, refusal_in}
 use Rattle.sched_rules.specs.Runs.{tenant_of, only, alone_from, state_after, answer_of, answers_from}
-use Rattle.sched_rules.specs.Cores.{CoreState, shared_by_nobody, tenant_in, with_tenant, without_tenant, with_outcome, is_busy_elsewhere, meets_busy, shared_with}
+use Rattle.sched_rules.specs.Cores.{CoreState, shared_by_nobody, tenant_in, with_tenant, without_tenant, with_outcome, is_busy_elsewhere, meets_busy}
 use Rattle.sched_rules.specs.Headline.{IsHeadline, IsAnswerTo, AreAnswersTo, AreNumbersGiven, after_answer, is_admission, taken_steps, own_answers}
 use Rattle.sched_rules.proofs.Isolation.{step-taken, shared-after-taken}
 use Rattle.sched_rules.proofs.Tenants.{tenant_in-with_outcome}
