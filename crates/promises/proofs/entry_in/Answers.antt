@@ -1,5 +1,5 @@
 use Rattle.promises.proofs.HallLemmas.{entry-in}
-use Rattle.promises.proofs.halls.entry_in.Goals as goal
+use Rattle.promises.proofs.entry_in.Goals as goal
 
 pub returns-in-Some-Done : goal.returns-in-Some-Done
 returns-in-Some-Done g c =

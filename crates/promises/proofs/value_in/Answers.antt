@@ -2,7 +2,7 @@ use Rattle.std.proofs.Common.{◌∙◌, rules, w32}
 use Rattle.std.proofs.lemmas.Int.{to_z-of_z}
 use mir.Val.{SFits}
 use Rattle.promises.proofs.HallLemmas.{value-of}
-use Rattle.promises.proofs.halls.value_in.Goals as goal
+use Rattle.promises.proofs.value_in.Goals as goal
 
 pub returns-in-Some-Done : goal.returns-in-Some-Done
 returns-in-Some-Done g c =
