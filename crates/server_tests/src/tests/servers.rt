@@ -3,9 +3,9 @@
 ghost use Rattle.std.specs.Prelude.{◌≡◌};
 
 mod all_jobs;
-mod commands;
 mod doors;
 mod failing;
+mod programs;
 mod reserving;
 mod tables;
 
