@@ -151,7 +151,9 @@ def by_prover(rt, crate, folder, edits):
 def by_test(folder, edit, where, word):
     """Whether the test fails with this body, in a copy of the tree, without a proof."""
     with tempfile.TemporaryDirectory(prefix="wrong-bodies-") as room:
-        subprocess.run(["rsync", "-a", "--exclude=out", "--exclude=.git", f"{TOP}/crates", f"{TOP}/crates.txt", f"{TOP}/HANDLES", room], check=True)
+        shutil.copytree(TOP / "crates", f"{room}/crates", ignore=shutil.ignore_patterns("out"))
+        for name in ("crates.txt", "HANDLES"):
+            shutil.copy(TOP / name, room)
         pathlib.Path(room, ".git").mkdir()
         made = changed(folder, edit, {})
         for path, text in made[0].items():
