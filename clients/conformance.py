@@ -32,6 +32,8 @@ ANSWERS = [
     ("BYE", "BYE", None), ("BYE", "BYE 1", B), ("BYE", "bye", B), ("BYE", "ERR 28", "REFUSED 28"),
     ("QUOTA", "QUOTA 64 4085 65456", None), ("QUOTA", "QUOTA 0 0 0", None), ("QUOTA", "QUOTA 64 4085", B), ("QUOTA", "QUOTA 64 4085 -1", B), ("QUOTA", "QUOTA 64 4085 123456789", B),
     ("QUOTA", "QUOTA 64 4085 0x10", B), ("QUOTA", "LIVE 0 0", B), ("LIVE", "LIVE 0 0", None), ("LIVE", "LIVE 3 47", None), ("LIVE", "LIVE 3", B), ("LIVE", "LIVE 3 4 5", B), ("LIVE", "LIVE 3 1e2", B),
+    ("INFO", "INFO 0", None), ("INFO", "INFO 6 1024 65536 256 8192 1.2.3", None), ("INFO", "INFO 4 a=~!", None), ("INFO", "INFO", B), ("INFO", "INFO x", B), ("INFO", "INFO 06", B),
+    ("INFO", "INFO 6 ", B), ("INFO", "INFO 6  a", B), ("INFO", "INFO 6 a ", B), ("INFO", "INFO 6 \u00b5", B), ("INFO", "INFO 6\ta", B), ("INFO", "QUOTA 6 4 3", B), ("INFO", "ERR 21", "REFUSED 21"),
 ]  # fmt: skip
 JOBS = [("0", "JOB 1", None), ("0", "JOB 2", B), ("0", "JOB 0", B), ("4", "JOB 5", None), ("4", "JOB 4", B), ("0", "JOB 1 1", B), ("0", "JOB", B), ("0", "JOB +1", B), ("0", "JOB 01", B),
         ("0", "JOB 1.0", B), ("0", "JOB one", B), ("0", "DONE 1 5 d3", B), ("0", "PENDING 1", B), ("0", "job 1", B), ("255", "JOB 256", None), ("255", "ERR 13", "REFUSED 13"),

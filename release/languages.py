@@ -5,7 +5,8 @@ usage: release/languages.py make TREE OUT    (of the tree of a release's archive
        release/languages.py try OUT          (OUT: a release; what isn't installed here is skipped and named)
 
 Where TREE is no checkout, its program `othello` (and `othello-v3`) lies in the wheel for this platform and in the jar. `try` installs each from OUT alone, by `pip install`, by
-`npm install ./..tgz` and by Maven without a registry (Debian's packages), and runs the first program of its README with a server of the archive.
+`npm install ./..tgz` and by Maven without a registry (Debian's packages), and runs the programs of its README: the first without a server and without a network, the second
+with a server of the archive.
 """
 import contextlib
 import gzip
@@ -110,36 +111,37 @@ def run(*words, where, **more):
     return done.stdout
 
 
-def first_program(readme, language):
-    return re.search(rf"```{language}\n(.*?)```", readme, re.S)[1]
+def programs(readme, language):
+    """The first program of a README, which needs no server, and the second, which asks one."""
+    first, second, *_ = re.findall(rf"```{language}\n(.*?)```", readme, re.S)
+    return first, second
 
 
-def check_said(what, text):
-    if not re.match(SAID, text):
-        fail(f"the first program of {what} says {text!r}")
+def archived(out, name):
+    """A file of the archive."""
+    with tarfile.open(next(out.glob("*-x86_64.tar.gz"))) as archive:
+        return next(archive.extractfile(entry).read().decode() for entry in archive if entry.name.endswith(f"/{name}"))
 
 
-ENGINE = """
-from coluwen import Engine, Position
-with Engine(2) as engine:
-    print(engine.analyse(Position.opening(), 6).best, engine.program)
-"""
+def check_programs(what, first, second, where, address):
+    """Both commands say what they should: the first knows no server, no network, and no program but the package's own."""
+    for words, around in (((*WITHOUT_NET, *first), {"COLUWEN_URL": "", "COLUWEN_OTHELLO": "", "PATH": "/usr/bin:/bin"}), (second, {"COLUWEN_URL": address})):
+        said = run(*words, where=where, **around)
+        if not re.match(SAID, said):
+            fail(f"a program of {what} says {said!r}")
 
 
 def try_pip(out, folder, address):
-    """`pip install` of the wheel into a new environment, without an index; the first program of the README in the archive; a value without a server, by the
-    wheel's own program; a command."""
+    """`pip install` of the wheel into a new environment, without an index; the programs of the README in the archive; a command."""
     wheel = min(out.glob("coluwen-*.whl"), key=lambda path: "none-any" in path.name)
     run(PYTHON, "-m", "venv", "--without-pip", folder / "venv", where=folder)
     run(*WITHOUT_NET, PYTHON, "-m", "pip", "--python", folder / "venv/bin/python", "install", "--quiet", "--no-index", wheel, where=folder)
-    with tarfile.open(next(out.glob("*-x86_64.tar.gz"))) as archive:
-        readme = next(archive.extractfile(entry).read().decode() for entry in archive if entry.name.endswith("clients/python/README.md"))
-    (folder / "first.py").write_text(first_program(readme, "python"))
+    first, second = programs(archived(out, "clients/python/README.md"), "python")
     python = folder / "venv/bin/python"
-    check_said("Python's wheel", run(python, "first.py", where=folder, COLUWEN_URL=address))
-    best, _, program = run(python, "-c", ENGINE, where=folder, PATH="/usr/bin:/bin", COLUWEN_URL="").strip().partition(" ")
-    if best != "d3" or not program.startswith(f"{folder}/venv/lib"):
-        fail(f"without a server the wheel says {best!r} by {program!r}")
+    check_programs("Python's wheel", (python, "-c", first), (python, "-c", second), folder, address)
+    program = run(python, "-c", "import coluwen.engine; print(*coluwen.engine.program_of())", where=folder, PATH="/usr/bin:/bin", COLUWEN_OTHELLO="").split(" ")[0]
+    if not program.startswith(f"{folder}/venv/lib"):
+        fail(f"the wheel's engine has the program {program!r}")
     said = run(folder / "venv/bin/coluwen-review", "--depth", "1", "f5d6", where=folder, COLUWEN_URL=address)
     if "f5" not in said:
         fail(f"the wheel's coluwen-review says {said!r}")
@@ -147,15 +149,15 @@ def try_pip(out, folder, address):
 
 
 def try_npm(out, folder, address):
-    """`npm install` of the tgz in an empty folder; the first program of the README that was installed."""
+    """`npm install` of the tgz in an empty folder; the programs of the README that was installed."""
     run(*WITHOUT_NET, "npm", "install", "--offline", "--no-audit", "--no-fund", "--cache", f"{folder}/npm", next(out.glob("*.tgz")), where=folder)
-    installed = folder / "node_modules/coluwen"
-    (folder / "first.mjs").write_text(first_program((installed / "README.md").read_text(), "js"))
-    check_said("npm's package", run("node", "first.mjs", where=folder, COLUWEN_URL=address))
+    for name, program in zip(("first.mjs", "second.mjs"), programs((folder / "node_modules/coluwen/README.md").read_text(), "js")):
+        (folder / name).write_text(program)
+    check_programs("npm's package", ("node", "first.mjs"), ("node", "second.mjs"), folder, address)
 
 
 def try_maven(out, folder, address):
-    """`mvn install:install-file` of the jars into an empty repository; the first program in a project that depends on them."""
+    """`mvn install:install-file` of the jars into an empty repository; the README's programs in a project that depends on them."""
     jar = next(path for path in out.glob("coluwen-*.jar") if not re.search("-(sources|javadoc)", path.name))
     version = jar.stem.removeprefix("coluwen-")
     for suffix in ("-sources.jar", "-javadoc.jar", ".pom"):
@@ -164,15 +166,15 @@ def try_maven(out, folder, address):
     (folder / "settings.xml").write_text(SETTINGS)
     maven = (*WITHOUT_NET, "mvn", "-q", "-B", "-s", folder / "settings.xml", f"-Dmaven.repo.local={folder}/m2")
     run(*maven, "org.apache.maven.plugins:maven-install-plugin:install-file", f"-Dfile={jar}", f"-DpomFile={jar.with_suffix('.pom')}", f"-Dsources={out}/coluwen-{version}-sources.jar", f"-Djavadoc={out}/coluwen-{version}-javadoc.jar", where=folder)
-    source = folder / "src/main/java/First.java"
-    source.parent.mkdir(parents=True)
-    with tarfile.open(next(out.glob("*-x86_64.tar.gz"))) as archive:
-        readme = next(archive.extractfile(entry).read().decode() for entry in archive if entry.name.endswith("clients/java/README.md"))
-    source.write_text(first_program(readme, "java"))
+    sources = folder / "src/main/java"
+    sources.mkdir(parents=True)
+    for name, program in zip(("First", "Second"), programs(archived(out, "clients/java/README.md"), "java")):
+        (sources / f"{name}.java").write_text(program)
     (folder / "pom.xml").write_text(PROJECT.format(version))
     run(*maven, "compile", where=folder)
     installed = folder / f"m2/org/coluwen/coluwen/{version}/coluwen-{version}.jar"
-    check_said("Maven's artifact", run("java", "-cp", f"target/classes:{installed}", "First", where=folder, COLUWEN_URL=address))
+    java = ("java", "-cp", f"target/classes:{installed}")
+    check_programs("Maven's artifact", (*java, "First"), (*java, "Second"), folder, address)
     modules = run("java", "--module-path", installed, "--describe-module", "coluwen", where=folder)
     if f"coluwen@{version}" not in modules.splitlines()[0]:
         fail(f"the jar's module is {modules}")
@@ -190,7 +192,7 @@ def try_all(out):
             begun = time.monotonic()
             with tempfile.TemporaryDirectory() as folder:
                 trial(out, pathlib.Path(folder), address)
-            print(f"{name}: installed from the archive alone; the first program of its README answers ({time.monotonic() - begun:.0f} s)")
+            print(f"{name}: installed from the archive alone; its README's programs answer, the first without a server ({time.monotonic() - begun:.0f} s)")
 
 
 def main():

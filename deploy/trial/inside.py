@@ -133,18 +133,54 @@ def health(colour: str) -> str:
         return ""
 
 
-def test_killed_and_back() -> None:
+def killed(old: int = 0) -> int:
+    """Kills the program as soon as it is another one than this, and returns which one it was."""
+    until(lambda: int(shown("blue", "MainPID")) not in (0, old), 10, "it is started again")
+    number = int(shown("blue", "MainPID"))
+    os.kill(number, signal.SIGKILL)
+    return number
+
+
+@pytest.mark.parametrize("moment", ["a job runs", "it is idle", "it starts", "it reads its file again", "guests come"])
+def test_killed_and_back(moment: str) -> None:
     found = list[float]()
     for turn in range(3):
-        lost = opened_within(200 + turn, 10)
-        begun = time.monotonic()
-        os.kill(int(shown("blue", "MainPID")), signal.SIGKILL)
-        with pytest.raises(OSError):
-            lost.wait(lost.ask_line(f"12 {'-' * 27}OX------XO{'-' * 27} X"))
-        with opened_within(210 + turn, 20) as session:
-            found.append(time.monotonic() - begun)
-            assert session.is_answered(turn, WANTED)
+        with contextlib.ExitStack() as meanwhile:
+            lost = opened_within(200 + turn, 10)
+            meanwhile.callback(lost.socket.close)
+            if moment == "a job runs":
+                lost.ask_line(f"12 {'-' * 27}OX------XO{'-' * 27} X")
+            if moment == "it reads its file again":
+                meanwhile.callback(subprocess.Popen(["systemctl", "reload", "othello-site@blue"], stderr=subprocess.DEVNULL).wait)
+                time.sleep(0.1 * turn)
+            if moment == "guests come":
+                meanwhile.enter_context(Coming())
+                time.sleep(0.3)
+            number = killed()
+            if moment == "it starts":
+                number = killed(number)
+            begun = time.monotonic()
+            with pytest.raises(OSError):
+                lost.quota()
+            with opened_within(210 + turn, 20) as session:
+                found.append(time.monotonic() - begun)
+                assert session.is_answered(turn, WANTED) and int(shown("blue", "MainPID")) not in (0, number)
     assert min(found) < BACK and max(found) < 2 * BACK, found  # (on a busy machine one may take longer)
+
+
+def test_a_port_of_one_program_is_refused_while_an_upgrade_could_still_fail() -> None:
+    right = FILE.read_text()
+    FILE.write_text('plain = "127.0.0.1:4711"\n' + right)
+    with opened(1) as session:
+        assert control("reload", "othello-site@blue").returncode != 0 and session.is_answered(1, WANTED)
+        upgrading = subprocess.run([SCRIPTS / "upgrade", "5"], capture_output=True, text=True, timeout=60)
+        assert upgrading.returncode == 1 and "othello-site@green doesn't serve" in upgrading.stderr, upgrading
+        assert is_active("blue") and session.is_answered(2, WANTED) and shown("green", "ActiveState") in ("inactive", "failed")
+    assert "`plain` is one program's" in subprocess.run(["journalctl", "-u", "othello-site@*"], capture_output=True, text=True).stdout
+    FILE.write_text(right)
+    time.sleep(2)
+    assert shown("green", "ActiveState") in ("inactive", "failed"), "the other colour comes up later by itself"
+    control("reset-failed", "othello-site@green")
 
 
 def test_stop_waits_for_who_is_there() -> None:

@@ -57,6 +57,32 @@ def test_the_unit_is_well_formed_and_hardened(tmp_path: pathlib.Path) -> None:
     assert level and float(level[1]) < 1.5, told[-300:]
 
 
+def test_each_colour_has_places_of_its_own(tmp_path: pathlib.Path) -> None:
+    file, script = tmp_path / "site.toml", tmp_path / "colour"
+    script.write_text((DEPLOY / script.name).read_text().replace("/etc/othello", str(tmp_path)).replace("> \"/run/", f"> \"{tmp_path}/"))
+    text = (DEPLOY / file.name).read_text()
+
+    def made(colour: str, text: str) -> tuple[int, str, list[str]]:
+        """The status, what is said, and the lines that are other than in the text."""
+        file.write_text(text)
+        written = tmp_path / f"othello-site-{colour}/site.toml"
+        written.parent.mkdir(exist_ok=True)
+        written.unlink(missing_ok=True)
+        run = subprocess.run(["bash", script, colour], capture_output=True, text=True)
+        lines = written.read_text().splitlines() if written.exists() else []
+        return run.returncode, run.stderr, [line.split(" #")[0].strip() for line, old in zip(lines, text.splitlines()) if line != old]
+
+    controls = [f'control = "/run/othello-site-{colour}/control"' for colour in ("blue", "green")]
+    assert made("blue", text) == (0, "", controls[:1])
+    assert made("green", text) == (0, "", ['listen = "127.0.0.1:4730"', 'health = "127.0.0.1:4729"', *controls[1:]])
+    for old, new, name in (("# plain =", "plain =", "plain"), ("127.0.0.1:4720", "0.0.0.0:4720", "listen"), ('health = "127.0.0.1:4719"', 'health="127.0.0.1:4719"', "health"), ("control =", "# control =", "control")):
+        assert old in text
+        for colour in ("blue", "green"):
+            status, said, written = made(colour, text.replace(old, new, 1))
+            assert status == 2 and f"`{name}" in said and not written, (new, said)
+    assert subprocess.run(["bash", script, "red"], capture_output=True).returncode == 2
+
+
 @pytest.fixture(scope="session")
 def image(tmp_path_factory: pytest.TempPathFactory) -> pathlib.Path:
     """The image's tree, as a container has it."""

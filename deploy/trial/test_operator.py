@@ -1,15 +1,17 @@
 """What an operator sees, ends and replaces."""
 from __future__ import annotations
 
+import collections
 import contextlib
 import os
+import re
 import socket
 import stat
 import subprocess
 import time
 
 import pytest
-from place import LEFT, SCHOOL, SMALL, TOKEN, Answer, Site, address_of, is_there, program, until
+from place import LEFT, OPENING, SCHOOL, SMALL, TOKEN, Answer, From, Site, address_of, free_port, is_there, program, until
 
 
 def test_stats_and_ends(wanted: list[Answer]) -> None:
@@ -61,6 +63,11 @@ def test_reload(wanted: list[Answer]) -> None:
         assert site.ask("RELOAD")[0].startswith("OK") and site.told(address_of(7), *SMALL, token=TOKEN)[1] == 0
 
 
+def thread_count(site: Site) -> int:
+    assert site.process
+    return len(os.listdir(f"/proc/{site.process.pid}/task"))
+
+
 def test_drain(wanted: list[Answer]) -> None:
     with Site() as site, site.opened(address_of(1), *SMALL) as session:
         assert site.get("/health")[0] == 200
@@ -71,10 +78,14 @@ def test_drain(wanted: list[Answer]) -> None:
         assert site.process and site.process.wait(8) == 0
 
 
-def test_health_and_metrics_stay_there_beside_idle_connections(wanted: list[Answer]) -> None:
+def test_health_metrics_and_the_operator_are_answered_beside_idle_connections(wanted: list[Answer]) -> None:
     with Site() as site, contextlib.ExitStack() as open_ones:
         for _ in range(300):
             open_ones.enter_context(socket.create_connection(("127.0.0.1", site.health), 5))
+        assert site.get("/health") == (200, "ok\n")
+        for _ in range(300):
+            open_ones.enter_context(socket.socket(socket.AF_UNIX)).connect(site.control)
+        assert site.ask("STATS")[0].startswith("connections=") and thread_count(site) < 560
         with site.opened(address_of(1), *SMALL) as session:
             assert session.is_answered(1, wanted) and site.told(address_of(1), 4096, 65536)[1] == 14
         assert site.get("/health") == (200, "ok\n")
@@ -95,6 +106,15 @@ def test_killed_and_there_again(wanted: list[Answer]) -> None:
             session.socket.close()
 
 
+@pytest.mark.parametrize("name", ["listen", "plain", "health"])
+def test_an_address_that_is_taken_is_told_by_its_name(name: str) -> None:
+    site = Site()
+    port = {"listen": site.inner, "plain": site.plain, "health": site.health}[name]
+    with site.folder, socket.create_server(("127.0.0.1", port)):
+        taken = subprocess.run([program("SITE", "--ready-site"), site.file], capture_output=True, text=True, timeout=20)
+    assert taken.returncode == 1 and f'{name} = "127.0.0.1:{port}": ' in taken.stderr, taken
+
+
 def test_faults_are_told() -> None:
     with Site() as site:
         command = program("SITE", "--ready-site")
@@ -102,6 +122,11 @@ def test_faults_are_told() -> None:
         assert told.returncode == 0 and "64 sessions" in told.stdout, told
         taken = subprocess.run([command, site.file], capture_output=True, text=True, timeout=20)
         assert taken.returncode == 1 and str(site.inner) in taken.stderr + taken.stdout, taken
+        site.file.write_text(site.file.read_text().replace(site.control, "/nothing/control"))
+        for port in (site.inner, site.plain, site.health):
+            site.file.write_text(site.file.read_text().replace(f":{port}\"", f":{free_port()}\""))
+        taken = subprocess.run([command, site.file], capture_output=True, text=True, timeout=20)
+        assert taken.returncode == 1 and "othello_site: control: " in taken.stderr, taken
         site.file.write_text(site.file.read_text().replace("rate = 10\n", "rate = 0\n"))
         for words in ([site.file], ["--check", site.file], ["/nothing"], ["--what"]):
             refused = subprocess.run([command, *words], capture_output=True, text=True, timeout=20)
@@ -114,14 +139,48 @@ def test_without_a_file(wanted: list[Answer]) -> None:
     process = subprocess.Popen([program("SITE", "--ready-site")], stdout=subprocess.DEVNULL, stderr=subprocess.DEVNULL)
     try:
         until(lambda: is_there(4711), 60, "it listens")
-        from place import From
-
         with contextlib.ExitStack() as open_ones:
             sessions = [open_ones.enter_context(From("127.0.0.1", "127.0.0.1", 4711, 1024, 65536)) for _ in range(64)]
             assert all(session.is_answered(at, wanted) for at, session in enumerate(sessions)), "everybody may take what is free"
     finally:
         process.terminate()
         process.wait(20)
+
+
+def test_the_log_says_what_ended_each_session() -> None:
+    terms = [*LEFT, ("guest = 60", "guest = 1"), ("sessions = 56", "sessions = 6")]
+    with Site(terms=terms, more=SCHOOL) as site, contextlib.ExitStack() as open_ones:
+
+        def opened(address: str) -> From:
+            session = site.opened(address, *SMALL)
+            open_ones.callback(session.socket.close)
+            return session
+
+        opened(address_of(1)).close()
+        opened(address_of(2)).socket.close()
+        waits = opened(address_of(3))
+        waits.socket.sendall(f"ASK 12 {OPENING}\nWAIT 1\n".encode())
+        until(lambda: any(" waits=1 " in line for line in site.ask("STATS")), 5, "it waits")
+        waits.reset()
+        told = [opened(address_of(4)) for _ in range(2)]
+        told[1].socket.sendall(f"ASK 12 {OPENING}\nWAIT 1\n".encode())
+        assert site.ask(f"END ADDRESS {address_of(4)}") == ["OK 2"]
+        until(lambda: not site.has(), 5, "they have ended")
+        idle = [opened(address_of(number)) for number in range(5, 11)]
+        time.sleep(1.5)
+        opened(address_of(11)).close()
+        opened("127.6.0.1")
+        opened("127.6.0.1")
+        site.file.write_text(site.file.read_text().replace("sessions = 8\nsegments = 8192", "sessions = 1\nsegments = 8192"))
+        assert site.ask("RELOAD END") == ["OK"]
+        del idle
+        wanted = {"bye": 2, "input": 1, "gone": 1, "operator": 2, "another": 1, "reload": 1}
+        until(lambda: ends(site) == wanted, 5, f"{wanted}")
+
+
+def ends(site: Site) -> dict[str, int]:
+    """How many sessions ended by which word of the log."""
+    return dict(collections.Counter(re.findall(r"^event=session .* end=(\w+)$", site.log.read_text(), re.M)))
 
 
 def test_a_log_line_can_not_be_forged() -> None:

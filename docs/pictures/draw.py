@@ -102,7 +102,7 @@ def read_crates():
     return group_of, {name: [low for low in used if low in uses] for name, used in uses.items()}
 
 
-TESTS = ("serial_tests", "thread_tests", "server_tests", "site_tests", "promise_uses", "toys", "text_rows", "transcripts")
+TESTS = ("serial_tests", "thread_tests", "server_tests", "promise_uses", "toys", "transcripts")
 
 
 def crates():

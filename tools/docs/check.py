@@ -32,12 +32,12 @@ VERSIONED = {  # where the version stands beside VERSION itself; in documents it
     "crates/command_line/src/commands.rt": r'const VERSION: &str = "(.*?)"',
     "crates/othello_site/src/running.rt": r'"othello_site (.*?)\\n"',
     "crates/othello_site/src/telling.rt": r'version=\\"(.*?)\\"',
-    "crates/server_tests/src/tests/servers/commands.rt": r'"othello (\d.*?)\\n"',
+    "crates/server_tests/src/tests/servers/programs.rt": r'"othello (\d.*?)\\n"',
     "clients/python/src/coluwen/__init__.py": r'__version__ = "(.*?)"',
     "clients/javascript/package.json": r'"version": "(.*?)"',
     "clients/java/pom.xml": r"<artifactId>coluwen</artifactId>\s*<version>(.*?)</version>",
     "CITATION.cff": r"^version: (.*)$",
-    "crates/site_lines/specs/Turns.antt": r'codes " (\d+\.\d+\.\d+)"',
+    "crates/site_office/specs/Turns.antt": r'codes " (\d+\.\d+\.\d+)"',
 }
 MADE = [["tools/docs/promises.py"], ["docs/pictures/draw.py"]]
 # Names of the toolchain, its library, the system and other tools, which the tree need not say.

@@ -11,7 +11,7 @@ TOP = pathlib.Path(__file__).resolve().parent.parent.parent
 CRATES = TOP / "crates"
 NAME = re.compile(r"[A-Za-z_][\w'\-]*")
 # Crates of tests, of rows and of laws about instances: nothing of theirs is a promise.
-TESTING = {"serial_tests", "thread_tests", "server_tests", "site_laws", "promise_uses", "toys", "text_rows", "transcripts"}
+TESTING = {"serial_tests", "thread_tests", "server_tests", "promise_uses", "toys", "transcripts"}
 DEFINES = re.compile(r"(?:(?:abbrev|unfoldable) pub|pub (?:record|data)) ([^\s:({]+)")
 IMPORT = re.compile(r"(?:pub |ghost )?use ([\w.\-]+)\.\{(.*)\};?$")
 PUBLIC = re.compile(r'pub (?:const |unsafe |extern [" C]*)*fn (\w+)')  # what stands between quotes is blank

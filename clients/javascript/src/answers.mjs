@@ -56,9 +56,3 @@ export function parse(line, text, jobs = 0) {
   const state = told.state ?? told.other ?? text.split(" ")[0];
   return { state, job: Number(job ?? 0), value: values[0], move: told.move ?? "", entries, numbers: numbers.map(Number), more: told.more ?? "" };
 }
-
-/** An answer as it stands in a row of the conformance file. */
-export function wordsOf({ state, job, value, move, entries, numbers }) {
-  const done = state === "DONE" ? [value, move] : [];
-  return [state, ...(job ? [job] : []), ...numbers, ...done, ...entries.map((entry) => entry.join(""))].join(" ");
-}

@@ -2,7 +2,7 @@
 import assert from "node:assert/strict";
 import fs from "node:fs";
 import test from "node:test";
-import { parse, wordsOf } from "../src/answers.mjs";
+import { parse } from "../src/answers.mjs";
 import { Broken, IllegalMove, Position, Refused, Score } from "../src/index.mjs";
 
 const SIGNS = { n: "\n", r: "\r", t: "\t", "\\": "\\" };
@@ -13,6 +13,11 @@ const rows = (kind) => {
   assert.ok(found.length > 10);
   return found;
 };
+
+function wordsOf({ state, job, value, move, entries, numbers, more }) {
+  const done = state === "DONE" ? [value, move] : [];
+  return [state, ...(job ? [job] : []), ...numbers, ...done, ...entries.map((entry) => entry.join(""))].join(" ") + more;
+}
 
 test("answers", () => {
   for (const [jobs, line, answer, result] of rows("answer")) {

@@ -4,7 +4,7 @@ import re
 
 import pytest
 from coluwen import Broken, IllegalMove, Position, Refused, Score
-from coluwen._answers import parse
+from coluwen._answers import Answer, parse
 
 FILE = pathlib.Path(__file__).resolve().parents[2] / "conformance.txt"
 
@@ -24,10 +24,16 @@ def rows(kind: str) -> list[list[str]]:
     return found
 
 
+def words_of(answer: Answer) -> str:
+    done = [str(answer.value), answer.move] if answer.state == "DONE" else []
+    entries = [f"{move}{sign}{value}" for move, sign, value in answer.entries]
+    return " ".join([answer.state, *([str(answer.job)] if answer.job else []), *map(str, answer.numbers), *done, *entries, *answer.more])
+
+
 @pytest.mark.parametrize("jobs, line, answer, result", rows("answer"))
 def test_answer(jobs: str, line: str, answer: str, result: str) -> None:
     try:
-        found = parse(line, bytes_of(answer), int(jobs)).words()
+        found = words_of(parse(line, bytes_of(answer), int(jobs)))
     except Refused as fault:
         found = f"REFUSED {fault.number}"
     except Broken:

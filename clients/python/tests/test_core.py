@@ -656,6 +656,22 @@ def test_a_session_that_has_too_little_stays_where_there_is_room_for_another() -
     assert hand.opens(2) == [f"2 ASK 9 {OPENING}"] and hand.ask(Question(2, OPENING)) == [f"1 ASK 2 {OPENING}"]
 
 
+def test_what_waits_goes_on_when_its_depth_is_known_to_need_more() -> None:
+    hand = Hand(sessions=2)
+    hand.ask(Question(9, OPENING))
+    hand.opens(1)
+    assert hand.hear(1, "JOB 1", "SPENT 1") == ["1 BYE", "open 2"] and hand.hear(1, "BYE") == ["shut 1"]
+    assert hand.opens(2) == [f"2 ASK 9 {OPENING}"] and hand.hear(2, "JOB 1") == ["2 GET 1"]
+    assert hand.ask(Question(3, OPENING)) == ["open 3"] and hand.opens(3) == [f"3 ASK 3 {OPENING}"]
+    hand.hear(3, "JOB 1")
+    for at in (1, 2, 3):
+        hand.ask(Question(9, POSITIONS[at]))
+    assert hand.hear(2, "DONE 1 5 d3", "TABLE 1 d3=5") == [f"2 ASK 9 {POSITIONS[1]}"]
+    assert hand.hear(3, "DONE 1 5 d3", "TABLE 1 d3=5") == []  # it has too little for the others
+    hand.hear(2, "JOB 2")
+    assert hand.hear(2, "DONE 2 5 d3", "TABLE 2 d3=5") == [f"2 ASK 9 {POSITIONS[2]}"] and hand.ask(Question(3, OPENING)) == [f"3 ASK 3 {OPENING}"]
+
+
 def test_a_server_that_is_away_for_a_moment_is_no_loss_where_no_outage_is_endured() -> None:
     model = Model(job=0.1)
     model.away = [(1.0, 1.5)]

@@ -15,7 +15,7 @@ use Rattle.hall.specs.jamboree_rules.declared.leaf.Leaf.{Leaf}
 use Rattle.hall.specs.jamboree_rules.declared.leaf.LeafAnswer.{LeafAnswer}
 use Rattle.hall.specs.jamboree_rules.Procedure.{jamboree}
 use Rattle.hall.specs.Halls.{HallOf, hall_after, IsExplained}
-use Rattle.shared_history.specs.Views.{own, Known}
+use Rattle.desk.specs.Traces.{own, Known}
 use Rattle.desk.specs.Seats.{SeatOf, seeing}
 use Rattle.desk.specs.Histories.{steps_of, core_at, is_admit, is_seat_step, with_taken, is_leave, stays_by, AreTaken, AreSeats, HasNoLeave, HasOwners, IsComeBy, IsThere, IsLook, IsToldOf}
 use Rattle.desk.proofs.Judged.{run-more, taken-more, not-refused, here, known-number, tenant_in-new, newest-stays, Rights, Headlines, isolated}

@@ -1,4 +1,5 @@
-pub mod Asking
+pub mod Prefixes
+pub mod Keeping
 pub mod Offering
 pub mod Refused
 pub mod Judged

@@ -7,7 +7,7 @@ use Rattle.sched_rules.specs.declared.step.StepOf.{StepOf}
 use Rattle.sched_rules.specs.declared.step.StepOf.TheVariants.{Admit}
 use Rattle.sched_rules.specs.Runs.{tenant_of, only}
 use Rattle.hall.specs.jamboree_rules.declared.leaf.LeafAnswer.{LeafAnswer}
-use Rattle.shared_history.specs.Views.{own as own_by}
+use Rattle.desk.specs.Traces.{own as own_by}
 use Rattle.desk.specs.Histories.{steps_of, is_seat_step, seat_steps, with_taken, Owned, HasOwners, AllOwn, AreSeats, AreStepsUpTo}
 
 abbrev Step : Type 0

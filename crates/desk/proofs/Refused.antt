@@ -1,49 +1,27 @@
 -- As what an ask, and a raise of what is reserved, can be refused.
-use Rattle.std.proofs.Common.{◌≡◌, ℕ, length, Bool, true, false, Option, Some, None, refl, sym, subst, lit<, inl, inr, Result, Ok, Err}
-use Rattle.std.specs.Prelude.{◌==◌, nat_le, nat_lt, not, Contains, IfErr, if◌then◌else◌, ◌⊎◌}
-use Rattle.cactus_stack.specs.Nodes.{charge}
+use Rattle.std.proofs.Common.{◌≡◌, ℕ, Bool, true, false, Option, Some, None, refl, sym, subst, lit<, inl, inr, Result, Ok, Err}
+use Rattle.std.specs.Prelude.{Contains, IfErr, if◌then◌else◌, ◌⊎◌}
 use Rattle.sched_rules.specs.declared.refusal.Refusal.{Refusal}
-use Rattle.sched_rules.specs.declared.refusal.Refusal.TheVariants.{NoSegments, NoNodes, NoJobsLeft, BadAct, OutOfMemory, Lower}
+use Rattle.sched_rules.specs.declared.refusal.Refusal.TheVariants.{OutOfMemory, Lower}
 use Rattle.sched_rules.specs.declared.step.StepOf.TheVariants.{AdmitMore, Submit}
 use Rattle.sched_rules.specs.declared.step.DidOf.{DidOf}
 use Rattle.tenant_quota.specs.Quota.{Quota}
 use Rattle.sched_rules.specs.Cores.{tenant_in, step_result, is_beyond, unless_beyond, reserved_by, reservations_in}
 use Rattle.sched_rules.specs.Functions.{Functions}
-use Rattle.sched_rules.specs.Lone.{Outcome, is_frame_size, is_lower, lone, raised, refusal_in, submitted}
+use Rattle.sched_rules.specs.Lone.{Outcome, is_lower, lone, raised, refusal_in}
 use Rattle.sched_rules.specs.Runs.{answer_of}
-use Rattle.sched_rules.specs.Trees.{Tenant, left}
+use Rattle.sched_rules.specs.Trees.{Tenant}
 use Rattle.hall.specs.jamboree_rules.declared.leaf.Leaf.{Leaf}
 use Rattle.hall.specs.jamboree_rules.Places.{root_words, frame_size}
 use Rattle.hall.specs.jamboree_rules.Procedure.{jamboree}
 use Rattle.hall.specs.Halls.{HallOf}
 use Rattle.desk.specs.Counts.{IsOffered}
-use Rattle.desk.specs.Seats.{ask_refusals, reserve_refusals}
-
--- what a tenant alone is refused is what it is refused
-within : {I : Type 0} (P : Refusal → Type 0) (own : Result (Outcome I) Refusal) (answer : Result (DidOf I) Refusal) → ((refusal : Refusal) → refusal_in own ≡ Some refusal → answer ≡ Err refusal) → (refusal_in own ≡ None → answer ≡ answer_of own) → IfErr own P → IfErr answer P
-within P (Ok outcome) answer refused taken h = subst (λ a. IfErr a P) (sym (taken refl)) tt
-within P (Err refusal) answer refused taken h = subst (λ a. IfErr a P) (sym (refused refusal refl)) h
-
--- of the four tests of a Submit the first can't apply, since a root has the size of a frame
-submit_tested : {X : Type 0} (effect : X) (frame jobs nodes segments : Bool) → frame ≡ false
-    → IfErr (if frame then Err BadAct else (if jobs then Err NoJobsLeft else (if nodes then Err NoNodes else (if segments then Err NoSegments else Ok effect)))) (Contains ask_refusals)
-submit_tested effect true jobs nodes segments h = absurd (cc h)
-submit_tested effect false true nodes segments h = (1, lit< tt, refl)
-submit_tested effect false false true segments h = (2, lit< tt, refl)
-submit_tested effect false false false true h = (3, lit< tt, refl)
-submit_tested effect false false false false h = tt
-
-submit_within : {I A : Type 0} (functions : Functions I A) (tenant : Option Tenant) (number own opp depth : ℕ) → IfErr (lone functions tenant (Submit number (root_words own opp depth) frame_size)) (Contains ask_refusals)
-submit_within functions None number own opp depth = (0, lit< tt, refl)
-submit_within {I} functions (Some tenant) number own opp depth =
-    submit_tested {X = Outcome I} (submitted tenant number (root_words own opp depth) frame_size) (not (is_frame_size (root_words own opp depth) frame_size)) (nat_le 256 (length tenant.jobs)) ((left tenant).nodes == 0) (nat_lt (left tenant).segments (charge frame_size)) refl
+use Rattle.desk.specs.Seats.{reserve_refusals}
+use Rattle.desk_rules.specs.Asked.{ask_refusals}
+use Rattle.desk_rules.proofs.Refused.{ask_refused as offered_refused}
 
 pub ask_refused : (before after : HallOf) (number own opp depth : ℕ) (answer : Result (DidOf Leaf) Refusal) → IsOffered before (Submit number (root_words own opp depth) frame_size) answer after → IfErr answer (Contains ask_refusals)
-ask_refused before after number own opp depth answer h =
-    let right = h.one.answered.1 refl in
-    let functions = jamboree before.grain in
-    let tenant = tenant_in before.shared.tenants number in
-    within (Contains ask_refusals) (lone functions tenant (Submit number (root_words own opp depth) frame_size)) answer right.own_state (λ none. right.else_taken none refl) (submit_within functions tenant number own opp depth)
+ask_refused before after number own opp depth answer h = offered_refused before after number own opp depth answer h.one
 
 -- what an admission is refused for what is reserved, or for want of memory
 within_memory : {I : Type 0} (P : Refusal → Type 0) (own : Result (Outcome I) Refusal) (answer : Result (DidOf I) Refusal) → ((refusal : Refusal) → refusal_in own ≡ Some refusal → answer ≡ Err refusal) →

@@ -2,14 +2,11 @@
 use Rattle.std.specs.Prelude.{◌≡◌, ℕ, ◌+◌, ◌==◌, Bool, true, false, not, ◌&&◌, ◌||◌, List, Option, Some, None, Result, Ok, Err}
 use Rattle.frame_tree.specs.declared.names.FrameId.{FrameId}
 use Rattle.frame_tree.specs.Frames.{IsReadyAt}
-use Rattle.sched_rules.specs.declared.job.Job.{Job}
-use Rattle.sched_rules.specs.declared.job.Job.TheVariants.{Live, Done as DoneJob, Spent as SpentJob, Cancelled as CancelledJob}
 use Rattle.sched_rules.specs.declared.refusal.Refusal.{Refusal}
-use Rattle.sched_rules.specs.declared.refusal.Refusal.TheVariants.{NoTenant}
 use Rattle.sched_rules.specs.declared.step.StepOf.{StepOf}
 use Rattle.sched_rules.specs.declared.step.StepOf.TheVariants.{Leave}
 use Rattle.sched_rules.specs.declared.step.DidOf.{DidOf}
-use Rattle.sched_rules.specs.declared.step.DidOf.TheVariants.{Admitted, AdmittedMore, Submitted, Took, Went, Grew, Spawned, Waited, Computing, Returned, Answered, TakenIn, Finished, Spent, Cancelled, Left}
+use Rattle.sched_rules.specs.declared.step.DidOf.TheVariants.{Left}
 use Rattle.sched_rules.specs.Headline.{IsOneStep}
 use Rattle.sched_rules.specs.Views.{job_of, named, ready_count}
 use Rattle.hall.specs.jamboree_rules.declared.leaf.Leaf.{Leaf}
@@ -17,8 +14,7 @@ use Rattle.hall.specs.jamboree_rules.declared.leaf.LeafAnswer.{LeafAnswer}
 use Rattle.hall.specs.jamboree_rules.Procedure.{jamboree}
 use Rattle.hall.specs.Halls.{HallOf, hall_after}
 use Rattle.desk.specs.Seats.{SeatOf}
-use Rattle.desk.specs.declared.change.Change.{Change}
-use Rattle.desk.specs.declared.change.Change.TheVariants.{Nothing, InReady, Job as InJob}
+use Rattle.desk_rules.specs.Changes.{is_some_live}
 
 -- what contracts see of what lies under the lock: the hall, whether the desk is closed, how many workers sleep until a
 -- frame is ready, modulo 2^32, how many badges were given, and the steps taken since the desk was made, each with the number
@@ -50,22 +46,9 @@ pub record IsLeft (before : HallOf) (seat : SeatOf) (after : HallOf) : Type 0 wh
   pub step : IsOffered before (Leave seat.tenant) (Ok Left) (record after { kept = before.kept })
   pub kept : after.kept ≡ before.kept + seat.share + 1
 
--- what was found of a tenant; None, as the tenant isn't there, is the refusal NoTenant
-abbrev pub found_or_no_tenant : {X : Type 0} → Option X → Result X Refusal
-found_or_no_tenant (Some found) = Ok found
-found_or_no_tenant None = Err NoTenant
-
 -- what lies under the lock, where the hall keeps so many more steps
 abbrev pub with_kept : ℕ → LockedHallOf → LockedHallOf
 with_kept steps kept = record kept { hall = record kept.hall { kept = kept.hall.kept + steps } }
-
--- whether there is a job that hasn't ended
-abbrev pub is_some_live : Option Job → Bool
-is_some_live None = false
-is_some_live (Some (Live root)) = true
-is_some_live (Some (DoneJob words)) = false
-is_some_live (Some SpentJob) = false
-is_some_live (Some CancelledJob) = false
 
 -- whether a seat that waits for a job waits on: the desk isn't closed, and the job hasn't ended
 abbrev pub waits_on : LockedHallOf → ℕ → ℕ → Bool
@@ -80,25 +63,3 @@ has_news kept = kept.closed || not (ready_count kept.hall.shared.tenants == 0)
 abbrev pub IsNext : LockedHallOf → Option (FrameId × ℕ) → Type 0
 IsNext kept None = (not kept.closed && not (ready_count kept.hall.shared.tenants == 0)) ≡ false
 IsNext kept (Some ready) = (kept.closed ≡ false) × IsReadyAt (named kept.hall.shared ready.0) ready.1
-
--- what a worker's step changed that somebody may wait for, by the hall's answer: a frame became ready where a child was
--- opened or a parent woken, and a job ended where it was finished or spent
-abbrev pub ends_of : Result (DidOf Leaf) Refusal → Change
-ends_of (Err refusal) = Nothing
-ends_of (Ok Admitted) = Nothing
-ends_of (Ok AdmittedMore) = Nothing
-ends_of (Ok (Submitted job root)) = Nothing
-ends_of (Ok Took) = Nothing
-ends_of (Ok Went) = Nothing
-ends_of (Ok Grew) = Nothing
-ends_of (Ok (Spawned child)) = InReady
-ends_of (Ok Waited) = Nothing
-ends_of (Ok (Computing leaf)) = Nothing
-ends_of (Ok (Returned root)) = Nothing
-ends_of (Ok Answered) = Nothing
-ends_of (Ok (TakenIn None aborted)) = Nothing
-ends_of (Ok (TakenIn (Some woken) aborted)) = InReady
-ends_of (Ok (Finished job)) = InJob
-ends_of (Ok (Spent job)) = InJob
-ends_of (Ok Cancelled) = Nothing
-ends_of (Ok Left) = Nothing

@@ -15,11 +15,12 @@ use Rattle.hall.specs.jamboree_rules.declared.leaf.LeafAnswer.{LeafAnswer}
 use Rattle.hall.specs.jamboree_rules.Procedure.{jamboree}
 use Rattle.hall.specs.Journals.{is_worker_step}
 use Rattle.hall.specs.Halls.{HallOf}
-use Rattle.shared_history.specs.Views.{own, Known}
+use Rattle.desk.specs.Traces.{own, Known}
 use Rattle.sched_rules.specs.Views.{job_of}
 use Rattle.hall.specs.jamboree_core.declared.outcomes.Outcome.{Outcome}
 use Rattle.hall.specs.jamboree_core.Outcomes.{IsOutcomeIn}
-use Rattle.desk.specs.Seats.{SeatOf, seeing, seat_asked_at, IsToldBy}
+use Rattle.desk.specs.Seats.{SeatOf, seeing}
+use Rattle.desk_rules.specs.Asked.{seat_asked_at, IsToldBy}
 
 -- the steps of a history, in order
 abbrev pub steps_of : List (ℕ × StepOf LeafAnswer) → List (StepOf LeafAnswer)

@@ -6,9 +6,9 @@ ghost use Rattle.std.specs.Prelude.{◌≡◌, ◌≢◌, ◌+◌, true, Err, Ma
 ghost use Rattle.sched_rules.specs.declared.refusal.Refusal.TheVariants.{OutOfMemory};
 ghost use Rattle.hall.specs.Journals.{is_worker_step};
 
-use crate::change::Change;
 use crate::locked_hall::LockedHall;
 use crate::shares::{Badge, DeskLedger};
+use desk_rules::Change;
 use hall::{DidOf, Jamboree, Step, StepAnswer};
 use std::alloc::{Allocator, Global};
 use std::sync::{Condvar, MutexGuard, Wait};

@@ -8,7 +8,7 @@
 //! it changed.
 //!
 //! Behind a lock a contract can't say what a call did to the hall, as other threads use it too. So the steps taken since
-//! the desk was made, each with the number of its maker, are a history (`shared_history`) that lies beside the hall, in
+//! the desk was made, each with the number of its maker, are a history ([`History`]) that lies beside the hall, in
 //! proofs alone; a seat and a badge are makers, and a seat knows what it has seen of the history and which steps are its
 //! own. What a call did is said of these (`specs/Histories.antt`): a step that was taken is the last of the history that
 //! the seat has then seen, and its own steps grew by just it; a refusal is the one that the core at the end of that history
@@ -52,21 +52,22 @@
 
 pub use hall::jamboree;
 
-mod backoff;
-mod change;
 mod desk;
 mod desk_guard;
+mod history;
 mod locked_hall;
-pub mod rows;
+mod passes;
 mod seat;
 mod shares;
 
 pub use desk::Desk;
 pub use desk_guard::DeskGuard;
+pub use desk_rules::SeatAsked;
 pub use hall::{
     Config, Did, DidOf, Hall, Jamboree, Leaf, LeafAnswer, Outcome, Refusal, Reply, Step,
     StepAnswer, StepOf, Worker,
 };
-pub use seat::{Seat, SeatAsked};
-pub use shared_history::{Naming, Opened, Trace};
+pub use history::{History, Opened, Trace};
+pub use passes::Naming;
+pub use seat::Seat;
 pub use shares::{Badge, DeskLedger, PARTS};

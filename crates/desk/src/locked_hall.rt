@@ -15,21 +15,22 @@ ghost use Rattle.hall.specs.jamboree_core.Replies.{IsSearch};
 ghost use Rattle.hall.specs.jamboree_core.declared.outcomes.Outcome.{Outcome as OutcomeOf};
 ghost use Rattle.hall.specs.jamboree_core.Outcomes.{IsOutcomeIn};
 ghost use mathlib.Core.List.{IsPrefix};
-ghost use Rattle.shared_history.specs.Views.{own};
+ghost use Rattle.desk.specs.Traces.{own};
 ghost use Rattle.sched_rules.specs.Runs.{tenant_of};
-ghost use Rattle.desk.specs.Seats.{admit_refusals, reserve_refusals, ask_refusals, cancel_refusals, seeing, stepped, seat_asked_at, IsAsked, Shows, IsShown, IsShownOf, IsToldBy};
+ghost use Rattle.desk.specs.Seats.{admit_refusals, reserve_refusals, seeing, stepped, IsAsked};
+ghost use Rattle.desk_rules.specs.Asked.{ask_refusals, cancel_refusals, seat_asked_at, IsShown, IsToldBy, found_or_no_tenant};
 ghost use Rattle.desk.specs.Histories.{core_at, steps_of, is_admit, is_leave, is_seat_step, with_taken, AreSeats, AreTaken, HasNoLeave, IsAdmitted, IsLook, IsShownAt, IsToldOf, IsTrueTo, Saw, Took};
-ghost use Rattle.desk.specs.Counts.{IsOffered, IsLeft, IsAsOpen, IsNext, with_kept, found_or_no_tenant, waits_on, has_news};
+ghost use Rattle.desk.specs.Counts.{IsOffered, IsLeft, IsAsOpen, IsNext, with_kept, waits_on, has_news};
 
-use crate::backoff::Backoff;
-use crate::seat::{JOBS, Seat, SeatAsked};
+use crate::history::{History, Opened, Trace};
+use crate::seat::Seat;
 use crate::shares::{Badge, DeskLedger, PARTS};
 use arrayvec::ArrayVec;
+use desk_rules::{Backoff, JOBS, SeatAsked, seat_asked_at, shown};
 use frame_tree::FrameId;
 use hall::{Hall, Jamboree, Outcome, Refusal, Step, StepAnswer, StepOf, submit};
 use position_text::Position;
 use sched_rules::laws::{each_step_has_a_right_answer, no_tenant_is_disturbed};
-use shared_history::{History, Opened, Trace};
 use std::alloc::{Allocator, Global};
 use std::marker::Model;
 use std::sync::ledger::{Blank, Book, Share};
@@ -543,43 +544,5 @@ fn note<L: DeskLedger>(
     match answer {
         Ok(_) => history.add(trace, step),
         Err(_) => history.show(trace),
-    }
-}
-
-/// What was asked as the job of this number, from 1 on. `None` where the number is 0 or above the length.
-fn seat_asked_at(asked: &[SeatAsked], job: u64) -> Option<&SeatAsked>
-    ensures { option_copied result ≡ seat_asked_at asked.now job }
-{
-    if job == 0 {
-        return None;
-    }
-    let at = job as usize - 1;
-    if at < asked.len() {
-        Some(&asked[at])
-    } else {
-        None
-    }
-}
-
-/// What a seat is told of a job by which it asked this, where `told` is the hall's outcome of it: that outcome, but
-/// `Pending` in place of a reply to another board or depth, and where the hall has no such job (`None`).
-fn shown(asked: &SeatAsked, told: Option<Outcome>) -> Outcome
-    ensures fits { Shows asked.now result }
-    ensures told { IsShownOf asked.now told result }
-{
-    match told {
-        Some(Outcome::Done(reply)) => {
-            let board = reply.board();
-            if board.own == asked.board.own
-                && board.opp == asked.board.opp
-                && reply.depth() == asked.depth
-            {
-                Outcome::Done(reply)
-            } else {
-                Outcome::Pending
-            }
-        }
-        Some(outcome) => outcome,
-        None => Outcome::Pending,
     }
 }

@@ -1,35 +1,13 @@
 //! A tenant's seat.
 ghost use Rattle.std.specs.Prelude.{◌≡◌, ◌≤◌, length};
 
+use crate::history::Trace;
 use crate::shares::DeskLedger;
 use arrayvec::ArrayVec;
+use desk_rules::{JOBS, SeatAsked};
 use hall::{Jamboree, Step};
-use othello_board::Board;
-use shared_history::Trace;
 use std::marker::Model;
 use std::sync::ledger::Share;
-
-/// How many jobs a seat can ask for.
-pub(crate) const JOBS: usize = 256;
-
-/// What a seat asked: a board, seen by the player to move, and a depth of 0 to 12 plies.
-#[derive(Clone, Copy, Debug, PartialEq, Eq)]
-pub struct SeatAsked {
-    /// The board.
-    pub board: Board,
-    /// The depth.
-    pub depth: u8,
-}
-
-// Only for the free places of an `ArrayVec`, which need some value.
-impl Default for SeatAsked {
-    fn default() -> SeatAsked {
-        SeatAsked {
-            board: Board { own: 0, opp: 0 },
-            depth: 0,
-        }
-    }
-}
 
 /// A tenant's place at the desk, which its calls are made with. Contracts see the tenant's number, the seat's share,
 /// which counts its own taken steps, the list of what it asked, and what it knows of the desk's history: the number of

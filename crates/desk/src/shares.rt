@@ -1,9 +1,10 @@
 //! A worker's badge, and the ledger of which its share is a part.
 ghost use Rattle.std.specs.Prelude.{◌≡◌, ℕ, ◌+◌, ◌*◌, ◌<◌, ◌≤◌};
 
-use crate::backoff::Backoff;
+use crate::history::Trace;
+use crate::passes::Naming;
+use desk_rules::Backoff;
 use hall::{Jamboree, Step};
-use shared_history::{Naming, Trace};
 use std::marker::{Brand, Model};
 use std::sync::ledger::{Ledger, Share};
 

@@ -18,8 +18,9 @@ use Rattle.tenant_quota.specs.Quota.{Quota}
 use Rattle.session.specs.Calls.{Call, Get, Wait, Cancel, Reserve, Reserved, Ended, Told as ToldOf, Refused, reply_of}
 use Rattle.session.specs.Asks.{Asked, asked_at, asks_after, IsAnalysisOf, IsOfficeReplyTo, IsToldOf, KeepsAsks, SaysTrue, ShowsFound}
 use Rattle.session.specs.declared.standings.Standing.{Standing}
-use Rattle.desk.specs.declared.seat.SeatAsked.{SeatAsked}
-use Rattle.desk.specs.Seats.{SeatOf, cancel_refusals, reserve_refusals, seeing, stepped, IsShown, seat_asked_at}
+use Rattle.desk_rules.specs.declared.asked.SeatAsked.{SeatAsked}
+use Rattle.desk.specs.Seats.{SeatOf, reserve_refusals, seeing, stepped}
+use Rattle.desk_rules.specs.Asked.{cancel_refusals, IsShown, seat_asked_at}
 use Rattle.desk_office.specs.Offices.{ask_of, analysis_of, standing_of, told_answer}
 
 -- what was asked under a number

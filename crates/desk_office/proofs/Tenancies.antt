@@ -9,11 +9,11 @@ use Rattle.sched_rules.specs.declared.refusal.Refusal.{Refusal}
 use Rattle.sched_rules.specs.declared.step.StepOf.{StepOf}
 use Rattle.sched_rules.specs.declared.step.StepOf.TheVariants.{Leave as LeaveStep}
 use Rattle.sched_rules.specs.Trees.{left}
-use Rattle.shared_history.specs.Views.{Known}
+use Rattle.desk.specs.Traces.{Known}
 use Rattle.desk.specs.hall.jamboree_rules.declared.leaf.LeafAnswer.{LeafAnswer}
 use Rattle.desk.specs.hall.Halls.{HallOf}
 use Rattle.desk.specs.Seats.{SeatOf}
-use Rattle.desk.specs.Counts.{found_or_no_tenant}
+use Rattle.desk_rules.specs.Asked.{found_or_no_tenant}
 use Rattle.desk.specs.Histories.{tenant_at, IsTrueTo, Took}
 use Rattle.session.specs.Calls.{Call, Hello, Reserve, Ask, Get, Wait, Cancel, AskQuota, AskLive, Leave, OfficeReply, Told, Rest, Alive, Gone, reply_of}
 use Rattle.session.specs.Sessions.{Called}

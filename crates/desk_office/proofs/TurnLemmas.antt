@@ -16,15 +16,15 @@ use Rattle.sched_rules.specs.Trees.{Tenant, left, job_at}
 use Rattle.sched_rules.specs.Views.{left_in_core, live_of}
 use Rattle.sched_rules.specs.declared.step.StepOf.{StepOf}
 use Rattle.sched_rules.specs.declared.step.StepOf.TheVariants.{AdmitMore, Submit, Cancel as CancelStep, Leave as LeaveStep}
-use Rattle.shared_history.specs.Views.{Known}
+use Rattle.desk.specs.Traces.{Known}
 use Rattle.desk.specs.hall.jamboree_rules.declared.leaf.LeafAnswer.{LeafAnswer}
 use Rattle.desk.specs.hall.jamboree_rules.Places.{root_words, frame_size}
 use Rattle.desk.specs.hall.Halls.{HallOf}
 use Rattle.desk.specs.jamboree_core.declared.outcomes.Outcome.{Outcome}
 use Rattle.desk.specs.jamboree_core.Outcomes.{IsOutcomeIn}
-use Rattle.desk.specs.declared.seat.SeatAsked.{SeatAsked}
-use Rattle.desk.specs.Counts.{found_or_no_tenant}
-use Rattle.desk.specs.Seats.{SeatOf, admit_refusals, ask_refusals, cancel_refusals, reserve_refusals, seeing, stepped, seat_asked_at, IsAsked, IsShown}
+use Rattle.desk_rules.specs.declared.asked.SeatAsked.{SeatAsked}
+use Rattle.desk_rules.specs.Asked.{found_or_no_tenant, ask_refusals, cancel_refusals, seat_asked_at, IsShown}
+use Rattle.desk.specs.Seats.{SeatOf, admit_refusals, reserve_refusals, seeing, stepped, IsAsked}
 use Rattle.desk.specs.Histories.{core_at, tenant_at, IsAdmitted, IsLook, IsShownAt, IsToldOf, IsTrueTo, Took}
 use Rattle.session.specs.declared.standings.Standing.{Standing}
 use Rattle.session.specs.Asks.{Asked, KeepsAsks}

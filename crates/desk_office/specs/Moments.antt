@@ -11,16 +11,16 @@ use Rattle.sched_rules.specs.declared.step.StepOf.{StepOf}
 use Rattle.sched_rules.specs.declared.step.StepOf.TheVariants.{Admit, AdmitMore, Submit, Cancel as CancelStep, Leave as LeaveStep}
 use Rattle.sched_rules.specs.Trees.{Tenant, left, job_at}
 use Rattle.sched_rules.specs.Headline.{IsAnswerTo}
-use Rattle.shared_history.specs.Views.{Known}
+use Rattle.desk.specs.Traces.{Known}
 use Rattle.desk.specs.hall.jamboree_rules.Places.{root_words, frame_size}
 use Rattle.desk.specs.hall.jamboree_rules.Procedure.{jamboree}
 use Rattle.desk.specs.hall.jamboree_rules.declared.leaf.LeafAnswer.{LeafAnswer}
 use Rattle.desk.specs.hall.Halls.{HallOf}
 use Rattle.desk.specs.jamboree_core.declared.outcomes.Outcome.{Outcome}
 use Rattle.desk.specs.jamboree_core.Outcomes.{IsOutcomeIn}
-use Rattle.desk.specs.declared.seat.SeatAsked.{SeatAsked}
-use Rattle.desk.specs.Counts.{found_or_no_tenant}
-use Rattle.desk.specs.Seats.{SeatOf, seeing, seat_asked_at, IsShown, IsToldBy}
+use Rattle.desk_rules.specs.declared.asked.SeatAsked.{SeatAsked}
+use Rattle.desk_rules.specs.Asked.{found_or_no_tenant, seat_asked_at, IsShown, IsToldBy}
+use Rattle.desk.specs.Seats.{SeatOf, seeing}
 use Rattle.desk.specs.Histories.{core_at, tenant_at, IsAdmitted, IsLook, IsTrueTo, Saw, Took}
 use Rattle.session.specs.declared.faults.End.{End}
 use Rattle.session.specs.declared.faults.SessionFault.{SessionFault}

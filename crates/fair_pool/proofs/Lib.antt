@@ -1,2 +1,4 @@
+mod WaitLemmas
+mod LeadLemmas
 pub mod PickLemmas
 pub mod StepLemmas

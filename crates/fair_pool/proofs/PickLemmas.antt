@@ -3,7 +3,7 @@ use Rattle.std.proofs.Common.{◌≡◌, ℕ, ◌+◌, suc, refl, add-one, ap, �
 use Rattle.std.specs.Prelude.{is_some}
 use Rattle.sched_rules.specs.Cores.{CoreState}
 use Rattle.sched_rules.specs.Views.{newest_ready_in}
-use Rattle.fair_share.specs.Shares.{SharesOf, tenant_at, seen}
+use Rattle.fair_pool.specs.Shares.{SharesOf, tenant_at, seen}
 use Rattle.fair_pool.specs.Picks.{seen_up_to}
 
 pub seen_none : (core : CoreState) (shares : SharesOf) → seen_up_to core 0 shares ≡ shares

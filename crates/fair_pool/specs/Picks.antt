@@ -3,8 +3,8 @@ use Rattle.std.specs.Prelude.{◌≡◌, ◌⊎◌, ℕ, zero, suc, Option, Some
 use Rattle.sched_rules.specs.Cores.{CoreState}
 use Rattle.sched_rules.specs.Views.{newest_ready_in}
 use Rattle.pool_rules.specs.declared.task.Task.{Task}
-use Rattle.fair_share.specs.Lines.{place_named}
-use Rattle.fair_share.specs.Shares.{SharesOf, IsPick, IsNobody, tenant_at, seen, served_all}
+use Rattle.fair_pool.specs.Lines.{place_named}
+use Rattle.fair_pool.specs.Shares.{SharesOf, IsPick, IsNobody, tenant_at, seen, served_all}
 
 -- after it was seen of each of the first so many places whether its tenant has a ready frame
 unfoldable pub seen_up_to : CoreState → ℕ → SharesOf → SharesOf

@@ -2,7 +2,7 @@
 //!
 //! A worker of `steal_pool` begins a new job only when all deques are empty, so a short job may wait as long as its neighbours have
 //! work. Here each 8th task that a worker begins is a pick ([`Rhythm`]): the newest ready frame of a tenant of a customer that none with
-//! a ready frame was served less than ([`fair_task`], by `fair_share`). All others are as ever: the newest of the worker's own deque, else
+//! a ready frame was served less than ([`fair_task`], by a [`FairShare`]). All others are as ever: the newest of the worker's own deque, else
 //! the oldest of another's; and where the deques give none, a pick, for which it waits at the site. A pick leaves its task behind in the
 //! deque where it lies; whoever comes to that later is refused its frame and goes on. So that such tasks don't pile up a deque has room
 //! for 1,024; a task beyond them is dropped, and its frame stays ready in the hall, where picks find it.
@@ -31,17 +31,23 @@
 //! ```
 #![tactic(auto)]
 
+mod account;
 mod hands;
 mod held;
+pub mod laws;
+mod line;
 mod picks;
 mod pool;
 mod rhythm;
 pub mod rows;
+mod shares;
 mod worker;
 
+pub use account::Account;
 pub use hands::Hands;
 pub use held::{HeldHall, steps};
 pub use picks::{charge, fair_task};
 pub use pool::{PoolEnd, PoolFault, run_pool};
 pub use rhythm::Rhythm;
+pub use shares::FairShare;
 pub use worker::{Site, run_worker};

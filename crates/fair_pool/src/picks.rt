@@ -2,7 +2,7 @@
 ghost use Rattle.std.specs.Prelude.{◌≡◌, IfSome, IfNone};
 ghost use Rattle.fair_pool.specs.Picks.{charged_to, seen_all, IsFairTask, IsNoTask};
 
-use fair_share::FairShare;
+use crate::shares::FairShare;
 use hall::Hall;
 use std::alloc::Allocator;
 use task_deques::pool_rules::Task;

@@ -2,7 +2,7 @@
 //!
 //! `othello solve` reads lines `depth position` and writes for each a line `value move`, as soon as the line is
 //! complete. `othello serve` serves sessions of many tenants over TCP. What is done with the words of the command line
-//! and the streams is `serve_command`'s `run`, whose contract says what is written of what is read.
+//! and the streams is `run` of `commands`, whose contract says what is written of what is read.
 //!
 //! ```text
 //! $ printf '1 ---------------------------OX------XO--------------------------- X\n' | othello solve
@@ -13,8 +13,7 @@
 //! ```
 #![tactic(auto)]
 
-use serve_command::run;
-use solve_command::{Streams, words_of};
+use commands::{Streams, run, words_of};
 use std::env;
 use std::process::ExitCode;
 

@@ -3,8 +3,8 @@ use crate::counts::{NAMES, place_of};
 use crate::links::Talk;
 use crate::shared::Shared;
 use crate::telling::log_refusal;
-use site_book::Who;
-use site_directory::Address;
+use site_book::{Told, Who};
+use site_file::Address;
 use site_office::{Cause, House, Met, Note};
 use std::alloc::Global;
 use std::net::{Shutdown, TcpStream};
@@ -28,6 +28,8 @@ pub(crate) struct Caller<'a, R> {
     pub(crate) hall: usize,
     /// Its session, and whose that is.
     pub(crate) session: Option<(u64, Who)>,
+    /// Why that was told to end, if it was.
+    pub(crate) told: Option<Told>,
     /// When its session began, in milliseconds.
     pub(crate) since: u64,
     /// When the line came whose answer is timed, in microseconds.
@@ -135,7 +137,7 @@ impl<R: Clock + Wait> House for Caller<'_, R> {
             Note::Begins(number, who) => self.begin(number, who),
             Note::Ended(number) => {
                 let mut register = self.shared.lock.lock(self.rt);
-                register.unlink(self.hall, number);
+                self.told = register.unlink(self.hall, number);
             }
             Note::Waits(waits) => self.wait(waits),
             Note::Value => {
@@ -144,8 +146,8 @@ impl<R: Clock + Wait> House for Caller<'_, R> {
             }
             Note::Refused(cause) => self.refuse(cause),
             Note::Tells(number) => {
-                let register = self.shared.lock.lock(self.rt);
-                register.shut(self.hall, number);
+                let mut register = self.shared.lock.lock(self.rt);
+                register.shut(self.hall, number, Told::ForAnother);
             }
         }
     }

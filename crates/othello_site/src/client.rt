@@ -7,8 +7,8 @@ use crate::links::{Incoming, MOST_BYTES, Outgoing, Reading, Received, Talk};
 use crate::shared::Shared;
 use crate::telling::{address_text, log_refusal};
 use line_io::{LineFault, Sink, TalkEnd};
-use site_book::Who;
-use site_directory::Address;
+use site_book::{Told, Who};
+use site_file::Address;
 use site_office::{SiteOffice, serve_connection};
 use site_rules::{Arrival, Caller as Origin, Port, Times, identify};
 use std::alloc::{AllocError, Global};
@@ -210,6 +210,7 @@ fn receive<R: Clock + Wait>(
         account,
         hall,
         session: None,
+        told: None,
         since: 0,
         asked: 0,
     };
@@ -233,7 +234,7 @@ fn receive<R: Clock + Wait>(
         alloc,
         shared,
         &caller,
-        words_of(end, talk.reading.get()),
+        word_of(end, talk.reading.get(), caller.told),
     );
     if talk.reading.get() == Reading::Late && !talk.pace.get().welcomed {
         refuse(rt, alloc, shared, known.address, SILENCE);
@@ -241,13 +242,25 @@ fn receive<R: Clock + Wait>(
 }
 
 /// What ended a connection, in a word.
-fn words_of(end: Result<TalkEnd, LineFault>, reading: Reading) -> &'static str {
+fn word_of(end: Result<TalkEnd, LineFault>, reading: Reading, told: Option<Told>) -> &'static str {
     match (end, reading) {
         (Ok(TalkEnd::Line), _) => "bye",
-        (Ok(TalkEnd::Input), _) => "input",
-        (Err(LineFault::Write), _) => "unwritten",
-        (Err(_), Reading::Late) => "silence",
-        (Err(_), _) => "lost",
+        (Ok(TalkEnd::Input), _) => word_told(told, "input"),
+        (Err(LineFault::Write), _) => word_told(told, "unwritten"),
+        (Err(_), Reading::Late) => word_told(told, "silence"),
+        (Err(_), _) => word_told(told, "lost"),
+    }
+}
+
+/// Why a session was told to end, in a word; another one where it wasn't.
+fn word_told(told: Option<Told>, other: &'static str) -> &'static str {
+    match told {
+        None => other,
+        Some(Told::Gone) => "gone",
+        Some(Told::Idle) => "idle",
+        Some(Told::ForAnother) => "another",
+        Some(Told::ByOperator) => "operator",
+        Some(Told::ByPlan) => "reload",
     }
 }
 

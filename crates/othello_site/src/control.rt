@@ -4,10 +4,10 @@ use crate::paths::Paths;
 use crate::reloading::{Unread, reload};
 use crate::shared::Shared;
 use crate::telling::stats_of;
+use crate::visits::{Shut, Visits};
 use crate::watching::{shut_told, tell};
-use site_book::{Part, Who};
-use site_directory::Address;
-use site_roll::{Told, Whom};
+use site_book::{Part, Told, Who, Whom};
+use site_file::Address;
 use site_rules::{Command, Whose, read_command};
 use std::alloc::{AllocError, Global};
 use std::io::{Read, Write};
@@ -98,37 +98,40 @@ fn part_of<R: Wait>(rt: &R, shared: &Shared, whose: Whose<'_>) -> Option<Part> {
     }
 }
 
-/// Ends sessions.
+/// Tells a part's sessions of all halls to end, and returns how many these are.
+fn tell_all<R: Wait>(rt: &R, shared: &Shared, part: Part) -> u64 {
+    let mut many: u64 = 0;
+    for hall in 0..shared.desks.len() {
+        let told = tell(rt, shared, hall, Whom::Each(part), Told::ByOperator);
+        many = many.saturating_add(told);
+    }
+    many
+}
+
+/// Ends sessions, and says how many.
 fn end<R: AllocGlobal + Wait>(
     rt: &R,
     shared: &Shared,
     whose: Whose<'_>,
 ) -> Result<String, AllocError> {
-    match whose {
+    let many = match whose {
         Whose::Session(hall, number) => {
             let hall = (hall as usize).saturating_sub(1);
-            tell(
-                rt,
-                shared,
-                hall,
-                Whom::One(u64::from(number)),
-                Told::ByOperator,
-            );
+            let whom = Whom::One(u64::from(number));
+            tell(rt, shared, hall, whom, Told::ByOperator)
         }
         whose => {
             let Some(part) = part_of(rt, shared, whose) else {
                 return String::from_str(rt.alloc(), "ERR nobody has this name\n");
             };
-            for hall in 0..shared.desks.len() {
-                tell(rt, shared, hall, Whom::Each(part), Told::ByOperator);
-            }
+            tell_all(rt, shared, part)
         }
-    }
+    };
     {
         let mut register = shared.lock.lock(rt);
         register.counts.ended = register.counts.ended.saturating_add(1);
     }
-    let many = shut_told(rt, shared);
+    let _ = shut_told(rt, shared);
     format!(in rt.alloc(); "OK {many}\n")
 }
 
@@ -212,13 +215,18 @@ pub(crate) fn serve_control<'s, E, R: Clock + Paths + AllocGlobal + Wait + Sync>
     shared: &'s Shared,
     listener: UnixListener,
 ) {
+    let mut visits = Visits::new(rt.alloc());
     for stream in listener.incoming() {
         let Ok(stream) = stream else {
             thread::sleep(rt, Duration::from_millis(A_PAUSE));
             continue;
         };
+        let Ok(stream) = visits.admit(rt.alloc(), stream) else {
+            continue;
+        };
         let _ = scope.spawn(move || {
             let _ = converse(rt, shared, &stream);
+            stream.shut();
         });
     }
 }

@@ -1,10 +1,24 @@
 //! Why the site ends: told by whichever thread knows it to the one that waits for it.
 use std::io;
+use std::net::SocketAddr;
 use std::sync::{Condvar, Mutex, Wait};
+
+/// An address at which a site can't listen.
+#[derive(Drop)]
+pub(crate) struct Unheard {
+    /// What the file calls it.
+    pub(crate) name: &'static str,
+    /// The address; `None` of the operator's socket.
+    pub(crate) address: Option<SocketAddr>,
+    /// Why.
+    pub(crate) error: io::Error,
+}
 
 /// Why the site ends.
 #[derive(Drop)]
 pub(crate) enum Why {
+    /// It can't listen at an address.
+    Unheard(Unheard),
     /// No more connections can be taken.
     Deaf(io::Error),
     /// A hall's workers couldn't be started.

@@ -1,7 +1,7 @@
 //! `othello_site [FILE]`: serves the sessions of a site, each customer within its budget.
 //!
 //! What a session does is the work of `site_office` and the crates below it, whose contracts say it; whose a connection is and what
-//! everybody may have is that of `site_directory` and `site_config`; what else is decided that of `site_rules`. Here is what no clause can
+//! everybody may have is that of `site_file`; what else is decided that of `site_rules`. Here is what no clause can
 //! say: threads, sockets, the clock, the control socket, the metrics and the log. A [`register::Register`] is what all connections share
 //! beside the desks, under a lock of its own: the file's words, rates, connections, who can be shut, and the counts. Whoever holds it may
 //! call a desk, and nobody the other way round.
@@ -35,6 +35,7 @@ mod serving;
 mod shared;
 mod tallies;
 mod telling;
+mod visits;
 mod watching;
 mod web;
 mod working;

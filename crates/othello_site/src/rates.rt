@@ -1,6 +1,6 @@
 //! How many lines that ask for a reservation each customer has said of late.
-use line_rate::{Meter, Rate};
 use site_book::Who;
+use site_file::{Meter, Rate};
 use std::alloc::Global;
 
 /// How many guests are known at once. Beyond them the one is forgotten that hasn't been heard for longest.

@@ -2,9 +2,8 @@
 use crate::counts::Counts;
 use crate::rates::Rates;
 use crate::tallies::Tallies;
-use site_book::Who;
-use site_config::Config;
-use site_directory::Address;
+use site_book::{Told, Who};
+use site_file::{Address, Config};
 use site_rules::{Arrival, Crowd, Seen, Watch, arrival_of};
 use std::alloc::Global;
 use std::io::ErrorKind;
@@ -24,6 +23,8 @@ pub(crate) struct Link {
     /// Whether it waits for a job, so that its thread doesn't read.
     waits: bool,
     watch: Watch,
+    /// Why it was shut, if it was.
+    told: Option<Told>,
 }
 
 /// What connections share.
@@ -140,6 +141,7 @@ impl Register {
                 stream,
                 waits: false,
                 watch: Watch::NOTHING,
+                told: None,
             })
             .is_ok()
     }
@@ -154,19 +156,21 @@ impl Register {
         None
     }
 
-    /// Forgets a session's connection.
-    pub(crate) fn unlink(&mut self, hall: usize, session: u64) {
-        if let Some(place) = self.place_of(hall, session) {
-            if place < self.links.len() {
-                let _ = self.links.swap_remove(place);
-            }
+    /// Forgets a session's connection. Returns why it was shut, if it was.
+    pub(crate) fn unlink(&mut self, hall: usize, session: u64) -> Option<Told> {
+        let place = self.place_of(hall, session)?;
+        if place < self.links.len() {
+            let link = self.links.swap_remove(place);
+            return link.told;
         }
+        None
     }
 
-    /// Shuts a session's connection.
-    pub(crate) fn shut(&self, hall: usize, session: u64) {
+    /// Shuts a session's connection, as it was told to end.
+    pub(crate) fn shut(&mut self, hall: usize, session: u64, why: Told) {
         if let Some(place) = self.place_of(hall, session) {
-            if let Some(link) = self.links.get(place) {
+            if let Some(link) = self.links.get_mut(place) {
+                link.told = Some(why);
                 let _ = link.stream.shutdown(Shutdown::Both);
             }
         }

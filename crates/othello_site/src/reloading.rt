@@ -3,7 +3,7 @@ use crate::paths::Paths;
 use crate::shared::Shared;
 use crate::watching::shut_told;
 use site_book::{Amount, Part, Plan, Who};
-use site_config::{Config, FileFault, amount_text, read_config_again};
+use site_file::{Config, FileFault, amount_text, read_config_again};
 use std::alloc::{AllocError, Global};
 use std::fmt::Write;
 use std::sync::{Arc, Wait};

@@ -1,9 +1,9 @@
 //! What the program does with the words of its command line.
-use crate::ending::Why;
+use crate::ending::{Unheard, Why};
 use crate::paths::Paths;
 use crate::serving::serve_config;
 use site_book::{Part, Plan, Who};
-use site_config::{Config, amount_text, read_config};
+use site_file::{Config, amount_text, read_config};
 use std::alloc::{AllocError, Global};
 use std::fmt::{Display, Write};
 use std::io;
@@ -143,6 +143,16 @@ fn refuse_file<R: Eprint, D: Display>(rt: &R, path: &str, why: &D) -> u8 {
     EXIT_REFUSED
 }
 
+/// Says at which address the site can't listen.
+fn refuse_address<R: Eprint>(rt: &R, fault: &Unheard) -> u8 {
+    let (name, error) = (fault.name, &fault.error);
+    let _ = match &fault.address {
+        Some(address) => eprintln!(rt; "othello_site: {name} = \"{address}\": {error}"),
+        None => eprintln!(rt; "othello_site: {name}: {error}"),
+    };
+    EXIT_FAILED
+}
+
 /// Says what a file gives away.
 fn check<R: Paths + Print + Eprint + AllocGlobal>(rt: &R, path: &str) -> u8 {
     let config = match config_at(rt, path) {
@@ -233,6 +243,7 @@ where
             );
             EXIT_REFUSED
         }
+        Ok(Some(Why::Unheard(fault))) => refuse_address(rt, &fault),
         Ok(Some(Why::Drained)) => EXIT_OK,
         Ok(Some(Why::Idle)) => {
             let _ = eprintln!(rt; "othello_site: its workers could not be started");

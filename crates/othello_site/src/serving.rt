@@ -6,7 +6,7 @@
 ghost use Rattle.std.specs.Prelude.{◌≡◌, IfSome};
 
 use crate::control::serve_control;
-use crate::ending::{Ending, Why};
+use crate::ending::{Ending, Unheard, Why};
 use crate::listening::take_all;
 use crate::logging::Log;
 use crate::paths::Paths;
@@ -16,20 +16,17 @@ use crate::shared::Shared;
 use crate::watching::watch_all;
 use crate::web::serve_web;
 use crate::working::Workshop;
-use booked_hall::BookedHall;
-use fair_pool::run_pool;
-use fair_share::FairShare;
+use fair_pool::{FairShare, run_pool};
 use hall::{Config as Totals, Hall};
 use sched_rules::Worker;
 use site_book::{Book, Plan};
-use site_config::Config;
-use site_desk::SiteDesk;
+use site_desk::{BookedHall, SiteDesk};
+use site_file::Config;
 use site_rules::Port;
 use std::alloc::{AllocError, Global};
 use std::io;
 use std::net::{Net, SocketAddr, TcpListener, TcpStream};
 use std::os::unix::net::UnixListener;
-use std::sync::atomic::AtomicU64;
 use std::sync::{Arc, Mutex, Wait};
 use std::thread::{self, Builder, Scope, Threads};
 use std::time::{Clock, Instant};
@@ -51,29 +48,52 @@ struct Site {
     workers: u8,
 }
 
-/// The listener at an address, if there is one.
-fn listener_at<R>(rt: &R, address: Option<SocketAddr>) -> io::Result<Option<TcpListener>>
+/// The listener at an address, if there is one; the file calls it by this name.
+fn listener_at<R>(
+    rt: &R,
+    name: &'static str,
+    address: Option<SocketAddr>,
+) -> Result<Option<TcpListener>, Unheard>
 where
     R: Net<Listener = TcpListener, Stream = TcpStream>,
 {
-    match address {
-        Some(address) => Ok(Some(TcpListener::bind(rt, address)?)),
-        None => Ok(None),
+    let Some(place) = address else {
+        return Ok(None);
+    };
+    match TcpListener::bind(rt, place) {
+        Ok(listener) => Ok(Some(listener)),
+        Err(error) => Err(Unheard {
+            name,
+            address,
+            error,
+        }),
+    }
+}
+
+/// The operator's socket, if there is one.
+fn control_at<R: Paths>(rt: &R, config: &Config) -> Result<Option<UnixListener>, Unheard> {
+    let Some(path) = &config.control else {
+        return Ok(None);
+    };
+    match rt.socket_at(path.as_str()) {
+        Ok(listener) => Ok(Some(listener)),
+        Err(error) => Err(Unheard {
+            name: "control",
+            address: None,
+            error,
+        }),
     }
 }
 
 /// Listens as a file says.
-fn ends_of<R>(rt: &R, config: &Config) -> io::Result<Ends>
+fn ends_of<R>(rt: &R, config: &Config) -> Result<Ends, Unheard>
 where
     R: Net<Listener = TcpListener, Stream = TcpStream> + Paths,
 {
-    let plain = listener_at(rt, config.entrances.plain)?;
-    let proxied = listener_at(rt, config.entrances.proxied)?;
-    let health = listener_at(rt, config.entrances.health)?;
-    let control = match &config.control {
-        Some(path) => Some(rt.socket_at(path.as_str())?),
-        None => None,
-    };
+    let proxied = listener_at(rt, "listen", config.entrances.proxied)?;
+    let plain = listener_at(rt, "plain", config.entrances.plain)?;
+    let health = listener_at(rt, "health", config.entrances.health)?;
+    let control = control_at(rt, config)?;
     Ok(Ends {
         plain,
         proxied,
@@ -186,7 +206,10 @@ where
         + 'static,
 {
     let workers = workers_of(rt, &config);
-    let ends = ends_of(rt, &config)?;
+    let ends = match ends_of(rt, &config) {
+        Ok(ends) => ends,
+        Err(fault) => return Ok(Some(Why::Unheard(fault))),
+    };
     let (ending, theirs) = endings(rt.alloc())?;
     let Some(shared) = shared_of(rt, path, config, theirs)? else {
         return Ok(None);
@@ -305,8 +328,7 @@ where
     } = ends;
     say_listening(rt, &plain);
     say_listening(rt, &proxied);
-    let many = AtomicU64::new(0);
-    let (shared, many) = (&shared, &many);
+    let shared = &shared;
     thread::scope(thread::scope_env(), rt, |scope| {
         start_workers(scope, rt, rt.alloc(), shared, workers);
         let _ = scope.spawn(move || shared.log.write_all(rt, rt.alloc()));
@@ -315,7 +337,7 @@ where
             let _ = scope.spawn(move || serve_control(scope, rt, shared, control));
         }
         if let Some(health) = health {
-            let _ = scope.spawn(move || serve_web(scope, rt, shared, many, health));
+            let _ = scope.spawn(move || serve_web(scope, rt, shared, health));
         }
         start_port(scope, rt, rt.alloc(), shared, plain, Port::Plain);
         start_port(scope, rt, rt.alloc(), shared, proxied, Port::Proxied);

@@ -2,7 +2,7 @@
 use crate::counts::{BOUNDS, Buckets, Counts, NAMES};
 use crate::shared::Shared;
 use site_book::{Amount, Part};
-use site_directory::Address;
+use site_file::Address;
 use std::alloc::{AllocError, Global};
 use std::fmt::Write;
 use std::net::{Ipv4Addr, Ipv6Addr};

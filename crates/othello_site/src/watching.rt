@@ -1,8 +1,7 @@
 //! Each second: sessions whose client is gone, and connections that are to be shut.
 use crate::ending::Why;
 use crate::shared::Shared;
-use site_book::Part;
-use site_roll::{Told, Whom};
+use site_book::{Part, Present, Told, Whom};
 use std::sync::Wait;
 use std::thread;
 use std::time::{Clock, Duration};
@@ -33,15 +32,32 @@ fn end_gone<R: Clock + Wait>(rt: &R, shared: &Shared) {
             let mut register = shared.lock.lock(rt);
             register.counts.gone = register.counts.gone.saturating_add(1);
             drop(register);
-            tell(rt, shared, hall, Whom::One(session), Told::Gone);
+            let _ = tell(rt, shared, hall, Whom::One(session), Told::Gone);
         }
     }
 }
 
-/// Tells sessions of a hall to end.
-pub(crate) fn tell<R: Wait>(rt: &R, shared: &Shared, hall: usize, whom: Whom, why: Told) {
-    if let Some(desk) = shared.desks.get(hall) {
-        desk.tell(rt, whom, why);
+/// Tells sessions of a hall to end, and returns how many these are that weren't told before.
+pub(crate) fn tell<R: Wait>(rt: &R, shared: &Shared, hall: usize, whom: Whom, why: Told) -> u64 {
+    let Some(desk) = shared.desks.get(hall) else {
+        return 0;
+    };
+    let roll = desk.roll(rt);
+    desk.tell(rt, whom, why);
+    let mut many: u64 = 0;
+    for present in roll.as_slice() {
+        if present.told.is_none() && is_meant(whom, present) {
+            many = many.saturating_add(1);
+        }
+    }
+    many
+}
+
+/// Whether a session is one of these.
+fn is_meant(whom: Whom, present: &Present) -> bool {
+    match whom {
+        Whom::One(session) => present.session == session,
+        Whom::Each(part) => part.has(present.who),
     }
 }
 
@@ -51,9 +67,9 @@ pub(crate) fn shut_told<R: Wait>(rt: &R, shared: &Shared) -> u64 {
     for (hall, desk) in shared.desks.iter().enumerate() {
         let roll = desk.roll(rt);
         for present in roll.as_slice() {
-            if present.told.is_some() {
+            if let Some(why) = present.told {
                 many = many.saturating_add(1);
-                shared.lock.lock(rt).shut(hall, present.session);
+                shared.lock.lock(rt).shut(hall, present.session, why);
             }
         }
     }
@@ -71,7 +87,7 @@ fn is_drained<R: Clock + Wait>(rt: &R, shared: &Shared) -> bool {
     }
     if until <= shared.now(rt) {
         for hall in 0..shared.desks.len() {
-            tell(rt, shared, hall, Whom::Each(Part::All), Told::ByOperator);
+            let _ = tell(rt, shared, hall, Whom::Each(Part::All), Told::ByOperator);
         }
     }
     false

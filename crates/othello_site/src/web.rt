@@ -2,11 +2,11 @@
 use crate::links::{MOST_BYTES, Received};
 use crate::shared::Shared;
 use crate::telling::metrics_of;
+use crate::visits::{Shut, Visits};
 use std::alloc::AllocError;
 use std::io::{Read, Write};
 use std::net::{TcpListener, TcpStream};
 use std::sync::Wait;
-use std::sync::atomic::{AtomicU64, Ordering};
 use std::thread::{self, Scope};
 use std::time::{Clock, Duration};
 
@@ -15,9 +15,6 @@ const A_REQUEST: u64 = 2;
 
 /// Milliseconds before a connection is taken again, where none could be.
 const A_PAUSE: u64 = 100;
-
-/// The most connections that are answered at once.
-const MOST: u64 = 256;
 
 /// What a request asks for.
 #[derive(Clone, Copy)]
@@ -101,37 +98,25 @@ fn converse<R: AllocGlobal + Clock + Wait>(
     None
 }
 
-/// One more, if there may be one.
-fn arrive(many: &AtomicU64) -> bool {
-    if many.load(Ordering::SeqCst) >= MOST {
-        return false;
-    }
-    many.fetch_add(1, Ordering::SeqCst);
-    true
-}
-
-/// Answers connections, each in a thread of its own, and few at once: more are closed.
+/// Answers connections, each in a thread of its own.
 pub(crate) fn serve_web<'s, E, R: Clock + AllocGlobal + Wait + Sync>(
     scope: &'s Scope<'s, E>,
     rt: &'s R,
     shared: &'s Shared,
-    many: &'s AtomicU64,
     listener: TcpListener,
 ) {
+    let mut visits = Visits::new(rt.alloc());
     for stream in listener.incoming() {
         let Ok(stream) = stream else {
             thread::sleep(rt, Duration::from_millis(A_PAUSE));
             continue;
         };
-        if !arrive(many) {
+        let Ok(stream) = visits.admit(rt.alloc(), stream) else {
             continue;
-        }
-        let started = scope.spawn(move || {
+        };
+        let _ = scope.spawn(move || {
             let _ = converse(rt, shared, &stream);
-            many.fetch_sub(1, Ordering::SeqCst);
+            stream.shut();
         });
-        if started.is_err() {
-            many.fetch_sub(1, Ordering::SeqCst);
-        }
     }
 }

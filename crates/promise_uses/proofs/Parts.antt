@@ -2,7 +2,7 @@
 use Rattle.std.proofs.Common.{◌≡◌, ◌≢◌, ◌⊎◌, ℕ, List, true, Option, Some, None, Result, Ok, Err, inl, inr, ap, sym, subst, ◌∙◌}
 use Rattle.std.specs.Prelude.{IfOk, IfErr, OnOk, IfSome, MatchResult, ◌++◌, ◌∷◌, []}
 use Rattle.sched_rules.specs.Headline.{IsAnswerTo}
-use Rattle.shared_history.specs.Views.{own, Known}
+use Rattle.desk.specs.Traces.{own, Known}
 use Rattle.hall.specs.Halls.{HallOf}
 use Rattle.desk.specs.Seats.{SeatOf, stepped, seeing}
 use Rattle.desk.specs.Histories.{core_at, IsToldOf, Saw}

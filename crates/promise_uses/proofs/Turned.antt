@@ -19,10 +19,10 @@ use Rattle.sched_rules.specs.Trees.{left as left_of}
 use Rattle.sched_rules.specs.Runs.{alone, only}
 use Rattle.jamboree_rules.specs.Procedure.{jamboree}
 use Rattle.jamboree_rules.specs.Places.{root_words, frame_size}
-use Rattle.shared_history.specs.Views.{Known}
+use Rattle.desk.specs.Traces.{Known}
 use Rattle.hall.specs.Halls.{HallOf}
 use Rattle.desk.specs.Seats.{SeatOf}
-use Rattle.desk.specs.Counts.{found_or_no_tenant}
+use Rattle.desk_rules.specs.Asked.{found_or_no_tenant}
 use Rattle.desk.specs.Histories.{seat_steps, steps_of, AreTaken}
 use Rattle.session.specs.declared.faults.End.{End}
 use Rattle.session.specs.declared.faults.SessionFault.{SessionFault}

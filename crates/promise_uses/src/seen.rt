@@ -16,7 +16,7 @@ ghost use Rattle.sched_rules.specs.Trees.{left as left_of};
 ghost use Rattle.sched_rules.specs.Runs.{alone, only};
 ghost use Rattle.jamboree_rules.specs.Procedure.{jamboree};
 ghost use Rattle.jamboree_rules.specs.Places.{root_words, frame_size};
-ghost use Rattle.shared_history.specs.Views.{Known};
+ghost use Rattle.desk.specs.Traces.{Known};
 ghost use Rattle.hall.specs.Halls.{HallOf};
 ghost use Rattle.desk.specs.Seats.{SeatOf};
 ghost use Rattle.desk.specs.Histories.{seat_steps, steps_of, AreTaken};

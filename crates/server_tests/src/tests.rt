@@ -1,6 +1,7 @@
 ghost use Rattle.std.specs.Prelude.{◌≡◌, true};
 
 mod servers;
+mod sites;
 
 use std::alloc::Global;
 use std::fmt::Display;

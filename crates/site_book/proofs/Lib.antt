@@ -1,3 +1,4 @@
+pub mod ComingLemmas
 mod NameLemmas
 pub mod AmountLemmas
 mod GrantLemmas

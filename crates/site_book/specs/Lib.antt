@@ -1,3 +1,6 @@
+pub mod Rolls
+pub mod Comings
+pub mod RollRows
 pub mod Names
 pub mod Amounts
 pub mod Plans

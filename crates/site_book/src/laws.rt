@@ -1,5 +1,6 @@
-//! What follows for every list of events on a new book. A function here does nothing: its contract is the law.
-ghost use Rattle.std.specs.Prelude.{◌≡◌, ◌+◌, ◌≤◌, ◌↔◌, ℕ, length, List, [], Some, None, Bool, true, IsTrue};
+//! What follows for every list of events on a new book, and of all grants and sessions. A function here does nothing: its contract is the
+//! law.
+ghost use Rattle.std.specs.Prelude.{◌≡◌, ◌+◌, ◌≤◌, ◌↔◌, ℕ, length, List, [], Some, None, Bool, true, IsTrue, ◌≢◌, ◌-◌, ◌<◌, false, Contains};
 ghost use Rattle.tenant_quota.specs.Quota.{Quota};
 ghost use Rattle.site_book.specs.declared.held.Held.{Held};
 ghost use Rattle.site_book.specs.declared.held.Part.{Part};
@@ -13,6 +14,13 @@ ghost use Rattle.site_book.specs.Grants.{used, grant_of, without};
 ghost use Rattle.site_book.specs.Books.{BookOf, Event, new_book, why_over, why_no_raise, why_not_replan};
 ghost use Rattle.site_book.specs.Allowed.{HasBudgetFor, MayGrow};
 ghost use Rattle.site_book.specs.Events.{run, answers, only_events, answers_of, grants_of, still_open, names_of};
+ghost use Rattle.site_book.specs.declared.refusal.Refusal.{Refusal};
+ghost use Rattle.site_book.specs.declared.refusal.Refusal.TheVariants.{OverGuests};
+ghost use Rattle.site_book.specs.declared.coming.Coming.TheVariants.{Enters, Waits, Ends, Refused};
+ghost use Rattle.site_book.specs.declared.present.Leaver.TheVariants.{Told as those_told, Idle as those_idle};
+ghost use Rattle.site_book.specs.declared.present.Present.{Present};
+ghost use Rattle.site_book.specs.Rolls.{goes, is_idle, remaining};
+ghost use Rattle.site_book.specs.Comings.{coming, told_by};
 
 /// A refusal is a customer's own: a session and a raise are granted exactly where the customer's own budget and, of a guest, those
 /// of its wider network and of all guests allow it.
@@ -71,4 +79,37 @@ pub fn all_comes_back()
         names_of (run (new_book plan) events).grants ≡ still_open [] events (answers (new_book plan) events) }
     ensures none { (plan : PlanOf) (events : List Event) → still_open [] events (answers (new_book plan) events) ≡ [] →
         (part : Part) → used part (run (new_book plan) events).grants ≡ nothing }
+{}
+
+/// Who comes enters exactly where the book allows it, whoever is idle.
+pub fn who_has_budget_enters()
+    ensures enters { (plan : PlanOf) (grants : List Held) (roll : List Present) (who : Who) (ask : Quota) (now most : ℕ) →
+        why_over plan who ask grants ≡ None → coming plan grants roll who ask now most ≡ Enters }
+    ensures only { (plan : PlanOf) (grants : List Held) (roll : List Present) (who : Who) (ask : Quota) (now most : ℕ) →
+        coming plan grants roll who ask now most ≡ Enters → why_over plan who ask grants ≡ None }
+{}
+
+/// No session of a named customer goes for another's, and no guest's that isn't idle: one that is to end for one who comes is a guest's,
+/// waits for no job, wasn't told to end before and has said nothing for longer than a guest may.
+pub fn only_idle_guests_go_for_another()
+    ensures { (plan : PlanOf) (grants : List Held) (roll : List Present) (who : Who) (ask : Quota) (now most session : ℕ) (refusal : Refusal) →
+        coming plan grants roll who ask now most ≡ Ends session refusal →
+        (present : Present) × Contains roll present × (present.session ≡ session) × (is_guest present.who ≡ true) × (present.told ≡ None) × (present.waits ≡ false) × (most < now - present.last) }
+{}
+
+/// Who is refused has no room even when those have gone who were told to end; and where that is since all guests together have too
+/// much, not even when all idle guests have gone as well.
+pub fn who_is_refused_has_no_room()
+    ensures now { (plan : PlanOf) (grants : List Held) (roll : List Present) (who : Who) (ask : Quota) (now most : ℕ) (refusal : Refusal) →
+        coming plan grants roll who ask now most ≡ Refused refusal → why_over plan who ask grants ≡ Some refusal }
+    ensures then { (plan : PlanOf) (grants : List Held) (roll : List Present) (who : Who) (ask : Quota) (now most : ℕ) (refusal : Refusal) →
+        coming plan grants roll who ask now most ≡ Refused refusal → why_over plan who ask (remaining those_told grants roll) ≢ None }
+    ensures idle { (plan : PlanOf) (grants : List Held) (roll : List Present) (who : Who) (ask : Quota) (now most : ℕ) →
+        coming plan grants roll who ask now most ≡ Refused OverGuests → why_over plan who ask (remaining (those_idle now most) grants roll) ≢ None }
+{}
+
+/// Another plan of the same hall, whose sums fit, comes in once those have gone who were told to end for it.
+pub fn a_plan_comes_in_once_they_have_gone()
+    ensures { (book : BookOf) (plan : PlanOf) (roll : List Present) → length roll ≡ length book.grants → plan.totals ≡ book.plan.totals → IsTrue (sums_fit plan) →
+        why_not_replan (record book { grants = remaining those_told book.grants (told_by plan [] book.grants roll) }) plan ≡ None }
 {}

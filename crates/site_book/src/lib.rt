@@ -1,4 +1,5 @@
-//! Who may have how many sessions of a hall: the book of a hall's customers, with what each has.
+//! Who may have how many sessions of a hall, and who is there: the book of a hall's customers, with what each has, and the roll of their
+//! sessions.
 //!
 //! A [`Plan`] says what a hall has for all sessions, what each named customer may have at once (sessions, and the segments of 16
 //! words and the nodes that they reserve together), and the same of each guest, of the guests of one wider network and of all
@@ -10,6 +11,13 @@
 //! A call that asks whether an event is refused changes nothing, and a call that takes it can't be refused. So what must happen
 //! together with a grant, as the admission of a tenant, is done between them, and where that fails the book is as it was.
 //!
+//! A [`Roll`] stands for the sessions that are there, in the order in which they came, as the book's grants stand: each with the time of
+//! its last line, whether it waits for a job, and why it was told to end. Whoever ends a session only tells it so ([`Mark::Told`]); its
+//! own thread leaves, and then its grant is given back. [`what_comes_of`] says what comes of one who asks for a session, by the plan, the
+//! grants, the roll and the time alone: it enters, it waits for those who were told to end, a guest that is idle is told to end for it, or
+//! it is refused (`specs/Comings.antt`). [`told_by`] says who has to end for another plan. So no decision stands beside a socket or a
+//! clock.
+//!
 //! The invariant that makes a budget worth something is that the sums of the plan fit what the hall has, and that every part of
 //! the grants is within its budget (`IsKept` of `specs/Keeping.antt`). Then all grants together are within the hall's totals, and
 //! what the book grants the hall has room for ([`laws::the_hall_has_room`]).
@@ -20,11 +28,15 @@
 //!   twice; who has too much, and how much, is told ([`Book::overrun`]), and the plan comes in once that has ended.
 //! - A session's number is the caller's, as the number of its tenant. The book asks nothing of it: the first grant of a customer
 //!   and a number is meant.
-//! - Nothing here knows of time. How often a customer may say something, and who has been idle how long, is kept outside, so
-//!   that no lock is held for it.
-//! - The grants are a list that each call goes through: there are 64 at most.
+//! - The book knows nothing of time, and the roll only what it is told. How often a customer may say something is kept outside, so that no
+//!   lock is held for it.
+//! - A guest is told to end only where its going helps: with all idle guests gone the comer has room. One goes at a time, the
+//!   idlest first, and none while others still are to go.
+//! - Under another plan those stay that it would have let in, in the order in which they came. So the latest go, and of no customer
+//!   that isn't over; and once they have gone, the plan comes in ([`laws::a_plan_comes_in_once_they_have_gone`]).
+//! - Grants and roll are lists that each call goes through: there are 64 at most. A mark makes the roll anew, about 3 KB.
 //!
-//! What is proved of all lists of events is in [`laws`]; [`rows`] tries the definitions.
+//! What is proved of all lists of events and of all rolls is in [`laws`]; [`rows`] and [`roll_rows`] try the definitions.
 //!
 //! ```text
 //! let plan = Plan::new(totals, customers, guest, network, guests)?;       // None where the sums don't fit
@@ -33,6 +45,9 @@
 //! book.open(Who::Named(0), 1, ask);
 //! book.why_not_raise(Who::Named(0), 1, more)                              // Some(OverBudget)
 //! book.why_not_replan(&smaller)                                           // Some(Beyond): the session is beyond it
+//! what_comes_of(&plan, book.grants(), roll.entries(), &comer)             // Coming::Enters
+//! roll.enter(comer.who, 2, comer.at);                                     // and the book opens session 2
+//! roll.mark(Whom::Each(Part::Guests), Mark::Told(Told::ByOperator));
 //! book.close(Who::Named(0), 1);
 //! book.replan(smaller);
 //! ```
@@ -40,16 +55,23 @@
 
 mod amount;
 mod book;
+mod coming;
 mod held;
 pub mod laws;
 mod plan;
+mod present;
 mod refusal;
+mod roll;
+pub mod roll_rows;
 pub mod rows;
 mod who;
 
 pub use amount::Amount;
 pub use book::{Book, why_over};
+pub use coming::{Comer, Coming, told_by, what_comes_of};
 pub use held::{Held, Overrun, Part};
 pub use plan::Plan;
+pub use present::{Leaver, Mark, Present, Told, Whom};
 pub use refusal::Refusal;
+pub use roll::{MOST, Roll, idlest, remaining};
 pub use who::Who;

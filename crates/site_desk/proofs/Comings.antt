@@ -2,11 +2,11 @@
 use Rattle.std.proofs.Common.{◌≡◌, ℕ, ◌∙◌, ap, Err}
 use Rattle.tenant_quota.specs.Quota.{Quota}
 use Rattle.site_book.specs.declared.who.Who.{Who}
-use Rattle.site_roll.specs.declared.coming.Coming.TheVariants.{Enters}
-use Rattle.site_roll.proofs.ComingLemmas.{only_enters}
-use Rattle.booked_hall.specs.declared.turned.Turned.{Turned}
-use Rattle.booked_hall.specs.declared.turned.Turned.TheVariants.{ByBook, OldTenant, OutOfMemory}
-use Rattle.booked_hall.specs.Booked.{BookedOf, IsAdmission}
+use Rattle.site_book.specs.declared.coming.Coming.TheVariants.{Enters}
+use Rattle.site_book.proofs.ComingLemmas.{only_enters}
+use Rattle.site_desk.specs.declared.turned.Turned.{Turned}
+use Rattle.site_desk.specs.declared.turned.Turned.TheVariants.{ByBook, OldTenant, OutOfMemory}
+use Rattle.site_desk.specs.Booked.{BookedOf, IsAdmission}
 use Rattle.site_desk.specs.declared.came.Came.TheVariants.{Turned as turned_away_as}
 use Rattle.site_desk.specs.Sites.{SiteOf, IsCame, met}
 

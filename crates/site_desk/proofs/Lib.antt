@@ -1,3 +1,6 @@
+mod SeatLemmas
+mod HallSteps
+mod Keepings
 pub mod Lists
 pub mod Comings
 pub mod Tasks

@@ -10,15 +10,15 @@ use Rattle.site_book.specs.Grants.{is_held_as, with_ask, without}
 use Rattle.site_book.specs.Books.{BookOf, Opens, Raises, Closes, taken}
 use Rattle.site_book.specs.Events.{Name, names_of}
 use Rattle.site_book.specs.Plans.{PlanOf}
-use Rattle.site_roll.specs.declared.present.Mark.{Mark}
-use Rattle.site_roll.specs.declared.present.Mark.TheVariants.{Spoke, Waits, Told as told_to}
-use Rattle.site_roll.specs.declared.present.Present.{Present}
-use Rattle.site_roll.specs.declared.present.Whom.{Whom}
-use Rattle.site_roll.specs.Rolls.{is_meant, is_present_as, marked, marked_all, marked_if, names_in, newcomer, without_present}
-use Rattle.site_roll.specs.Comings.{stays, told_by, told_unless, with_staying}
-use Rattle.booked_hall.specs.declared.turned.Turned.{Turned}
-use Rattle.booked_hall.specs.declared.turned.Turned.TheVariants.{ByBook, OldTenant, OutOfMemory}
-use Rattle.booked_hall.specs.Booked.{BookedOf, IsRaise}
+use Rattle.site_book.specs.declared.present.Mark.{Mark}
+use Rattle.site_book.specs.declared.present.Mark.TheVariants.{Spoke, Waits, Told as told_to}
+use Rattle.site_book.specs.declared.present.Present.{Present}
+use Rattle.site_book.specs.declared.present.Whom.{Whom}
+use Rattle.site_book.specs.Rolls.{is_meant, is_present_as, marked, marked_all, marked_if, names_in, newcomer, without_present}
+use Rattle.site_book.specs.Comings.{stays, told_by, told_unless, with_staying}
+use Rattle.site_desk.specs.declared.turned.Turned.{Turned}
+use Rattle.site_desk.specs.declared.turned.Turned.TheVariants.{ByBook, OldTenant, OutOfMemory}
+use Rattle.site_desk.specs.Booked.{BookedOf, IsRaise}
 use Rattle.site_desk.specs.Sites.{IsListed}
 
 abbrev name_of : Present → Name

@@ -1,4 +1,5 @@
-pub use Rattle.fair_share.specs as fair_share
+pub mod BookedSeats
+pub mod Booked
 pub mod Seats
 pub mod Sharing
 pub mod Sites

@@ -7,8 +7,8 @@ use Rattle.sched_rules.specs.declared.refusal.Refusal.{Refusal}
 use Rattle.sched_rules.specs.declared.step.StepOf.{StepOf}
 use Rattle.sched_rules.specs.declared.step.DidOf.{DidOf}
 use Rattle.sched_rules.specs.Views.{job_of, named, ready_count}
-use Rattle.booked_hall.specs.Booked.{BookedOf, IsAdmission, IsEnd}
-use Rattle.booked_hall.specs.declared.turned.Turned.TheVariants.{ByBook, OldTenant, OutOfMemory}
+use Rattle.site_desk.specs.Booked.{BookedOf, IsAdmission, IsEnd}
+use Rattle.site_desk.specs.declared.turned.Turned.TheVariants.{ByBook, OldTenant, OutOfMemory}
 use Rattle.desk_rules.specs.hall.Halls.{IsDecided}
 use Rattle.desk_rules.specs.hall.jamboree_rules.declared.leaf.Leaf.{Leaf}
 use Rattle.desk_rules.specs.hall.jamboree_rules.declared.leaf.LeafAnswer.{LeafAnswer}
@@ -19,15 +19,15 @@ use Rattle.site_book.specs.declared.who.Who.{Who}
 use Rattle.site_book.specs.Books.{BookOf, overrun_of}
 use Rattle.site_book.specs.Events.{names_of}
 use Rattle.site_book.specs.Plans.{PlanOf}
-use Rattle.site_roll.specs.declared.coming.Coming.{Coming}
-use Rattle.site_roll.specs.declared.coming.Coming.TheVariants.{Enters, Waits, Ends, Refused}
-use Rattle.site_roll.specs.declared.present.Mark.TheVariants.{Told as told_to}
-use Rattle.site_roll.specs.declared.present.Present.{Present}
-use Rattle.site_roll.specs.declared.present.Told.TheVariants.{ForAnother}
-use Rattle.site_roll.specs.declared.present.Whom.TheVariants.{One}
-use Rattle.site_roll.specs.Comings.{coming}
-use Rattle.site_roll.specs.Rolls.{marked_all, names_in, newcomer, without_present}
-use Rattle.fair_share.specs.Shares.{SharesOf, entered}
+use Rattle.site_book.specs.declared.coming.Coming.{Coming}
+use Rattle.site_book.specs.declared.coming.Coming.TheVariants.{Enters, Waits, Ends, Refused}
+use Rattle.site_book.specs.declared.present.Mark.TheVariants.{Told as told_to}
+use Rattle.site_book.specs.declared.present.Present.{Present}
+use Rattle.site_book.specs.declared.present.Told.TheVariants.{ForAnother}
+use Rattle.site_book.specs.declared.present.Whom.TheVariants.{One}
+use Rattle.site_book.specs.Comings.{coming}
+use Rattle.site_book.specs.Rolls.{marked_all, names_in, newcomer, without_present}
+use Rattle.fair_pool.specs.Shares.{SharesOf, entered}
 use Rattle.fair_pool.specs.Picks.{seen_all, IsFairTask, IsNoTask}
 use Rattle.pool_rules.specs.declared.task.Task.{Task}
 use Rattle.site_desk.specs.Sharing.{share_customer, share_network, unshared}

@@ -1,4 +1,4 @@
-use booked_hall::Turned as TurnedAway;
+use crate::turned::Turned as TurnedAway;
 use site_book::Refusal;
 
 /// What was done where one asked for a session.

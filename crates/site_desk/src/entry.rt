@@ -1,5 +1,5 @@
 use crate::seat::Seat;
-use booked_hall::Turned;
+use crate::turned::Turned;
 use site_book::Refusal;
 
 /// What comes of one who asks for a session.

@@ -6,8 +6,8 @@
 //! [`SiteDesk::hold`]; those of `fair_pool` by [`SiteDesk::work`], and they ask it for a fair pick among those who have a seat
 //! ([`SiteDesk::pick`]). An operator reads who is there, tells sessions to end, and brings in another plan.
 //!
-//! What lies under the lock (`LockedSite`) is a hall with its book, of which the grants are the tenants (`booked_hall`), the roll, and
-//! the shares of those who have a seat (`fair_share`: a guest's network is its first 64 bits, `specs/Sharing.antt`); its invariant is
+//! What lies under the lock (`LockedSite`) is a hall with its book, of which the grants are the tenants ([`BookedHall`]), the roll, and
+//! the shares of those who have a seat (`FairShare`: a guest's network is its first 64 bits, `specs/Sharing.antt`); its invariant is
 //! that those listed are those who have a grant, in the same order (`IsListed`). The contract of a call that locks can't say what the
 //! call did there: the contract of the method of the same name does (`specs/Sites.antt`), and that the call calls that method is read.
 //!
@@ -30,15 +30,21 @@
 //! ```
 #![tactic(auto)]
 
+mod booked;
 mod came;
 mod entry;
 mod guard;
 mod locked_site;
+pub mod rows;
 mod seat;
 mod sharing;
 mod site_desk;
+mod steps;
+mod turned;
 
+pub use booked::BookedHall;
 pub use entry::Entry;
 pub use guard::SiteGuard;
 pub use seat::Seat;
 pub use site_desk::SiteDesk;
+pub use turned::Turned;

@@ -4,7 +4,7 @@ ghost use Rattle.sched_rules.specs.declared.refusal.Refusal.TheVariants.{NoJob, 
 ghost use Rattle.sched_rules.specs.declared.step.StepOf.TheVariants.{Submit, Cancel};
 ghost use Rattle.sched_rules.specs.declared.step.DidOf.{DidOf};
 ghost use Rattle.sched_rules.specs.Views.{left_in_core, live_of, job_of};
-ghost use Rattle.booked_hall.specs.Booked.{IsRaise, is_within_seat};
+ghost use Rattle.site_desk.specs.Booked.{IsRaise, is_within_seat};
 ghost use Rattle.desk_rules.specs.hall.Halls.{count_of};
 ghost use Rattle.desk_rules.specs.hall.Journals.{is_worker_step};
 ghost use Rattle.desk_rules.specs.hall.jamboree_rules.declared.leaf.Leaf.{Leaf as LeafOf};
@@ -14,27 +14,29 @@ ghost use Rattle.desk_rules.specs.jamboree_core.declared.outcomes.Outcome.{Outco
 ghost use Rattle.desk_rules.specs.jamboree_core.Outcomes.{IsOutcomeIn};
 ghost use Rattle.desk_rules.specs.Asked.{ask_refusals, cancel_refusals, seat_asked_at, IsShown, IsToldBy, found_or_no_tenant};
 ghost use Rattle.site_book.specs.Books.{taken, why_not_replan, Replans};
-ghost use Rattle.site_roll.specs.Comings.{told_by};
-ghost use Rattle.site_roll.specs.declared.coming.Coming.TheVariants.{Enters};
-ghost use Rattle.site_roll.specs.Rolls.{marked_all};
-ghost use Rattle.fair_share.specs.Lines.{empty_line};
+ghost use Rattle.site_book.specs.Comings.{told_by};
+ghost use Rattle.site_book.specs.declared.coming.Coming.TheVariants.{Enters};
+ghost use Rattle.site_book.specs.Rolls.{marked_all};
+ghost use Rattle.fair_pool.specs.Lines.{empty_line};
 ghost use Rattle.fair_pool.specs.Picks.{charged_to};
 ghost use Rattle.site_desk.specs.Seats.{IsAsked};
 ghost use Rattle.site_desk.specs.Sites.{IsCame, IsGone, IsOffered, IsNext, IsAnyTask, IsNextTask, IsPicked, has_news, met, overruns_of, stays_in, waits_on};
 
+use crate::booked::BookedHall;
 use crate::came::Came;
 use crate::seat::Seat;
 use crate::sharing::{share, unshare};
+use crate::turned::Turned;
 use arrayvec::ArrayVec;
-use booked_hall::{BookedHall, Turned};
 use desk_rules::{JOBS, SeatAsked, seat_asked_at, shown};
-use fair_pool::{charge, fair_task};
-use fair_share::FairShare;
+use fair_pool::{FairShare, charge, fair_task};
 use frame_tree::FrameId;
 use hall::{Jamboree, Outcome, Refusal, Step, StepAnswer, StepOf, submit};
 use position_text::Position;
-use site_book::{Book, Overrun, Plan, Refusal as BookRefusal, Who};
-use site_roll::{Comer, Coming, MOST, Mark, Present, Roll, Told, Whom, what_comes_of};
+use site_book::{
+    Book, Comer, Coming, MOST, Mark, Overrun, Plan, Present, Refusal as BookRefusal, Roll, Told,
+    Who, Whom, what_comes_of,
+};
 use std::alloc::{Allocator, Global};
 use std::marker::Model;
 use task_deques::pool_rules::Task;

@@ -1,30 +1,31 @@
 //! The desk.
 ghost use Rattle.std.specs.Prelude.{◌≡◌, ◌≢◌, ◌≤◌, [], true, Err, None, Contains, IfErr};
 ghost use Rattle.sched_rules.specs.declared.refusal.Refusal.TheVariants.{NoJob, NoTenant, OutOfMemory};
-ghost use Rattle.booked_hall.specs.declared.turned.Turned.TheVariants.{OldTenant as NumbersOut};
+ghost use Rattle.site_desk.specs.declared.turned.Turned.TheVariants.{OldTenant as NumbersOut};
 ghost use Rattle.desk_rules.specs.hall.Journals.{is_worker_step};
 ghost use Rattle.desk_rules.specs.Asked.{ask_refusals, cancel_refusals, seat_asked_at, IsShown};
-ghost use Rattle.fair_share.specs.Lines.{empty_line};
+ghost use Rattle.fair_pool.specs.Lines.{empty_line};
 ghost use Rattle.task_deques.specs.Deals.{posts};
 ghost use Rattle.site_desk.specs.Entries.{IsEntry};
 ghost use Rattle.site_desk.specs.Seats.{IsAsked};
 
+use crate::booked::BookedHall;
 use crate::came::Came;
 use crate::entry::Entry;
 use crate::guard::SiteGuard;
 use crate::locked_site::LockedSite;
 use crate::seat::Seat;
+use crate::turned::Turned;
 use arrayvec::ArrayVec;
-use booked_hall::{BookedHall, Turned};
 use desk_rules::Backoff;
-use fair_pool::{Hands, steps};
-use fair_share::FairShare;
+use fair_pool::{FairShare, Hands, steps};
 use frame_tree::FrameId;
 use hall::{Jamboree, Outcome, Refusal, Step, StepAnswer};
 use position_text::Position;
 use sched_rules::Worker;
-use site_book::{Amount, Overrun, Part, Plan, Refusal as BookRefusal};
-use site_roll::{Comer, MOST, Mark, Present, Told, Whom};
+use site_book::{
+    Amount, Comer, MOST, Mark, Overrun, Part, Plan, Present, Refusal as BookRefusal, Told, Whom,
+};
 use std::alloc::{Allocator, Global};
 use std::hint::spin_loop;
 use std::sync::atomic::AtomicU64;

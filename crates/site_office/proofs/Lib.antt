@@ -1,2 +1,5 @@
+mod TokenLemmas
+mod ChainLemmas
+mod ClerkLemmas
 pub mod SeatLemmas
 pub mod Entries

@@ -1,2 +1,6 @@
+pub mod Tokens
+pub mod Lines
+pub mod Turns
+pub mod Views
 pub mod Offices
 pub mod Refusing

@@ -1,7 +1,7 @@
 -- Meaning: how HELLO and RESERVE are refused, by why the desk turned away.
 use Rattle.std.specs.Prelude.{List, [], ◌∷◌}
-use Rattle.booked_hall.specs.declared.turned.Turned.{Turned}
-use Rattle.booked_hall.specs.declared.turned.Turned.TheVariants.{ByBook, OldTenant, OutOfMemory}
+use Rattle.site_desk.specs.declared.turned.Turned.{Turned}
+use Rattle.site_desk.specs.declared.turned.Turned.TheVariants.{ByBook, OldTenant, OutOfMemory}
 use Rattle.sched_rules.specs.declared.refusal.Refusal.{Refusal}
 use Rattle.sched_rules.specs.declared.refusal.Refusal.TheVariants.{Full, NoTenant, Lower, OldTenant as no_number, OutOfMemory as no_memory}
 use Rattle.site_book.specs.declared.refusal.Refusal.TheVariants.{OverBudget, OverNetwork, OverGuests, Gone, Lower as lower, Unfit, Beyond}

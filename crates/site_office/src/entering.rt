@@ -3,9 +3,9 @@ ghost use Rattle.std.specs.Prelude.{◌≡◌};
 ghost use Rattle.site_office.specs.Refusing.{comer_refusal, raise_refusal};
 
 use crate::house::Cause;
-use booked_hall::Turned;
 use hall::Refusal;
 use site_book::Refusal as BookRefusal;
+use site_desk::Turned;
 
 /// How HELLO is refused.
 pub(crate) fn comer_refusal(turned: Turned) -> Refusal

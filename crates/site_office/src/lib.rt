@@ -1,33 +1,65 @@
-//! The office of one connection at a site's desk, and sessions over it.
+//! The office of one connection at a site's desk, the lines of its sessions, and sessions over it.
 //!
-//! A [`SiteOffice`] is what a clerk asks for a connection (`session::Office` and `site_lines::Reception`). It has the desk by reference, the
+//! A site's session is one of `session`, whose lines have three things more (`specs/Lines.antt`). HELLO may bear a token as its third word
+//! after HELLO, which says whose session it is to be. INFO tells the customer what it may have and has. And lines that ask for a
+//! reservation are paid for by a rate. [`take_site_turn`] answers one line: who says HELLO, the rate and INFO are asked of a [`Reception`],
+//! all else of the session's office, by the session's own code. So a line is read once, by one grammar.
+//!
+//! A [`SiteOffice`] is what a [`Clerk`] asks for a connection (`session::Office` and [`Reception`]). It has the desk by reference, the
 //! seat of its session once HELLO was welcomed, whose the next session is to be, and a [`House`]: the clock, the keys, the rates, and who
 //! can shut another's connection. Whoever is told that there is room once others have left waits for one of them, 2 seconds at most.
 //!
-//! What it stands for is the list of what its tenant asked for (`asks_of` of `specs/Offices.antt`), as at any desk: each call keeps that
-//! list (`KeepsAsks`), so a job is shown as done only with the minimax value, the best choice and a table of what stands under its number.
-//! Its invariant is that the seat is that of the customer who was greeted.
+//! What stands for what: a [`Reception`] is a state with relations of its own, as an `Office` is; what comes of a line is `SiteTurned` of
+//! `specs/Turns.antt`. A [`Clerk`] is an office with its reception, whether its tenant is there, and the last answer. A [`SiteOffice`] is the
+//! list of what its tenant asked for (`asks_of` of `specs/Offices.antt`), as at any desk: each call keeps that list (`KeepsAsks`), so a job
+//! is shown as done only with the minimax value, the best choice and a table of what stands under its number. Its invariant is that the
+//! seat is that of the customer who was greeted.
 //!
 //! [`serve_connection`] serves a session of bytes in and bytes out. Nothing in it knows a socket, so rows and tests play whole sessions
 //! with a clock that they give.
 //!
+//! | `ERR` | where |
+//! |---|---|
+//! | 14 | the budget, or the customer's connections, have no room |
+//! | 28 | INFO before HELLO |
+//! | 30 | nobody has the token |
+//! | 31 | too many lines that ask for a reservation came in a time |
+//!
 //! Why it is so:
 //!
-//! - Who came by a token that nobody has is whoever the connection is again.
+//! - Who says HELLO is said before it is paid for: so who comes from a busy address but has a token pays for itself. One whose token
+//!   nobody has pays as whoever the connection is, and is that again.
+//! - HELLO with a token is HELLO: again, it is fault 29, with no number, 23.
 //! - That a session said something is noted at most once a second, since each note takes the desk's lock.
 //!
 //! ```text
+//! HELLO 4 8 secret      WELCOME 4 8
+//! INFO                  INFO 4 16384 1048576 4 8 1.0.0
+//!
 //! let mut office = SiteOffice::new(rt, &desk, house, own, 4);
 //! serve_connection(rt, &mut source, &mut sink, &mut office)?;
 //! ```
 #![tactic(auto)]
 
+mod clerk;
 mod entering;
 mod house;
+mod laws;
 mod office;
 mod outcomes;
+mod reception;
+mod requests;
+pub mod rows;
 mod serving;
+mod tokens;
+mod turns;
 
+pub use clerk::{Clerk, serve_site};
 pub use house::{Cause, House, Met, Note};
+pub use laws::nobody_stays;
 pub use office::SiteOffice;
+pub use reception::{Greeted, Info, Reception};
+pub use requests::{SiteRequest, read_site_request};
 pub use serving::serve_connection;
+pub use tokens::{token_of, without_token};
+pub use turns::take_site_turn;

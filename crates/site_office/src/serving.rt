@@ -1,10 +1,11 @@
 //! A session of bytes in and bytes out.
 ghost use Rattle.std.specs.Prelude.{◌≡◌, None};
 
+use crate::clerk::serve_site;
 use crate::house::House;
+use crate::laws::nobody_stays;
 use crate::office::SiteOffice;
 use line_io::{LineFault, Sink, Source, TalkEnd};
-use site_lines::{nobody_stays, serve_site};
 use std::alloc::Allocator;
 use std::sync::Wait;
 use std::time::Clock;

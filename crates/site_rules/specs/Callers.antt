@@ -1,15 +1,15 @@
 -- Meaning: whose a connection is by its first bytes.
 use Rattle.std.specs.Prelude.{◌≡◌, ℕ, List, Option, Some, None, Result, Ok, Err, take, drop}
 use Rattle.std.specs.Int.{w32, w64, from_be_bytes}
-use Rattle.proxy_header.specs.declared.faults.HeaderFault.{HeaderFault}
-use Rattle.proxy_header.specs.declared.headers.Origin.{Origin}
-use Rattle.proxy_header.specs.declared.headers.Origin.TheVariants.{Local, V4 as told_v4, V6 as told_v6}
-use Rattle.proxy_header.specs.Fields.{field_of}
-use Rattle.proxy_header.specs.Headers.{HeaderOf}
-use Rattle.proxy_header.specs.Texts.{IsReading}
-use Rattle.site_directory.specs.Addresses.{v6_of}
-use Rattle.site_directory.specs.declared.address.Address.{Address}
-use Rattle.site_directory.specs.declared.address.Address.TheVariants.{V4}
+use Rattle.site_rules.specs.declared.faults.HeaderFault.{HeaderFault}
+use Rattle.site_rules.specs.declared.headers.Origin.{Origin}
+use Rattle.site_rules.specs.declared.headers.Origin.TheVariants.{Local, V4 as told_v4, V6 as told_v6}
+use Rattle.site_rules.specs.Fields.{field_of}
+use Rattle.site_rules.specs.Headers.{HeaderOf}
+use Rattle.site_rules.specs.Texts.{IsReading}
+use Rattle.site_file.specs.Addresses.{v6_of}
+use Rattle.site_file.specs.declared.address.Address.{Address}
+use Rattle.site_file.specs.declared.address.Address.TheVariants.{V4}
 use Rattle.site_rules.specs.declared.callers.Port.{Port}
 use Rattle.site_rules.specs.declared.callers.Port.TheVariants.{Proxied, Plain}
 

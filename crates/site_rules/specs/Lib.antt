@@ -1,3 +1,7 @@
+pub mod Headers
+pub mod Texts
+pub mod Fields
+pub mod HeaderViews
 pub mod Arrivals
 pub mod Paces
 pub mod Watches

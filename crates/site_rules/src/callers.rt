@@ -1,11 +1,13 @@
 //! Whose a connection is, by its first bytes.
 ghost use Rattle.std.specs.Prelude.{◌≡◌};
-ghost use Rattle.proxy_header.specs.Views.{read_seen};
+ghost use Rattle.site_rules.specs.HeaderViews.{read_seen};
 ghost use Rattle.site_rules.specs.Callers.{address_of, caller_by, IsIdentified};
 ghost use Rattle.site_rules.specs.Views.{caller_seen};
 
-use proxy_header::{Header, HeaderFault, Origin, field_of, read_header};
-use site_directory::Address;
+use crate::faults::HeaderFault;
+use crate::fields::field_of;
+use crate::headers::{Header, Origin, read_header};
+use site_file::Address;
 
 /// The field in which HAProxy hands on a certificate's name.
 const NAME_FIELD: u8 = 5;

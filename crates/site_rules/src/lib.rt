@@ -1,8 +1,9 @@
 //! What a site decides beside its books: whose a connection is, whether it is taken, until when it may be silent, when its client is gone,
 //! and what its operator asks. Pure values: whoever has the sockets and the clock asks here.
 //!
-//! - [`identify`]: whose a connection is by its first bytes, at a proxy's port by the header (`proxy_header`), which must be understood, and
+//! - [`identify`]: whose a connection is by its first bytes, at a proxy's port by the header ([`read_header`]), which must be understood, and
 //!   else by its own address.
+//! - [`read_header`]: what a proxy says in front of a connection's own bytes of where the connection comes from.
 //! - [`arrival_of`]: whether a connection counts as its customer's, is heard for its first line though its customer has too many, or is closed.
 //! - [`Pace`]: until when a connection may be silent. [`Watch`]: when a client that can't be seen to speak is gone.
 //! - [`read_command`]: what a line of the operator asks.
@@ -20,12 +21,19 @@
 mod arrivals;
 mod callers;
 mod commands;
+mod faults;
+mod fields;
+mod headers;
 mod paces;
 pub mod rows;
+mod texts;
 mod watches;
 
 pub use arrivals::{Arrival, Crowd, arrival_of};
 pub use callers::{Caller, Port, identify};
 pub use commands::{Command, Whose, read_command};
+pub use faults::HeaderFault;
+pub use fields::field_of;
+pub use headers::{Header, Origin, read_header};
 pub use paces::{Pace, Times};
 pub use watches::{Seen, Watch};

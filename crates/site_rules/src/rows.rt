@@ -1,10 +1,15 @@
 //! The definitions, tried on instances: each contract is computed from the definitions alone.
-ghost use Rattle.std.specs.Prelude.{◌≡◌, true, false, Some, None};
+ghost use Rattle.std.specs.Prelude.{◌≡◌, true, false, Some, None, [], ◌∷◌, ◌++◌, replicate, take, codes, Ok, Err};
 ghost use Rattle.site_rules.specs.Arrivals.{arrival};
 ghost use Rattle.site_rules.specs.Paces.{left};
 ghost use Rattle.site_rules.specs.Watches.{after, is_gone};
 ghost use Rattle.site_rules.specs.declared.arrivals.Arrival.TheVariants.{Counted, Heard, Closed};
 ghost use Rattle.site_rules.specs.declared.watches.Seen.TheVariants.{Silent, Ended, Lost};
+ghost use Rattle.site_rules.specs.Fields.{field_of};
+ghost use Rattle.site_rules.specs.Headers.{signature, local_header, reading};
+ghost use Rattle.site_rules.specs.Texts.{Told, Unknown, text_reading, IsReading};
+ghost use Rattle.site_rules.specs.declared.faults.HeaderFault.TheVariants.{NoHeader, Version, Command, LongHeader, Family, ShortAddress, WrongText};
+ghost use Rattle.site_rules.specs.declared.headers.Origin.TheVariants.{Local, V4, V6};
 
 /// Connections at the edges.
 pub fn connections_are_taken()
@@ -31,4 +36,61 @@ pub fn clients_are_gone()
     ensures then { is_gone (record { since = Some 7 }) Ended 60007 60000 ≡ true }
     ensures lost { is_gone (record { since = Some 7 }) Lost 7 60000 ≡ true }
     ensures silent { is_gone (record { since = Some 7 }) Silent 99999 60000 ≡ false }
+{}
+
+/// Headers that are whole, and how many bytes they have: the `H` of a HELLO behind the first isn't one of them.
+pub fn headers_are_read()
+    ensures over_ipv4 { reading (signature ++ 33 ∷ 17 ∷ 0 ∷ 12 ∷ 10 ∷ 0 ∷ 0 ∷ 1 ∷ 127 ∷ 0 ∷ 0 ∷ 2 ∷ 195 ∷ 80 ∷ 18 ∷ 92 ∷ 72 ∷ [])
+        ≡ Ok (Some (record { origin = V4 (10 ∷ 0 ∷ 0 ∷ 1 ∷ []) 50000; fields = []; used = 28 })) }
+    ensures over_ipv6 { reading (signature ++ 33 ∷ 33 ∷ 0 ∷ 40 ∷ 32 ∷ 1 ∷ replicate 13 0 ++ 7 ∷ replicate 16 9 ++ 0 ∷ 80 ∷ 0 ∷ 81 ∷ 5 ∷ 0 ∷ 1 ∷ 97 ∷ [])
+        ≡ Ok (Some (record { origin = V6 (32 ∷ 1 ∷ replicate 13 0 ++ 7 ∷ []) 80; fields = 5 ∷ 0 ∷ 1 ∷ 97 ∷ []; used = 56 })) }
+    ensures local { reading (signature ++ 32 ∷ 0 ∷ 0 ∷ 0 ∷ []) ≡ Ok (Some (local_header 0)) }
+    ensures local_of_a_family { reading (signature ++ 32 ∷ 17 ∷ 0 ∷ 1 ∷ 0 ∷ []) ≡ Ok (Some (local_header 1)) }
+    ensures unknown { reading (signature ++ 33 ∷ 0 ∷ 0 ∷ 2 ∷ 1 ∷ 1 ∷ []) ≡ Ok (Some (local_header 2)) }
+{}
+
+/// Beginnings of headers.
+pub fn headers_may_come()
+    ensures none { reading [] ≡ Ok None }
+    ensures some { reading (take 5 signature) ≡ Ok None }
+    ensures signed { reading (signature ++ 17 ∷ []) ≡ Ok None }
+    ensures unfinished { reading (signature ++ 33 ∷ 17 ∷ 0 ∷ 12 ∷ replicate 11 0) ≡ Ok None }
+{}
+
+/// Bytes that are no header.
+pub fn faults_are_found()
+    ensures hello { reading (codes "HELLO 64 4096") ≡ Err NoHeader }
+    ensures one_letter { reading (codes "B") ≡ Err NoHeader }
+    ensures another_byte { reading (take 11 signature ++ 11 ∷ []) ≡ Err NoHeader }
+    ensures version_1 { reading (signature ++ 17 ∷ 17 ∷ 0 ∷ 12 ∷ []) ≡ Err Version }
+    ensures command_2 { reading (signature ++ 34 ∷ 17 ∷ 0 ∷ 12 ∷ []) ≡ Err Command }
+    ensures long { reading (signature ++ 33 ∷ 17 ∷ 15 ∷ 241 ∷ []) ≡ Err LongHeader }
+    ensures udp { reading (signature ++ 33 ∷ 18 ∷ 0 ∷ 0 ∷ []) ≡ Err Family }
+    ensures short { reading (signature ++ 33 ∷ 17 ∷ 0 ∷ 11 ∷ replicate 11 0) ≡ Err ShortAddress }
+    ensures short_of_ipv6 { reading (signature ++ 33 ∷ 33 ∷ 0 ∷ 35 ∷ replicate 35 0) ≡ Err ShortAddress }
+{}
+
+/// A field is found behind others, and not where its value is cut short.
+pub fn fields_are_found()
+    ensures second { field_of 5 (4 ∷ 0 ∷ 0 ∷ 5 ∷ 0 ∷ 2 ∷ 97 ∷ 98 ∷ []) ≡ Some (97 ∷ 98 ∷ []) }
+    ensures empty { field_of 4 (4 ∷ 0 ∷ 0 ∷ 5 ∷ 0 ∷ 2 ∷ 97 ∷ 98 ∷ []) ≡ Some [] }
+    ensures none { field_of 6 (4 ∷ 0 ∷ 0 ∷ 5 ∷ 0 ∷ 2 ∷ 97 ∷ 98 ∷ []) ≡ None }
+    ensures cut_short { field_of 5 (5 ∷ 0 ∷ 3 ∷ 97 ∷ 98 ∷ []) ≡ None }
+    ensures no_size { field_of 5 (5 ∷ 0 ∷ []) ≡ None }
+{}
+
+/// Headers of version 1.
+pub fn texts_are_read()
+    ensures over_ipv4 { text_reading (codes "PROXY TCP4 10.0.0.1 127.0.0.2 50000 4700" ++ 13 ∷ 10 ∷ 72 ∷ []) ≡ Told true (codes "10.0.0.1") (codes "127.0.0.2") 50000 42 }
+    ensures over_ipv6 { text_reading (codes "PROXY TCP6 ::1 ::1 1 2" ++ 13 ∷ 10 ∷ []) ≡ Told false (codes "::1") (codes "::1") 1 24 }
+    ensures unknown { IsReading (codes "PROXY UNKNOWN" ++ 13 ∷ 10 ∷ []) (Ok (Some (record { origin = Local; fields = []; used = 15 }))) }
+    ensures unknown_address { text_reading (codes "PROXY UNKNOWN x y" ++ 13 ∷ 10 ∷ []) ≡ Unknown 19 }
+    ensures some { IsReading (codes "PRO") (Ok None) }
+    ensures no_end { IsReading (codes "PROXY TCP4 10.0.0.1") (Ok None) }
+    ensures ping { IsReading (codes "PING") (Err NoHeader) }
+    ensures no_return { IsReading (codes "PROXY UNKNOWN" ++ 10 ∷ []) (Err WrongText) }
+    ensures one_port { IsReading (codes "PROXY TCP4 10.0.0.1 127.0.0.2 50000" ++ 13 ∷ 10 ∷ []) (Err WrongText) }
+    ensures greater_port { IsReading (codes "PROXY TCP4 10.0.0.1 127.0.0.2 65536 1" ++ 13 ∷ 10 ∷ []) (Err WrongText) }
+    ensures long { IsReading (codes "PROXY " ++ replicate 101 65) (Err WrongText) }
+    ensures version_2 { IsReading (take 5 signature) (Ok None) }
 {}

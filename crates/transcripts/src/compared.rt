@@ -1,7 +1,8 @@
 //! Lines that are due beside lines that came.
+use crate::scenes::Row;
+use crate::tally::{Place, Tally};
 use std::alloc::AllocError;
 use std::str::from_utf8;
-use text_rows::{Place, Row, Tally};
 
 /// Compares what was written line by line with the lines that are due. Lines beyond those, and bytes that no LF ends, are
 /// rows that disagree; they stand at `line`.

@@ -7,15 +7,15 @@
 //! Rows that begin with `?` ask for what was read last: `? config` for its numbers, `? halls` for the plans, `? who TOKEN CERTIFICATE
 //! ADDRESS` (`-` where there is none) for whose a connection is.
 use crate::file_lines::{FileLines, has_row, push_line};
+use crate::scenes::{Row, Scene};
+use crate::tally::Tally;
 use crate::turns::{Player, play_turns};
-use crate::words::{first_word, rest_of, tell};
+use crate::words::{Words, first_word, rest_of, tell};
 use site_book::{Amount, Part, Plan, Who};
-use site_config::{Config, FileFault, Limits, read_config, read_config_again};
-use site_directory::{Address, Terms};
+use site_file::{Address, Config, FileFault, Limits, Terms, read_config, read_config_again};
 use std::alloc::{AllocError, Global};
 use std::fmt::Write;
 use std::net::{IpAddr, SocketAddr};
-use text_rows::{Row, Scene, Tally, Words};
 
 /// Plays a scene of a file.
 pub(crate) fn play_config(

@@ -6,13 +6,16 @@ ghost use Rattle.std.specs.Prelude.{◌≡◌, ◌≤◌};
 
 use crate::crew::Crew;
 use crate::guests::House;
+use crate::playing::read_totals;
+use crate::scenes::{Row, Scene};
 use crate::sessions::Stage;
+use crate::tally::{Place, Tally};
+use crate::words::option;
 use desk::{Config, Desk, DeskLedger, Hall, Jamboree, Opened, PARTS, Step, Worker};
 use std::alloc::{AllocError, Allocator, Global};
 use std::marker::Brand;
 use std::sync::Wait;
 use std::sync::ledger::Blank;
-use text_rows::{Place, Row, Scene, Tally, option, read_totals};
 use toys::Counted;
 
 /// What a head asks for.

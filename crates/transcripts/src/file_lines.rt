@@ -1,7 +1,7 @@
 //! The lines of a file in a scene, and what rows change in it.
-use crate::words::{first_word, rest_of};
+use crate::scenes::Row;
+use crate::words::{first_word, number, rest_of};
 use std::alloc::{AllocError, Global};
-use text_rows::{Row, number};
 
 /// The lines of a file.
 #[derive(Drop)]

@@ -1,13 +1,15 @@
 //! The files of the folder that the program runs in.
 use crate::configs::play_config;
 use crate::desks::play_sessions;
+use crate::playing::play_steps;
+use crate::scenes::{Scene, read_scenes};
 use crate::solving::play_solve;
+use crate::tally::{Place, Tally};
 use std::alloc::{AllocError, Global};
 use std::process::ExitCode;
 use std::rt::Files;
 use std::sync::Wait;
 use std::{fs, io};
-use text_rows::{Place, Scene, Tally, play_steps, read_scenes};
 
 /// The names of all files here, by rising name.
 fn names<R: Files + AllocGlobal + Clone + Drop>(rt: &R) -> io::Result<Vec<String>> {

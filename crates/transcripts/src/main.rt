@@ -6,7 +6,7 @@
 //!
 //! - `NAME.solve` (`solving`): the lines of `othello solve`, at each grain that the head names, or by `--visited`;
 //! - `NAME.session` (`sessions`): sessions at a desk, whose jobs one worker runs (`crew`) at each WAIT;
-//! - `NAME.steps` (`text_rows`): steps of a core, and looks at its state;
+//! - `NAME.steps` (`playing`): steps of a core, its answers, and looks at its state in between;
 //! - `NAME.rows` (`configs`): a file of `othello_site`: what it is read to, or refused for, and whose a connection is.
 //!
 //! A session or a solve is what a client would meet but for the sockets and the threads: lines go through `solve_bytes`,
@@ -22,22 +22,36 @@
 //! ```
 #![tactic(auto)]
 
+mod answered;
 mod compared;
 mod configs;
 mod crew;
 mod desks;
+mod escapes;
 mod file_lines;
 mod files;
 mod guests;
+mod looks;
 mod pieces;
+mod plain_core;
+mod playing;
+mod procedures;
+mod reader;
+pub mod reader_rows;
+mod reading;
+mod scenes;
 mod sessions;
 mod solving;
+mod stage;
+mod talk_line;
+mod tally;
 mod turns;
+mod values;
 mod words;
 
+use crate::tally::Tally;
 use std::io;
 use std::process::ExitCode;
-use text_rows::Tally;
 
 fn main(rt: HostRuntime) -> io::Result<ExitCode> {
     let mut tally = Tally::new(rt.alloc());

@@ -6,12 +6,16 @@
 ghost use Rattle.std.specs.Prelude.{◌≡◌, ◌≤◌, length};
 
 use crate::compared::compare_lines;
+use crate::escapes::{Ending, push_line};
 use crate::guests::{GOES_ON, Guest, House, WENT_ON};
 use crate::pieces::Pieces;
+use crate::scenes::Row;
+use crate::talk_line::{TalkLine, read_talk_line};
+use crate::tally::{Place, Tally};
+use crate::words::option;
 use desk::{Desk, DeskLedger};
 use std::alloc::{AllocError, Allocator, Global};
 use std::sync::Wait;
-use text_rows::{Ending, Place, Row, TalkLine, Tally, option, push_line, read_talk_line};
 
 /// A desk with its worker, and the sessions at it so far.
 pub struct Stage<'t, 'a, L: DeskLedger, R: Wait, A: Allocator + Clone> {

@@ -5,13 +5,14 @@
 ghost use Rattle.std.specs.Prelude.{◌≤◌, IfSome};
 
 use crate::compared::compare_lines;
+use crate::escapes::{Ending, push_line};
+use crate::scenes::{Row, Scene};
+use crate::talk_line::{TalkLine, read_talk_line};
+use crate::tally::{Place, Tally};
+use crate::words::{has_word, next_number, options};
 use line_io::{FromReader, FromWriter};
 use solve_engine::{solve_bytes, solve_visited};
 use std::alloc::{AllocError, Global};
-use text_rows::{
-    Ending, Place, Row, Scene, TalkLine, Tally, has_word, next_number, options, push_line,
-    read_talk_line,
-};
 
 /// What a scene sends, and what is due.
 #[derive(Drop)]

@@ -1,6 +1,8 @@
 //! Rows as turns: what is put in, and the lines that are due then.
+use crate::scenes::Row;
+use crate::talk_line::{TalkLine, read_talk_line};
+use crate::tally::{Place, Tally};
 use std::alloc::{AllocError, Global};
-use text_rows::{Place, Row, TalkLine, Tally, read_talk_line};
 
 /// What answers the rows of a scene.
 pub trait Player {

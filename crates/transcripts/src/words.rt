@@ -1,7 +1,124 @@
-//! Words of rows, and lines of words.
+//! Words and numbers of a line, words of rows, and lines of words.
 use std::alloc::AllocError;
 use std::fmt::Write;
-use text_rows::Words;
+
+/// The number that a word stands for: decimal digits, or `0o` and octal ones.
+pub fn number(word: &str) -> Option<u64> {
+    match word.strip_prefix("0o") {
+        Some(octal) => u64::from_str_radix(octal, 8).ok(),
+        None => word.parse::<u64>().ok(),
+    }
+}
+
+/// Whether a word stands in a line.
+pub fn has_word(line: &str, word: &str) -> bool {
+    for one in line.split_whitespace() {
+        if one == word {
+            return true;
+        }
+    }
+    false
+}
+
+/// What stands behind a word of a line.
+fn behind<'t>(line: &'t str, word: &str) -> &'t str {
+    let mut rest = line;
+    for _ in 0..line.len() {
+        match rest.split_once(' ') {
+            Some((first, others)) if first == word => return others,
+            Some((_, others)) => rest = others,
+            None => return "",
+        }
+    }
+    ""
+}
+
+/// The number behind a word of a line; None where there is none.
+pub fn option(line: &str, word: &str) -> Option<u64> {
+    let (first, _others) = next_number(behind(line, word))?;
+    Some(first)
+}
+
+/// The same of a number of 32 bits.
+pub fn small_option(line: &str, word: &str) -> Option<u32> {
+    u32::try_from(option(line, word)?).ok()
+}
+
+/// The numbers that stand right behind a word of a line, as a text.
+pub fn options<'t>(line: &'t str, word: &str) -> &'t str {
+    behind(line, word)
+}
+
+/// The number that a text begins with, and what follows after one space; None where it begins with none.
+pub fn next_number(text: &str) -> Option<(u64, &str)> {
+    let (first, others) = match text.split_once(' ') {
+        Some(parts) => parts,
+        None => (text, ""),
+    };
+    Some((number(first)?, others))
+}
+
+/// The words of a line that are not read yet. Words are parted by single spaces.
+#[derive(Clone, Copy, Debug)]
+pub struct Words<'t> {
+    rest: &'t str,
+}
+
+impl<'t> Words<'t> {
+    /// All words of a line.
+    pub fn of(line: &'t str) -> Words<'t> {
+        Words { rest: line }
+    }
+
+    /// Whether all words were read.
+    pub fn is_empty(&self) -> bool {
+        self.rest.is_empty()
+    }
+
+    /// Reads the next word; None where all were read.
+    pub fn word(&mut self) -> Option<&'t str> {
+        let rest = self.rest;
+        if rest.is_empty() {
+            return None;
+        }
+        match rest.split_once(' ') {
+            Some((word, others)) => {
+                self.rest = others;
+                Some(word)
+            }
+            None => {
+                self.rest = "";
+                Some(rest)
+            }
+        }
+    }
+
+    /// Reads the next word as a number (`number`); None where it is none.
+    pub fn number(&mut self) -> Option<u64> {
+        number(self.word()?)
+    }
+
+    /// The same of a number of 32 bits.
+    pub fn small(&mut self) -> Option<u32> {
+        u32::try_from(self.number()?).ok()
+    }
+
+    /// The same of a number of 8 bits.
+    pub fn byte(&mut self) -> Option<u8> {
+        u8::try_from(self.number()?).ok()
+    }
+
+    /// Reads the next word as a score, which may be negative; None where it is none.
+    pub fn score(&mut self) -> Option<i32> {
+        self.word()?.parse::<i32>().ok()
+    }
+
+    /// Reads the next word as two numbers with a dot between them; None where it is none.
+    pub fn pair(&mut self) -> Option<(u64, u64)> {
+        let (first, second) = self.word()?.split_once('.')?;
+        Some((number(first)?, number(second)?))
+    }
+}
 
 /// The first word of a row; empty where it has none.
 pub fn first_word(row: &str) -> &str {

@@ -62,13 +62,6 @@ class Answer:
     numbers: tuple[int, ...] = ()
     more: tuple[str, ...] = ()
 
-    def words(self) -> str:
-        """As it stands in a row of clients/conformance.txt."""
-        found = [self.state, *([str(self.job)] if self.job else []), *map(str, self.numbers)]
-        if self.state == "DONE":
-            found += [str(self.value), self.move]
-        return " ".join(found + [f"{move}{sign}{value}" for move, sign, value in self.entries] + list(self.more))
-
 
 def parse(line: str, answer: bytes, jobs: int = 0) -> Answer:
     """The answer to a line (without its LF), where so many jobs were asked before. `Refused` where it is an `ERR`, and `Broken` where it

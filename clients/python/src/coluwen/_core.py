@@ -120,12 +120,25 @@ class Work:
 
 
 class Question(Work):
-    """A position and a depth, and how many seconds its job may take."""
+    """A position and a depth, how many seconds its job may take, and how that job stands."""
+
+    job = 0
+    asked = look = 0.0  # when ASK was sent, and when the job is looked at next
+    cancels = False  # the job is to be cancelled
+    done: Answer | None = None  # it is done, and its table is wanted
+    seconds = 0.0
 
     def __init__(self, depth: int, position: str, timeout: float | None = None):
         self.depth, self.position, self.timeout = depth, position, timeout
-        self.asked: float | None = None  # when ASK was sent
         self.limited: float | None = None  # since when the server says that it is asked too fast
+
+    def begin(self, now: float) -> None:
+        self.asked = self.look = now
+        self.cancels, self.done = False, None
+
+    @property
+    def deadline(self) -> float | None:
+        return None if self.timeout is None or self.cancels or self.done else self.asked + self.timeout
 
 
 class Errand(Work):
@@ -227,21 +240,6 @@ def more(now: Reservation, most: Reservation) -> Reservation | None:
     return None
 
 
-class _Flight:
-    """A job that hasn't ended."""
-
-    def __init__(self, question: Question, job: int, asked: float):
-        self.question, self.job, self.asked = question, job, asked
-        self.look = asked  # when it is looked at next
-        self.cancels = question.ended  # it is to be cancelled
-        self.found: Answer | None = None  # it is done, and its table is wanted
-        self.seconds = 0.0
-
-    @property
-    def deadline(self) -> float | None:
-        return None if self.question.timeout is None or self.cancels or self.found else self.asked + self.question.timeout
-
-
 class _Session:
     """A session: a connection, what is reserved, its jobs and the line that is under way."""
 
@@ -250,7 +248,7 @@ class _Session:
         self.wire = Wire()
         self.is_ready = self.is_ending = self.takes_no_more = False
         self.deadline: float | None = deadline  # by when it must have been opened, or have answered
-        self.flights: list[_Flight] = []
+        self.running: list[Question] = []  # whose jobs it has, the oldest first
         self.doing: Callable[[Answer | Refused, float], None] | None = None
         self.asking: Question | None = None
         self.errand: Errand | None = None
@@ -263,8 +261,17 @@ class _Session:
         return not self.takes_no_more and not self.is_ending and self.reserved.nodes >= levels[work.level].nodes and not (work.alone and self.wire.jobs)
 
     @property
+    def questions(self) -> list[Question]:
+        return [*self.running, *([self.asking] if self.asking else [])]
+
+    @property
+    def works(self) -> list[Work]:
+        """What it has to do."""
+        return [*self.questions, *([self.errand] if self.errand else [])]
+
+    @property
     def is_idle(self) -> bool:
-        return self.is_ready and not self.is_ending and not self.flights and not self.errand and not self.asking and self.wire.line is None
+        return self.is_ready and not self.is_ending and not self.works and self.wire.line is None
 
 
 class Core:
@@ -294,8 +301,6 @@ class Core:
         """Begins a question or an errand. `Closed` where the client is closed."""
         if self.closed:
             raise Closed("the client is closed")
-        if isinstance(work, Question):
-            work.level = self._needs.get(work.depth, 0)
         work.sequence = next(self._sequence)
         self._wait(work)
         self._advance(now)
@@ -309,9 +314,8 @@ class Core:
     def give_up(self, work: Work, fault: ColuwenError, now: float) -> None:
         """Ends a question that its caller doesn't want any more; its job is cancelled as soon as that can be said."""
         self._end(work, fault=fault)
-        for session in self._sessions.values():
-            for flight in session.flights:
-                flight.cancels = flight.cancels or flight.question is work
+        if isinstance(work, Question):
+            work.cancels = True
         self._advance(now)
 
     def close(self, now: float) -> None:
@@ -325,7 +329,7 @@ class Core:
             if session.is_idle:
                 self._bye(session, now)
             elif not session.is_ending:
-                for work in self._works(session):
+                for work in session.works:
                     self._end(work, fault=Closed("the client was closed"))
                 self._shut(session)
 
@@ -394,14 +398,11 @@ class Core:
             if session.deadline is not None and now >= session.deadline:
                 self._silent(session, now)
                 continue
-            asking = session.asking
-            if asking and asking.asked is not None and asking.timeout is not None and now >= asking.asked + asking.timeout:
-                self._end(asking, fault=Late(asking.timeout))
-            for flight in session.flights:
-                if flight.deadline is not None and now >= flight.deadline:
-                    flight.cancels = True
+            for question in session.questions:
+                if question.deadline is not None and now >= question.deadline:
+                    question.cancels = True
                     if session.wire.line is not None:
-                        self._end(flight.question, fault=Late(flight.question.timeout or 0.0))
+                        self._end(question, fault=Late(question.timeout or 0.0))
         self._advance(now)
 
     def next_tick(self) -> float | None:
@@ -411,13 +412,11 @@ class Core:
             if session.deadline is not None:
                 times.append(session.deadline)
             if session.is_ready and session.wire.line is None:
-                if session.errand or session.not_before and (session.flights or self._waiting):
+                if session.errand or session.not_before and (session.running or self._waiting):
                     times.append(session.not_before)
-                if session.flights:
-                    times.append(max(session.flights[0].look, session.not_before))
-            if session.asking and session.asking.asked is not None and session.asking.timeout is not None and not session.asking.ended:
-                times.append(session.asking.asked + session.asking.timeout)
-            times += [flight.deadline for flight in session.flights if flight.deadline is not None]
+                if session.running:
+                    times.append(max(session.running[0].look, session.not_before))
+            times += [question.deadline for question in session.questions if question.deadline is not None]
         if self._pause and any(True for _ in self._all_waiting()):
             times.append(self._pause)
         return min(times, default=None)
@@ -427,34 +426,30 @@ class Core:
     def _all_waiting(self) -> Iterator[Work]:
         return (work for waiting in self._waiting.values() for work in waiting if not work.ended)
 
-    def _first(self, kind: tuple[int, bool, bool]) -> Work | None:
-        """The oldest of a kind that waits. One whose depth is known to need more by now goes on to those that do."""
-        waiting = self._waiting[kind]
-        while waiting:
-            work = waiting[0]
-            level = max(work.level, self._needs.get(work.depth, 0)) if isinstance(work, Question) else work.level
-            if not work.ended and level == work.level:
-                return work
-            waiting.popleft()
-            if not work.ended:
-                work.level = level
-                self._wait(work)
-        return None
-
     def _wait(self, work: Work) -> None:
-        """Puts it among those of its kind that wait, behind those that came before it."""
+        """Puts it among those of its kind that wait, behind those that came before it; one whose depth is known to need more among those that do."""
+        if isinstance(work, Question):
+            work.level = max(work.level, self._needs.get(work.depth, 0))
         waiting = self._waiting.setdefault((work.level, work.alone, isinstance(work, Errand)), collections.deque())
         at = len(waiting)
         while at and waiting[at - 1].sequence > work.sequence:
             at -= 1
         waiting.insert(at, work)
 
+    def _need(self, depth: int, level: int) -> None:
+        """A depth is known to need so much, also of those that wait."""
+        self._needs[depth] = max(level, self._needs.get(depth, 0))
+        waiting = list(self._all_waiting())
+        self._waiting.clear()
+        for work in waiting:
+            self._wait(work)
+
     def _oldest(self) -> list[Work]:
         """The oldest of each kind that waits, in their order."""
-        for kind in list(self._waiting):
-            self._first(kind)  # what goes on to another kind is there before the oldest are taken
-        found = [work for kind in list(self._waiting) if (work := self._first(kind))]
-        return sorted(found, key=lambda work: work.sequence)
+        for waiting in self._waiting.values():
+            while waiting and waiting[0].ended:
+                waiting.popleft()
+        return sorted((waiting[0] for waiting in self._waiting.values() if waiting), key=lambda work: work.sequence)
 
     def _taken(self, work: Work) -> None:
         self._waiting[work.level, work.alone, isinstance(work, Errand)].popleft()
@@ -539,10 +534,6 @@ class Core:
         self._pause = 0.0
         self._shut(session)
 
-    def _works(self, session: _Session) -> list[Work]:
-        """What a session has to do."""
-        return [*(flight.question for flight in session.flights), *[one for one in (session.asking, session.errand) if one]]
-
     def _greeted(self, session: _Session, found: Answer | Refused, now: float) -> None:
         if not isinstance(found, Refused):
             session.is_ready = True
@@ -592,7 +583,7 @@ class Core:
 
     def _lose(self, session: _Session, fault: Broken | Silent, now: float) -> None:
         """Drops a session; what it had to do is asked again in another one, or can't be had."""
-        works = [work for work in self._works(session) if not work.ended]
+        works = [work for work in session.works if not work.ended]
         self._shut(session)
         for work in sorted(works, key=lambda work: -work.sequence):
             if isinstance(fault, Silent):
@@ -603,8 +594,6 @@ class Core:
                 work.losses += 1
                 again = work.losses <= MOST_LOSSES
             if again:
-                if isinstance(work, Question):
-                    work.asked = None
                 self._wait(work)
             else:
                 self._end(work, fault=Unreachable(f"{self.options.address}: {fault}"))
@@ -621,12 +610,12 @@ class Core:
         if session.errand:
             self._go_on(session, None, now)
             return
-        for flight in session.flights:
-            if flight.cancels:
-                self._send(session, f"CANCEL {flight.job}", functools.partial(self._cancelled, flight), now)
+        for question in session.running:
+            if question.cancels:
+                self._send(session, f"CANCEL {question.job}", functools.partial(self._cancelled, question), now)
                 return
-            if flight.found:
-                self._send(session, f"TABLE {flight.job}", functools.partial(self._tabled, flight), now)
+            if question.done:
+                self._send(session, f"TABLE {question.job}", functools.partial(self._tabled, question), now)
                 return
         if session.wire.jobs >= MOST_JOBS:
             session.takes_no_more = True
@@ -638,26 +627,26 @@ class Core:
                 self._go_on(session, None, now)
             elif isinstance(work, Question):
                 session.asking = work
-                work.asked = now
+                work.begin(now)
                 self._ask_in(session, now)
-        elif session.flights:
-            flight = session.flights[0]
-            if now >= flight.look:
-                self._send(session, f"GET {flight.job}", functools.partial(self._looked, flight), now)
+        elif session.running:
+            question = session.running[0]
+            if now >= question.look:
+                self._send(session, f"GET {question.job}", functools.partial(self._looked, question), now)
         elif session.takes_no_more:
             self._bye(session, now)
 
     def _next_for(self, session: _Session) -> Work | None:
         """What a session takes next: the oldest that waits, if it suits. It makes place for an older one that no session is for."""
-        if session.flights:
+        if session.running:
             spare = sum(not other.is_ready or other.is_idle for other in self._sessions.values())
-            if len(session.flights) >= self.options.ahead or session.flights[0].question.alone:
+            if len(session.running) >= self.options.ahead or session.running[0].alone:
                 return None
             if not self._is_full and not self._pause or spare and spare >= sum(1 for _ in self._all_waiting()):
                 return None
         for work in self._oldest():
             if session.suits(work, self.levels):
-                return work if not (session.flights and (work.alone or isinstance(work, Errand))) else None
+                return work if not (session.running and (work.alone or isinstance(work, Errand))) else None
             others = any(other is not session and other.suits(work, self.levels) for other in self._sessions.values())
             if not others and len(self._sessions) >= self._granted:
                 session.takes_no_more = True
@@ -673,7 +662,8 @@ class Core:
         question, session.asking = session.asking, None
         assert question
         if not isinstance(found, Refused):
-            session.flights.append(_Flight(question, found.job, question.asked or now))
+            question.job, question.cancels = found.job, question.ended
+            session.running.append(question)
         elif question.ended:
             pass
         elif found.number == TOO_FAST:
@@ -709,26 +699,27 @@ class Core:
         if not question.ended:
             self._wait(question)
 
-    def _looked(self, flight: _Flight, session: _Session, found: Answer | Refused, now: float) -> None:
-        question = flight.question
+    def _looked(self, question: Question, session: _Session, found: Answer | Refused, now: float) -> None:
         if isinstance(found, Refused):
             if found.number == TOO_FAST:
                 session.not_before = now + AGAIN
             else:
                 self._lose(session, Broken(str(found)), now)
         elif found.state != "PENDING" and question.ended:
-            session.flights.remove(flight)
+            session.running.remove(question)
             session.takes_no_more = session.takes_no_more or found.state == "SPENT"
         elif found.state == "PENDING":
-            flight.look = now + pause_after(now - flight.asked)
+            question.look = now + pause_after(now - question.asked)
         elif found.state == "DONE":
-            flight.found, flight.seconds, flight.cancels = found, now - flight.asked, False
+            question.done, question.seconds, question.cancels = found, now - question.asked, False
         else:
-            session.flights.remove(flight)
+            session.running.remove(question)
             if found.state == "SPENT":
                 self._spent(session, question, now)
+            elif question.cancels:
+                self._end(question, fault=Late(question.timeout or 0.0))
             else:
-                self._end(question, fault=Late(question.timeout) if flight.cancels and question.timeout is not None else Broken(f"job {flight.job} was cancelled by nobody here"))
+                self._end(question, fault=Broken(f"job {question.job} was cancelled by nobody here"))
 
     def _spent(self, session: _Session, question: Question, now: float) -> None:
         level = max([at for at, one in enumerate(self.levels) if one.nodes <= session.reserved.nodes], default=0)
@@ -737,7 +728,7 @@ class Core:
             question.level, question.alone = min(max(level, question.level) + 1, len(self.levels) - 1), True
             self._wait(question)
             return
-        self._needs[question.depth] = level
+        self._need(question.depth, level)
         if self.info or not self.options.is_free:
             self._end(question, fault=self._beyond(question.depth))
         else:
@@ -749,38 +740,38 @@ class Core:
         """That a depth can't be had, and which surely can, if that is known."""
         return TooDeep(depth, min(depth - 1, self.info.sure) if self.info and self.options.is_free else 0)
 
-    def _tabled(self, flight: _Flight, session: _Session, found: Answer | Refused, now: float) -> None:
+    def _tabled(self, question: Question, session: _Session, found: Answer | Refused, now: float) -> None:
         if isinstance(found, Refused) and found.number == TOO_FAST:
             session.not_before = now + AGAIN
-        elif isinstance(found, Refused) or found.state != "TABLE" or not flight.found:
-            self._lose(session, Broken(f"no table of job {flight.job}"), now)
+        elif isinstance(found, Refused) or found.state != "TABLE":
+            self._lose(session, Broken(f"no table of job {question.job}"), now)
         elif self.options.counts:
-            self._send(session, "QUOTA", functools.partial(self._counted, flight, found.entries), now)
+            self._send(session, "QUOTA", functools.partial(self._counted, question, found.entries), now)
         else:
-            self._done(session, flight, found.entries, None)
+            self._done(session, question, found.entries, None)
 
-    def _counted(self, flight: _Flight, entries: tuple[tuple[str, str, int], ...], session: _Session, found: Answer | Refused, _: float) -> None:
+    def _counted(self, question: Question, entries: tuple[tuple[str, str, int], ...], session: _Session, found: Answer | Refused, _: float) -> None:
         nodes = None
         if not isinstance(found, Refused):
             nodes, session.left = session.left - found.numbers[1], found.numbers[1]
-        self._done(session, flight, entries, nodes)
+        self._done(session, question, entries, nodes)
 
-    def _done(self, session: _Session, flight: _Flight, entries: tuple[tuple[str, str, int], ...], nodes: int | None) -> None:
-        session.flights.remove(flight)
-        question, done = flight.question, flight.found
+    def _done(self, session: _Session, question: Question, entries: tuple[tuple[str, str, int], ...], nodes: int | None) -> None:
+        session.running.remove(question)
+        done = question.done
         assert done
         if question.alone:
-            self._needs[question.depth] = max(question.level, self._needs.get(question.depth, 0))
-        self._end(question, Found(done.value, done.move, entries, flight.seconds, nodes))
+            self._need(question.depth, question.level)
+        self._end(question, Found(done.value, done.move, entries, question.seconds, nodes))
 
-    def _cancelled(self, flight: _Flight, session: _Session, found: Answer | Refused, now: float) -> None:
+    def _cancelled(self, question: Question, session: _Session, found: Answer | Refused, now: float) -> None:
         if isinstance(found, Refused) and found.number == TOO_FAST:
             session.not_before = now + AGAIN
-        elif isinstance(found, Refused) and not flight.question.ended:  # it has ended meanwhile: it is looked at once more
-            self._send(session, f"GET {flight.job}", functools.partial(self._looked, flight), now)
+        elif isinstance(found, Refused) and not question.ended:  # it has ended meanwhile: it is looked at once more
+            self._send(session, f"GET {question.job}", functools.partial(self._looked, question), now)
         else:
-            session.flights.remove(flight)
-            self._end(flight.question, fault=Late(flight.question.timeout or 0.0))
+            session.running.remove(question)
+            self._end(question, fault=Late(question.timeout or 0.0))
 
     # Errands.
 

@@ -10,6 +10,8 @@ from typing import Any
 
 from ._core import Options
 from ._driver import Driver
+from .analyst import Result, result_of
+from .board import Position
 
 HOST, PORT = "127.0.0.1", 4711
 URL = "COLUWEN_URL"  # the variable that names a server where the caller doesn't
@@ -61,6 +63,10 @@ class Served:
     def _made(self) -> Driver:
         """What has the connections, of the loop that runs."""
         return Driver(self._host, self._port, self._tls, self._options)
+
+    async def _answer(self, driver: Driver, position: Position, depth: int, timeout: float | None) -> Result:
+        """What is found of a question; a task that is cancelled gives it up."""
+        return result_of(position, depth, await driver.question(depth, position.text, self._timeout if timeout is None else timeout))
 
 
 def url_of(text: str) -> dict[str, Any]:

@@ -17,7 +17,7 @@ from typing import Any
 from ._core import Info
 from ._driver import Driver
 from ._place import Served
-from .analyst import Asked, Many, Order, Outcome, Progress, Result, checked, moves_of, parts_of, result_of
+from .analyst import Asked, Many, Order, Outcome, Progress, Result, checked, moves_of, parts_of
 from .board import Position
 from .errors import Closed, TooDeep
 from .score import Entry
@@ -41,8 +41,7 @@ class AsyncClient(Served):
 
     async def analyse(self, position: str | Position, depth: int, *, timeout: float | None = None) -> Result:
         """As `Client.analyse`."""
-        place = checked(position, depth)
-        return result_of(place, depth, await self._driving().question(depth, place.text, self._timeout if timeout is None else timeout))
+        return await self._answer(self._driving(), checked(position, depth), depth, timeout)
 
     async def analyse_all(self, position: str | Position, depth: int, *, timeout: float | None = None) -> list[Entry]:
         """As `Client.analyse_all`."""

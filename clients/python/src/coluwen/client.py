@@ -17,10 +17,10 @@ import threading
 from collections.abc import Coroutine
 from typing import Any
 
-from ._core import Found, Info, Question
+from ._core import Info
 from ._driver import Driver
 from ._place import URL, Served, url_of
-from .analyst import Analyst, Result, checked, result_of, settle
+from .analyst import Analyst, Result, checked
 from .board import Position
 from .errors import Closed
 
@@ -62,25 +62,7 @@ class Client(Served, Analyst):
     def submit(self, position: str | Position, depth: int, *, timeout: float | None = None) -> concurrent.futures.Future[Result]:
         place = checked(position, depth)
         loop, driver = self._driving()
-        future = concurrent.futures.Future[Result]()
-        question = Question(depth, place.text, self._timeout if timeout is None else timeout)
-
-        def ended(one: asyncio.Future[Found]) -> None:
-            settle(future, one.exception() or result_of(place, depth, one.result()))
-
-        def begin() -> None:
-            try:
-                driver.begin(question).add_done_callback(ended)
-            except Closed as fault:
-                future.set_exception(fault)
-
-        def given_up(one: concurrent.futures.Future[Result]) -> None:
-            if one.cancelled() and not loop.is_closed():
-                loop.call_soon_threadsafe(driver.give_up, question)
-
-        loop.call_soon_threadsafe(begin)
-        future.add_done_callback(given_up)
-        return future
+        return asyncio.run_coroutine_threadsafe(self._answer(driver, place, depth, timeout), loop)
 
     def _wait(self, call: Coroutine[Any, Any, Any]) -> Any:
         return asyncio.run_coroutine_threadsafe(call, self._driving()[0]).result()

@@ -3,10 +3,10 @@
 ghost use Rattle.std.specs.Prelude.{◌≡◌};
 
 mod all_jobs;
-mod commands;
 mod doors;
 mod failing;
 mod looked_at;
+mod programs;
 mod reserving;
 mod tables;
 

@@ -1,4 +1,4 @@
-/** Values of Othello positions from a server of {@code othello serve}. */
+/** Values of Othello positions by the proved search itself, or from a server of {@code othello serve}. */
 module coluwen {
   exports coluwen;
 }

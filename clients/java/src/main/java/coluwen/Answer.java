@@ -91,14 +91,4 @@ record Answer(String state, int job, int value, String move, List<Entry> entries
   private static Broken misfit(String line, String text) {
     return new Broken(line + " was answered by " + text.substring(0, Math.min(text.length(), 120)).replaceAll("[^ -~]", "?"));
   }
-
-  /** As it stands in a row of the conformance file. */
-  String words() {
-    var found = new ArrayList<Object>(List.of(state));
-    if (job > 0) found.add(job);
-    found.addAll(numbers);
-    if (state.equals("DONE")) found.addAll(List.of(value, move));
-    found.addAll(entries);
-    return String.join(" ", found.stream().map(String::valueOf).toList());
-  }
 }

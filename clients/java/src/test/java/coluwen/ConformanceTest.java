@@ -10,6 +10,7 @@ import coluwen.ColuwenException.Refused;
 import java.io.IOException;
 import java.nio.file.Files;
 import java.nio.file.Path;
+import java.util.ArrayList;
 import java.util.Arrays;
 import java.util.List;
 import java.util.regex.Pattern;
@@ -30,6 +31,15 @@ class ConformanceTest {
         : found.group(1).replace("n", "\n").replace("r", "\r").replace("t", "\t")));
   }
 
+  private static String words(Answer answer) {
+    var found = new ArrayList<Object>(List.of(answer.state()));
+    if (answer.job() > 0) found.add(answer.job());
+    found.addAll(answer.numbers());
+    if (answer.state().equals("DONE")) found.addAll(List.of(answer.value(), answer.move()));
+    found.addAll(answer.entries());
+    return String.join(" ", found.stream().map(String::valueOf).toList()) + (answer.more() == null ? "" : answer.more());
+  }
+
   @Test
   void answers() throws IOException {
     for (var row : rows("answer")) {
@@ -37,7 +47,7 @@ class ConformanceTest {
       try {
         var text = spelled(row.get(2));
         if (!text.endsWith("\n")) throw new Broken("no LF"); // a session's reader gives `parse` nothing then: BehaviourTest
-        found = Answer.parse(row.get(1), text.substring(0, text.length() - 1), Integer.parseInt(row.get(0))).words();
+        found = words(Answer.parse(row.get(1), text.substring(0, text.length() - 1), Integer.parseInt(row.get(0))));
       } catch (Refused fault) {
         found = "REFUSED " + fault.number();
       } catch (Broken fault) {

@@ -2,7 +2,7 @@ use Rattle.std.proofs.Common.{rules, ◌≡◌, ◌<◌, ◌++◌, ◌∷◌, []
 use Rattle.sched_rules.specs.declared.step.StepOf.{StepOf}
 use Rattle.sched_rules.specs.declared.step.StepOf.TheVariants.{Admit}
 use Rattle.hall.specs.jamboree_rules.declared.leaf.LeafAnswer.{LeafAnswer}
-use Rattle.shared_history.specs.Views.{Known}
+use Rattle.desk.specs.Traces.{Known}
 use Rattle.desk.specs.Histories.{AllOwn, AreSeats, HasNoLeave, IsAdmitted, IsComeBy}
 use Rattle.desk.proofs.Coming.{come_admitted, new_unused}
 use Rattle.desk.proofs.locked_hall.LockedHall.admit.Goals as goal

@@ -2,7 +2,7 @@ use Rattle.std.proofs.Common.{rules, ◌≡◌, ℕ, List, sym, ap, ◌∙◌, s
 use Rattle.sched_rules.specs.Runs.{tenant_of}
 use Rattle.sched_rules.specs.declared.step.StepOf.{StepOf}
 use Rattle.hall.specs.jamboree_rules.declared.leaf.LeafAnswer.{LeafAnswer}
-use Rattle.shared_history.specs.Views.{Known, own as own_by}
+use Rattle.desk.specs.Traces.{Known, own as own_by}
 use Rattle.desk.specs.Histories.{with_taken, AreSeats, HasNoLeave, IsComeBy, IsTrueTo}
 use Rattle.desk.proofs.Offering.{offered}
 use Rattle.desk.proofs.Coming.{come_offered, leave_taken, no_leave_taken, told}

@@ -1,3 +1,0 @@
-mod SeatLemmas
-mod HallSteps
-mod Keepings

@@ -1,0 +1,6 @@
+use Rattle.std.proofs.Common.{◌≡◌, drop}
+use Rattle.fair_pool.specs.Lines.{has_rival}
+use Rattle.fair_pool.proofs.line.has_rival.Given as goal
+
+abbrev pub invariant-loop-account : goal.invariant-loop-account
+invariant-loop-account l = has_rival l.group (drop l.account-index l.accounts) ≡ has_rival l.group l.accounts

@@ -1,0 +1,6 @@
+use Rattle.std.proofs.Common.{◌≡◌, drop}
+use Rattle.fair_pool.specs.Lines.{place_from}
+use Rattle.fair_pool.proofs.line.place_of.Given as goal
+
+abbrev pub invariant-loop-place : goal.invariant-loop-place
+invariant-loop-place l = place_from l.place l.group l.name (drop l.place l.accounts) ≡ place_from 0 l.group l.name l.accounts

@@ -1,0 +1,6 @@
+use Rattle.std.proofs.Common.{◌≡◌, ◌≤◌, replicate}
+use Rattle.std.specs.Prelude.{vec_capacity}
+use Rattle.fair_pool.proofs.shares.FairShare.new.Given as goal
+
+abbrev pub invariant-loop-customer : goal.invariant-loop-customer
+invariant-loop-customer l = record { items : l.kept.items ≡ replicate l._customer 0; room : l.customers ≤ vec_capacity l.kept }

@@ -1,0 +1,118 @@
+-- Meaning: a line of accounts, and who comes next in a group.
+use Rattle.std.specs.Prelude.{ℕ, ◌+◌, ◌≡◌, ◌==◌, ◌<◌, nat_lt, Bool, true, false, ◌&&◌, ◌||◌, List, [], ◌∷◌, Option, Some, None, unwrap_or, if◌then◌else◌, replicate, slice_index_or, slice_set}
+use Rattle.fair_pool.specs.declared.account.Account.{Account}
+use Rattle.fair_pool.specs.Accounts.{nobody, is_active, is_rival, is_before, capped_sum, with_more, woken_from, rested}
+
+-- the accounts by their places, and the turn at which the next one becomes active
+pub record LineOf : Type 0 where
+  pub accounts : List Account
+  pub turn : ℕ
+
+-- 64 free places
+abbrev pub empty_line : LineOf
+empty_line = record { accounts = replicate 64 nobody; turn = 1 }
+
+-- the account at a place
+abbrev pub account_at : List Account → ℕ → Account
+account_at accounts place = slice_index_or accounts place nobody
+
+-- whether some account of the group is active
+abbrev pub has_rival : ℕ → List Account → Bool
+has_rival group [] = false
+has_rival group (account ∷ accounts) = is_rival group account || has_rival group accounts
+
+-- at this place is who comes next in the group: it is active there, and nobody active there comes before it
+pub record IsNext (group : ℕ) (accounts : List Account) (place : ℕ) : Type 0 where
+  pub is_one : is_rival group (account_at accounts place) ≡ true
+  pub none_before : (other : ℕ) → is_rival group (account_at accounts other) ≡ true → is_before (account_at accounts other) (account_at accounts place) ≡ false
+
+-- the best of those before a place: nobody is active there, or it is who comes next among them
+abbrev pub IsBestBelow : ℕ → List Account → ℕ → Option (ℕ × Account) → Type 0
+IsBestBelow group accounts limit None = (other : ℕ) → other < limit → is_rival group (account_at accounts other) ≡ false
+IsBestBelow group accounts limit (Some best) =
+    (best.1 ≡ account_at accounts best.0) × (is_rival group best.1 ≡ true)
+    × ((other : ℕ) → other < limit → is_rival group (account_at accounts other) ≡ true → is_before (account_at accounts other) best.1 ≡ false)
+
+-- the lesser of a count and another, if there is one
+abbrev pub lesser : ℕ → Option ℕ → ℕ
+lesser count None = count
+lesser count (Some other) = if nat_lt count other then count else other
+
+-- the least of this, if it is there, and of what was served to those active in the group
+abbrev pub least_from : Option ℕ → ℕ → List Account → Option ℕ
+least_from least group [] = least
+least_from least group (account ∷ accounts) = least_from (if is_rival group account then Some (lesser account.served least) else least) group accounts
+
+-- the least that was served to one active in the group; None where none is
+abbrev pub least_served : ℕ → List Account → Option ℕ
+least_served group accounts = least_from None group accounts
+
+-- from where one that becomes active in the group starts at least: where the least served one active there is
+abbrev pub floor_of : ℕ → List Account → ℕ
+floor_of group accounts = unwrap_or (least_served group accounts) 0
+
+-- the line after the account at a place became active: it starts at the greater of its own count and the floor; one that is active
+-- already stays as it is
+abbrev pub woken : ℕ → LineOf → LineOf
+woken place line =
+    let account = account_at line.accounts place in
+    if is_active account then line else
+    record { accounts = slice_set line.accounts place (woken_from (floor_of account.group line.accounts) line.turn account); turn = capped_sum line.turn 1 }
+
+-- the line after the account at a place has nothing more to be served with
+abbrev pub rested_at : ℕ → LineOf → LineOf
+rested_at place line = record line { accounts = slice_set line.accounts place (rested (account_at line.accounts place)) }
+
+-- the line after the account at a place was served so much more
+abbrev pub charged : ℕ → ℕ → LineOf → LineOf
+charged place amount line = record line { accounts = slice_set line.accounts place (with_more amount (account_at line.accounts place)) }
+
+-- the line with another account at a place
+abbrev pub put_at : ℕ → Account → LineOf → LineOf
+put_at place account line = record line { accounts = slice_set line.accounts place account }
+
+-- the first place, counted from this on, whose account has this name in this group; None where there is none
+abbrev pub place_from : ℕ → ℕ → ℕ → List Account → Option ℕ
+place_from first group name [] = None
+place_from first group name (account ∷ accounts) =
+    if (account.name == name) && (account.group == group) then Some first else place_from (first + 1) group name accounts
+
+-- the first place whose account has this name in this group
+abbrev pub place_of : ℕ → ℕ → List Account → Option ℕ
+place_of group name accounts = place_from 0 group name accounts
+
+-- whether somebody is in the group: of the places that aren't free one is of it
+abbrev pub has_member : ℕ → List Account → Bool
+has_member group [] = false
+has_member group (account ∷ accounts) = ((if account.name == 0 then false else true) && (account.group == group)) || has_member group accounts
+
+-- the first place, counted from this on, whose account has this name; None where there is none
+abbrev pub named_from : ℕ → ℕ → List Account → Option ℕ
+named_from first name [] = None
+named_from first name (account ∷ accounts) = if account.name == name then Some first else named_from (first + 1) name accounts
+
+-- the first place whose account has this name
+abbrev pub place_named : ℕ → List Account → Option ℕ
+place_named name accounts = named_from 0 name accounts
+
+-- the first of two, if it is there
+abbrev pub first_of : Option ℕ → Option ℕ → Option ℕ
+first_of None second = second
+first_of (Some first) second = Some first
+
+-- the place at which somebody of this name in this group is, or else begins: the first free one; None where none is free
+abbrev pub joined_place : ℕ → ℕ → LineOf → Option ℕ
+joined_place group name line = first_of (place_of group name line.accounts) (place_of 0 0 line.accounts)
+
+-- the line with an account at a place, where there is one
+abbrev pub put_where : Option ℕ → Account → LineOf → LineOf
+put_where None account line = line
+put_where (Some place) account line = put_at place account line
+
+-- the line after somebody came: whoever isn't there yet begins at the first free place, with so much served
+abbrev pub joined_by : Option ℕ → Account → LineOf → LineOf
+joined_by (Some place) account line = line
+joined_by None account line = put_where (place_of 0 0 line.accounts) account line
+
+abbrev pub joined : ℕ → ℕ → ℕ → LineOf → LineOf
+joined group name served line = joined_by (place_of group name line.accounts) (record { name = name; group = group; served = served; since = 0 }) line

@@ -1,0 +1,26 @@
+-- Representation: small lines, and shares in which something happened.
+use Rattle.std.specs.Prelude.{ℕ, true, List, [], ◌∷◌}
+use Rattle.fair_pool.specs.declared.account.Account.{Account}
+use Rattle.fair_pool.specs.Lines.{LineOf}
+use Rattle.fair_pool.specs.Shares.{SharesOf, new_shares, entered, seen, served_all}
+
+abbrev pub account : ℕ → ℕ → ℕ → ℕ → Account
+account name group served since = record { name = name; group = group; served = served; since = since }
+
+-- in group 0: one active since turn 3 that was served 50, one active since turn 2 that was served as much, one that isn't active and was
+-- served 10; in group 1 one active that was served nothing
+abbrev pub four : LineOf
+four = record { accounts = account 1 0 50 3 ∷ account 2 0 50 2 ∷ account 3 0 10 0 ∷ account 4 1 0 1 ∷ []; turn = 4 }
+
+-- what each was served
+abbrev pub counts : List Account → List ℕ
+counts [] = []
+counts (account ∷ accounts) = account.served ∷ counts accounts
+
+-- customer 0 has two tenants in a network and customer 1 one; all have something to be done
+abbrev pub three : SharesOf
+three = seen 2 true (seen 1 true (seen 0 true (entered 9 1 700 (entered 8 0 500 (entered 7 0 500 (new_shares 2))))))
+
+-- the first tenant was served 100, the third 30
+abbrev pub served : SharesOf
+served = served_all 2 30 (served_all 0 100 three)

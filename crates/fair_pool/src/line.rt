@@ -1,0 +1,256 @@
+//! A line of accounts: who shares something in some group, and who comes next there.
+ghost use Rattle.std.specs.Prelude.{◌≡◌, ℕ, ◌+◌, ◌<◌, List, IfOk, IfNone, IfSome, false};
+ghost use Rattle.fair_pool.specs.declared.account.Account.{Account};
+ghost use Rattle.fair_pool.specs.Accounts.{is_rival};
+ghost use Rattle.fair_pool.specs.Lines.{empty_line, account_at, has_rival, IsNext, IsBestBelow, lesser, least_served, woken, rested_at, charged, put_at, place_of, place_named, joined_place, joined, has_member};
+
+use crate::account::{Account, capped_sum};
+use std::alloc::{AllocError, Global};
+use std::marker::Model;
+
+/// How many accounts a line has.
+pub(crate) const PLACES: usize = 64;
+
+/// 64 accounts by their places, and the turn at which the next one becomes active.
+#[derive(Drop)]
+pub(crate) struct Line {
+    accounts: Vec<Account>,
+    turn: u64,
+}
+
+impl Model for Line {
+    ghost use Rattle.std.specs.Prelude.{◌≡◌, length};
+    ghost use Rattle.fair_pool.specs.Lines.{LineOf};
+
+    ghost Value = { LineOf };
+
+    ghost view = { λ l. record { accounts = l.accounts.items; turn = l.turn } };
+
+    ghost invariant = { λ l. length l.accounts.items ≡ 64 };
+}
+
+impl Line {
+    /// A line whose places are all free. Err where the allocator refuses its memory.
+    pub(crate) fn new(alloc: Global) -> Result<Line, AllocError>
+        ensures { IfOk result (λ line. line ≡ empty_line) }
+    {
+        let mut accounts = Vec::with_capacity(alloc, PLACES)?;
+        for _place in 0..PLACES {
+            accounts.push_reserved(Account::nobody());
+        }
+        Ok(Line { accounts, turn: 1 })
+    }
+
+    /// The account at a place.
+    pub(crate) fn at(&self, place: usize) -> Account
+        ensures { result ≡ account_at self.now.accounts place }
+    {
+        if place < self.accounts.len() {
+            self.accounts[place]
+        } else {
+            Account::nobody()
+        }
+    }
+
+    /// Who comes next in a group; None where nobody is active there.
+    pub(crate) fn next(&self, group: usize) -> Option<usize>
+        ensures next { IfSome result (IsNext group self.now.accounts) }
+        ensures none { IfNone result ((other : ℕ) → is_rival group (account_at self.now.accounts other) ≡ false) }
+    {
+        next_in(&self.accounts, group)
+    }
+
+    /// Whether somebody is active in a group.
+    pub(crate) fn has_rival(&self, group: usize) -> bool
+        ensures { result ≡ has_rival group self.now.accounts }
+    {
+        has_rival(&self.accounts, group)
+    }
+
+    /// Whether somebody is in a group.
+    pub(crate) fn has_member(&self, group: usize) -> bool
+        ensures { result ≡ has_member group self.now.accounts }
+    {
+        has_member(&self.accounts, group)
+    }
+
+    /// The first place whose account has this name in this group.
+    pub(crate) fn place_of(&self, group: usize, name: u64) -> Option<usize>
+        ensures { result ≡ place_of group name self.now.accounts }
+    {
+        place_of(&self.accounts, group, name)
+    }
+
+    /// The first place whose account has this name in any group.
+    pub(crate) fn place_named(&self, name: u64) -> Option<usize>
+        ensures { result ≡ place_named name self.now.accounts }
+    {
+        place_named(&self.accounts, name)
+    }
+
+    /// The place of who has this name in this group: the one that it has, else a free one, at which it begins with so much served;
+    /// None where no place is free.
+    pub(crate) fn join(&mut self, group: usize, name: u64, served: u64) -> Option<usize>
+        ensures place { result ≡ joined_place group name self.old }
+        ensures line { self.new ≡ joined group name served self.old }
+    {
+        if let Some(place) = self.place_of(group, name) {
+            return Some(place);
+        }
+        let place = self.place_of(0, 0)?;
+        let account = Account {
+            name,
+            group,
+            served,
+            since: 0,
+        };
+        self.put(place, account);
+        Some(place)
+    }
+
+    /// The account at a place becomes active, if it isn't.
+    pub(crate) fn wake(&mut self, place: usize)
+        ensures { self.new ≡ woken place self.old }
+    {
+        let account = self.at(place);
+        if account.is_active() {
+            return;
+        }
+        let floor = least_served(&self.accounts, account.group).unwrap_or(0);
+        self.put(place, account.woken_from(floor, self.turn));
+        self.turn = capped_sum(self.turn, 1);
+    }
+
+    /// The account at a place isn't active any more.
+    pub(crate) fn rest(&mut self, place: usize)
+        ensures { self.new ≡ rested_at place self.old }
+    {
+        self.put(place, self.at(place).rested());
+    }
+
+    /// The account at a place was served so much more.
+    pub(crate) fn charge(&mut self, place: usize, amount: u64)
+        ensures { self.new ≡ charged place amount self.old }
+    {
+        self.put(place, self.at(place).with_more(amount));
+    }
+
+    /// Another account comes to a place.
+    pub(crate) fn put(&mut self, place: usize, account: Account)
+        ensures { self.new ≡ put_at place account self.old }
+    {
+        if place < self.accounts.len() {
+            self.accounts[place] = account;
+        }
+    }
+}
+
+/// The place of who comes next in a group; None where nobody is active there.
+fn next_in(accounts: &[Account], group: usize) -> Option<usize>
+    ensures next { IfSome result (IsNext group accounts.now) }
+    ensures none { IfNone result ((other : ℕ) → is_rival group (account_at accounts.now other) ≡ false) }
+{
+    let mut best = None;
+    for (place, account) in accounts.iter().enumerate() {
+        best = better(best, group, place, *account);
+    }
+    match best {
+        Some((place, _)) => Some(place),
+        None => None,
+    }
+}
+
+/// The better of the best so far and the account at a place.
+fn better(
+    best: Option<(usize, Account)>,
+    group: usize,
+    place: usize,
+    account: Account,
+) -> Option<(usize, Account)>
+    ensures { (accounts : List Account) → account ≡ account_at accounts place → IsBestBelow group accounts place best → IsBestBelow group accounts (place + 1) result }
+{
+    if !account.is_rival(group) {
+        return best;
+    }
+    match best {
+        Some((held, other)) => {
+            if account.is_before(other) {
+                Some((place, account))
+            } else {
+                Some((held, other))
+            }
+        }
+        None => Some((place, account)),
+    }
+}
+
+/// Whether some account of a group is active.
+fn has_rival(accounts: &[Account], group: usize) -> bool
+    ensures { result ≡ has_rival group accounts.now }
+{
+    for account in accounts {
+        if account.is_rival(group) {
+            return true;
+        }
+    }
+    false
+}
+
+/// Whether an account that isn't a free place's is of a group.
+fn has_member(accounts: &[Account], group: usize) -> bool
+    ensures { result ≡ has_member group accounts.now }
+{
+    for account in accounts {
+        if account.name != 0 && account.group == group {
+            return true;
+        }
+    }
+    false
+}
+
+/// The lesser of a count and another, if there is one.
+fn lesser(count: u64, other: Option<u64>) -> u64
+    ensures { result ≡ lesser count other }
+{
+    match other {
+        Some(other) => { if count < other { count } else { other } }
+        None => count,
+    }
+}
+
+/// The least that was served to one active in a group.
+fn least_served(accounts: &[Account], group: usize) -> Option<u64>
+    ensures { result ≡ least_served group accounts.now }
+{
+    let mut least = None;
+    for account in accounts {
+        if account.is_rival(group) {
+            least = Some(lesser(account.served, least));
+        }
+    }
+    least
+}
+
+/// The first place whose account has this name in this group.
+fn place_of(accounts: &[Account], group: usize, name: u64) -> Option<usize>
+    ensures { result ≡ place_of group name accounts.now }
+{
+    for (place, account) in accounts.iter().enumerate() {
+        if account.name == name && account.group == group {
+            return Some(place);
+        }
+    }
+    None
+}
+
+/// The first place whose account has this name.
+fn place_named(accounts: &[Account], name: u64) -> Option<usize>
+    ensures { result ≡ place_named name accounts.now }
+{
+    for (place, account) in accounts.iter().enumerate() {
+        if account.name == name {
+            return Some(place);
+        }
+    }
+    None
+}

@@ -1,2 +1,0 @@
-mod WaitLemmas
-mod LeadLemmas

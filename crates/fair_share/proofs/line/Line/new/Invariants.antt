@@ -1,7 +1,0 @@
-use Rattle.std.proofs.Common.{◌≡◌, ◌≤◌, replicate}
-use Rattle.std.specs.Prelude.{vec_capacity}
-use Rattle.fair_share.specs.Accounts.{nobody}
-use Rattle.fair_share.proofs.line.Line.new.Given as goal
-
-abbrev pub invariant-loop-place : goal.invariant-loop-place
-invariant-loop-place l = record { items : l.accounts.items ≡ replicate l._place nobody; room : 64 ≤ vec_capacity l.accounts }

@@ -1,6 +1,0 @@
-use Rattle.std.proofs.Common.{◌≡◌, drop}
-use Rattle.fair_share.specs.Lines.{has_member}
-use Rattle.fair_share.proofs.line.has_member.Given as goal
-
-abbrev pub invariant-loop-account : goal.invariant-loop-account
-invariant-loop-account l = has_member l.group (drop l.account-index l.accounts) ≡ has_member l.group l.accounts

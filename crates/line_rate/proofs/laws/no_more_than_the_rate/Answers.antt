@@ -1,5 +1,0 @@
-use Rattle.line_rate.proofs.Sums.{all-lines}
-use Rattle.line_rate.proofs.laws.no_more_than_the_rate.Goals as goal
-
-pub returns : goal.returns
-returns c = λ rate paid from to times order within. all-lines rate paid from to times order within

@@ -1,4 +1,0 @@
-pub mod Headers
-pub mod Texts
-pub mod Fields
-pub mod Views

@@ -1,0 +1,359 @@
+//! What the words of the command line ask for, the exit statuses, and where each text goes.
+mod clients;
+mod grains;
+mod served;
+mod streams;
+mod words;
+
+use super::holds;
+use commands::{Explained, Input, Output, Streams, run, run_solve};
+use line_io::{FromReader, FromWriter, Sink};
+use std::alloc::Global;
+use std::io::{self, Error, ErrorKind, IsTerminal, Read, Write};
+use std::net::{Net, TcpListener, TcpStream};
+use std::sync::Wait;
+use std::thread::Threads;
+
+/// The opening two plies deep.
+const LINE: &[u8] = b"2 ---------------------------OX------XO--------------------------- X\n";
+
+/// What writes into memory.
+type Memory = FromWriter<Vec<u8>>;
+
+/// A writer into memory.
+fn memory(alloc: Global) -> Memory {
+    FromWriter::new(Vec::new(alloc))
+}
+
+/// Gives its bytes at once and then ends, or fails so.
+#[derive(Drop)]
+struct Keys {
+    bytes: &'static [u8],
+    failure: Option<ErrorKind>,
+    is_terminal: bool,
+}
+
+impl Read for Keys {
+    fn read(&mut self, block: &mut [u8]) -> io::Result<usize> {
+        if let Some(kind) = self.failure {
+            return Err(Error::from(kind));
+        }
+        let bytes = self.bytes;
+        let count = bytes.len().min(block.len());
+        block[..count].copy_from_slice(&bytes[..count]);
+        self.bytes = &bytes[count..];
+        Ok(count)
+    }
+}
+
+impl IsTerminal for Keys {
+    fn is_terminal(&self) -> bool {
+        self.is_terminal
+    }
+}
+
+/// An input that gives these bytes or fails so, at a terminal or not.
+fn input(bytes: &'static [u8], failure: Option<ErrorKind>, is_terminal: bool) -> FromReader<Keys> {
+    FromReader {
+        reader: Keys {
+            bytes,
+            failure,
+            is_terminal,
+        },
+    }
+}
+
+/// An input that gives these bytes, at a terminal or not.
+fn typed(bytes: &'static [u8], is_terminal: bool) -> FromReader<Keys> {
+    input(bytes, None, is_terminal)
+}
+
+/// Takes nothing, and fails so.
+#[derive(Drop)]
+struct Broken(ErrorKind);
+
+impl Write for Broken {
+    fn write(&mut self, _bytes: &[u8]) -> io::Result<usize> {
+        Err(Error::from(self.0))
+    }
+
+    fn flush(&mut self) -> io::Result<()> {
+        Ok(())
+    }
+}
+
+/// Does what the words ask for: the exit status. It says nothing of what `run` promises, so that a call is cheap to prove.
+fn status_of<S: Input, K: Output, E: Sink, R>(
+    rt: &R,
+    words: &[&str],
+    streams: &mut Streams<S, K, E>,
+) -> u8
+where
+    R: Net<Listener = TcpListener, Stream = TcpStream> + AllocGlobal + Threads + Wait + Sync,
+{
+    status_in(rt, rt.alloc(), words, streams)
+}
+
+/// The same under a runtime of another kind.
+fn status_in<S: Input, K: Output, E: Sink, R>(
+    rt: &R,
+    alloc: Global,
+    words: &[&str],
+    streams: &mut Streams<S, K, E>,
+) -> u8
+where
+    R: Net<Stream = TcpStream> + Threads + Wait + Sync,
+    R::Listener: Send,
+{
+    run(rt, alloc, words, streams)
+}
+
+/// The exit status with this input and this output, the output then, and what was said on the errors.
+fn followed<S: Input + Drop, K: Output, R>(
+    rt: &R,
+    words: &[&str],
+    source: S,
+    sink: K,
+) -> (u8, K, Vec<u8>)
+where
+    R: Net<Listener = TcpListener, Stream = TcpStream> + AllocGlobal + Threads + Wait + Sync,
+{
+    let mut streams = Streams {
+        source,
+        sink,
+        errors: memory(rt.alloc()),
+    };
+    let status = status_of(rt, words, &mut streams);
+    let Streams { sink, errors, .. } = streams;
+    (status, sink, errors.writer)
+}
+
+/// The exit status with this input, and what was written on the output and on the errors.
+fn written<R>(rt: &R, words: &[&str], source: FromReader<Keys>) -> (u8, Vec<u8>, Vec<u8>)
+where
+    R: Net<Listener = TcpListener, Stream = TcpStream> + AllocGlobal + Threads + Wait + Sync,
+{
+    let (status, sink, errors) = followed(rt, words, source, memory(rt.alloc()));
+    (status, sink.writer, errors)
+}
+
+/// Whether a text begins so, and is empty where that is.
+fn begins(text: &[u8], beginning: &str) -> bool {
+    text.starts_with(beginning.as_bytes()) && text.is_empty() == beginning.is_empty()
+}
+
+/// Words, the exit status with the line of the opening as input, and how the output and the errors begin.
+type Text = (&'static [&'static str], u8, &'static str, &'static str);
+
+const TEXTS: [Text; 12] = [
+    (&["othello", "solve", "--"], 0, "-4 d3\n", ""),
+    (&["othello", "solve", "--grain", "0"], 0, "-4 d3\n", ""),
+    (&["othello", "solve", "--visited"], 0, "-4 d3 15\n", ""),
+    (&["othello", "--version"], 0, "othello 1.0.0\n", ""),
+    (
+        &["othello", "--help"],
+        0,
+        "Othello analysis: the minimax value",
+        "",
+    ),
+    (
+        &["othello", "solve", "-h"],
+        0,
+        "answers lines `depth position`",
+        "",
+    ),
+    (&["othello"], 2, "", "error: "),
+    (&["othello", "--visited"], 2, "", "error: "),
+    (&["othello", "solved"], 2, "", "error: "),
+    (&["othello", "solve", "--fast"], 2, "", "error: "),
+    (&["othello", "serve"], 2, "", "error: "),
+    (&["othello", "serve", "--help"], 0, "serves sessions", ""),
+];
+
+/// Whether words have this status and these texts.
+fn have_texts<R>(rt: &R, text: &Text) -> bool
+where
+    R: Net<Listener = TcpListener, Stream = TcpStream> + AllocGlobal + Threads + Wait + Sync,
+{
+    let (words, status, output, error) = *text;
+    let (found, answers, errors) = written(rt, words, typed(LINE, false));
+    found == status && begins(&answers, output) && begins(&errors, error)
+}
+
+#[test]
+fn each_text_has_its_place_and_status(rt: HostRuntime) {
+    for text in &TEXTS {
+        assert!(rt; have_texts(&rt, text), "{:?}", text.0);
+    }
+}
+
+/// Lines with each fault that a line of `solve` can have by itself, and one that has none.
+const FAULTY: &[u8] = b"x
+000000000000000000000000000000000000000000000000000000000000000000000000000000000000000000000000000000000000000000000000000000000
+2 ---------------------------OX------XO--------------------------- X
+one ---------------------------OX------XO--------------------------- X
+2 ---------------------------OX
+2 ---------------------------OX------XO--------------------------Q X
+2 ---------------------------OX------XO--------------------------- Z
+13 ---------------------------OX------XO--------------------------- X
+";
+
+/// The answers to them.
+const NUMBERS: &[u8] = b"ERR 21
+ERR 22
+-4 d3
+ERR 23
+ERR 24
+ERR 25
+ERR 26
+ERR 27
+";
+
+/// What is said of them at a terminal, behind the line of hints.
+const IN_WORDS: &[u8] = b"othello: no such command
+othello: the line is too long
+othello: not a number within the limits
+othello: the position hasn't 66 bytes
+othello: a byte of the position spells no cell
+othello: no space and side after the cells
+othello: the depth is over 12
+";
+
+/// Whether the input is a terminal, whether the whole program is run or the one without a server, and the words.
+type Explaining = (bool, bool, &'static [&'static str]);
+
+const EXPLAINING: [Explaining; 8] = [
+    (false, false, &["othello", "solve"]),
+    (false, false, &["othello", "solve", "--visited"]),
+    (false, true, &["othello", "solve"]),
+    (false, true, &["othello", "solve", "--visited"]),
+    (true, false, &["othello", "solve"]),
+    (true, false, &["othello", "solve", "--visited"]),
+    (true, true, &["othello", "solve"]),
+    (true, true, &["othello", "solve", "--visited"]),
+];
+
+/// What a program says to lines with each fault.
+#[derive(Drop)]
+struct Said {
+    status: u8,
+    answers: Vec<u8>,
+    in_words: Vec<u8>,
+    errors: Vec<u8>,
+}
+
+/// The status of the whole program with these words, or of the one without a server.
+fn explaining_status<K: Output, E: Sink, R>(
+    rt: &R,
+    is_whole: bool,
+    words: &[&str],
+    streams: &mut Streams<FromReader<Keys>, K, E>,
+) -> u8
+where
+    R: Net<Listener = TcpListener, Stream = TcpStream> + AllocGlobal + Threads + Wait + Sync,
+{
+    if is_whole {
+        status_of(rt, words, streams)
+    } else {
+        run_solve(rt.alloc(), words, streams)
+    }
+}
+
+fn said_of_faults<R>(rt: &R, explaining: &Explaining) -> Said
+where
+    R: Net<Listener = TcpListener, Stream = TcpStream> + AllocGlobal + Threads + Wait + Sync,
+{
+    let (is_terminal, is_whole, words) = *explaining;
+    let source = typed(FAULTY, is_terminal);
+    let alloc = rt.alloc();
+    let mut streams = Streams::explained(source, memory(alloc), memory(alloc), memory(alloc));
+    let status = explaining_status(rt, is_whole, words, &mut streams);
+    let Streams { sink, errors, .. } = streams;
+    let Explained {
+        sink,
+        errors: in_words,
+        ..
+    } = sink;
+    Said {
+        status,
+        answers: sink.writer,
+        in_words: in_words.writer,
+        errors: errors.writer,
+    }
+}
+
+/// Whether faults are said in words at a terminal, behind the line of hints, and nowhere else.
+fn is_explained(said: &Said, explaining: &Explaining) -> bool {
+    let (is_terminal, _, words) = *explaining;
+    let in_words = if is_terminal {
+        IN_WORDS
+    } else {
+        b"".as_slice()
+    };
+    said.status == 0
+        && said.in_words.as_slice() == in_words
+        && said.errors.is_empty() != is_terminal
+        && (words.len() > 2 || said.answers.as_slice() == NUMBERS)
+}
+
+#[test]
+fn faults_are_said_in_words_at_a_terminal(rt: HostRuntime) {
+    for explaining in &EXPLAINING {
+        let said = said_of_faults(&rt, explaining);
+        assert!(rt; is_explained(&said, explaining), "{explaining:?}");
+    }
+}
+
+/// Answers, and what is said of them.
+const ANSWERS: [(&str, &str); 9] = [
+    ("ERR 19\n", "othello: out of memory\n"),
+    ("ERR 27\n", "othello: the depth is over 12\n"),
+    ("ERR 27", ""),
+    ("ERR 7\n", ""),
+    ("ERR 99\n", ""),
+    ("ERR 2:\n", ""),
+    ("ERR 227\n", ""),
+    ("-4 d3\n", ""),
+    ("0 -\n", ""),
+];
+
+/// An output that is explained in memory.
+fn explained<K>(alloc: Global, sink: K) -> Explained<K, Memory> {
+    Explained {
+        sink,
+        errors: memory(alloc),
+        explains: true,
+    }
+}
+
+/// Writes an answer, which isn't empty, and tells whether it was taken as a whole.
+fn is_taken<K: Sink>(sink: &mut K, answer: &str) -> bool {
+    let bytes = answer.as_bytes();
+    if bytes.is_empty() {
+        return false;
+    }
+    matches!(sink.put(bytes), Ok(count) if count == bytes.len())
+}
+
+/// Whether this is said of an answer that is taken.
+fn is_said_of(alloc: Global, answer: &str, said: &str) -> bool {
+    let mut sink = explained(alloc, memory(alloc));
+    is_taken(&mut sink, answer)
+        && sink.sink.writer.as_slice() == answer.as_bytes()
+        && sink.errors.writer.as_slice() == said.as_bytes()
+}
+
+/// Whether nothing is said of an answer that nobody got.
+fn is_lost_in_silence(alloc: Global) -> bool {
+    let broken = FromWriter::new(Broken(ErrorKind::BrokenPipe));
+    let mut sink = explained(alloc, broken);
+    !is_taken(&mut sink, "ERR 27\n") && sink.is_closed() && sink.errors.writer.is_empty()
+}
+
+#[test]
+fn only_faults_are_said_in_words(rt: HostRuntime) {
+    for (answer, said) in &ANSWERS {
+        assert!(rt; is_said_of(rt.alloc(), answer, said), "{answer:?}");
+    }
+    holds(&rt, is_lost_in_silence(rt.alloc()));
+}

@@ -1,0 +1,181 @@
+//! Streams that fail by each error that a process can meet, and terminals.
+use super::{Broken, LINE, followed, input, memory, status_in, status_of, typed, written};
+use crate::tests::servers::looked_at::{Nameless, no_address};
+use crate::tests::{holds, says};
+use commands::{Streams, Unserved};
+use line_io::FromWriter;
+use std::alloc::{AllocError, Global};
+use std::io::ErrorKind;
+use std::net::{Net, TcpListener, TcpStream};
+use std::sync::Wait;
+use std::thread::Threads;
+use tcp_server::ServeFault;
+
+/// Where the output couldn't be written.
+const UNWRITTEN: &str = "othello: the output could not be written\n";
+
+/// Where the input couldn't be read.
+const UNREAD: &str = "othello: the input could not be read\n";
+
+/// What is said first at a terminal.
+const HINT: &str =
+    "othello: reading lines `depth position`; `othello solve --help` explains them\n";
+
+const SOLVE: &[&str] = &["othello", "solve"];
+
+const SERVE: &[&str] = &["othello", "serve", "--sessions", "1"];
+
+/// Words, how the input fails, whether it is a terminal, how the output fails, the exit status, and the errors.
+type Failing = (
+    &'static [&'static str],
+    Option<ErrorKind>,
+    bool,
+    ErrorKind,
+    u8,
+    &'static str,
+);
+
+const FAILING: [Failing; 11] = [
+    (SOLVE, None, false, ErrorKind::BrokenPipe, 1, ""),
+    (SOLVE, None, false, ErrorKind::StorageFull, 1, UNWRITTEN),
+    (
+        SOLVE,
+        None,
+        false,
+        ErrorKind::PermissionDenied,
+        1,
+        UNWRITTEN,
+    ),
+    (SOLVE, None, false, ErrorKind::ConnectionReset, 1, UNWRITTEN),
+    (SOLVE, None, false, ErrorKind::WriteZero, 1, UNWRITTEN),
+    (SOLVE, None, false, ErrorKind::Other, 1, UNWRITTEN),
+    (SERVE, None, false, ErrorKind::StorageFull, 1, UNWRITTEN),
+    (SERVE, None, false, ErrorKind::BrokenPipe, 1, UNWRITTEN),
+    (
+        SOLVE,
+        Some(ErrorKind::Other),
+        false,
+        ErrorKind::Other,
+        1,
+        UNREAD,
+    ),
+    (SOLVE, None, true, ErrorKind::BrokenPipe, 1, HINT),
+    (&["othello", "--help"], None, false, ErrorKind::Other, 0, ""),
+];
+
+/// Whether a program whose input and output fail so has this status and says this on its errors.
+fn is_told<R>(rt: &R, failing: &Failing) -> bool
+where
+    R: Net<Listener = TcpListener, Stream = TcpStream> + AllocGlobal + Threads + Wait + Sync,
+{
+    let (words, failure, is_terminal, broken, status, said) = *failing;
+    let sink = FromWriter::new(Broken(broken));
+    let (found, _sink, errors) = followed(rt, words, input(LINE, failure, is_terminal), sink);
+    found == status && errors.as_slice() == said.as_bytes()
+}
+
+/// Only a reader that closed the output leaves nothing to say; each other error of an output is told, once, and so is a
+/// failed read before it.
+#[test]
+fn each_error_of_an_output(rt: HostRuntime) {
+    for failing in &FAILING {
+        assert!(rt; is_told(&rt, failing), "{failing:?}");
+    }
+}
+
+/// The status of words that are refused where that can't be said.
+fn refused_in_silence<R>(rt: &R) -> u8
+where
+    R: Net<Listener = TcpListener, Stream = TcpStream> + AllocGlobal + Threads + Wait + Sync,
+{
+    let mut streams = Streams {
+        source: typed(LINE, false),
+        sink: FromWriter::new(Broken(ErrorKind::Other)),
+        errors: FromWriter::new(Broken(ErrorKind::Other)),
+    };
+    status_of(rt, &["othello", "solved"], &mut streams)
+}
+
+#[test]
+fn refused_words_that_cannot_be_explained(rt: HostRuntime) {
+    holds(&rt, refused_in_silence(&rt) == 2);
+}
+
+/// Whether the input is a terminal, how it fails, the exit status, and the errors.
+type Reading = (bool, Option<ErrorKind>, u8, &'static str);
+
+const READINGS: [Reading; 4] = [
+    (false, None, 0, ""),
+    (true, None, 0, HINT),
+    (false, Some(ErrorKind::IsADirectory), 1, UNREAD),
+    (false, Some(ErrorKind::BrokenPipe), 1, UNREAD),
+];
+
+/// Whether a program with this input has this status, says this on its errors, and answers where it could read.
+fn is_read<R>(rt: &R, reading: &Reading) -> bool
+where
+    R: Net<Listener = TcpListener, Stream = TcpStream> + AllocGlobal + Threads + Wait + Sync,
+{
+    let (is_terminal, failure, status, said) = *reading;
+    let (found, answers, errors) = written(rt, SOLVE, input(LINE, failure, is_terminal));
+    found == status
+        && errors.as_slice() == said.as_bytes()
+        && answers.is_empty() == failure.is_some()
+}
+
+/// At a terminal a hint comes first; a failed read is told, and isn't the end.
+#[test]
+fn each_input(rt: HostRuntime) {
+    for reading in &READINGS {
+        assert!(rt; is_read(&rt, reading), "{reading:?}");
+    }
+}
+
+/// What each fault of a server says.
+#[test]
+fn faults_of_the_program_are_told(rt: HostRuntime) {
+    let alloc = rt.alloc();
+    let unsaid = Unserved::from(ServeFault::Unsaid);
+    let refused = Unserved::from(AllocError);
+    let no_memory = Unserved::from(ServeFault::OutOfMemory);
+    let no_thread = Unserved::from(ServeFault::NoThread);
+    holds(&rt, says(alloc, refused, "no memory for the segments"));
+    holds(
+        &rt,
+        says(
+            alloc,
+            Unserved::Unwritten,
+            "the output could not be written",
+        ),
+    );
+    holds(&rt, says(alloc, unsaid, "the output could not be written"));
+    holds(&rt, says(alloc, no_memory, "no memory for the workers"));
+    holds(&rt, says(alloc, no_thread, "no thread for a worker"));
+}
+
+/// The status of a server whose listener has no address, what it says, and what on the errors.
+fn unnamed<R>(rt: &R) -> (u8, Vec<u8>, Vec<u8>)
+where
+    R: Net<Listener = TcpListener, Stream = TcpStream> + AllocGlobal + Threads + Wait + Sync,
+{
+    let mut streams = Streams {
+        source: typed(LINE, false),
+        sink: memory(rt.alloc()),
+        errors: memory(rt.alloc()),
+    };
+    let status = status_in(&Nameless { rt }, rt.alloc(), SERVE, &mut streams);
+    let Streams { sink, errors, .. } = streams;
+    (status, sink.writer, errors.writer)
+}
+
+/// It is told why, and not that anything couldn't be written.
+#[test]
+fn an_address_that_cannot_be_had_is_told(rt: HostRuntime) {
+    let (status, answers, errors) = unnamed(&rt);
+    let error = no_address();
+    match format!(in rt.alloc(); "othello: {error}\n") {
+        Ok(told) => holds(&rt, errors.as_slice() == told.as_bytes()),
+        Err(_) => panic!(rt; "no memory"),
+    }
+    holds(&rt, status == 1 && answers.is_empty());
+}

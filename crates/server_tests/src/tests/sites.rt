@@ -1,0 +1,357 @@
+//! A site's sessions over a desk without workers: bytes in, bytes out, and a clock that goes on by a step at each look.
+ghost use Rattle.std.specs.Prelude.{◌≡◌};
+
+use crate::tests::holds;
+use fair_pool::FairShare;
+use hall::{Config, Hall};
+use line_io::{FromReader, FromWriter};
+use site_book::{Amount, Book, Comer, Plan, Who};
+use site_desk::{BookedHall, Entry, Seat, SiteDesk};
+use site_office::{Cause, House, Met, Note, SiteOffice, serve_connection};
+use std::alloc::Global;
+use std::process::Abort;
+use std::sync::Wait;
+use std::time::Clock;
+use tenant_quota::Reserve;
+
+/// Three guests of IPv4.
+const GUEST: Who = Who::V4(1);
+
+const OTHER: Who = Who::V4(2);
+
+const THIRD: Who = Who::V4(3);
+
+/// The named customer, and its token.
+const SCHOOL: Who = Who::Named(0);
+
+const TOKEN: &[u8] = b"sesame";
+
+/// An amount.
+fn amount(sessions: u32, segments: u64, nodes: u64) -> Amount
+    ensures { result ≡ record { sessions = sessions; segments = segments; nodes = nodes } }
+{
+    Amount {
+        sessions,
+        segments,
+        nodes,
+    }
+}
+
+/// The desk of a hall where the school may have two sessions, and two guests one each.
+fn desks_of(rt: &impl Abort, alloc: Global) -> Vec<SiteDesk> {
+    let mut customers: Vec<Amount> = Vec::new(alloc);
+    holds(rt, customers.push(amount(2, 16, 160)).is_ok());
+    let plan = Plan::new(
+        amount(4, 32, 320),
+        customers,
+        amount(1, 8, 80),
+        amount(1, 8, 80),
+        amount(2, 16, 160),
+    );
+    let mut desks: Vec<SiteDesk> = Vec::new(alloc);
+    let (Some(plan), Some(totals)) = (plan, Config::new(32, 320)) else {
+        return desks;
+    };
+    let (Ok(book), Ok(hall), Ok(shares)) = (
+        Book::new(alloc, plan),
+        Hall::new(alloc, totals, 4),
+        FairShare::new(alloc, 8),
+    ) else {
+        return desks;
+    };
+    holds(
+        rt,
+        desks
+            .push(SiteDesk::new(BookedHall::new(hall, book), shares))
+            .is_ok(),
+    );
+    desks
+}
+
+/// A house whose clock goes on at each look, and in which one other session may be that leaves when it is told.
+struct TestHouse<'a, R> {
+    rt: &'a R,
+    desk: &'a SiteDesk,
+    own: Who,
+    /// The time, and how far it goes on.
+    now: std::cell::Cell<u64>,
+    step: u64,
+    /// How many lines are paid.
+    paid: u32,
+    is_crowded: bool,
+    other: Option<Seat>,
+    /// What it was told, a letter each.
+    told: Vec<u8>,
+}
+
+/// A letter for what a house is told.
+fn letter(note: Note) -> u8 {
+    match note {
+        Note::Begins(_, Who::Named(_)) => b'N',
+        Note::Begins(_, _) => b'B',
+        Note::Ended(_) => b'E',
+        Note::Waits(true) => b'W',
+        Note::Waits(false) => b'w',
+        Note::Value => b'v',
+        Note::Refused(Cause::Budget) => b'b',
+        Note::Refused(Cause::Guests) => b'g',
+        Note::Refused(Cause::Rate) => b'r',
+        Note::Refused(Cause::Token) => b't',
+        Note::Refused(Cause::Connections) => b'c',
+        Note::Refused(Cause::Memory) => b'm',
+        Note::Tells(_) => b'T',
+    }
+}
+
+impl<R: Wait> House for TestHouse<'_, R> {
+    fn now(&self) -> u64 {
+        self.now.set(self.now.get().saturating_add(self.step));
+        self.now.get()
+    }
+
+    fn guest_idle(&self) -> u64 {
+        60_000
+    }
+
+    fn meet(&mut self, token: Option<&[u8]>) -> Met {
+        if self.is_crowded {
+            return Met::Crowded;
+        }
+        match token {
+            None => Met::Is(self.own, 0),
+            Some(word) if word == TOKEN => Met::Is(SCHOOL, 0),
+            Some(_) => Met::Nobody,
+        }
+    }
+
+    fn pay(&mut self, _who: Who) -> bool {
+        let passes = self.paid > 0;
+        self.paid = self.paid.saturating_sub(1);
+        passes
+    }
+
+    fn note(&mut self, note: Note) {
+        let _ = self.told.push(letter(note));
+        if let Note::Tells(_) = note {
+            if let Some(seat) = self.other.take() {
+                self.desk.leave(self.rt, seat);
+            }
+        }
+    }
+}
+
+/// A house for a connection of this customer.
+fn house<'a, R>(rt: &'a R, alloc: Global, desk: &'a SiteDesk, own: Who) -> TestHouse<'a, R> {
+    TestHouse {
+        rt,
+        desk,
+        own,
+        now: std::cell::Cell::new(100_000),
+        step: 10,
+        paid: 99,
+        is_crowded: false,
+        other: None,
+        told: Vec::new(alloc),
+    }
+}
+
+/// Plays a session, and fails the test unless it is answered so and its house is told so.
+fn plays<R: Wait + Clock + Abort>(
+    rt: &R,
+    alloc: Global,
+    desks: &[SiteDesk],
+    desk: &SiteDesk,
+    house: TestHouse<'_, R>,
+    said: &str,
+    answered: &str,
+    told: &str,
+) {
+    let own = house.own;
+    let mut source = FromReader {
+        reader: said.as_bytes(),
+    };
+    let mut sink = FromWriter::new(Vec::new(alloc));
+    let mut office = SiteOffice::new(rt, desks, desk, house, own, 4);
+    let end = serve_connection(rt, &mut source, &mut sink, &mut office);
+    holds(rt, end.is_ok());
+    let house = office.close();
+    holds(rt, sink.writer.as_slice() == answered.as_bytes());
+    holds(rt, house.told.as_slice() == told.as_bytes());
+    let TestHouse {
+        rt: _,
+        desk: _,
+        own: _,
+        now: _,
+        step: _,
+        paid: _,
+        is_crowded: _,
+        other: _other,
+        told: _told,
+    } = house;
+}
+
+/// A seat of a customer that came then.
+fn seat_of<R: Wait + Abort>(rt: &R, desk: &SiteDesk, who: Who, at: u64) -> Option<Seat> {
+    let Some(ask) = Reserve::new(8, 80) else {
+        return None;
+    };
+    let comer = Comer {
+        who,
+        ask,
+        at,
+        most: 60_000,
+    };
+    match desk.come(rt, &comer) {
+        Entry::Seated(seat) => Some(seat),
+        _ => None,
+    }
+}
+
+/// A session of a guest, from its first line to its last.
+#[test]
+fn a_guests_session(rt: HostRuntime) {
+    let desks = desks_of(&rt, rt.alloc());
+    for desk in &desks {
+        plays(
+            &rt,
+            rt.alloc(),
+            desks.as_slice(),
+            desk,
+            house(&rt, rt.alloc(), desk, GUEST),
+            "INFO\nHELLO 9 8\nHELLO 4 8\nINFO\nRESERVE 4 8\nRESERVE 8 81\r\r\nRESERVE 8 81\nRESERVE 8 80\nINFO\nQUOTA\nHELLO 1 1\nBYE\nQUOTA\n",
+            "ERR 28\nERR 14\nWELCOME 4 8\nINFO 4 8 80 4 8 1.0.0\nERR 20\nERR 23\nERR 14\nRESERVED 8 80\nINFO 4 8 80 8 80 1.0.0\nQUOTA 8 80 1280\nERR 29\nBYE\n",
+            "bBbE",
+        );
+        holds(&rt, desk.roll(&rt).is_empty());
+    }
+}
+
+/// A token says whose a session is; one that nobody has is refused, and then the connection is its own again.
+#[test]
+fn whose_a_session_is(rt: HostRuntime) {
+    let desks = desks_of(&rt, rt.alloc());
+    for desk in &desks {
+        plays(
+            &rt,
+            rt.alloc(),
+            desks.as_slice(),
+            desk,
+            house(&rt, rt.alloc(), desk, GUEST),
+            "HELLO 16 160 sesam\nHELLO 16 160 sesame\nINFO\n",
+            "ERR 30\nWELCOME 16 160\nINFO 4 16 160 16 160 1.0.0\n",
+            "tNE",
+        );
+        plays(
+            &rt,
+            rt.alloc(),
+            desks.as_slice(),
+            desk,
+            house(&rt, rt.alloc(), desk, GUEST),
+            "HELLO 17 160 sesame\nHELLO 9 80 sesam\nHELLO 9 80\nHELLO 8 80\nINFO\n",
+            "ERR 14\nERR 30\nERR 14\nWELCOME 8 80\nINFO 4 8 80 8 80 1.0.0\n",
+            "btbBE",
+        );
+    }
+}
+
+/// Lines that ask for a reservation are paid for, and no others.
+#[test]
+fn lines_that_are_paid_for(rt: HostRuntime) {
+    let desks = desks_of(&rt, rt.alloc());
+    for desk in &desks {
+        let mut poor = house(&rt, rt.alloc(), desk, GUEST);
+        poor.paid = 2;
+        plays(
+            &rt,
+            rt.alloc(),
+            desks.as_slice(),
+            desk,
+            poor,
+            "HELLO 9 8\nQUOTA\nHELLO 4 8\nQUOTA\nINFO\nRESERVE 5 8\nLIVE\n",
+            "ERR 14\nERR 28\nWELCOME 4 8\nQUOTA 4 8 128\nINFO 4 8 80 4 8 1.0.0\nERR 31\nLIVE 0 0\n",
+            "bBrE",
+        );
+        let mut crowded = house(&rt, rt.alloc(), desk, GUEST);
+        crowded.is_crowded = true;
+        crowded.paid = 1;
+        plays(
+            &rt,
+            rt.alloc(),
+            desks.as_slice(),
+            desk,
+            crowded,
+            "HELLO 4 8\nHELLO 4 8\n",
+            "ERR 14\nERR 31\n",
+            "ccr",
+        );
+    }
+}
+
+/// Where all guests' places are taken the one goes that has been idle for longest, and the comer has its place once that has left.
+#[test]
+fn a_guest_goes_for_another(rt: HostRuntime) {
+    let desks = desks_of(&rt, rt.alloc());
+    for desk in &desks {
+        let idle = seat_of(&rt, desk, OTHER, 1_000);
+        let busy = seat_of(&rt, desk, THIRD, 99_000);
+        holds(&rt, idle.is_some() && busy.is_some());
+        let mut waiting = house(&rt, rt.alloc(), desk, GUEST);
+        waiting.other = idle;
+        plays(
+            &rt,
+            rt.alloc(),
+            desks.as_slice(),
+            desk,
+            waiting,
+            "HELLO 8 80\nBYE\n",
+            "WELCOME 8 80\nBYE\n",
+            "TBE",
+        );
+        holds(&rt, desk.roll(&rt).len() == 1);
+        if let Some(seat) = busy {
+            desk.leave(&rt, seat);
+        }
+    }
+}
+
+/// Who waits for one that doesn't leave gives up after 2 seconds of the clock; and nobody goes where none is idle.
+#[test]
+fn a_guest_that_does_not_leave(rt: HostRuntime) {
+    let desks = desks_of(&rt, rt.alloc());
+    for desk in &desks {
+        let idle = seat_of(&rt, desk, OTHER, 1_000);
+        let busy = seat_of(&rt, desk, THIRD, 99_000);
+        let mut waiting = house(&rt, rt.alloc(), desk, GUEST);
+        waiting.step = 950;
+        plays(
+            &rt,
+            rt.alloc(),
+            desks.as_slice(),
+            desk,
+            waiting,
+            "HELLO 8 80\n",
+            "ERR 14\n",
+            "Tg",
+        );
+        holds(&rt, desk.roll(&rt).len() == 2);
+        if let Some(seat) = idle {
+            desk.leave(&rt, seat);
+        }
+        let other = seat_of(&rt, desk, OTHER, 99_000);
+        plays(
+            &rt,
+            rt.alloc(),
+            desks.as_slice(),
+            desk,
+            house(&rt, rt.alloc(), desk, GUEST),
+            "HELLO 8 80\n",
+            "ERR 14\n",
+            "g",
+        );
+        if let (Some(seat), Some(other)) = (busy, other) {
+            desk.leave(&rt, seat);
+            desk.leave(&rt, other);
+        }
+        holds(&rt, desk.roll(&rt).is_empty());
+    }
+}

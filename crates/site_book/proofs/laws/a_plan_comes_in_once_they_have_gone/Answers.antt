@@ -1,0 +1,11 @@
+use Rattle.std.proofs.Common.{[]}
+use Rattle.site_book.proofs.Keepings.{kept-new, let-in}
+use Rattle.site_book.specs.declared.present.Leaver.TheVariants.{Told as those_told}
+use Rattle.site_book.specs.Rolls.{remaining}
+use Rattle.site_book.specs.Comings.{told_by}
+use Rattle.site_book.proofs.ComingLemmas.{left-kept}
+use Rattle.site_book.proofs.laws.a_plan_comes_in_once_they_have_gone.Goals as goal
+
+pub returns : goal.returns
+returns c = λ book plan roll alike totals fit.
+    let-in (record book { grants = remaining those_told book.grants (told_by plan [] book.grants roll) }) plan totals fit (left-kept plan [] book.grants roll (kept-new plan fit) alike).within

@@ -1,0 +1,123 @@
+ghost use Rattle.std.specs.Prelude.{◌≡◌, ◌≤◌, ◌<◌, [], length};
+ghost use Rattle.site_book.specs.Comings.{coming, unless_idle, stays, told_by, told_unless, with_staying};
+
+use crate::book::why_over;
+use crate::held::Held;
+use crate::plan::Plan;
+use crate::present::{Leaver, Present, Told, first_told};
+use crate::refusal::Refusal;
+use crate::roll::{MOST, idlest, remaining};
+use crate::who::Who;
+use arrayvec::ArrayVec;
+use tenant_quota::Reserve;
+
+/// What comes of one who asks for a session.
+#[derive(Clone, Copy, Debug, PartialEq, Eq)]
+pub enum Coming {
+    /// The book allows it.
+    Enters,
+    /// The book refuses it, but there is room once those have gone who were told to end.
+    Waits(Refusal),
+    /// The book refuses it, as all guests together have too much; the guest's session of this number is to end.
+    Ends(u64, Refusal),
+    /// The book refuses it.
+    Refused(Refusal),
+}
+
+/// One who asks for a session.
+#[derive(Clone, Copy, Debug)]
+pub struct Comer {
+    /// Whose the session is to be.
+    pub who: Who,
+    /// What it is to reserve.
+    pub ask: Reserve,
+    /// The time.
+    pub at: u64,
+    /// How long a guest may say nothing, where another comes.
+    pub most: u64,
+}
+
+/// What comes of one who asks for a session at a hall that has these grants and sessions.
+pub fn what_comes_of(plan: &Plan, grants: &[Held], roll: &[Present], comer: &Comer) -> Coming
+    requires few { length grants.now ≤ 64 }
+    requires alike { length grants.now ≡ length roll.now }
+    ensures { result ≡ coming plan.now grants.now roll.now comer.now.who comer.now.ask comer.now.at comer.now.most }
+{
+    let Some(refusal) = why_over(plan, grants, comer.who, comer.ask) else {
+        return Coming::Enters;
+    };
+    let staying = remaining(grants, roll, Leaver::Told);
+    if why_over(plan, staying.as_slice(), comer.who, comer.ask).is_none() {
+        return Coming::Waits(refusal);
+    }
+    let busy = remaining(
+        grants,
+        roll,
+        Leaver::Idle {
+            now: comer.at,
+            most: comer.most,
+        },
+    );
+    let why = why_over(plan, busy.as_slice(), comer.who, comer.ask);
+    unless_idle(refusal, why, idlest(roll, comer.at, comer.most))
+}
+
+/// Whether the idlest guest is to end for one who is refused, by why it is refused though all idle ones have gone.
+fn unless_idle(refusal: Refusal, why: Option<Refusal>, idle: Option<Present>) -> Coming
+    ensures { result ≡ unless_idle refusal why idle }
+{
+    match refusal {
+        Refusal::OverGuests => match (why, idle) {
+            (None, Some(present)) => Coming::Ends(present.session, refusal),
+            _ => Coming::Refused(refusal),
+        },
+        _ => Coming::Refused(refusal),
+    }
+}
+
+/// Whether a session stays under another plan, by those that stay of those before it. Then it is one of them; else it is told to
+/// end.
+fn judged(plan: &Plan, before: &mut ArrayVec<Held, MOST>, held: &Held, present: &Present) -> Present
+    requires { length before.old.items < 64 }
+    ensures present { result ≡ told_unless (stays plan.now before.old.items held.now present.now) present.now }
+    ensures before { before.new.items ≡ with_staying (stays plan.now before.old.items held.now present.now) before.old.items held.now }
+{
+    if stays(plan, before.as_slice(), held, present) {
+        before.push(*held);
+        *present
+    } else {
+        Present {
+            told: first_told(present.told, Told::ByPlan),
+            ..*present
+        }
+    }
+}
+
+/// Whether a session stays under another plan, by those that stay of those before it.
+fn stays(plan: &Plan, before: &[Held], held: &Held, present: &Present) -> bool
+    requires { length before.now ≤ 64 }
+    ensures { result ≡ stays plan.now before.now held.now present.now }
+{
+    present.told.is_none() && why_over(plan, before, held.who, held.ask).is_none()
+}
+
+/// The sessions, where those that don't stay under another plan are told to end.
+pub fn told_by(plan: &Plan, grants: &[Held], roll: &[Present]) -> ArrayVec<Present, MOST>
+    requires few { length grants.now ≤ 64 }
+    requires alike { length grants.now ≡ length roll.now }
+    ensures { result.items ≡ told_by plan.now [] grants.now roll.now }
+{
+    let mut before = ArrayVec::new();
+    let mut told = ArrayVec::new();
+    let mut rest = grants;
+    let mut beside = roll;
+    while let Some((held, later)) = rest.split_first() {
+        let Some((present, others)) = beside.split_first() else {
+            unreachable!()
+        };
+        told.push(judged(plan, &mut before, held, present));
+        rest = later;
+        beside = others;
+    }
+    told
+}

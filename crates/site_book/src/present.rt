@@ -1,0 +1,170 @@
+ghost use Rattle.std.specs.Prelude.{◌≡◌};
+ghost use Rattle.site_book.specs.Rolls.{first_told, goes, is_idle, is_meant, is_present_as, marked, marked_if, newcomer};
+
+use crate::held::Part;
+use crate::who::Who;
+
+/// Why a session is told to end.
+#[derive(Clone, Copy, Debug, PartialEq, Eq)]
+pub enum Told {
+    /// Its client is gone.
+    Gone,
+    /// It has said nothing for too long.
+    Idle,
+    /// A guest came, and it was the guest that had been idle longest.
+    ForAnother,
+    /// The operator ended it.
+    ByOperator,
+    /// Another plan has no room for it.
+    ByPlan,
+}
+
+/// A session that is there. Times are milliseconds of the caller's clock.
+#[derive(Clone, Copy, Debug)]
+pub struct Present {
+    /// Whose it is.
+    pub who: Who,
+    /// Its number.
+    pub session: u64,
+    /// When it came.
+    pub since: u64,
+    /// When it last said a line, or stopped waiting for a job.
+    pub last: u64,
+    /// Whether it waits for a job.
+    pub waits: bool,
+    /// Why it was told to end, if it was.
+    pub told: Option<Told>,
+}
+
+// Only for the free places of an `ArrayVec`, which need some value.
+impl Default for Present {
+    fn default() -> Present {
+        Present::newcomer(Who::Named(0), 0, 0)
+    }
+}
+
+/// What is noted of a session.
+#[derive(Clone, Copy, Debug)]
+pub enum Mark {
+    /// It said a line at this time.
+    Spoke(u64),
+    /// It waits for a job from this time on, or doesn't any more.
+    Waits(bool, u64),
+    /// It is told to end.
+    Told(Told),
+}
+
+/// Which sessions are meant.
+#[derive(Clone, Copy, Debug)]
+pub enum Whom {
+    /// The one of this number.
+    One(u64),
+    /// Those of a customer, of a wider network of guests, of all guests, or all.
+    Each(Part),
+}
+
+/// Which sessions are looked at as gone.
+#[derive(Clone, Copy, Debug)]
+pub enum Leaver {
+    /// Those that were told to end.
+    Told,
+    /// Those too that are idle.
+    Idle {
+        /// The time.
+        now: u64,
+        /// How long a guest may say nothing.
+        most: u64,
+    },
+}
+
+impl Present {
+    /// A session that comes now.
+    pub fn newcomer(who: Who, session: u64, now: u64) -> Present
+        ensures { result ≡ newcomer who session now }
+    {
+        Present {
+            who,
+            session,
+            since: now,
+            last: now,
+            waits: false,
+            told: None,
+        }
+    }
+
+    /// Whether it is this session of this customer.
+    pub(crate) fn is(&self, who: Who, session: u64) -> bool
+        ensures { result ≡ is_present_as who session self.now }
+    {
+        who.is(self.who) && session == self.session
+    }
+
+    /// Whether it is a guest's that waits for no job, wasn't told to end, and has said nothing for longer than `most`.
+    pub(crate) fn is_idle(&self, now: u64, most: u64) -> bool
+        ensures { result ≡ is_idle now most self.now }
+    {
+        self.who.is_guest()
+            && self.told.is_none()
+            && !self.waits
+            && most < now.saturating_sub(self.last)
+    }
+
+    /// Whether it is one of those that are looked at as gone.
+    pub(crate) fn goes(&self, leaver: Leaver) -> bool
+        ensures { result ≡ goes leaver self.now }
+    {
+        match leaver {
+            Leaver::Told => self.told.is_some(),
+            Leaver::Idle { now, most } => self.told.is_some() || self.is_idle(now, most),
+        }
+    }
+
+    /// Whether it is meant.
+    fn is_meant(&self, whom: Whom) -> bool
+        ensures { result ≡ is_meant whom self.now }
+    {
+        match whom {
+            Whom::One(session) => session == self.session,
+            Whom::Each(part) => part.has(self.who),
+        }
+    }
+
+    /// After this mark.
+    fn marked(self, mark: Mark) -> Present
+        ensures { result ≡ marked mark self }
+    {
+        match mark {
+            Mark::Spoke(now) => Present { last: now, ..self },
+            Mark::Waits(waits, now) => Present {
+                waits,
+                last: now,
+                ..self
+            },
+            Mark::Told(why) => Present {
+                told: first_told(self.told, why),
+                ..self
+            },
+        }
+    }
+
+    /// After a mark for these.
+    pub(crate) fn marked_if(self, whom: Whom, mark: Mark) -> Present
+        ensures { result ≡ marked_if whom mark self }
+    {
+        if self.is_meant(whom) {
+            self.marked(mark)
+        } else {
+            self
+        }
+    }
+}
+
+/// The first reason for which a session was told to end stays.
+pub(crate) fn first_told(told: Option<Told>, why: Told) -> Option<Told>
+    ensures { result ≡ first_told told why }
+{
+    match told {
+        None => Some(why),
+        Some(told) => Some(told),
+    }
+}

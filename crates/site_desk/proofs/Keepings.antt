@@ -1,0 +1,190 @@
+-- Each call leaves the grants the hall's tenants.
+use Rattle.std.proofs.Common.{◌≡◌, ℕ, ◌+◌, ◌<◌, ◌≤◌, inl, inr, true, false, List, [], ◌∷◌, ◌++◌, Option, Some, None, Result, Ok, Err, refl, ap, sym, ◌∙◌, subst, arith}
+use Rattle.std.proofs.lemmas.Bool.{cases_Bool}
+use Rattle.std.specs.Option.{is_some}
+use Rattle.number_index.specs.Places.{AreRising}
+use Rattle.tenant_quota.specs.Quota.{Quota}
+use Rattle.sched_rules.specs.declared.refusal.Refusal.{Refusal}
+use Rattle.sched_rules.specs.declared.step.StepOf.{StepOf}
+use Rattle.sched_rules.specs.declared.step.StepOf.TheVariants.{Admit, AdmitMore, Leave}
+use Rattle.sched_rules.specs.declared.step.DidOf.{DidOf}
+use Rattle.sched_rules.specs.Trees.{Tenant, admitted_with}
+use Rattle.sched_rules.specs.Lone.{is_lower}
+use Rattle.sched_rules.specs.Runs.{tenant_of}
+use Rattle.sched_rules.specs.Cores.{tenant_in, with_outcome, reservations_in, is_full, is_beyond}
+use Rattle.sched_rules.specs.Headline.{AreNumbersGiven}
+use Rattle.sched_rules.proofs.Tenants.{tenant_in-new}
+use Rattle.sched_rules.proofs.Isolation.{IsTaken}
+use Rattle.hall.specs.jamboree_rules.declared.leaf.Leaf.{Leaf}
+use Rattle.hall.specs.jamboree_rules.declared.leaf.LeafAnswer.{LeafAnswer}
+use Rattle.hall.specs.jamboree_rules.Procedure.{jamboree}
+use Rattle.hall.specs.Halls.{HallOf, IsDecided}
+use Rattle.site_book.specs.declared.amount.Amount.{Amount}
+use Rattle.site_book.specs.declared.held.Held.{Held}
+use Rattle.site_book.specs.declared.held.Part.TheVariants.{All}
+use Rattle.site_book.specs.declared.refusal.Refusal.{Refusal as BookRefusal}
+use Rattle.site_book.specs.declared.refusal.Refusal.TheVariants.{Lower}
+use Rattle.site_book.specs.declared.who.Who.{Who}
+use Rattle.site_book.specs.Amounts.{of_one, plus, IsWithin}
+use Rattle.site_book.specs.Plans.{PlanOf}
+use Rattle.site_book.specs.Grants.{used, grant_of, without}
+use Rattle.site_book.specs.Books.{BookOf, Opens, Raises, Closes, taken, why_no_raise, why_not_replan}
+use Rattle.site_book.proofs.Keepings.{comes-in}
+use Rattle.site_desk.specs.Booked.{IsBooked, Took, is_within_seat}
+use Rattle.site_desk.specs.BookedSeats.{Seat, seats_in_book, seats_in_hall, number_of}
+use Rattle.site_desk.proofs.SeatLemmas.{set_seat, drop_seats, seat_at, amount_of, hall-same, hall-new, hall-set, hall-drop, IsThere, hall-at, book-push, book-set, book-drop, book-at, taken-upto, rising-push, rising-set, rising-drop, book-amount, used-found, not_full, not_beyond}
+use Rattle.site_desk.proofs.HallSteps.{went, admit-outcome, more-outcome, leave-outcome, stayed, moved}
+
+abbrev Step : Type 0
+Step = StepOf LeafAnswer
+
+-- a taken step with what it left
+record HasGone (before after : HallOf) (step : Step) : Type 0 where
+  did : DidOf Leaf
+  how : IsTaken (jamboree before.grain) before.shared step did
+  tenants : after.shared.tenants ≡ with_outcome (tenant_of step) how.outcome.0 before.shared.tenants
+  totals : after.shared.totals ≡ before.shared.totals
+  given : AreNumbersGiven after.shared
+
+gone : (before after : HallOf) (step : Step) → AreNumbersGiven before.shared → Took before step after → HasGone before after step
+gone before after step known took =
+    let p = went (jamboree before.grain) before.shared after.shared step took.0 known took.1.one in
+    let m = moved (jamboree before.grain) before.shared after.shared step p.0.outcome.0 p.1 in
+    record { did = took.0; how = p.0; tenants = m.0; totals = m.1; given = subst AreNumbersGiven (sym p.1) p.0.known }
+
+-- a hall and a book with these seats
+booked-as : (hall hall' : HallOf) (book book' : BookOf) (seats : List Seat) → IsBooked hall book → hall'.shared.totals ≡ hall.shared.totals → AreNumbersGiven hall'.shared → book'.plan.totals ≡ book.plan.totals → seats_in_hall hall'.shared.tenants ≡ seats → seats_in_book book'.grants ≡ seats → AreRising number_of seats → IsBooked hall' book'
+booked-as hall hall' book book' seats is totals given plan by_hall by_book rising =
+    let segments = ap (λ (q : Quota). q.segments) totals in
+    let nodes = ap (λ (q : Quota). q.nodes) totals in
+    let plan_segments = ap (λ (a : Amount). a.segments) plan in
+    let plan_nodes = ap (λ (a : Amount). a.nodes) plan in
+    record {
+      seated = by_book ∙ sym by_hall;
+      rising = subst (AreRising number_of) (sym by_hall) rising;
+      given = given;
+      segments = omega (arith, is.segments, segments, plan_segments);
+      nodes = omega (arith, is.nodes, nodes, plan_nodes);
+    }
+
+pub booked-new : (hall : HallOf) (book : BookOf) → hall.shared.tenants ≡ [] → book.grants ≡ [] → book.plan.totals.segments ≤ hall.shared.totals.segments → book.plan.totals.nodes ≤ hall.shared.totals.nodes → IsBooked hall book
+booked-new hall book nobody nothing segments nodes = record {
+  seated = ap seats_in_book nothing ∙ ap seats_in_hall (sym nobody);
+  rising = subst (λ es. AreRising number_of (seats_in_hall es)) (sym nobody) tt;
+  given = given;
+  segments = segments;
+  nodes = nodes;
+}
+  where
+    given : AreNumbersGiven hall.shared
+    given = rw nobody tt
+
+-- a tenant more
+
+pub booked-admit : (hall hall' : HallOf) (book book' : BookOf) (who : Who) (n : ℕ) (q : Quota) → IsBooked hall book → n ≡ hall.shared.newest + 1 → Took hall (Admit n q) hall' → book' ≡ taken book (Opens who n q) → IsBooked hall' book'
+booked-admit hall hall' book book' who n q is next took entered =
+    let g = gone hall hall' (Admit n q) is.given took in
+    let less : hall.shared.newest < n = omega (arith, next) in
+    let none = tenant_in-new hall.shared.newest n hall.shared.tenants less is.given in
+    let left = admit-outcome (jamboree hall.grain) (tenant_in hall.shared.tenants n) n q g.how.outcome none g.how.own in
+    let seats = seats_in_hall hall.shared.tenants in
+    let by_hall : seats_in_hall hall'.shared.tenants ≡ seats ++ (n, q) ∷ [] = ap seats_in_hall (g.tenants ∙ ap (λ o. with_outcome n o hall.shared.tenants) left) ∙ hall-new n (admitted_with q) hall.shared.tenants none in
+    let by_book : seats_in_book book'.grants ≡ seats ++ (n, q) ∷ [] = ap (λ (b : BookOf). seats_in_book b.grants) entered ∙ (book-push book.grants (record { who = who; session = n; ask = q }) ∙ ap (λ (ss : List Seat). ss ++ (n, q) ∷ []) is.seated) in
+    booked-as hall hall' book book' (seats ++ (n, q) ∷ []) is g.totals g.given (ap (λ (b : BookOf). b.plan.totals) entered) by_hall by_book (rising-push hall.shared.newest n q seats less (taken-upto hall.shared.newest hall.shared.tenants is.given) is.rising)
+
+-- the tenant of a grant
+
+rising-book : (hall : HallOf) (book : BookOf) → IsBooked hall book → AreRising number_of (seats_in_book book.grants)
+rising-book hall book is = subst (AreRising number_of) (sym is.seated) is.rising
+
+pub tenant-of : (hall : HallOf) (book : BookOf) (who : Who) (n : ℕ) (held : Held) → IsBooked hall book → grant_of who n book.grants ≡ Some held → IsThere hall.shared.tenants n held.ask
+tenant-of hall book who n held is found =
+    hall-at n held.ask hall.shared.tenants (ap (seat_at n) (sym is.seated) ∙ book-at who n book.grants held found (rising-book hall book is))
+
+-- a tenant raised
+
+pub booked-raise : (hall hall' : HallOf) (book book' : BookOf) (who : Who) (n : ℕ) (q : Quota) (held : Held) → IsBooked hall book → grant_of who n book.grants ≡ Some held → Took hall (AdmitMore n q) hall' → book' ≡ taken book (Raises who n q) → IsBooked hall' book'
+booked-raise hall hall' book book' who n q held is found took entered =
+    let g = gone hall hall' (AdmitMore n q) is.given took in
+    let there = tenant-of hall book who n held is found in
+    let own = ap (λ (o : Option Tenant). o) there.at in
+    let left = more-outcome (jamboree hall.grain) there.tenant n q g.how.outcome (rw there.at at g.how.own) in
+    let seats = seats_in_hall hall.shared.tenants in
+    let by_hall : seats_in_hall hall'.shared.tenants ≡ set_seat n q seats = ap seats_in_hall (g.tenants ∙ ap (λ o. with_outcome n o hall.shared.tenants) left) ∙ hall-set n there.tenant (record there.tenant { reserve = q }) hall.shared.tenants there.at in
+    let by_book : seats_in_book book'.grants ≡ set_seat n q seats = ap (λ (b : BookOf). seats_in_book b.grants) entered ∙ (book-set who n q book.grants held found (rising-book hall book is) ∙ ap (set_seat n q) is.seated) in
+    booked-as hall hall' book book' (set_seat n q seats) is g.totals g.given (ap (λ (b : BookOf). b.plan.totals) entered) by_hall by_book (rising-set n q seats is.rising)
+
+-- a tenant fewer
+
+pub booked-leave : (hall hall' : HallOf) (book book' : BookOf) (who : Who) (n : ℕ) (held : Held) → IsBooked hall book → grant_of who n book.grants ≡ Some held → Took hall (Leave n) hall' → book' ≡ taken book (Closes who n) → IsBooked hall' book'
+booked-leave hall hall' book book' who n held is found took entered =
+    let g = gone hall hall' (Leave n) is.given took in
+    let left = leave-outcome (jamboree hall.grain) (tenant_in hall.shared.tenants n) n g.how.outcome g.how.own in
+    let seats = seats_in_hall hall.shared.tenants in
+    let by_hall : seats_in_hall hall'.shared.tenants ≡ drop_seats n seats = ap seats_in_hall (g.tenants ∙ ap (λ o. with_outcome n o hall.shared.tenants) left) ∙ hall-drop n hall.shared.tenants in
+    let by_book : seats_in_book book'.grants ≡ drop_seats n seats = ap (λ (b : BookOf). seats_in_book b.grants) entered ∙ (book-drop who n book.grants held found (rising-book hall book is) ∙ ap (drop_seats n) is.seated) in
+    booked-as hall hall' book book' (drop_seats n seats) is g.totals g.given (ap (λ (b : BookOf). b.plan.totals) entered) by_hall by_book (rising-drop n seats is.rising)
+
+-- a step within its seat
+
+booked-went : (hall hall' : HallOf) (book : BookOf) (step : Step) → IsBooked hall book → is_within_seat step ≡ true → Took hall step hall' → IsBooked hall' book
+booked-went hall hall' book step is within took =
+    let g = gone hall hall' step is.given took in
+    let s = stayed (jamboree hall.grain) (tenant_in hall.shared.tenants (tenant_of step)) step g.how.outcome within g.how.own in
+    let seats = seats_in_hall hall.shared.tenants in
+    let by_hall : seats_in_hall hall'.shared.tenants ≡ seats = ap seats_in_hall (g.tenants ∙ ap (λ o. with_outcome (tenant_of step) o hall.shared.tenants) s.now) ∙ hall-same (tenant_of step) s.before s.tenant hall.shared.tenants s.was s.reserve in
+    booked-as hall hall' book book seats is g.totals g.given refl by_hall is.seated is.rising
+
+pub booked-step : (hall hall' : HallOf) (book : BookOf) (step : Step) (answer : Result (DidOf Leaf) Refusal) → IsBooked hall book → is_within_seat step ≡ true → IsDecided hall step answer hall' → IsBooked hall' book
+booked-step hall hall' book step (Ok did) is within decided = booked-went hall hall' book step is within (did, decided)
+booked-step hall hall' book step (Err refusal) is within decided = subst (λ h. IsBooked h book) (sym decided.refused) is
+
+-- another plan
+
+pub booked-replan : (hall : HallOf) (book : BookOf) (plan : PlanOf) → IsBooked hall book → why_not_replan book plan ≡ None → IsBooked hall (record book { plan = plan })
+booked-replan hall book plan is none =
+    booked-as hall hall book (record book { plan = plan }) (seats_in_hall hall.shared.tenants) is refl is.given (comes-in book plan none).totals refl is.seated is.rising
+
+-- room
+
+all-seats : (hall : HallOf) (book : BookOf) → IsBooked hall book → used All book.grants ≡ amount_of (seats_in_hall hall.shared.tenants)
+all-seats hall book is = book-amount book.grants ∙ ap amount_of is.seated
+
+pub has-room : (hall : HallOf) (book : BookOf) (q : Quota) → IsBooked hall book → book.plan.totals.sessions ≤ 64 → IsWithin (plus (of_one q) (used All book.grants)) book.plan.totals → is_full (reservations_in hall.shared) q ≡ false
+has-room hall book q is few room = not_full hall.shared q (used All book.grants) book.plan.totals (all-seats hall book is) room few is.segments is.nodes
+
+-- what a raise that the book doesn't refuse has
+pub record MayRaise (hall : HallOf) (book : BookOf) (who : Who) (n : ℕ) (q : Quota) : Type 0 where
+  pub held : Held
+  pub found : grant_of who n book.grants ≡ Some held
+  pub tenant : Tenant
+  pub at : tenant_in hall.shared.tenants n ≡ Some tenant
+  pub more : is_lower tenant.reserve q ≡ false
+  pub room : is_beyond (reservations_in hall.shared) tenant.reserve q ≡ false
+
+raise-by : (hall : HallOf) (book : BookOf) (who : Who) (n : ℕ) (q : Quota) (found : Option Held) → IsBooked hall book → grant_of who n book.grants ≡ found → why_no_raise book.plan who n q book.grants found ≡ None → IsWithin (plus (of_one q) (used All (without who n book.grants))) book.plan.totals → MayRaise hall book who n q
+raise-by hall book who n q None is at none room = absurd cc
+raise-by hall book who n q (Some held) is at none room =
+    let there = tenant-of hall book who n held is at in
+    record {
+      held = held;
+      found = at;
+      tenant = there.tenant;
+      at = there.at;
+      more = ap (λ (r : Quota). is_lower r q) there.reserve ∙ not_lower held none;
+      room = ap (λ (r : Quota). is_beyond (reservations_in hall.shared) r q) there.reserve ∙ not_beyond hall.shared held.ask q (used All book.grants) (used All (without who n book.grants)) book.plan.totals (all-seats hall book is) (used-found who n book.grants held at) room is.segments is.nodes;
+    }
+  where
+    not_lower : (held : Held) → why_no_raise book.plan who n q book.grants (Some held) ≡ None → is_lower held.ask q ≡ false
+    not_lower held none = elim (cases_Bool (is_lower held.ask q)) [
+      | inl aye ↦ (let some : ◌≡◌ {A = Option BookRefusal} (Some Lower) None = rw aye at none in absurd cc)
+      | inr nay ↦ nay
+    ]
+
+pub may-raise : (hall : HallOf) (book : BookOf) (who : Who) (n : ℕ) (q : Quota) → IsBooked hall book → why_no_raise book.plan who n q book.grants (grant_of who n book.grants) ≡ None → IsWithin (plus (of_one q) (used All (without who n book.grants))) book.plan.totals → MayRaise hall book who n q
+may-raise hall book who n q is none room = raise-by hall book who n q (grant_of who n book.grants) is refl none room
+
+-- a grant that is there
+pub found-of : (o : Option Held) → is_some o ≡ true → (held : Held) × (o ≡ Some held)
+found-of None none = absurd cc
+found-of (Some held) some = (held, refl)

@@ -1,7 +1,0 @@
-use Rattle.std.proofs.Common.{◌≡◌, drop}
-use Rattle.site_directory.specs.Checks.{are_fit_terms}
-use Rattle.site_directory.proofs.checks.are_fit_terms.Given as goal
-
--- all are fit where the rest is
-abbrev pub invariant-loop-terms : goal.invariant-loop-terms
-invariant-loop-terms l = are_fit_terms (drop l.terms-index l.customers) ≡ are_fit_terms l.customers

@@ -1,7 +1,0 @@
-use Rattle.std.proofs.Common.{◌≡◌, drop}
-use Rattle.site_directory.specs.Keys.{customer_of_name}
-use Rattle.site_directory.proofs.keys.customer_of_name.Given as goal
-
--- the customer is that of the rest
-abbrev pub invariant-loop-key : goal.invariant-loop-key
-invariant-loop-key l = customer_of_name l.name (drop l.key-index l.keys) ≡ customer_of_name l.name l.keys

@@ -1,4 +1,0 @@
-pub mod Addresses
-pub mod Keys
-pub mod Terms
-pub mod Checks

@@ -1,0 +1,7 @@
+use Rattle.std.proofs.Common.{◌≡◌, drop}
+use Rattle.site_file.specs.Checks.{has_token}
+use Rattle.site_file.proofs.checks.has_token.Given as goal
+
+-- none of those before is the customer's
+abbrev pub invariant-loop-key : goal.invariant-loop-key
+invariant-loop-key l = has_token l.number (drop l.key-index l.keys) ≡ has_token l.number l.keys

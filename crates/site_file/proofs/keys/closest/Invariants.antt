@@ -1,0 +1,7 @@
+use Rattle.std.proofs.Common.{◌≡◌, drop}
+use Rattle.site_file.specs.Keys.{closer, closest}
+use Rattle.site_file.proofs.keys.closest.Given as goal
+
+-- the closest so far and that of the rest give the closest of all
+abbrev pub invariant-loop-key : goal.invariant-loop-key
+invariant-loop-key l = closer l.best (closest l.address (drop l.key-index l.keys)) ≡ closest l.address l.keys

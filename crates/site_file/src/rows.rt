@@ -1,0 +1,72 @@
+//! The definitions, tried on instances: each contract is computed from the definitions alone.
+ghost use Rattle.std.specs.Prelude.{◌≡◌, Some, None, [], ◌∷◌, true, false, pos, negsuc};
+ghost use Rattle.site_book.specs.declared.who.Who.TheVariants.{Named, V4 as v4_guest, V6 as v6_guest};
+ghost use Rattle.site_file.specs.declared.address.Address.TheVariants.{V4, V6};
+ghost use Rattle.site_file.specs.declared.address.Network.TheVariants.{V4 as v4_network, V6 as v6_network};
+ghost use Rattle.site_file.specs.Addresses.{v6_of, guest_of, has, is_same_network};
+ghost use Rattle.site_file.specs.Keys.{by_address, by_connection};
+ghost use Rattle.site_file.specs.Checks.{repeated_network, has_network, is_fit_rate};
+ghost use Rattle.site_file.specs.Rates.{after, may_pass, passed};
+ghost use Rattle.site_file.specs.Counts.{count_of};
+
+/// Addresses at the edges of networks, and of the other version.
+pub fn networks_have_addresses()
+    ensures first { has (v4_network 3405803776 24) (V4 3405803776) ≡ true }
+    ensures last { has (v4_network 3405803776 24) (V4 3405804031) ≡ true }
+    ensures before { has (v4_network 3405803776 24) (V4 3405803775) ≡ false }
+    ensures behind { has (v4_network 3405803776 24) (V4 3405804032) ≡ false }
+    ensures one { has (v4_network 3405803776 32) (V4 3405803777) ≡ false }
+    ensures all { has (v4_network 0 0) (V4 4294967295) ≡ true }
+    ensures other_version { has (v6_network 0 0 0) (V4 3405803776) ≡ false }
+    ensures half { has (v6_network 2306139568115548161 0 64) (V6 2306139568115548161 18446744073709551615) ≡ true }
+    ensures other_half { has (v6_network 2306139568115548161 0 64) (V6 2306139568115548162 0) ≡ false }
+    ensures more { has (v6_network 2306139568115548161 4096 116) (V6 2306139568115548161 8191) ≡ true }
+    ensures past { has (v6_network 2306139568115548161 4096 116) (V6 2306139568115548161 8192) ≡ false }
+    ensures front { has (v6_network 2306139568115548161 4096 116) (V6 2306139568115548160 4096) ≡ false }
+    ensures every { has (v6_network 0 0 0) (V6 18446744073709551615 7) ≡ true }
+    ensures mapped { v6_of 0 281474087547136 ≡ V4 3405803776 }
+    ensures not_mapped { v6_of 1 281474087547136 ≡ V6 1 281474087547136 }
+    ensures guest { guest_of (V6 2306139568115548161 9) ≡ v6_guest 2306139568115548161 }
+    ensures same { is_same_network (v6_network 2306139568115548161 0 64) (v6_network 2306139568115548161 0 64) ≡ true }
+    ensures fewer_bits { is_same_network (v6_network 2306139568115548161 0 64) (v6_network 2306139568115548161 0 63) ≡ false }
+    ensures other_end { is_same_network (v6_network 2306139568115548161 0 128) (v6_network 2306139568115548161 1 128) ≡ false }
+{}
+
+/// Of the networks that have an address the one of more bits counts, wherever it stands, and a certificate before all.
+pub fn customers_are_found()
+    ensures closer { by_address (record { network = v4_network 3405803776 24; customer = 0 } ∷ record { network = v4_network 3405803840 26; customer = 1 } ∷ []) (V4 3405803841) ≡ Named 1 }
+    ensures closer_before { by_address (record { network = v4_network 3405803840 26; customer = 1 } ∷ record { network = v4_network 3405803776 24; customer = 0 } ∷ []) (V4 3405803841) ≡ Named 1 }
+    ensures wider { by_address (record { network = v4_network 3405803776 24; customer = 0 } ∷ record { network = v4_network 3405803840 26; customer = 1 } ∷ []) (V4 3405803839) ≡ Named 0 }
+    ensures neither { by_address (record { network = v4_network 3405803776 24; customer = 0 } ∷ []) (V4 3405804032) ≡ v4_guest 3405804032 }
+    ensures no_certificate { by_connection [] (record { network = v4_network 3405803776 24; customer = 3 } ∷ []) None (V4 3405803776) ≡ Named 3 }
+{}
+
+/// What is checked.
+pub fn directories_are_checked()
+    ensures twice { repeated_network (record { network = v4_network 3405803776 24; customer = 0 } ∷ record { network = v4_network 3405803776 25; customer = 1 } ∷ record { network = v4_network 3405803776 24; customer = 2 } ∷ []) ≡ Some 2 }
+    ensures once { repeated_network (record { network = v4_network 3405803776 24; customer = 0 } ∷ record { network = v4_network 3405803776 25; customer = 1 } ∷ []) ≡ None }
+    ensures own_key { has_network 1 (record { network = v4_network 3405803776 24; customer = 1 } ∷ []) ≡ true }
+    ensures other_key { has_network 0 (record { network = v4_network 3405803776 24; customer = 1 } ∷ []) ≡ false }
+    ensures no_rate { is_fit_rate (record { period = 0; burst = 1 }) ≡ false }
+    ensures no_burst { is_fit_rate (record { period = 1; burst = 0 }) ≡ false }
+{}
+
+/// Three at once, and then one each ten microseconds; a silence gives back three at most.
+pub fn three_at_once()
+    ensures burst { passed (record { period = 10; burst = 3 }) 0 (100 ∷ 100 ∷ 100 ∷ 100 ∷ 100 ∷ []) ≡ 3 }
+    ensures steady { passed (record { period = 10; burst = 3 }) 0 (100 ∷ 100 ∷ 100 ∷ 109 ∷ 110 ∷ 111 ∷ 120 ∷ []) ≡ 5 }
+    ensures silence { passed (record { period = 10; burst = 3 }) 0 (100 ∷ 900 ∷ 900 ∷ 900 ∷ 900 ∷ []) ≡ 4 }
+    ensures none { passed (record { period = 10; burst = 0 }) 0 (100 ∷ 900 ∷ []) ≡ 0 }
+    ensures edge { may_pass (record { period = 10; burst = 1 }) 100 100 ≡ true }
+    ensures before { may_pass (record { period = 10; burst = 1 }) 100 99 ≡ false }
+    ensures free { after (record { period = 10; burst = 1 }) 100 99 ≡ 100 }
+    ensures back { after (record { period = 10; burst = 2 }) 100 95 ≡ 110 }
+{}
+
+/// Numbers at the edges of what is allowed.
+pub fn numbers_are_counts()
+    ensures least { count_of (pos 1) 1 4096 ≡ Some 1 }
+    ensures below { count_of (pos 0) 1 4096 ≡ None }
+    ensures above { count_of (pos 4097) 1 4096 ≡ None }
+    ensures negative { count_of (negsuc 0) 0 4096 ≡ None }
+{}

@@ -1,3 +1,0 @@
-mod TokenLemmas
-mod ChainLemmas
-mod SeatLemmas

@@ -1,7 +1,0 @@
-use Rattle.std.proofs.Common.{refl}
-use Rattle.std.specs.Fmt.{digits}
-use Rattle.site_lines.proofs.rows.what_info_says.Goals as goal
-
-pub returns : goal.returns
-unfolding digits
-returns c = refl

@@ -1,4 +1,0 @@
-pub mod Tokens
-pub mod Lines
-pub mod Turns
-pub mod Views

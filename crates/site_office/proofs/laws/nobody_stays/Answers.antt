@@ -1,0 +1,24 @@
+use Rattle.std.proofs.Common.{◌≡◌, ℕ, List, sym, ◌∙◌}
+use Rattle.line_io.specs.Lines.{LineText}
+use Rattle.session.specs.declared.office.Office.{Ghosts}
+use Rattle.site_office.specs.declared.reception.Reception.{Ghosts as ReceptionGhosts}
+use Rattle.site_office.specs.declared.clerk.Clerk.{Clerk}
+use Rattle.site_office.specs.Lines.{site_request}
+use Rattle.site_office.specs.Turns.{SiteTurned}
+use Rattle.site_office.proofs.ClerkLemmas.{chain-holds, leaves, site_turned}
+use Rattle.site_office.proofs.laws.nobody_stays.Goals as goal
+
+-- how a clerk answers
+abbrev Answers-line : {O : Type 0} (office : Ghosts O) (reception : ReceptionGhosts O) → Clerk O office reception → LineText → List ℕ → Clerk O office reception → Type 0
+Answers-line office reception s line text t =
+    (t.office.ghost_name ≡ s.office.ghost_name) × SiteTurned office.does reception.greets reception.pays reception.informs (site_request s.seated line) s.office.now s.seated text t.office.now t.seated
+
+pub returns : goal.returns
+returns g c = λ here called met paid informed from to source source' sink sink' office r none early talk gone.
+    let office_of = g.O.Office in
+    let reception = g.O.Reception in
+    let y = talk.lines in
+    let knows = chain-holds (Answers-line office_of reception) (λ a. here a.office.now ≡ a.seated)
+    (λ a line text b h e. site_turned office_of.does reception.greets reception.pays reception.informs here called met paid informed (site_request a.seated line) a.office.now a.seated text b.office.now b.seated h.1 e)
+    from y.answered y.texts to y.answers_lead (none ∙ sym early) in
+    leaves office_of.does reception.greets reception.pays reception.informs here called met paid informed to.seated to.office.now office gone knows

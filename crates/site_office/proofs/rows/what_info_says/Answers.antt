@@ -1,0 +1,7 @@
+use Rattle.std.proofs.Common.{refl}
+use Rattle.std.specs.Fmt.{digits}
+use Rattle.site_office.proofs.rows.what_info_says.Goals as goal
+
+pub returns : goal.returns
+unfolding digits
+returns c = refl

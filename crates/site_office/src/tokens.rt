@@ -1,0 +1,41 @@
+//! The token in a line HELLO.
+ghost use Rattle.std.specs.Prelude.{◌≡◌};
+ghost use Rattle.std.specs.Option.{option_copied};
+ghost use Rattle.site_office.specs.Tokens.{token_after, token_of, without_token};
+
+use protocol::split_at_space;
+
+/// What follows the second of two spaces, where no third follows; None where there is no second space, or a third.
+fn token_after(rest: &[u8]) -> Option<&[u8]>
+    ensures { option_copied result ≡ token_after rest.now }
+{
+    let (_, rest) = split_at_space(rest)?;
+    let (_, token) = split_at_space(rest)?;
+    match split_at_space(token) {
+        None => Some(token),
+        Some(_) => None,
+    }
+}
+
+/// The token of a line: the third word after HELLO, where the line has just three, with one space before each; None for any
+/// other line.
+pub fn token_of(line: &[u8]) -> Option<&[u8]>
+    ensures { option_copied result ≡ token_of line.now }
+{
+    let (word, rest) = split_at_space(line)?;
+    if word == b"HELLO".as_slice() {
+        token_after(rest)
+    } else {
+        None
+    }
+}
+
+/// A line less its token and the space before it; a line without a token as it is.
+pub fn without_token(line: &[u8]) -> &[u8]
+    ensures { result.now ≡ without_token line.now }
+{
+    match token_of(line) {
+        None => line,
+        Some(token) => &line[..line.len() - token.len() - 1],
+    }
+}

@@ -1,0 +1,140 @@
+//! One line of a site's session: what it asks of the office and the reception, and its answer.
+ghost use Rattle.std.specs.Prelude.{◌≡◌, ◌+◌, ◌≤◌, ◌++◌, true, length, Option};
+ghost use Rattle.std.specs.Option.{option_copied};
+ghost use Rattle.line_io.specs.Views.{text_of};
+ghost use Rattle.protocol.specs.Texts.{error_text};
+ghost use Rattle.site_office.specs.Lines.{Greets, Raises, Informs, site_request};
+ghost use Rattle.site_office.specs.Turns.{IsWelcomed, SiteTurned, info_text, number_after};
+ghost use Rattle.site_office.specs.Views.{asked_seen};
+
+use crate::reception::{Greeted, Info, Reception};
+use crate::requests::{SiteRequest, read_site_request};
+use line_io::Line;
+use protocol::{push_error, push_number};
+use session::{Office, Request, SessionText, answer_request};
+use tenant_quota::Reserve;
+
+/// The number of the refusal where a budget has no room.
+const NO_ROOM: u8 = 14;
+
+/// That of a token that nobody has.
+const NO_TOKEN: u8 = 30;
+
+/// That of too many lines in a time.
+const TOO_MANY: u8 = 31;
+
+/// What stands last in INFO: the program's version.
+const VERSION: &[u8] = b" 1.0.0";
+
+/// Writes ERR and this number over the last answer.
+fn refuse(text: &mut SessionText, number: u8)
+    ensures text { text.new.items ≡ error_text number }
+    ensures short { length text.new.items ≤ 1114 }
+{
+    text.clear();
+    push_error(text, number);
+}
+
+/// Appends a space and a number.
+fn push_after(text: &mut SessionText, number: u64)
+    requires { length text.old.items + 21 ≤ 1114 }
+    ensures text { text.new.items ≡ text.old.items ++ number_after number }
+    ensures short { length text.new.items ≤ length text.old.items + 21 }
+{
+    text.push(b' ');
+    push_number(text, number);
+}
+
+/// Writes what a customer may have and has over the last answer.
+fn write_info(text: &mut SessionText, info: Info)
+    ensures text { text.new.items ≡ info_text info }
+    ensures short { length text.new.items ≤ 1114 }
+{
+    text.clear();
+    text.try_extend_from_slice(b"INFO").unwrap();
+    push_after(text, u64::from(info.grain));
+    push_after(text, info.may_segments);
+    push_after(text, info.may_nodes);
+    push_after(text, info.has_segments);
+    push_after(text, info.has_nodes);
+    text.try_extend_from_slice(VERSION).unwrap();
+}
+
+/// Answers a HELLO whose rate was paid, by what is known of who says it.
+fn welcome<O: Office>(
+    office: &mut O,
+    seated: &mut bool,
+    text: &mut SessionText,
+    greeted: Greeted,
+    reserve: Reserve,
+)
+    requires { O.ready ≡ true }
+    ensures turn { IsWelcomed O.does greeted reserve office.old seated.old text.new.items office.new seated.new }
+    ensures short { length text.new.items ≤ 1114 }
+{
+    match greeted {
+        Greeted::Known => answer_request(office, seated, text, Request::Hello(reserve)),
+        Greeted::Unknown => refuse(text, NO_TOKEN),
+        Greeted::Crowded => refuse(text, NO_ROOM),
+    }
+}
+
+/// Answers HELLO: it is said first who says it, and whoever that is pays for it.
+fn take_greeting<O: Office + Reception>(
+    office: &mut O,
+    seated: &mut bool,
+    text: &mut SessionText,
+    token: Option<&[u8]>,
+    reserve: Reserve,
+)
+    requires { O.ready ≡ true }
+    ensures turn { SiteTurned O.does O.greets O.pays O.informs (Greets (option_copied token.entry) reserve) office.old seated.old text.new.items office.new seated.new }
+    ensures short { length text.new.items ≤ 1114 }
+{
+    let greeted = office.greet(token);
+    if office.pay() {
+        welcome(office, seated, text, greeted, reserve);
+    } else {
+        refuse(text, TOO_MANY);
+    }
+}
+
+/// Answers RESERVE, which is paid for.
+fn take_raise<O: Office + Reception>(
+    office: &mut O,
+    seated: &mut bool,
+    text: &mut SessionText,
+    reserve: Reserve,
+)
+    requires { O.ready ≡ true }
+    ensures turn { SiteTurned O.does O.greets O.pays O.informs (Raises reserve) office.old seated.old text.new.items office.new seated.new }
+    ensures short { length text.new.items ≤ 1114 }
+{
+    if office.pay() {
+        answer_request(office, seated, text, Request::Reserve(reserve));
+    } else {
+        refuse(text, TOO_MANY);
+    }
+}
+
+/// Answers a line: makes the calls that it asks for, and writes the text of the answer over the last one.
+pub fn take_site_turn<O: Office + Reception>(
+    office: &mut O,
+    seated: &mut bool,
+    text: &mut SessionText,
+    line: Line<'_>,
+)
+    requires { O.ready ≡ true }
+    ensures turn { SiteTurned O.does O.greets O.pays O.informs (site_request seated.old (text_of line.entry)) office.old seated.old text.new.items office.new seated.new }
+    ensures short { length text.new.items ≤ 1114 }
+{
+    match read_site_request(*seated, line) {
+        SiteRequest::Greets(token, reserve) => take_greeting(office, seated, text, token, reserve),
+        SiteRequest::Raises(reserve) => take_raise(office, seated, text, reserve),
+        SiteRequest::Informs => {
+            let info = office.inform();
+            write_info(text, info);
+        }
+        SiteRequest::Plain(asked) => answer_request(office, seated, text, asked),
+    }
+}

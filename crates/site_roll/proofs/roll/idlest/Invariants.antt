@@ -1,7 +1,0 @@
-use Rattle.std.proofs.Common.{◌≡◌, drop}
-use Rattle.site_roll.specs.Rolls.{idler, idlest}
-use Rattle.site_roll.proofs.roll.idlest.Given as goal
-
--- the idlest so far and that of the rest give the idlest of all
-abbrev pub invariant-loop-present : goal.invariant-loop-present
-invariant-loop-present l = idler l.best (idlest l.now l.most (drop l.present-index l.roll)) ≡ idlest l.now l.most l.roll

@@ -1,3 +1,0 @@
-pub mod Rolls
-pub mod Comings
-pub mod Rows

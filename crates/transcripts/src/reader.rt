@@ -1,0 +1,98 @@
+//! The procedure Reader: a frame does what its words say.
+use cactus_stack::Words;
+use sched_core::{Act, Continuation, GivenWords, InletAct, Stores};
+use toys::{Play, Toy, ToyAnswer, word};
+
+/// A place that no frame has: a store there can't be done.
+const NOWHERE: usize = 128;
+
+/// The procedure Reader. Word 0 of a frame has its acts as the digits of an octal number, the lowest
+/// first: 0 returns, 1 goes on, 2 grows by a segment, 3 opens a child, 4 waits, 5 computes, 6 stores
+/// nowhere, and 7 goes on for ever. Word 1 has the acts of its children. Word 2 is what was taken in
+/// or accepted last. Word 3 says what its inlet does: 1 aborts, 2 wakes, 3 stores nowhere.
+pub type Reader = Toy<ReaderPlay>;
+
+/// An answer to a frame of Reader, which asks for itself.
+#[derive(Clone, Copy, Debug, PartialEq, Eq)]
+pub struct ReaderAnswer(pub u64);
+
+impl ToyAnswer for ReaderAnswer {
+    ghost use Rattle.transcripts.specs.Reading.{reader_stored};
+
+    ghost asks_for = { λ answer. answer.0 };
+
+    ghost stored = { reader_stored };
+
+    fn asked(&self) -> u64 {
+        self.0
+    }
+
+    /// It goes into word 2.
+    fn stores(&self) -> Stores {
+        Stores::new().then(2, self.0)
+    }
+}
+
+/// What Reader's frames do.
+#[derive(Clone, Copy, Debug)]
+pub struct ReaderPlay;
+
+impl Play for ReaderPlay {
+    ghost use Rattle.transcripts.specs.Reading.{reader_act, reader_inlet};
+
+    type Answer = ReaderAnswer;
+
+    ghost acts = { reader_act };
+
+    ghost takes_in = { reader_inlet };
+
+    /// The act of the lowest digit of the acts that are left, which is taken off.
+    fn act(acts: u64, below: u64) -> Act {
+        let rest = Stores::new().then(0, acts / 8);
+        match acts % 8 {
+            0 => Act {
+                stores: Stores::new(),
+                after: Continuation::Return,
+            },
+            1 => Act {
+                stores: rest,
+                after: Continuation::Go,
+            },
+            2 => Act {
+                stores: rest,
+                after: Continuation::Grow(16),
+            },
+            3 => Act {
+                stores: rest,
+                after: Continuation::Spawn(GivenWords::two(below, 0), 4),
+            },
+            4 => Act {
+                stores: rest,
+                after: Continuation::Wait,
+            },
+            5 => Act {
+                stores: rest,
+                after: Continuation::Compute,
+            },
+            6 => Act {
+                stores: Stores::new().then(NOWHERE, acts),
+                after: Continuation::Go,
+            },
+            _ => Act {
+                stores: Stores::new(),
+                after: Continuation::Go,
+            },
+        }
+    }
+
+    /// The child's word 2 goes into word 2, and word 3 says what else.
+    fn inlet(own: &Words, child: &Words) -> InletAct {
+        let kind = word(own, 3);
+        let place = if kind == 3 { NOWHERE } else { 2 };
+        InletAct {
+            stores: Stores::new().then(place, word(child, 2)),
+            abort: kind == 1,
+            wake: kind == 2,
+        }
+    }
+}

@@ -1,0 +1,77 @@
+//! A text as its scenes. A scene begins with a head, a line `= ` and words: what is played, and its options, each a word and its numbers.
+//! The lines up to the next head are its rows. Empty lines and those that begin with `#` are remarks.
+use std::alloc::{AllocError, Global};
+
+/// A line of a text.
+#[derive(Clone, Copy, Debug)]
+pub struct Row<'t> {
+    /// Its number, from 1 on.
+    pub line: u32,
+    /// What it says, without its end.
+    pub text: &'t str,
+}
+
+/// A head, and the rows up to the next one.
+#[derive(Drop)]
+pub struct Scene<'t> {
+    /// What is played, and its options: the head without its sign. Empty for rows before the first head.
+    pub head: Row<'t>,
+    /// The rows, without remarks.
+    pub rows: Vec<Row<'t>>,
+}
+
+/// The scenes of a text, in their order.
+pub fn read_scenes<'t>(alloc: Global, text: &'t str) -> Result<Vec<Scene<'t>>, AllocError> {
+    let mut scenes = Vec::new(alloc);
+    let mut line = 0u32;
+    for text in text.lines() {
+        line = line.saturating_add(1);
+        take(alloc, &mut scenes, Row { line, text })?;
+    }
+    Ok(scenes)
+}
+
+/// Takes the next line of a text.
+fn take<'t>(alloc: Global, scenes: &mut Vec<Scene<'t>>, row: Row<'t>) -> Result<(), AllocError> {
+    if row.text.is_empty() || row.text.starts_with('#') {
+        return Ok(());
+    }
+    match row.text.strip_prefix("= ") {
+        Some(text) => begin(
+            alloc,
+            scenes,
+            Row {
+                line: row.line,
+                text,
+            },
+        ),
+        None => go_on(alloc, scenes, row),
+    }
+}
+
+/// Begins a scene with this head.
+fn begin<'t>(alloc: Global, scenes: &mut Vec<Scene<'t>>, head: Row<'t>) -> Result<(), AllocError> {
+    scenes.push(Scene {
+        head,
+        rows: Vec::new(alloc),
+    })?;
+    Ok(())
+}
+
+/// Appends a row to the last scene.
+fn go_on<'t>(alloc: Global, scenes: &mut Vec<Scene<'t>>, row: Row<'t>) -> Result<(), AllocError> {
+    if scenes.is_empty() {
+        begin(
+            alloc,
+            scenes,
+            Row {
+                line: row.line,
+                text: "",
+            },
+        )?;
+    }
+    if let Some(scene) = scenes.last_mut() {
+        scene.rows.push(row)?;
+    }
+    Ok(())
+}
