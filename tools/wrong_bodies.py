@@ -107,6 +107,8 @@ def is_of(function, place, line, texts, folder):
         if place != path:
             return False
         lines = (texts.get(path) or (folder / path).read_text()).splitlines(keepends=True)
+        while line < len(lines) and lines[line - 1].lstrip().startswith("#["):  # a function's place is that of its attributes
+            line += 1
         return function_at("".join(lines), sum(map(len, lines[:line])))[1] == name
     folders = place.split("/")[1:-1]
     return bool(folders) and folders[-1] == name and (not owner or len(folders) < 2 or owner in folders or "Engine" in folders)

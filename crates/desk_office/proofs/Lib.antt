@@ -2,4 +2,5 @@ pub mod SeatLemmas
 pub mod Entries
 pub mod TurnLemmas
 pub mod Tenancies
+pub mod OneTenant
 pub mod Sessions

@@ -1,6 +1,8 @@
 -- A session over an office at a desk, seen by what contracts see of the office.
-use Rattle.std.proofs.Common.{◌≡◌, List, [], ◌∷◌, Option, None, Result, sym, ap, subst}
+use Rattle.std.proofs.Common.{◌≡◌, List, [], ◌∷◌, Option, None, Result, refl, sym, ap, subst}
+use Rattle.std.specs.List.{concat}
 use Rattle.line_io.specs.Leads.{Leads}
+use Rattle.line_io.specs.Runs.{bytes_due}
 use Rattle.line_io.specs.Streams.{ReadAnswer, WriteAnswer}
 use Rattle.sched_rules.specs.declared.step.StepOf.{StepOf}
 use Rattle.desk.specs.Traces.{Known}
@@ -9,8 +11,9 @@ use Rattle.desk.specs.hall.Halls.{HallOf}
 use Rattle.session.specs.declared.faults.End.{End}
 use Rattle.session.specs.declared.faults.SessionFault.{SessionFault}
 use Rattle.session.specs.Calls.{Call, OfficeReply}
-use Rattle.session.specs.Sessions.{Called, Session, calls_for}
-use Rattle.desk_office.specs.Moments.{OfficeOf, vacant, IsTurnAt, SeenSession}
+use Rattle.session.specs.Sessions.{Called, Session, calls_for, talk_result}
+use Rattle.desk_office.specs.Moments.{OfficeOf, vacant, IsTenantOf, IsTurnAt, SeenSession}
+use Rattle.desk_office.proofs.OneTenant.{answered_ends, one_tenant}
 
 module _ {O : Type 0} (seen : O → OfficeOf) (begun : HallOf) (does : O → Call → OfficeReply → O → Type 0) (turns : (from : O) (call : Call) (reply : OfficeReply) (to : O) → does from call reply to → IsTurnAt begun (seen from) call reply (seen to)) where
   led : (from : O) (made : List (Call × OfficeReply)) (to : O) → Leads (Called does) from made to → Leads (Called (IsTurnAt begun)) (seen from) made (seen to)
@@ -22,4 +25,9 @@ module _ {O : Type 0} (seen : O → OfficeOf) (begun : HallOf) (does : O → Cal
   seen_session gives takes s s' k k' o o' r known no_seat none_left is x =
       let new : seen o ≡ vacant = λ i. record { seat = no_seat i; knew = none_left i } in
       let made = subst (λ (z : OfficeOf). Leads (Called (IsTurnAt begun)) z (calls_for x.answered x.replies) (seen o')) new (led o (calls_for x.answered x.replies) o' x.made) in
-      record { office = seen o'; knew = sym is; session = record { blocks = x.blocks; last = x.last; answered = x.answered; replies = x.replies; pieces = x.pieces; reads = x.reads; ends = x.ends; lines = x.lines; made = made; writes = x.writes; written = x.written } }
+      record {
+        office = seen o';
+        knew = sym is;
+        session = record { blocks = x.blocks; last = x.last; answered = x.answered; replies = x.replies; pieces = x.pieces; reads = x.reads; ends = x.ends; lines = x.lines; made = made; writes = x.writes; written = x.written };
+        tenant = subst (λ (k : Option (Known (StepOf LeafAnswer))). IsTenantOf begun (calls_for x.answered x.replies) k) (sym is) (one_tenant begun x.answered x.replies vacant (seen o') (answered_ends r x.answered (bytes_due (talk_result r) (concat x.blocks)) x.lines) refl refl made);
+      }

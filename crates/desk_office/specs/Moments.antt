@@ -2,6 +2,7 @@
 -- that the seat has then seen.
 use Rattle.std.specs.Prelude.{◌≡◌, ◌⊎◌, ℕ, ◌+◌, Bool, true, false, List, [], ◌∷◌, ◌++◌, length, sum_by, Option, Some, None, option_map, option_and_then, Result, Err}
 use mathlib.Core.List.{IsPrefix}
+use Rattle.tenant_quota.specs.Quota.{Quota}
 use Rattle.line_io.specs.Streams.{ReadAnswer, WriteAnswer}
 use Rattle.othello_board.specs.declared.boards.Board.{Board}
 use Rattle.othello_board.specs.Words.{cells}
@@ -27,7 +28,7 @@ use Rattle.session.specs.declared.faults.SessionFault.{SessionFault}
 use Rattle.session.specs.declared.standings.Live.{Live}
 use Rattle.session.specs.Asks.{KeepsAsks}
 use Rattle.session.specs.Calls.{Call, Hello, Reserve, Ask, Get, Wait, Cancel, AskQuota, AskLive, Leave, OfficeReply, Welcome, Reserved, Job, Told, Ended, Rest, Alive, Gone, Refused, reply_of}
-use Rattle.session.specs.Sessions.{Session}
+use Rattle.session.specs.Sessions.{Session, calls_for}
 use Rattle.desk_office.specs.Offices.{asks_of, told_answer}
 
 -- what contracts see of an office: its seat while a tenant is there, and what the seat knew when the tenant left
@@ -151,13 +152,6 @@ IsTurnOf begun (Some before) call reply from to = (now : SeatOf) × (to ≡ with
 abbrev pub IsTurnAt : HallOf → OfficeOf → Call → OfficeReply → OfficeOf → Type 0
 IsTurnAt begun from call reply to = IsTurnOf begun from.seat call reply from to × KeepsAsks (asks_of from.seat) call reply (asks_of to.seat)
 
--- a session whose calls are made of an office at a desk that was made with this hall, and what the tenant's seat knew when it
--- left, if one came
-pub record SeenSession {S K : Type 0} (begun : HallOf) (gives : S → ReadAnswer → S → Type 0) (takes : K → WriteAnswer → K → Type 0) (source : S) (sink : K) (source' : S) (sink' : K) (r : Result End SessionFault) (known : Option (Known (StepOf LeafAnswer))) : Type 0 where
-  pub office : OfficeOf
-  pub knew : office.knew ≡ known
-  pub session : Session gives takes (IsTurnAt begun) source sink vacant source' sink' office r
-
 -- whether a reply says that a step of the tenant was taken
 abbrev pub is_taken : OfficeReply → Bool
 is_taken (Welcome quota) = true
@@ -199,3 +193,41 @@ pub record IsTenancy (begun : HallOf) (first : SeatOf) (calls : List (Call × Of
   pub steps : List (StepOf LeafAnswer)
   pub mine : known.mine ≡ first.known.mine ++ (steps ++ LeaveStep first.tenant ∷ [])
   pub asked : AreStepsOf first.tenant calls steps
+
+-- whether a reply says that there is a new tenant
+abbrev pub is_welcome : OfficeReply → Bool
+is_welcome (Welcome quota) = true
+is_welcome _ = false
+
+-- no tenant came by these calls
+abbrev pub NobodyCame : List (Call × OfficeReply) → Type 0
+NobodyCame [] = Unit {0}
+NobodyCame (made ∷ more) = (is_welcome made.1 ≡ false) × NobodyCame more
+
+-- by these calls one tenant came, and it left by the last of them; and what its seat knew then: each step of the history was taken,
+-- and the tenant's seat steps in it are its Admit, just what the calls between asked for and was taken, in order, and its Leave
+pub record IsOneTenancy (begun : HallOf) (calls : List (Call × OfficeReply)) (known : Known (StepOf LeafAnswer)) : Type 0 where
+  pub early : List (Call × OfficeReply)
+  pub quota : Quota
+  pub later : List (Call × OfficeReply)
+  pub are : calls ≡ early ++ (Hello quota, Welcome quota) ∷ (later ++ (Leave, Gone) ∷ [])
+  pub nobody : NobodyCame early
+  pub stay : AllStay later
+  pub number : ℕ
+  pub true_to : IsTrueTo begun number known
+  pub steps : List (StepOf LeafAnswer)
+  pub mine : known.mine ≡ Admit number quota ∷ (steps ++ LeaveStep number ∷ [])
+  pub asked : AreStepsOf number later steps
+
+-- a session's one tenant, by the session's calls and what its seat knew when it left; None where nobody came
+abbrev pub IsTenantOf : HallOf → List (Call × OfficeReply) → Option (Known (StepOf LeafAnswer)) → Type 0
+IsTenantOf begun calls None = NobodyCame calls
+IsTenantOf begun calls (Some known) = IsOneTenancy begun calls known
+
+-- a session whose calls are made of an office at a desk that was made with this hall, and what the tenant's seat knew when it
+-- left, if one came: it had one tenant at most
+pub record SeenSession {S K : Type 0} (begun : HallOf) (gives : S → ReadAnswer → S → Type 0) (takes : K → WriteAnswer → K → Type 0) (source : S) (sink : K) (source' : S) (sink' : K) (r : Result End SessionFault) (known : Option (Known (StepOf LeafAnswer))) : Type 0 where
+  pub office : OfficeOf
+  pub knew : office.knew ≡ known
+  pub session : Session gives takes (IsTurnAt begun) source sink vacant source' sink' office r
+  pub tenant : IsTenantOf begun (calls_for session.answered session.replies) known

@@ -2,3 +2,4 @@ mod Parts
 mod Solved
 mod Served
 mod Turned
+mod Replied

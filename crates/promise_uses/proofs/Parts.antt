@@ -1,5 +1,8 @@
 -- What the definitions of `promises` come to, part by part, and what holds of a value that there is.
-use Rattle.std.proofs.Common.{◌≡◌, ◌≢◌, ◌⊎◌, ℕ, List, true, Option, Some, None, Result, Ok, Err, inl, inr, ap, sym, subst, ◌∙◌}
+use Rattle.std.proofs.Common.{◌≡◌, ◌≢◌, ◌⊎◌, ℕ, ℤ, ◌≤ℤ◌, List, true, Option, Some, None, Result, Ok, Err, inl, inr, ap, sym, subst, ◌∙◌}
+use Rattle.othello_eval.specs.declared.bound.BoundKind.{BoundKind}
+use Rattle.othello_eval.specs.declared.bound.BoundKind.TheVariants.{Low, High, Exact}
+use Rattle.othello_eval.specs.Tables.{Says}
 use Rattle.std.specs.Prelude.{IfOk, IfErr, OnOk, IfSome, MatchResult, ◌++◌, ◌∷◌, []}
 use Rattle.sched_rules.specs.Headline.{IsAnswerTo}
 use Rattle.desk.specs.Traces.{own, Known}
@@ -8,12 +11,15 @@ use Rattle.desk.specs.Seats.{SeatOf, stepped, seeing}
 use Rattle.desk.specs.Histories.{core_at, IsToldOf, Saw}
 use Rattle.sched_rules.specs.declared.refusal.Refusal.{Refusal}
 use Rattle.sched_rules.specs.declared.refusal.Refusal.TheVariants.{Busy}
+use Rattle.sched_rules.specs.declared.step.DidOf.{DidOf}
 use Rattle.sched_rules.specs.declared.step.StepOf.TheVariants.{Steal, Spend}
 use Rattle.sched_rules.specs.Trees.{Tenant, is_busy_in}
 use Rattle.sched_rules.specs.Lone.{lone_refusal}
 use Rattle.sched_rules.specs.Runs.{alone}
+use Rattle.jamboree_rules.specs.declared.leaf.Leaf.{Leaf}
 use Rattle.jamboree_rules.specs.Procedure.{jamboree}
-use Rattle.promises.specs.Tenants.{IsForBusyWorker, IsForOwnState, SearchAnswer, SearchStep, own_steps}
+use Rattle.promises.specs.Replies.{SearchStep}
+use Rattle.promises.specs.Tenants.{IsForBusyWorker, IsForOwnState, own_steps}
 
 pub if-ok : {T E : Type 0} {P Q : T → Type 0} (r : Result T E) → ((value : T) → P value → Q value) → IfOk r P → IfOk r Q
 if-ok (Ok value) make p = make value p
@@ -23,25 +29,38 @@ pub if-some : {T : Type 0} {P Q : T → Type 0} (o : Option T) → ((value : T) 
 if-some (Some value) make p = make value p
 if-some None make p = tt
 
+abbrev pub SearchAnswer : Type 0
+SearchAnswer = Result (DidOf Leaf) Refusal
+
+-- what an entry says, by its kind
+pub low-says : (kind : BoundKind) (score value : ℤ) → Says kind score value → kind ≡ Low → value ≤ℤ score
+low-says kind score value says is = rw is at says
+
+pub high-says : (kind : BoundKind) (score value : ℤ) → Says kind score value → kind ≡ High → score ≤ℤ value
+high-says kind score value says is = rw is at says
+
+pub exact-says : (kind : BoundKind) (score value : ℤ) → Says kind score value → kind ≡ Exact → value ≡ score
+exact-says kind score value says is = rw is at says
+
 -- worker 5 was busy with another tenant
 abbrev pub IsBusyFive : ℕ → List SearchStep → List SearchAnswer → Refusal → Type 0
 IsBusyFive grain before said refusal =
     (refusal ≡ Busy) × (another : ℕ) × (another ≢ 7) × (tenant : Tenant) × (alone (jamboree grain) (own_steps another before said) ≡ Some tenant) × (is_busy_in 5 tenant.frames ≡ true)
 
-busy-five : (grain : ℕ) (before : List SearchStep) (said : List SearchAnswer) (home serial : ℕ) (refusal : Refusal) → IsForBusyWorker grain before said (Steal 5 home (record { tenant = 7; serial = serial })) refusal → IsBusyFive grain before said refusal
+busy-five : (grain : ℕ) (before : List SearchStep) (said : List SearchAnswer) (home serial : ℕ) (refusal : Refusal) → IsForBusyWorker (jamboree grain) before said (Steal 5 home (record { tenant = 7; serial = serial })) refusal → IsBusyFive grain before said refusal
 busy-five grain before said home serial refusal b =
     let free : Some 5 ≡ Some b.worker = b.free in
     let five : 5 ≡ b.worker = cc in
     (b.is, b.elsewhere.another, b.elsewhere.other, b.elsewhere.tenant, b.elsewhere.there, ap (λ (w : ℕ). is_busy_in w b.elsewhere.tenant.frames) five ∙ b.elsewhere.busy)
 
 pub of-seven : (grain : ℕ) (before : List SearchStep) (said : List SearchAnswer) (home serial : ℕ) (refusal : Refusal) →
-    IsForOwnState grain before said (Steal 5 home (record { tenant = 7; serial = serial })) refusal ⊎ IsForBusyWorker grain before said (Steal 5 home (record { tenant = 7; serial = serial })) refusal →
+    IsForOwnState (jamboree grain) before said (Steal 5 home (record { tenant = 7; serial = serial })) refusal ⊎ IsForBusyWorker (jamboree grain) before said (Steal 5 home (record { tenant = 7; serial = serial })) refusal →
     (lone_refusal (jamboree grain) (alone (jamboree grain) (own_steps 7 before said)) (Steal 5 home (record { tenant = 7; serial = serial })) ≡ Some refusal) ⊎ IsBusyFive grain before said refusal
 of-seven grain before said home serial refusal (inl own) = inl own
 of-seven grain before said home serial refusal (inr busy) = inr (busy-five grain before said home serial refusal busy)
 
 pub of-nine : (grain : ℕ) (before : List SearchStep) (said : List SearchAnswer) (serial : ℕ) (refusal : Refusal) →
-    IsForOwnState grain before said (Spend (record { tenant = 9; serial = serial })) refusal ⊎ IsForBusyWorker grain before said (Spend (record { tenant = 9; serial = serial })) refusal →
+    IsForOwnState (jamboree grain) before said (Spend (record { tenant = 9; serial = serial })) refusal ⊎ IsForBusyWorker (jamboree grain) before said (Spend (record { tenant = 9; serial = serial })) refusal →
     lone_refusal (jamboree grain) (alone (jamboree grain) (own_steps 9 before said)) (Spend (record { tenant = 9; serial = serial })) ≡ Some refusal
 of-nine grain before said serial refusal (inl own) = own
 of-nine grain before said serial refusal (inr busy) = absurd (let free : None ≡ Some busy.worker = busy.free in cc)

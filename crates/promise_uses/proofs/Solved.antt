@@ -1,14 +1,10 @@
--- What `SolvedBytes` comes to, part by part.
-use Rattle.std.proofs.Common.{◌≡◌, ◌⊎◌, ℕ, ◌≤◌, ◌<◌, List, [], ◌∷◌, ◌++◌, map, length, codes, false, Some, Result, Ok, Err, refl, subst}
-use Rattle.std.specs.Prelude.{nat_eq}
-use Rattle.std.specs.List.{concat, starts_with}
-use Rattle.std.specs.Str.{byte}
-use Rattle.othello_board.specs.Words.{cells}
+-- What `SolvedRun` comes to, where three lines are answered.
+use Rattle.std.proofs.Common.{◌≡◌, ◌⊎◌, inl, inr, ℕ, ◌<◌, Bool, true, false, List, [], ◌∷◌, ◌++◌, map, length, codes, Result, Ok, Err, refl, ap, subst, sym, ◌∙◌}
+use Rattle.std.specs.List.{concat}
 use Rattle.othello_eval.specs.Minimax.{minimax, best_choice}
-use Rattle.position_text.specs.declared.positions.Position.{Position}
-use Rattle.position_text.specs.Spelling.{Spells}
+use Rattle.protocol.specs.Questions.{QuestionOf}
 use Rattle.protocol.specs.Texts.{error_text, value_text}
-use Rattle.protocol.specs.Words.{word_number}
+use Rattle.protocol.specs.declared.faults.ProtocolFault.{ProtocolFault}
 use Rattle.line_io.specs.declared.faults.LineFault.{LineFault}
 use Rattle.line_io.specs.declared.faults.LineFault.TheVariants.{Read, Write, TooMuch}
 use Rattle.line_io.specs.Leads.{Leads}
@@ -16,7 +12,7 @@ use Rattle.line_io.specs.Lines.{LineText, Whole, lines_of}
 use Rattle.line_io.specs.Streams.{ReadAnswer, WriteAnswer, Gave, Ended, Failed}
 use Rattle.line_io.specs.Runs.{IsEnding, IsOutput, bytes_due, write_result}
 use Rattle.line_io.specs.Writes.{writes_of, written_texts}
-use Rattle.promises.specs.Solving.{AreTrueSolutions, IsTrueSolution, SolvedBytes}
+use Rattle.promises.specs.solve_engine.Solving.{SolvedRun, answers_unless, line_question, question_answer, solve_line_unless, solve_out_unless, solved_unless}
 
 ended : (r : Result (Unit {0}) LineFault) (bytes : List ℕ) (last : List ReadAnswer) (written due : List ℕ) → IsEnding r bytes last → IsOutput (write_result r) written due → r ≡ Ok tt → (last ≡ Ended ∷ []) × (written ≡ due)
 ended (Ok it) bytes last written due ends output is = (ends, output)
@@ -34,60 +30,74 @@ cut (Err Read) written due output is = absurd cc
 cut (Err Write) written due output is = output
 cut (Err TooMuch) written due output is = absurd cc
 
--- the value and the choice of what a line asks for
-abbrev pub IsSolvedBy : LineText → List ℕ → Type 0
-IsSolvedBy line answer = (depth : ℕ) × (position : Position) × (word : List ℕ) × (text : List ℕ)
-    × (line ≡ Whole (word ++ byte " " ∷ text)) × (word_number word ≡ Some depth) × (depth ≤ 12) × Spells text position
-    × (answer ≡ value_text (minimax depth (cells position.board)) (best_choice depth (cells position.board)))
+-- a line that asks for something is answered by its value and choice, or by ERR 19
+abbrev IsSolved : QuestionOf → List ℕ → Type 0
+IsSolved asked text = (text ≡ value_text (minimax asked.depth asked.board) (best_choice asked.depth asked.board)) ⊎ (text ≡ error_text 19)
 
-solved : (line : LineText) (answer : List ℕ) → IsTrueSolution line answer → starts_with nat_eq answer (codes "ERR ") ≡ false → IsSolvedBy line answer
-solved line answer is plain = let q = is.solved plain in (q.0, q.1, q.2.word, q.2.text, q.2.is, q.2.asks.number, q.2.asks.shallow, q.2.asks.spelled, q.3)
+solved-or-not : (refused : Bool) (line : LineText) (asked : QuestionOf) → line_question line ≡ Ok asked → IsSolved asked (solve_line_unless refused line)
+solved-or-not true line asked is = inr (ap (λ (q : Result QuestionOf ProtocolFault). question_answer (solved_unless true) q) is)
+solved-or-not false line asked is = inl (ap (λ (q : Result QuestionOf ProtocolFault). question_answer (solved_unless false) q) is)
 
--- a line that asks for something is answered so, or by ERR 19
-abbrev pub AnswersWhatIsAsked : LineText → List ℕ → Type 0
-AnswersWhatIsAsked line answer = (word text : List ℕ) (depth : ℕ) (position : Position) →
-    line ≡ Whole (word ++ byte " " ∷ text) → word_number word ≡ Some depth → depth ≤ 12 → Spells text position →
-    (answer ≡ value_text (minimax depth (cells position.board)) (best_choice depth (cells position.board))) ⊎ (answer ≡ error_text 19)
+-- a line without a space is answered by ERR 21
+no-question : (refused : Bool) → solve_line_unless refused (Whole (codes "opening")) ≡ error_text 21
+no-question true = refl
+no-question false = refl
 
-answered : (line : LineText) (answer : List ℕ) → IsTrueSolution line answer → AnswersWhatIsAsked line answer
-answered line answer is word text depth position reads number shallow spelled =
-    is.answered depth position (record { word = word; text = text; is = reads; asks = record { number = number; shallow = shallow; spelled = spelled } })
+-- whether memory ran out at the first of these lines, and at those after it
+abbrev first_of : List Bool → Bool
+first_of [] = false
+first_of (flag ∷ refused) = flag
 
-abbrev pub Three : LineText → LineText → LineText → List (List ℕ) → Type 0
-Three first second third texts = (one : List ℕ) × (two : List ℕ) × (three : List ℕ) × (texts ≡ one ∷ two ∷ three ∷ [])
-    × (starts_with nat_eq two (codes "ERR ") ≡ false → IsSolvedBy second two) × AnswersWhatIsAsked third three
+abbrev later_of : List Bool → List Bool
+later_of [] = []
+later_of (flag ∷ refused) = refused
 
-three-texts : (first second third : LineText) (texts : List (List ℕ)) → AreTrueSolutions (first ∷ second ∷ third ∷ []) texts → Three first second third texts
-three-texts first second third [] are = absurd are
-three-texts first second third (one ∷ []) are = absurd are.1
-three-texts first second third (one ∷ two ∷ []) are = absurd are.1.1
-three-texts first second third (one ∷ two ∷ three ∷ []) are = (one, two, three, refl, solved second two are.1.0, answered third three are.1.1.0)
-three-texts first second third (one ∷ two ∷ three ∷ four ∷ more) are = absurd are.1.1.1
+next-answer : (refused : List Bool) (line : LineText) (lines : List LineText) → answers_unless refused (line ∷ lines) ≡ (solve_line_unless (first_of refused) line ++ 10 ∷ []) ++ answers_unless (later_of refused) lines
+next-answer [] line lines = refl
+next-answer (flag ∷ refused) line lines = refl
 
-three-lines : (lines : List LineText) (texts : List (List ℕ)) → AreTrueSolutions lines texts → (first second third : LineText) → lines ≡ first ∷ second ∷ third ∷ [] → Three first second third texts
-three-lines lines texts are first second third is = three-texts first second third texts (let P : List LineText → Type 0 = λ (ls : List LineText). AreTrueSolutions ls texts in subst P is are)
+none-left : (refused : List Bool) → answers_unless refused [] ≡ []
+none-left [] = refl
+none-left (flag ∷ refused) = refl
+
+abbrev Three : LineText → QuestionOf → List ℕ → Type 0
+Three third asked due = (one : List ℕ) × (three : List ℕ) × (due ≡ written_texts (one ∷ error_text 21 ∷ three ∷ [])) × IsSolved asked three
+
+three-answers : (refused : List Bool) (first third : LineText) (asked : QuestionOf) → line_question third ≡ Ok asked → Three third asked (answers_unless refused (first ∷ Whole (codes "opening") ∷ third ∷ []))
+three-answers refused first third asked is =
+    let second = later_of refused in
+    let last = later_of second in
+    let one = solve_line_unless (first_of refused) first in
+    let three = solve_line_unless (first_of last) third in
+    let at_third : answers_unless last (third ∷ []) ≡ (three ++ 10 ∷ []) ++ [] = next-answer last third [] ∙ ap (λ (l : List ℕ). (three ++ 10 ∷ []) ++ l) (none-left (later_of last)) in
+    let at_second : answers_unless second (Whole (codes "opening") ∷ third ∷ []) ≡ (error_text 21 ++ 10 ∷ []) ++ ((three ++ 10 ∷ []) ++ []) =
+    next-answer second (Whole (codes "opening")) (third ∷ []) ∙ ap (λ (l : List ℕ). (l ++ 10 ∷ []) ++ answers_unless last (third ∷ [])) (no-question (first_of second)) ∙ ap (λ (l : List ℕ). (error_text 21 ++ 10 ∷ []) ++ l) at_third in
+    (one, three, next-answer refused first (Whole (codes "opening") ∷ third ∷ []) ∙ ap (λ (l : List ℕ). (one ++ 10 ∷ []) ++ l) at_second, solved-or-not (first_of last) third asked is)
 
 -- all that is said of three lines
 abbrev pub SolvesThree : {S K : Type 0} → (S → ReadAnswer → S → Type 0) → (K → WriteAnswer → K → Type 0) → S → K → S → K → Result (Unit {0}) LineFault → Type 0
-SolvesThree gives takes source sink source' sink' r = (blocks : List (List ℕ)) × (last : List ReadAnswer) × (pieces : List (List ℕ)) × (texts : List (List ℕ))
+SolvesThree gives takes source sink source' sink' r = (blocks : List (List ℕ)) × (last : List ReadAnswer) × (pieces : List (List ℕ)) × (due : List ℕ)
     × Leads gives source (map Gave blocks ++ last) source'
     × Leads takes sink (writes_of pieces (write_result r)) sink'
-    × (r ≡ Ok tt → (last ≡ Ended ∷ []) × (concat pieces ≡ written_texts texts))
-    × (r ≡ Err Read → (last ≡ Failed ∷ []) × (concat pieces ≡ written_texts texts))
-    × (r ≡ Err Write → (rest : List ℕ) × (concat pieces ++ rest ≡ written_texts texts) × (0 < length rest))
-    × ((first second third : LineText) → lines_of (bytes_due r (concat blocks)) ≡ first ∷ second ∷ third ∷ [] → Three first second third texts)
+    × (r ≡ Ok tt → (last ≡ Ended ∷ []) × (concat pieces ≡ due))
+    × (r ≡ Err Read → (last ≡ Failed ∷ []) × (concat pieces ≡ due))
+    × (r ≡ Err Write → (rest : List ℕ) × (concat pieces ++ rest ≡ due) × (0 < length rest))
+    × ((first third : LineText) (asked : QuestionOf) → lines_of (bytes_due r (concat blocks)) ≡ first ∷ Whole (codes "opening") ∷ third ∷ [] → line_question third ≡ Ok asked → Three third asked due)
 
 pub solves-three : {S K : Type 0} (gives : S → ReadAnswer → S → Type 0) (takes : K → WriteAnswer → K → Type 0) (source : S) (sink : K) (source' : S) (sink' : K) (r : Result (Unit {0}) LineFault) →
-    SolvedBytes gives takes source sink source' sink' r → SolvesThree gives takes source sink source' sink' r
-solves-three gives takes source sink source' sink' r is = (
-  is.blocks,
-  is.last,
-  is.pieces,
-  is.texts,
-  is.reads,
-  is.writes,
-  ended r _ is.last _ _ is.ends is.written,
-  failed r _ is.last _ _ is.ends is.written,
-  cut r _ _ is.written,
-  three-lines _ is.texts is.solutions,
-)
+    SolvedRun gives takes source sink source' sink' r → SolvesThree gives takes source sink source' sink' r
+solves-three gives takes source sink source' sink' r solved =
+    let is = solved.1 in
+    let due = solve_out_unless solved.0 (bytes_due r (concat is.blocks)) in (
+      is.blocks,
+      is.last,
+      is.pieces,
+      due,
+      is.reads,
+      is.writes,
+      ended r (concat is.blocks) is.last (concat is.pieces) due is.ends is.written,
+      failed r (concat is.blocks) is.last (concat is.pieces) due is.ends is.written,
+      cut r (concat is.pieces) due is.written,
+      λ first third asked lines question.
+          subst (λ (ls : List LineText). Three third asked (answers_unless solved.0 ls)) (sym lines) (three-answers solved.0 first third asked question),
+    )

@@ -1,5 +1,5 @@
 -- What a session's calls come to, where it asks for its quota.
-use Rattle.std.proofs.Common.{◌≡◌, ℕ, List, [], ◌∷◌, ◌++◌, Option, Some, None, Result, sym, ap, subst, ◌∙◌, inl, inr, codes}
+use Rattle.std.proofs.Common.{◌≡◌, ℕ, List, [], ◌∷◌, ◌++◌, true, false, Option, Some, None, Result, refl, sym, ap, subst, ◌∙◌, inl, inr, codes}
 use Rattle.std.specs.Prelude.{option_map}
 use Rattle.std.specs.List.{concat}
 use mathlib.Core.List.{IsPrefix}
@@ -28,8 +28,8 @@ use Rattle.session.specs.declared.faults.End.{End}
 use Rattle.session.specs.declared.faults.SessionFault.{SessionFault}
 use Rattle.session.specs.Calls.{Hello, Ask, AskQuota, Cancel, Leave, OfficeReply, Welcome, Job, Rest, Gone, Refused, reply_of}
 use Rattle.session.specs.Sessions.{Called, calls_for, talk_result, texts_for, IsWrittenOf}
-use Rattle.desk_office.specs.Moments.{OfficeOf, vacant, IsHello, IsTenancy, IsTurnAt, IsTurnOf, SeenSession}
-use Rattle.promises.specs.Tenants.{SearchStep}
+use Rattle.desk_office.specs.Moments.{OfficeOf, vacant, AreStepsOf, IsHello, IsTenancy, IsTenantOf, IsTurnAt, IsTurnOf, NobodyCame, SeenSession, is_welcome}
+use Rattle.promises.specs.Replies.{SearchStep}
 
 -- a history that leaves so much to a tenant whose one seat step in it is the Admit
 abbrev IsLeftBy : HallOf → Quota → Left → Type 0
@@ -86,3 +86,46 @@ three-calls begun first to board side number left t =
     let is : submit ≡ a.1 = cc a.4 in
     let steps : t.steps ≡ submit ∷ [] = a.5 ∙ ap (λ (l : List SearchStep). a.1 ∷ l) a.6 ∙ ap (λ (s : SearchStep). s ∷ []) (sym is) in
     (t.known, a.0, t.knew, a.3, t.mine ∙ ap (λ (l : List SearchStep). first.known.mine ++ (l ++ LeaveStep first.tenant ∷ [])) steps, t.goes_on, t.true_to.0, t.true_to.1)
+
+-- ---- HELLO and BYE
+
+abbrev Made : Type 0
+Made = Call × OfficeReply
+
+abbrev four_eight : Quota
+four_eight = record { segments = 4; nodes = 8 }
+
+abbrev came : Made
+came = (Hello four_eight, Welcome four_eight)
+
+-- in these two calls nothing stands before the HELLO, and nothing between it and the leaving
+just-two : (quota : Quota) (early later : List Made) → came ∷ (Leave, Gone) ∷ [] ≡ early ++ (Hello quota, Welcome quota) ∷ (later ++ (Leave, Gone) ∷ []) → NobodyCame early → (four_eight ≡ quota) × (later ≡ [])
+just-two quota [] [] are none = let same : came ≡ (Hello quota, Welcome quota) = cc are in (let hello : Hello four_eight ≡ Hello quota = ap (λ (m : Made). m.0) same in cc hello, refl)
+just-two quota [] (one ∷ []) are none = absurd (cc are)
+just-two quota [] (one ∷ two ∷ more) are none = absurd (cc are)
+just-two quota (first ∷ early) later are none =
+    let same : came ≡ first = cc are in
+    let both : true ≡ false = ap (λ (m : Made). is_welcome m.1) same ∙ none.0 in absurd (cc both)
+
+abbrev IsAdmitAndLeave : Known SearchStep → Type 0
+IsAdmitAndLeave known = (number : ℕ) × (known.mine ≡ Admit number four_eight ∷ LeaveStep number ∷ []) × (seat_steps number (steps_of known.seen) ≡ known.mine)
+
+of-two : (begun : HallOf) (known : Known SearchStep) → IsTenantOf begun (came ∷ (Leave, Gone) ∷ []) (Some known) → IsAdmitAndLeave known
+of-two begun known t =
+    let two = just-two t.quota t.early t.later t.are t.nobody in
+    let none : t.steps ≡ [] = subst (λ (l : List Made). AreStepsOf t.number l t.steps) two.1 t.asked in
+    (t.number, t.mine ∙ ap (λ (q : Quota). Admit t.number q ∷ (t.steps ++ LeaveStep t.number ∷ [])) (sym two.0) ∙ ap (λ (l : List SearchStep). Admit t.number four_eight ∷ (l ++ LeaveStep t.number ∷ [])) none, t.true_to.1)
+
+pub admit-and-leave : {S K : Type 0} (begun : HallOf) (gives : S → ReadAnswer → S → Type 0) (takes : K → WriteAnswer → K → Type 0) (source : S) (sink : K) (source' : S) (sink' : K) (r : Result End SessionFault) (knew : Option (Known SearchStep)) →
+    SeenSession begun gives takes source sink source' sink' r knew →
+    (lines : List LineText) × (replies : List OfficeReply) × ((known : Known SearchStep) →
+    lines ≡ Whole (codes "HELLO 4 8") ∷ Whole (codes "BYE") ∷ [] → replies ≡ Welcome four_eight ∷ [] → knew ≡ Some known → IsAdmitAndLeave known)
+admit-and-leave begun gives takes source sink source' sink' r knew served = (
+  served.session.answered,
+  served.session.replies,
+  λ known lines replies is.
+      of-two begun known
+      (subst (λ (k : Option (Known SearchStep)). IsTenantOf begun (calls_for (Whole (codes "HELLO 4 8") ∷ Whole (codes "BYE") ∷ []) (Welcome four_eight ∷ [])) k) is
+      (subst (λ (p : List OfficeReply). IsTenantOf begun (calls_for (Whole (codes "HELLO 4 8") ∷ Whole (codes "BYE") ∷ []) p) knew) replies
+      (subst (λ (l : List LineText). IsTenantOf begun (calls_for l served.session.replies) knew) lines served.tenant))),
+)

@@ -15,7 +15,7 @@ ghost use Rattle.desk_rules.specs.declared.asked.SeatAsked.{SeatAsked as SeatAsk
 ghost use Rattle.desk_rules.specs.Asked.{seat_asked_at, IsToldBy, found_or_no_tenant};
 ghost use Rattle.desk.specs.Histories.{core_at, seat_steps, steps_of, AreTaken};
 ghost use mathlib.Core.List.{IsPrefix};
-ghost use Rattle.promises.specs.Tenants.{SearchStep};
+ghost use Rattle.promises.specs.Replies.{SearchStep};
 
 use desk::{Desk, DeskLedger, Seat, Trace};
 use hall::{Jamboree, Outcome, Refusal, Step};

@@ -1,77 +1,73 @@
 //! What comes of lists of searches, for tenants 7 and 9, their jobs 3 and 5 and worker 5.
-ghost use Rattle.std.specs.Prelude.{◌≡◌, ◌≢◌, ◌⊎◌, ◌++◌, ◌+◌, ◌∷◌, ℕ, ◌≤◌, ◌≤ℤ◌, List, true, Some, None, Err, IfOk, length, slice_get, slice_index};
+ghost use Rattle.std.specs.Prelude.{◌≡◌, ◌≢◌, ◌⊎◌, ◌++◌, ◌+◌, ◌∷◌, ℕ, List, true, Some, None, Result, Err, IfOk, All, length, map, slice_index};
 ghost use Rattle.othello_board.specs.Words.{cells_of};
-ghost use Rattle.othello_eval.specs.declared.bound.Bound.{Bound};
-ghost use Rattle.othello_eval.specs.declared.bound.BoundKind.TheVariants.{Low, High, Exact};
-ghost use Rattle.othello_eval.specs.Minimax.{minimax, best_choice, choice_value};
-ghost use Rattle.othello_eval.specs.Tables.{entered};
+ghost use Rattle.othello_eval.specs.Minimax.{minimax, best_choice};
+ghost use Rattle.othello_eval.specs.Tables.{entered, IsTable, IsTrueBound, IsExactIfBest};
 ghost use Rattle.frame_tree.specs.declared.names.FrameId.{FrameId};
 ghost use Rattle.sched_rules.specs.declared.job.Job.TheVariants.{Done};
 ghost use Rattle.sched_rules.specs.declared.refusal.Refusal.{Refusal};
 ghost use Rattle.sched_rules.specs.declared.refusal.Refusal.TheVariants.{Busy};
+ghost use Rattle.sched_rules.specs.declared.step.DidOf.{DidOf};
 ghost use Rattle.sched_rules.specs.declared.step.StepOf.TheVariants.{Steal, Spend};
 ghost use Rattle.sched_rules.specs.Trees.{Tenant, job_at, is_busy_in};
 ghost use Rattle.sched_rules.specs.Cores.{shared_by_nobody, tenant_in};
 ghost use Rattle.sched_rules.specs.Lone.{lone_refusal};
 ghost use Rattle.sched_rules.specs.Runs.{alone, answers_from};
 ghost use Rattle.sched_rules.specs.Headline.{after_answer, after_answers, IsAnswerTo, own_answers};
-ghost use Rattle.sched_laws.specs.Fitted.{origins_of};
+ghost use Rattle.jamboree_rules.specs.declared.leaf.Leaf.{Leaf};
 ghost use Rattle.jamboree_rules.specs.Entries.{bounds_of};
 ghost use Rattle.jamboree_rules.specs.Frames.{coded};
-ghost use Rattle.jamboree_rules.specs.Places.{frame_of, root_words, score_of};
+ghost use Rattle.jamboree_rules.specs.Places.{frame_of, score_of};
 ghost use Rattle.jamboree_rules.specs.Procedure.{jamboree};
 ghost use Rattle.jamboree_core.specs.NewRuns.{submitted_by};
 ghost use Rattle.jamboree_core.specs.Replies.{AreAllSound, AreReplies, AreSearches};
 ghost use Rattle.jamboree_core.specs.Searching.{origin_at};
-ghost use Rattle.promises.specs.Tenants.{SearchAnswer, SearchStep, own_steps, AreAdmissionsTaken};
+ghost use Rattle.promises.specs.Replies.{SearchStep};
+ghost use Rattle.promises.specs.Tenants.{own_steps, AreAdmissionsTaken};
 
 use jamboree_core::jamboree::Jamboree;
+use jamboree_core::laws::{every_completed_reply_is_the_minimax_value, every_frame_is_sound};
 use promises::{After, run, run_two};
 use sched_rules::{Config, Step};
 use std::alloc::{AllocError, Allocator};
 
 /// After any list: tenant 7's job 3, where it is done, has in its words the board (two words) and the depth that the
-/// tenant's third Submit asked for, their minimax value and their best choice.
-/// Uses `promises::run` (`replies`).
+/// tenant's third Submit carried, their minimax value, their best choice and their table.
+/// Uses `promises::run` (`headline`).
 pub fn words_of_seven<A: Allocator + Clone>(
     alloc: A,
     procedure: Jamboree,
     config: Config,
     steps: &[Step<Jamboree>],
-) -> Result<After<A>, AllocError>
+) -> Result<After<Jamboree, A>, AllocError>
     requires { AreSearches steps.now }
     ensures { IfOk result (λ run. (tenant : Tenant) (words : List ℕ) →
         tenant_in run.core.shared.tenants 7 ≡ Some tenant → job_at tenant.jobs 3 ≡ Some (Done words) →
-        (own : ℕ) × (opp : ℕ) × (depth : ℕ) × (depth ≤ 12)
-        × (origin_at (origins_of (own_steps 7 steps.now run.answers.items)) 3 ≡ Some (root_words own opp depth))
-        × (slice_index words 0 ≡ own) × (slice_index words 1 ≡ opp) × (slice_index words 2 ≡ depth)
-        × (score_of (slice_index words 8) ≡ minimax depth (cells_of own opp))
-        × (slice_index words 9 ≡ coded (best_choice depth (cells_of own opp)))) }
+        (origin : List ℕ) × (origin_at (submitted_by steps.now run.answers.items 7) 3 ≡ Some origin)
+        × (slice_index words 0 ≡ slice_index origin 0) × (slice_index words 1 ≡ slice_index origin 1) × (slice_index words 2 ≡ slice_index origin 2)
+        × (score_of (slice_index words 8) ≡ minimax (slice_index origin 2) (cells_of (slice_index origin 0) (slice_index origin 1)))
+        × (slice_index words 9 ≡ coded (best_choice (slice_index origin 2) (cells_of (slice_index origin 0) (slice_index origin 1))))
+        × IsTable (slice_index origin 2) (cells_of (slice_index origin 0) (slice_index origin 1)) (bounds_of (frame_of words))) }
 {
     run(alloc, procedure, config, steps)
 }
 
-/// After any list: tenant 9's job 5, where it is done, has in its words a table of what was asked: an entry for each
-/// choice, each true of it.
-/// Uses `promises::run` (`replies`).
+/// After any list: tenant 9's job 5, where it is done, has in its words a table of the board and the depth that the
+/// tenant's fifth Submit carried: an entry for each choice, in order, each true of it, and the best choice's exact.
+/// Uses `promises::run` (`headline`).
 pub fn table_of_nine<A: Allocator + Clone>(
     alloc: A,
     procedure: Jamboree,
     config: Config,
     steps: &[Step<Jamboree>],
-) -> Result<After<A>, AllocError>
+) -> Result<After<Jamboree, A>, AllocError>
     requires { AreSearches steps.now }
     ensures { IfOk result (λ run. (tenant : Tenant) (words : List ℕ) →
         tenant_in run.core.shared.tenants 9 ≡ Some tenant → job_at tenant.jobs 5 ≡ Some (Done words) →
-        (own : ℕ) × (opp : ℕ) × (depth : ℕ)
-        × (origin_at (origins_of (own_steps 9 steps.now run.answers.items)) 5 ≡ Some (root_words own opp depth))
-        × (length (bounds_of (frame_of words)) ≡ length (entered depth (cells_of own opp)))
-        × ((i : ℕ) (entry : Bound) → slice_get (bounds_of (frame_of words)) i ≡ Some entry →
-        (slice_get (entered depth (cells_of own opp)) i ≡ Some entry.choice)
-        × (entry.kind ≡ Low → choice_value depth (cells_of own opp) entry.choice ≤ℤ entry.score)
-        × (entry.kind ≡ High → entry.score ≤ℤ choice_value depth (cells_of own opp) entry.choice)
-        × (entry.kind ≡ Exact → choice_value depth (cells_of own opp) entry.choice ≡ entry.score)
-        × (best_choice depth (cells_of own opp) ≡ Some entry.choice → entry.kind ≡ Exact))) }
+        (origin : List ℕ) × (origin_at (submitted_by steps.now run.answers.items 9) 5 ≡ Some origin)
+        × (map (λ b. b.choice) (bounds_of (frame_of words)) ≡ entered (slice_index origin 2) (cells_of (slice_index origin 0) (slice_index origin 1)))
+        × All (IsTrueBound (slice_index origin 2) (cells_of (slice_index origin 0) (slice_index origin 1))) (bounds_of (frame_of words))
+        × All (IsExactIfBest (best_choice (slice_index origin 2) (cells_of (slice_index origin 0) (slice_index origin 1)))) (bounds_of (frame_of words))) }
 {
     run(alloc, procedure, config, steps)
 }
@@ -83,7 +79,7 @@ pub fn three_answers<A: Allocator + Clone>(
     procedure: Jamboree,
     config: Config,
     steps: &[Step<Jamboree>],
-) -> Result<After<A>, AllocError>
+) -> Result<After<Jamboree, A>, AllocError>
     requires { AreSearches steps.now }
     ensures { IfOk result (λ run. (count : ℕ) → length steps.now ≡ count + 3 → length run.answers.items ≡ count + 3) }
 {
@@ -99,13 +95,13 @@ pub fn refusals<A: Allocator + Clone>(
     procedure: Jamboree,
     config: Config,
     steps: &[Step<Jamboree>],
-) -> Result<After<A>, AllocError>
+) -> Result<After<Jamboree, A>, AllocError>
     requires { AreSearches steps.now }
-    ensures seven { IfOk result (λ run. (before later : List SearchStep) (said more : List SearchAnswer) (home serial : ℕ) (refusal : Refusal) →
+    ensures seven { IfOk result (λ run. (before later : List SearchStep) (said more : List (Result (DidOf Leaf) Refusal)) (home serial : ℕ) (refusal : Refusal) →
         steps.now ≡ before ++ Steal 5 home (record { tenant = 7; serial = serial }) ∷ later → run.answers.items ≡ said ++ Err refusal ∷ more → length said ≡ length before →
         (lone_refusal (jamboree procedure.grain) (alone (jamboree procedure.grain) (own_steps 7 before said)) (Steal 5 home (record { tenant = 7; serial = serial })) ≡ Some refusal)
         ⊎ ((refusal ≡ Busy) × (another : ℕ) × (another ≢ 7) × (tenant : Tenant) × (alone (jamboree procedure.grain) (own_steps another before said) ≡ Some tenant) × (is_busy_in 5 tenant.frames ≡ true))) }
-    ensures nine { IfOk result (λ run. (before later : List SearchStep) (said more : List SearchAnswer) (serial : ℕ) (refusal : Refusal) →
+    ensures nine { IfOk result (λ run. (before later : List SearchStep) (said more : List (Result (DidOf Leaf) Refusal)) (serial : ℕ) (refusal : Refusal) →
         steps.now ≡ before ++ Spend (record { tenant = 9; serial = serial }) ∷ later → run.answers.items ≡ said ++ Err refusal ∷ more → length said ≡ length before →
         lone_refusal (jamboree procedure.grain) (alone (jamboree procedure.grain) (own_steps 9 before said)) (Spend (record { tenant = 9; serial = serial })) ≡ Some refusal) }
 {
@@ -122,9 +118,7 @@ pub fn nine_is_undisturbed<A: Allocator + Clone>(
     steps: &[Step<Jamboree>],
     other_config: Config,
     other_steps: &[Step<Jamboree>],
-) -> Result<(After<A>, After<A>), AllocError>
-    requires searches { AreSearches steps.now }
-    requires other_searches { AreSearches other_steps.now }
+) -> Result<(After<Jamboree, A>, After<Jamboree, A>), AllocError>
     ensures same { IfOk result (λ runs. own_steps 9 steps.now runs.0.answers.items ≡ own_steps 9 other_steps.now runs.1.answers.items →
         (tenant : Tenant) → tenant_in runs.0.core.shared.tenants 9 ≡ Some tenant →
         tenant_in runs.1.core.shared.tenants 9 ≡ Some tenant) }
@@ -145,9 +139,7 @@ pub fn seven_alone<A: Allocator + Clone>(
     config: Config,
     steps: &[Step<Jamboree>],
     own: &[Step<Jamboree>],
-) -> Result<(After<A>, After<A>), AllocError>
-    requires searches { AreSearches steps.now }
-    requires own_searches { AreSearches own.now }
+) -> Result<(After<Jamboree, A>, After<Jamboree, A>), AllocError>
     ensures same { IfOk result (λ runs. own.now ≡ own_steps 7 steps.now runs.0.answers.items → AreAdmissionsTaken own.now runs.1.answers.items →
         (tenant : Tenant) → tenant_in runs.0.core.shared.tenants 7 ≡ Some tenant →
         tenant_in runs.1.core.shared.tenants 7 ≡ Some tenant) }
@@ -165,11 +157,11 @@ pub fn nine_by_its_own_steps<A: Allocator + Clone>(
     procedure: Jamboree,
     config: Config,
     steps: &[Step<Jamboree>],
-) -> Result<After<A>, AllocError>
+) -> Result<After<Jamboree, A>, AllocError>
     requires { AreSearches steps.now }
     ensures state { IfOk result (λ run. tenant_in run.core.shared.tenants 9 ≡ alone (jamboree procedure.grain) (own_steps 9 steps.now run.answers.items)) }
     ensures told { IfOk result (λ run. own_answers 9 steps.now run.answers.items ≡ answers_from (jamboree procedure.grain) None (own_steps 9 steps.now run.answers.items)) }
-    ensures second { IfOk result (λ run. (first second : SearchStep) (later : List SearchStep) (one two : SearchAnswer) (more : List SearchAnswer) →
+    ensures second { IfOk result (λ run. (first second : SearchStep) (later : List SearchStep) (one two : Result (DidOf Leaf) Refusal) (more : List (Result (DidOf Leaf) Refusal)) →
         steps.now ≡ first ∷ second ∷ later → run.answers.items ≡ one ∷ two ∷ more →
         IsAnswerTo (jamboree procedure.grain) (after_answer (jamboree procedure.grain) (shared_by_nobody config) first one) second two) }
     ensures left { IfOk result (λ run. run.core.shared ≡ after_answers (jamboree procedure.grain) (shared_by_nobody config) steps.now run.answers.items) }
@@ -179,7 +171,8 @@ pub fn nine_by_its_own_steps<A: Allocator + Clone>(
     run(alloc, procedure, config, steps)
 }
 
-/// Tenant 7 is after each of two lists what its own taken steps of that list make of it alone, and was told what they give.
+/// Tenant 7 is after each of two lists what its own taken steps of that list make of it alone, and was told what they give. Where each
+/// Submit of the first list asks for a search, each of its jobs that is done after that list holds the reply to what its Submit asked for.
 /// Uses `promises::run_two` (`headline`).
 pub fn seven_in_both<A: Allocator + Clone>(
     alloc: A,
@@ -188,12 +181,14 @@ pub fn seven_in_both<A: Allocator + Clone>(
     steps: &[Step<Jamboree>],
     other_config: Config,
     other_steps: &[Step<Jamboree>],
-) -> Result<(After<A>, After<A>), AllocError>
-    requires searches { AreSearches steps.now }
-    requires other_searches { AreSearches other_steps.now }
+) -> Result<(After<Jamboree, A>, After<Jamboree, A>), AllocError>
     ensures one { IfOk result (λ runs. tenant_in runs.0.core.shared.tenants 7 ≡ alone (jamboree procedure.grain) (own_steps 7 steps.now runs.0.answers.items)) }
     ensures other { IfOk result (λ runs. tenant_in runs.1.core.shared.tenants 7 ≡ alone (jamboree procedure.grain) (own_steps 7 other_steps.now runs.1.answers.items)) }
     ensures told { IfOk result (λ runs. own_answers 7 other_steps.now runs.1.answers.items ≡ answers_from (jamboree procedure.grain) None (own_steps 7 other_steps.now runs.1.answers.items)) }
+    ensures replies { AreSearches steps.now → IfOk result (λ runs. (tenant : Tenant) → tenant_in runs.0.core.shared.tenants 7 ≡ Some tenant →
+        AreReplies (submitted_by steps.now runs.0.answers.items 7) tenant.jobs × AreAllSound tenant.frames tenant.frames) }
 {
+    every_completed_reply_is_the_minimax_value();
+    every_frame_is_sound();
     run_two(alloc, procedure, config, steps, other_config, other_steps)
 }

@@ -25,12 +25,13 @@ ghost use Rattle.session.specs.DoneLines.{EachDoneIsTrue};
 ghost use Rattle.session.specs.Turns.{turns};
 ghost use Rattle.session.specs.Sessions.{talk_result, texts_for, Called, IsWrittenOf};
 ghost use Rattle.desk_office.specs.Moments.{OfficeOf, IsTurnAt};
-ghost use Rattle.promises.specs.Tenants.{SearchStep};
+ghost use Rattle.promises.specs.Replies.{SearchStep};
 
 use desk::{Desk, DeskLedger, Trace};
-use desk_office::{own_steps_are_what_was_asked, serve_desk_seen};
+use desk_office::own_steps_are_what_was_asked;
 use hall::{Jamboree, Step};
 use line_io::{Sink, Source};
+use promises::serve;
 use session::{End, SessionFault};
 use std::alloc::Allocator;
 use std::sync::Wait;
@@ -38,7 +39,7 @@ use std::sync::Wait;
 /// Serves one session. Where its lines were `HELLO 4 8` and `QUOTA`, and the second answer has three numbers, these are what its own
 /// part of a history leaves to its tenant: a history of steps that were all taken, in which the tenant's one seat step is the
 /// Admit. Whatever its lines were, each JOB, DONE and TABLE line is true by the lines before it.
-/// Uses `desk_office::serve_desk_seen` (`lines`, `history`).
+/// Uses `promises::serve` (`lines`, `history`).
 pub fn quota_after_hello<S, K, L, R, A>(
     rt: &R,
     source: &mut S,
@@ -62,7 +63,31 @@ where
         × AreTaken (jamboree L.begun.grain) L.begun.shared (steps_of seen)
         × (seat_steps number (steps_of seen) ≡ Admit number (record { segments = 4; nodes = 8 }) ∷ [])) }
 {
-    serve_desk_seen(rt, source, sink, desk)
+    serve(rt, source, sink, desk)
+}
+
+/// Serves one session. Where its lines were `HELLO 4 8` and `BYE`, and a tenant came, the tenant's seat steps in the history that its
+/// seat knew when it left are its Admit and its Leave.
+/// Uses `promises::serve` (`history`).
+pub fn hello_and_bye<S, K, L, R, A>(
+    rt: &R,
+    source: &mut S,
+    sink: &mut K,
+    desk: &Desk<L, A>,
+) -> (Result<End, SessionFault>, Option<Trace<Step<Jamboree>, L>>)
+where
+    S: Source,
+    K: Sink,
+    L: DeskLedger,
+    R: Wait,
+    A: Allocator + Clone,
+    requires { L.all ≡ L.parts }
+    ensures { (lines : List LineText) × (replies : List OfficeReply) × ((known : Known SearchStep) →
+        lines ≡ Whole (codes "HELLO 4 8") ∷ Whole (codes "BYE") ∷ [] → replies ≡ Welcome (record { segments = 4; nodes = 8 }) ∷ [] → result.1 ≡ Some known →
+        (number : ℕ) × (known.mine ≡ Admit number (record { segments = 4; nodes = 8 }) ∷ LeaveStep number ∷ [])
+        × (seat_steps number (steps_of known.seen) ≡ known.mine)) }
+{
+    serve(rt, source, sink, desk)
 }
 
 /// A tenant's calls were an Ask to depth 3 that got a number, an AskQuota, and a Cancel that was refused, and then it left: the seat

@@ -1,15 +1,11 @@
 //! What a session writes third, and how it ends.
-ghost use Rattle.std.specs.Prelude.{◌≡◌, ◌++◌, ◌∷◌, [], ℕ, ◌≤◌, List, true, false, Ok, Err, Some, codes, decimal, map, nat_eq, slice_get, ◌≤ℤ◌};
-ghost use Rattle.std.specs.List.{concat, starts_with};
-ghost use Rattle.std.specs.Str.{byte};
-ghost use Rattle.othello_board.specs.Words.{cells};
-ghost use Rattle.othello_eval.specs.declared.bound.Bound.{Bound};
-ghost use Rattle.othello_eval.specs.declared.bound.BoundKind.TheVariants.{High};
-ghost use Rattle.othello_eval.specs.Minimax.{minimax, best_choice, choice_value};
-ghost use Rattle.position_text.specs.declared.positions.Position.{Position};
-ghost use Rattle.position_text.specs.Spelling.{Spells};
+ghost use Rattle.std.specs.Prelude.{◌≡◌, ◌++◌, ◌∷◌, [], ℕ, List, true, Ok, Err, codes, decimal, map};
+ghost use Rattle.std.specs.List.{concat};
+ghost use Rattle.othello_board.specs.declared.cells.Cell.{Cell};
+ghost use Rattle.othello_eval.specs.Minimax.{minimax, best_choice};
+ghost use Rattle.othello_eval.specs.Tables.{IsTable};
+ghost use Rattle.position_text.specs.declared.positions.Side.{Side};
 ghost use Rattle.protocol.specs.Texts.{value_text};
-ghost use Rattle.protocol.specs.Words.{word_number};
 ghost use Rattle.line_io.specs.Leads.{Leads};
 ghost use Rattle.line_io.specs.Lines.{LineText, Whole};
 ghost use Rattle.line_io.specs.Streams.{ReadAnswer, Gave, Ended, Failed};
@@ -17,22 +13,26 @@ ghost use Rattle.line_io.specs.Runs.{write_result};
 ghost use Rattle.line_io.specs.Writes.{IsCutShort, writes_of, written_texts};
 ghost use Rattle.session.specs.declared.faults.End.TheVariants.{EndOfInput};
 ghost use Rattle.session.specs.declared.faults.SessionFault.TheVariants.{Read, Write};
-ghost use Rattle.session.specs.Sessions.{session_lines, talk_result};
-ghost use Rattle.session.specs.Turns.{entries_text};
+ghost use Rattle.session.specs.declared.standings.Analysis.{Analysis};
+ghost use Rattle.session.specs.declared.standings.Standing.TheVariants.{Done};
+ghost use Rattle.session.specs.Calls.{Ask, Wait as WaitOf, OfficeReply, Welcome, Job, Told};
+ghost use Rattle.session.specs.Requests.{Makes, Tabulates, request};
+ghost use Rattle.session.specs.Sessions.{session_lines, talk_result, texts_for};
+ghost use Rattle.session.specs.Turns.{entries_text, pair_text};
 
 use desk::{Desk, DeskLedger};
+use desk_office::serve_desk;
 use line_io::{Sink, Source};
-use promises::serve;
 use session::{End, SessionFault};
 use std::alloc::Allocator;
 use std::sync::Wait;
 
 /// Serves one session. Where it ended by the end of its input, the lines of all that was read are answered, and what
 /// was written is the answers, each with LF; by a failed read, the read failed; after a failed write, something of the
-/// last answer is left. Where the third answer begins with `DONE`, it is `DONE k value move`, an earlier line `ASK`
-/// was answered by `JOB k`, value and move are those of what that line asks for, and if that was the first line, the
-/// second answer isn't `WELCOME`; where it begins with `TABLE`, each entry is true of what that line asks for.
-/// Uses `promises::serve`.
+/// last answer is left. Where the lines are `HELLO 4 8`, one that asks for a position, and one that waits for its job,
+/// and the replies are a Welcome, a Job and what the done job came to, then that is job 1, and the third answer is
+/// `DONE 1` with the minimax value and the best choice of that position; where the third line asks for the table, the
+/// answer is `TABLE 1` with that position's table. Uses `desk_office::serve_desk`.
 pub fn third_answer<S, K, L, R, A>(
     rt: &R,
     source: &mut S,
@@ -46,23 +46,20 @@ where
     R: Wait,
     A: Allocator + Clone,
     requires { L.all ≡ L.parts }
-    ensures { (blocks : List (List ℕ)) × (last : List ReadAnswer) × (pieces : List (List ℕ)) × (said : List (LineText × List ℕ))
+    ensures { (blocks : List (List ℕ)) × (last : List ReadAnswer) × (pieces : List (List ℕ)) × (lines : List LineText) × (replies : List OfficeReply)
         × Leads S.gives source.old (map Gave blocks ++ last) source.new
         × Leads K.takes sink.old (writes_of pieces (write_result (talk_result result))) sink.new
-        × (result ≡ Ok EndOfInput → (last ≡ Ended ∷ []) × (map (λ s. s.0) said ≡ session_lines (concat blocks)) × (concat pieces ≡ written_texts (map (λ s. s.1) said)))
-        × (result ≡ Err Read → (last ≡ Failed ∷ []) × (concat pieces ≡ written_texts (map (λ s. s.1) said)))
-        × (result ≡ Err Write → (rest : List ℕ) × (concat pieces ++ rest ≡ written_texts (map (λ s. s.1) said)) × IsCutShort (map (λ s. s.1) said) rest)
-        × ((first second third : LineText × List ℕ) (more : List (LineText × List ℕ)) → said ≡ first ∷ second ∷ third ∷ more →
-        (starts_with nat_eq third.1 (codes "DONE ") ≡ true → (job : ℕ) × (depth : ℕ) × (position : Position) × (word : List ℕ) × (text : List ℕ) × (later : List (LineText × List ℕ)) × (earlier : List (LineText × List ℕ))
-        × (second ∷ first ∷ [] ≡ later ++ (Whole (codes "ASK " ++ word ++ byte " " ∷ text), codes "JOB " ++ decimal job) ∷ earlier)
-        × (word_number word ≡ Some depth) × (depth ≤ 12) × Spells text position
-        × (later ≡ second ∷ [] → starts_with nat_eq second.1 (codes "WELCOME ") ≡ false)
-        × (third.1 ≡ codes "DONE " ++ decimal job ++ codes " " ++ value_text (minimax depth (cells position.board)) (best_choice depth (cells position.board))))
-        × (starts_with nat_eq third.1 (codes "TABLE ") ≡ true → (job : ℕ) × (depth : ℕ) × (position : Position) × (entries : List Bound) × (word : List ℕ) × (text : List ℕ) × (later : List (LineText × List ℕ)) × (earlier : List (LineText × List ℕ))
-        × (second ∷ first ∷ [] ≡ later ++ (Whole (codes "ASK " ++ word ++ byte " " ∷ text), codes "JOB " ++ decimal job) ∷ earlier)
-        × (word_number word ≡ Some depth) × Spells text position
-        × (third.1 ≡ codes "TABLE " ++ decimal job ++ entries_text entries)
-        × ((i : ℕ) (entry : Bound) → slice_get entries i ≡ Some entry → entry.kind ≡ High → entry.score ≤ℤ choice_value depth (cells position.board) entry.choice))) }
+        × (result ≡ Ok EndOfInput → (last ≡ Ended ∷ []) × (lines ≡ session_lines (concat blocks)) × (concat pieces ≡ written_texts (texts_for lines replies)))
+        × (result ≡ Err Read → (last ≡ Failed ∷ []) × (concat pieces ≡ written_texts (texts_for lines replies)))
+        × (result ≡ Err Write → (rest : List ℕ) × (concat pieces ++ rest ≡ written_texts (texts_for lines replies)) × IsCutShort (texts_for lines replies) rest)
+        × ((asks third : LineText) (depth : ℕ) (board : List Cell) (side : Side) (number job : ℕ) (analysis : Analysis) →
+        lines ≡ Whole (codes "HELLO 4 8") ∷ asks ∷ third ∷ [] → request true asks ≡ Makes (Ask depth board side) →
+        replies ≡ Welcome (record { segments = 4; nodes = 8 }) ∷ Job number ∷ Told job (Done analysis) ∷ [] →
+        (number ≡ 1)
+        × (request true third ≡ Makes (WaitOf job) → (job ≡ 1)
+        × (texts_for lines replies ≡ (codes "WELCOME " ++ pair_text 4 8) ∷ (codes "JOB " ++ decimal 1) ∷ (codes "DONE " ++ decimal 1 ++ codes " " ++ value_text (minimax depth board) (best_choice depth board)) ∷ []))
+        × (request true third ≡ Tabulates job → (job ≡ 1) × IsTable depth board analysis.bounds
+        × (texts_for lines replies ≡ (codes "WELCOME " ++ pair_text 4 8) ∷ (codes "JOB " ++ decimal 1) ∷ (codes "TABLE " ++ decimal 1 ++ entries_text analysis.bounds) ∷ []))) }
 {
-    serve(rt, source, sink, desk)
+    serve_desk(rt, source, sink, desk)
 }

@@ -1,20 +1,16 @@
 //! What `solve` writes for three lines.
-ghost use Rattle.std.specs.Prelude.{◌≡◌, ◌⊎◌, ◌++◌, ◌∷◌, [], ℕ, ◌≤◌, ◌<◌, List, false, Ok, Err, Some, codes, length, map};
-ghost use Rattle.std.specs.List.{concat, starts_with};
-ghost use Rattle.std.specs.Str.{byte};
-ghost use Rattle.std.specs.Prelude.{nat_eq};
-ghost use Rattle.othello_board.specs.Words.{cells};
+ghost use Rattle.std.specs.Prelude.{◌≡◌, ◌⊎◌, ◌++◌, ◌∷◌, [], ℕ, ◌≤◌, ◌<◌, Bool, List, Ok, Err, codes, length, map};
+ghost use Rattle.std.specs.List.{concat};
 ghost use Rattle.othello_eval.specs.Minimax.{minimax, best_choice};
-ghost use Rattle.position_text.specs.declared.positions.Position.{Position};
-ghost use Rattle.position_text.specs.Spelling.{Spells};
+ghost use Rattle.protocol.specs.Questions.{QuestionOf};
 ghost use Rattle.protocol.specs.Texts.{error_text, value_text};
-ghost use Rattle.protocol.specs.Words.{word_number};
 ghost use Rattle.line_io.specs.declared.faults.LineFault.TheVariants.{Read, Write};
 ghost use Rattle.line_io.specs.Leads.{Leads};
-ghost use Rattle.line_io.specs.Lines.{LineText, Whole, lines_of, up_to_last_end};
+ghost use Rattle.line_io.specs.Lines.{LineText, Whole, lines_of};
 ghost use Rattle.line_io.specs.Streams.{ReadAnswer, Gave, Ended, Failed};
 ghost use Rattle.line_io.specs.Runs.{bytes_due, write_result};
 ghost use Rattle.line_io.specs.Writes.{writes_of, written_texts};
+ghost use Rattle.promises.specs.solve_engine.Solving.{line_question};
 
 use line_io::{LineFault, Sink, Source};
 use promises::solve;
@@ -22,8 +18,8 @@ use std::alloc::Allocator;
 
 /// Answers three lines, at any grain. Where the input has ended, all was read, and what was written is the answers,
 /// each with LF; after a failed read the read failed; after a failed write something is left of the answers. The
-/// second answer is an `ERR` line, or the value and the choice of what the second line asks for; and where the third
-/// line asks for a position and a depth, the third answer is its value and choice, or `ERR 19`.
+/// second line is no question, as it has no space, and is answered by `ERR 21`; and where the third line asks for a
+/// position and a depth, the third answer is its value and choice, or `ERR 19`.
 /// Uses `promises::solve`.
 pub fn three_lines<A, S, K>(
     alloc: A,
@@ -36,20 +32,15 @@ where
     S: Source,
     K: Sink,
     requires { grain ≤ 6 }
-    ensures { (blocks : List (List ℕ)) × (last : List ReadAnswer) × (pieces : List (List ℕ)) × (texts : List (List ℕ))
+    ensures { (blocks : List (List ℕ)) × (last : List ReadAnswer) × (pieces : List (List ℕ)) × (due : List ℕ)
         × Leads S.gives source.old (map Gave blocks ++ last) source.new
         × Leads K.takes sink.old (writes_of pieces (write_result result)) sink.new
-        × (result ≡ Ok tt → (last ≡ Ended ∷ []) × (concat pieces ≡ written_texts texts))
-        × (result ≡ Err Read → (last ≡ Failed ∷ []) × (concat pieces ≡ written_texts texts))
-        × (result ≡ Err Write → (rest : List ℕ) × (concat pieces ++ rest ≡ written_texts texts) × (0 < length rest))
-        × ((first second third : LineText) → lines_of (bytes_due result (concat blocks)) ≡ first ∷ second ∷ third ∷ [] →
-        (one : List ℕ) × (two : List ℕ) × (three : List ℕ) × (texts ≡ one ∷ two ∷ three ∷ [])
-        × (starts_with nat_eq two (codes "ERR ") ≡ false → (depth : ℕ) × (position : Position) × (word : List ℕ) × (text : List ℕ)
-        × (second ≡ Whole (word ++ byte " " ∷ text)) × (word_number word ≡ Some depth) × (depth ≤ 12) × Spells text position
-        × (two ≡ value_text (minimax depth (cells position.board)) (best_choice depth (cells position.board))))
-        × ((word text : List ℕ) (depth : ℕ) (position : Position) →
-        third ≡ Whole (word ++ byte " " ∷ text) → word_number word ≡ Some depth → depth ≤ 12 → Spells text position →
-        (three ≡ value_text (minimax depth (cells position.board)) (best_choice depth (cells position.board))) ⊎ (three ≡ error_text 19))) }
+        × (result ≡ Ok tt → (last ≡ Ended ∷ []) × (concat pieces ≡ due))
+        × (result ≡ Err Read → (last ≡ Failed ∷ []) × (concat pieces ≡ due))
+        × (result ≡ Err Write → (rest : List ℕ) × (concat pieces ++ rest ≡ due) × (0 < length rest))
+        × ((first third : LineText) (asked : QuestionOf) → lines_of (bytes_due result (concat blocks)) ≡ first ∷ Whole (codes "opening") ∷ third ∷ [] → line_question third ≡ Ok asked →
+        (one : List ℕ) × (three : List ℕ) × (due ≡ written_texts (one ∷ error_text 21 ∷ three ∷ []))
+        × ((three ≡ value_text (minimax asked.depth asked.board) (best_choice asked.depth asked.board)) ⊎ (three ≡ error_text 19))) }
 {
     solve(alloc, source, sink, grain)
 }

@@ -17,7 +17,3 @@ as-many functions before (step ∷ steps) (answer ∷ answers) right = omega (ar
 pub if-ok : {T E : Type 0} {P Q : T → Type 0} (r : Result T E) → ((value : T) → P value → Q value) → IfOk r P → IfOk r Q
 if-ok (Ok value) make p = make value p
 if-ok (Err error) make p = tt
-
-pub if-ok-both : {T E : Type 0} {P Q R : T → Type 0} (r : Result T E) → ((value : T) → P value → Q value → R value) → IfOk r P → IfOk r Q → IfOk r R
-if-ok-both (Ok value) make p q = make value p q
-if-ok-both (Err error) make p q = tt

@@ -1,11 +1,12 @@
 -- What explains a tenant of a hall, and what its replies are to.
-use Rattle.std.proofs.Common.{◌≡◌, ℕ, ◌≤◌, ℤ, List, Option, Some, None, refl, sym, ap, ◌∙◌, subst, arith}
-use Rattle.std.specs.Prelude.{IfSome, slice_get, slice_index}
+use Rattle.std.proofs.Common.{◌≡◌, ℕ, ◌≤◌, ℤ, ◌==◌, ◌-◌, true, false, List, [], ◌∷◌, map, Option, Some, None, refl, sym, ap, ◌∙◌, subst, arith}
+use Rattle.std.specs.Prelude.{IfSome, if◌then◌else◌, get_or, slice_get, slice_index}
+use Rattle.std.proofs.lemmas.Option.{slice_get-map, slice_get_within, get_or_from_slice_get}
 use Rattle.othello_board.specs.Words.{cells_of}
 use Rattle.othello_eval.specs.othello_moves.declared.choices.Choice.{Choice}
 use Rattle.othello_eval.specs.declared.bound.Bound.{Bound}
 use Rattle.othello_eval.specs.Minimax.{minimax, best_choice}
-use Rattle.othello_eval.specs.Tables.{IsTable}
+use Rattle.othello_eval.specs.Tables.{IsTable, IsTrueBound, IsExactIfBest, entered}
 use Rattle.sched_rules.specs.Trees.{Tenant}
 use Rattle.sched_rules.specs.Runs.{alone_from}
 use Rattle.sched_rules.specs.Cores.{tenant_in}
@@ -15,14 +16,12 @@ use Rattle.jamboree_core.specs.jamboree.Replies.{board_of, depth_of}
 use Rattle.jamboree_core.specs.sched_laws.Fitted.{origins_of}
 use Rattle.jamboree_core.specs.declared.outcomes.Outcome.TheVariants.{Done}
 use Rattle.jamboree_core.specs.Replies.{AreRootWords, AreSearches}
-use Rattle.jamboree_core.specs.Searching.{origin_at}
+use Rattle.jamboree_core.specs.Searching.{AreAllRootWords, origin_at}
 use Rattle.jamboree_core.specs.Outcomes.{AnswersTo}
 use Rattle.jamboree_core.proofs.Serving.{searches-asked}
 use Rattle.hall.specs.Journals.{journal_in}
 use Rattle.hall.specs.Halls.{HallOf, Explains, IsExplained}
-use Rattle.promises.specs.Tenants.{SearchStep}
-use Rattle.promises.specs.Replies.{IsAskedBy, IsValueOfSubmit, IsEntryOfSubmit}
-use Rattle.promises.proofs.Replied.{root-at, true-table}
+use Rattle.promises.specs.Replies.{SearchStep, IsAskedBy, IsValueOfSubmit, IsEntryOfSubmit}
 
 explained : (grain : ℕ) (own : Option Tenant) (journal : List SearchStep) → Explains (jamboree grain) own journal → own ≡ alone_from (jamboree grain) None journal
 explained grain None journal is = rw is refl
@@ -36,12 +35,21 @@ same-journals one other number this that grain journal =
     ∙ ap (λ (l : List SearchStep). alone_from (jamboree other.grain) None l) journal
     ∙ sym (explained other.grain (tenant_in other.shared.tenants number) (journal_in other.journals number) (that.tenants number))
 
+-- the words that were submitted under a number are those of a root
+root-at : (origins : List (List ℕ)) (job : ℕ) (origin : List ℕ) → AreAllRootWords origins → origin_at origins job ≡ Some origin → AreRootWords origin
+root-at [] job origin all at = absurd cc
+root-at (first ∷ origins) job origin all at =
+    elim (job == 1) as (λ b. (if b then Some first else origin_at origins (job - 1)) ≡ Some origin → AreRootWords origin) [
+      | true ↦ λ is. let same : first ≡ origin = cc in subst AreRootWords same all.0
+      | false ↦ λ is. root-at origins (job - 1) origin all.1 is
+    ] at
+
 -- the words of a root, by what is read at their places
 root-places : (origin : List ℕ) (own opp depth : ℕ) (root : AreRootWords origin) → own ≡ slice_index origin 0 → opp ≡ slice_index origin 1 → depth ≡ slice_index origin 2 → (root.own ≡ own) × (root.opp ≡ opp) × (root.depth ≡ depth)
 root-places origin own opp depth root o p d = grind arith
 
 -- a reply is to what was submitted under its number
-pub asked-by : (journal : List SearchStep) (job : ℕ) (reply : Reply) → AreSearches journal → AnswersTo (origin_at (origins_of journal) job) (Some (Done reply)) →
+asked-by : (journal : List SearchStep) (job : ℕ) (reply : Reply) → AreSearches journal → AnswersTo (origin_at (origins_of journal) job) (Some (Done reply)) →
     IsAskedBy journal job (board_of reply).own (board_of reply).opp (depth_of reply)
 asked-by journal job reply searches answers = by (origin_at (origins_of journal) job) refl answers
   where
@@ -59,10 +67,26 @@ pub value-of : (journal : List SearchStep) (job : ℕ) (reply : Reply) (value : 
     value ≡ minimax (depth_of reply) (cells_of (board_of reply).own (board_of reply).opp) → choice ≡ best_choice (depth_of reply) (cells_of (board_of reply).own (board_of reply).opp) → IsValueOfSubmit journal job value choice
 value-of journal job reply value choice searches answers value_is choice_is = grind (arith, asked-by)
 
-pub entry-of-submit : (journal : List SearchStep) (job : ℕ) (reply : Reply) (entries : List Bound) (i : ℕ) (entry : Bound) → AreSearches journal → AnswersTo (origin_at (origins_of journal) job) (Some (Done reply)) →
+-- an entry of a table is of its choice
+entry-of : (cs : List Choice) (entries : List Bound) (i : ℕ) (entry : Bound) → map (λ b. b.choice) entries ≡ cs → slice_get entries i ≡ Some entry → slice_get cs i ≡ Some entry.choice
+entry-of cs entries i entry each at = grind (arith, slice_get-map)
+
+entry-of-submit : (journal : List SearchStep) (job : ℕ) (reply : Reply) (entries : List Bound) (i : ℕ) (entry : Bound) → AreSearches journal → AnswersTo (origin_at (origins_of journal) job) (Some (Done reply)) →
     IsTable (depth_of reply) (cells_of (board_of reply).own (board_of reply).opp) entries → slice_get entries i ≡ Some entry → IsEntryOfSubmit journal job i entry
 entry-of-submit journal job reply entries i entry searches answers table at =
-    record { own = (board_of reply).own; opp = (board_of reply).opp; depth = depth_of reply; asked = asked-by journal job reply searches answers; true_of = (true-table _ _ entries table).each i entry at }
+    let depth = depth_of reply in
+    let board = cells_of (board_of reply).own (board_of reply).opp in
+    let within = slice_get_within entries i entry at in
+    let is : get_or entries i entry ≡ entry = get_or_from_slice_get entries i entry entry at in
+    record {
+      own = (board_of reply).own;
+      opp = (board_of reply).opp;
+      depth = depth;
+      asked = asked-by journal job reply searches answers;
+      of = entry-of (entered depth board) entries i entry table.each at;
+      holds = subst (λ (b : Bound). IsTrueBound depth board b) is (table.holds i entry within);
+      best = subst (λ (b : Bound). IsExactIfBest (best_choice depth board) b) is (table.best i entry within);
+    }
 
 pub entry-in : (journal : List SearchStep) (job : ℕ) (reply : Reply) (entries : List Bound) (i : ℕ) (found : Option Bound) → AreSearches journal → AnswersTo (origin_at (origins_of journal) job) (Some (Done reply)) →
     IsTable (depth_of reply) (cells_of (board_of reply).own (board_of reply).opp) entries → found ≡ slice_get entries i → IfSome found (λ entry. IsEntryOfSubmit journal job i entry)

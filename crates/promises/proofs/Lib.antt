@@ -1,10 +1,4 @@
 pub mod Answered
-pub mod Same
-pub mod Alone
+pub mod Isolation
 pub mod Refused
-pub mod Replied
 pub mod HallLemmas
-pub mod Spelled
-pub mod Lines
-pub mod SessionLemmas
-pub mod SolvingLemmas

@@ -1,5 +1,5 @@
 -- What a step that is no admission is refused for.
-use Rattle.std.proofs.Common.{◌≡◌, ◌≢◌, ℕ, ◌⊎◌, inl, inr, Bool, true, false, ◌==◌, List, [], ◌∷◌, ◌++◌, length, Option, Some, None, Result, Ok, Err, refl, sym, ap, ◌∙◌, arith}
+use Rattle.std.proofs.Common.{◌≡◌, ◌≢◌, ℕ, ◌⊎◌, inl, inr, Bool, true, false, ◌==◌, List, [], ◌∷◌, ◌++◌, length, Option, Some, None, Result, Ok, Err, refl, sym, ap, ◌∙◌, subst, arith}
 use Rattle.std.specs.Prelude.{not, ◌&&◌, ◌||◌}
 use Rattle.std.proofs.lemmas.Bool.Decides.{nat_tests}
 use Rattle.tenant_quota.specs.Quota.{Quota}
@@ -12,14 +12,15 @@ use Rattle.sched_rules.specs.Functions.{Functions}
 use Rattle.sched_rules.specs.Trees.{Tenant, is_busy_in}
 use Rattle.sched_rules.specs.Lone.{Outcome, lone, lone_refusal, refusal_in}
 use Rattle.sched_rules.specs.Runs.{tenant_of, answer_of}
-use Rattle.sched_rules.specs.Cores.{CoreState, tenant_in, with_tenant, without_tenant, with_outcome, is_busy_elsewhere, meets_busy, step_result, shared_after}
-use Rattle.sched_rules.specs.Headline.{IsAnswerTo, IsAnswerToStep, AreAnswersTo, after_answer, after_answers}
+use Rattle.sched_rules.specs.Cores.{CoreState, shared_by_nobody, tenant_in, with_tenant, without_tenant, with_outcome, is_busy_elsewhere, meets_busy, step_result, shared_after}
+use Rattle.sched_rules.specs.Headline.{IsAnswerTo, IsAnswerToStep, AreAnswersTo, after_answer, after_answers, IsHeadline}
 use Rattle.sched_rules.proofs.Isolation.{headline}
 use Rattle.sched_rules.proofs.Tenants.{tenant_in_other-with_tenant, tenant_in_other-without_tenant}
 use Rattle.jamboree_core.specs.jamboree_rules.declared.leaf.Leaf.{Leaf}
+use Rattle.jamboree_core.specs.jamboree_rules.declared.leaf.LeafAnswer.{LeafAnswer}
 use Rattle.jamboree_core.specs.jamboree_rules.Procedure.{jamboree}
 use Rattle.jamboree_core.specs.NewRuns.{IsHeadlineFromNew}
-use Rattle.promises.specs.Tenants.{SearchStep, SearchAnswer, stands, free_worker, IsForOwnState, IsForBusyWorker, AreRefusedForThese}
+use Rattle.promises.specs.Tenants.{stands, free_worker, IsForOwnState, IsForBusyWorker, AreRefusedForThese}
 
 abbrev Entries : Type 0
 Entries = List (ℕ × Tenant)
@@ -81,12 +82,12 @@ busy-there worker number (e ∷ es) apart busy =
           record { another = later.another; other = later.other; tenant = later.tenant; there = there-later e es later.another later.tenant apart.0 later.there; busy = later.busy }
     ] refl busy
 
-record MeetsBusy (step : SearchStep) (es : Entries) : Type 0 where
+record MeetsBusy {A : Type 0} (step : StepOf A) (es : Entries) : Type 0 where
   worker : ℕ
   free : free_worker step ≡ Some worker
   elsewhere : IsBusyThere worker (tenant_of step) es
 
-meets-there : (step : SearchStep) (es : Entries) → AreApart es → meets_busy step es ≡ true → MeetsBusy step es
+meets-there : {A : Type 0} (step : StepOf A) (es : Entries) → AreApart es → meets_busy step es ≡ true → MeetsBusy step es
 meets-there (Take worker name) es apart busy = record { worker = worker; free = refl; elsewhere = busy-there worker name.tenant es apart busy }
 meets-there (Steal worker from name) es apart busy = record { worker = worker; free = refl; elsewhere = busy-there worker name.tenant es apart busy }
 meets-there (Inlet worker name) es apart busy = record { worker = worker; free = refl; elsewhere = busy-there worker name.tenant es apart busy }
@@ -96,15 +97,15 @@ meets-there _ es apart busy = absurd cc
 -- ---- one step that was refused
 
 -- by what it comes to alone, and whether its worker is busy
-refused-for : (busy : Bool) (own : Result (Outcome Leaf) Refusal) (refusal : Refusal) →
-    ((other : Refusal) → refusal_in own ≡ Some other → ◌≡◌ {A = SearchAnswer} (Err refusal) (Err other)) →
-    (refusal_in own ≡ None → busy ≡ true → ◌≡◌ {A = SearchAnswer} (Err refusal) (Err Busy)) →
-    (refusal_in own ≡ None → busy ≡ false → ◌≡◌ {A = SearchAnswer} (Err refusal) (answer_of own)) →
+refused-for : {I : Type 0} (busy : Bool) (own : Result (Outcome I) Refusal) (refusal : Refusal) →
+    ((other : Refusal) → refusal_in own ≡ Some other → ◌≡◌ {A = Result (DidOf I) Refusal} (Err refusal) (Err other)) →
+    (refusal_in own ≡ None → busy ≡ true → ◌≡◌ {A = Result (DidOf I) Refusal} (Err refusal) (Err Busy)) →
+    (refusal_in own ≡ None → busy ≡ false → ◌≡◌ {A = Result (DidOf I) Refusal} (Err refusal) (answer_of own)) →
     (refusal_in own ≡ Some refusal) ⊎ ((refusal ≡ Busy) × (busy ≡ true))
-refused-for busy (Err other) refusal own_state busy_worker else_taken = inl (let same : ◌≡◌ {A = SearchAnswer} (Err refusal) (Err other) = own_state other refl in cc)
-refused-for true (Ok outcome) refusal own_state busy_worker else_taken = inr (let same : ◌≡◌ {A = SearchAnswer} (Err refusal) (Err Busy) = busy_worker refl refl in cc, refl)
-refused-for false (Ok outcome) refusal own_state busy_worker else_taken =
-    let same : ◌≡◌ {A = SearchAnswer} (Err refusal) (answer_of (Ok outcome)) = else_taken refl refl in absurd cc
+refused-for {I = I} busy (Err other) refusal own_state busy_worker else_taken = inl (let same : ◌≡◌ {A = Result (DidOf I) Refusal} (Err refusal) (Err other) = own_state other refl in cc)
+refused-for {I = I} true (Ok outcome) refusal own_state busy_worker else_taken = inr (let same : ◌≡◌ {A = Result (DidOf I) Refusal} (Err refusal) (Err Busy) = busy_worker refl refl in cc, refl)
+refused-for {I = I} false (Ok outcome) refusal own_state busy_worker else_taken =
+    let same : ◌≡◌ {A = Result (DidOf I) Refusal} (Err refusal) (answer_of (Ok outcome)) = else_taken refl refl in absurd cc
 
 -- ---- in a list
 
@@ -118,12 +119,12 @@ split-answers functions at (s ∷ before) later (a ∷ said) more step answer le
     let rest = split-answers functions (after_answer functions at s a) before later said more step answer (omega arith) right.1 in ((right.0, rest.0), rest.1)
 
 -- a step that was refused after these, where each tenant is what its own steps give
-refused-there : (grain : ℕ) (at : CoreState) (before : List SearchStep) (said : List SearchAnswer) (step : SearchStep) (refusal : Refusal) →
-    ((number : ℕ) → tenant_in at.tenants number ≡ stands grain number before said) → AreApart at.tenants → IsAnswerToStep (jamboree grain) at step (Err refusal) →
-    IsForOwnState grain before said step refusal ⊎ IsForBusyWorker grain before said step refusal
-refused-there grain at before said step refusal own apart right =
-    elim (refused-for (meets_busy step at.tenants) (lone (jamboree grain) (tenant_in at.tenants (tenant_of step)) step) refusal right.own_state right.busy_worker right.else_taken) [
-      | inl is ↦ inl (ap (λ (t : Option Tenant). lone_refusal (jamboree grain) t step) (sym (own (tenant_of step))) ∙ is)
+refused-there : {I A : Type 0} (f : Functions I A) (at : CoreState) (before : List (StepOf A)) (said : List (Result (DidOf I) Refusal)) (step : StepOf A) (refusal : Refusal) →
+    ((number : ℕ) → tenant_in at.tenants number ≡ stands f number before said) → AreApart at.tenants → IsAnswerToStep f at step (Err refusal) →
+    IsForOwnState f before said step refusal ⊎ IsForBusyWorker f before said step refusal
+refused-there f at before said step refusal own apart right =
+    elim (refused-for (meets_busy step at.tenants) (lone f (tenant_in at.tenants (tenant_of step)) step) refusal right.own_state right.busy_worker right.else_taken) [
+      | inl is ↦ inl (ap (λ (t : Option Tenant). lone_refusal f t step) (sym (own (tenant_of step))) ∙ is)
       | inr is ↦ inr (
           let met = meets-there step at.tenants apart is.1 in
           let there = met.elsewhere in
@@ -135,5 +136,15 @@ refused-there grain at before said step refusal own apart right =
           })
     ]
 
-pub refused-for-these : (grain : ℕ) (totals : Quota) (steps : List SearchStep) (answers : List SearchAnswer) (after : CoreState) → IsHeadlineFromNew grain totals steps answers after → AreRefusedForThese grain steps answers
-refused-for-these grain totals steps answers after whole before later said more step refusal steps_are answers_are len no_admission = grind (arith, split-answers, headline, refused-there, apart-after)
+refused-for-these : {I A : Type 0} (f : Functions I A) (totals : Quota) (steps : List (StepOf A)) (answers : List (Result (DidOf I) Refusal)) (after : CoreState) → IsHeadline f (shared_by_nobody totals) steps answers after → AreRefusedForThese f steps answers
+refused-for-these {I = I} {A = A} f totals steps answers after whole before later said more step refusal steps_are answers_are len no_admission =
+    let new = shared_by_nobody totals in
+    let P : List (StepOf A) → Type 0 = λ all. AreAnswersTo f new all answers in
+    let Q : List (Result (DidOf I) Refusal) → Type 0 = λ told. AreAnswersTo f new (before ++ step ∷ later) told in
+    let split = split-answers f new before later said more step (Err refusal) len (subst Q answers_are (subst P steps_are whole.refused)) in
+    let head = headline f new before said tt split.0 in
+    refused-there f (after_answers f new before said) before said step refusal (λ number. (head.undisturbed number).state) (apart-after f new before said tt) (split.1.1 no_admission)
+
+-- the same of a list of searches
+pub refused-of-searches : (grain : ℕ) (totals : Quota) (steps : List (StepOf LeafAnswer)) (answers : List (Result (DidOf Leaf) Refusal)) (after : CoreState) → IsHeadlineFromNew grain totals steps answers after → AreRefusedForThese (jamboree grain) steps answers
+refused-of-searches grain totals steps answers after whole = refused-for-these (jamboree grain) totals steps answers after whole.tenants

@@ -1,7 +1,7 @@
 use Rattle.std.proofs.Common.{ℕ, arith}
 use Rattle.sched_rules.specs.declared.step.StepOf.TheVariants.{Submit}
 use Rattle.jamboree_rules.specs.Places.{root_words, frame_size}
-use Rattle.promises.specs.Tenants.{SearchStep}
+use Rattle.promises.specs.Replies.{SearchStep}
 use Rattle.promise_uses.proofs.Parts.{told-nine, taken-of, refused-of}
 use Rattle.promise_uses.proofs.desks.nine_asks.Goals as goal
 

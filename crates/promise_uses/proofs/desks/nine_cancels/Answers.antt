@@ -1,6 +1,6 @@
 use Rattle.std.proofs.Common.{ℕ}
 use Rattle.sched_rules.specs.declared.step.StepOf.TheVariants.{Cancel}
-use Rattle.promises.specs.Tenants.{SearchStep}
+use Rattle.promises.specs.Replies.{SearchStep}
 use Rattle.promise_uses.proofs.Parts.{told-nine, taken-of, refused-of, kept-of}
 use Rattle.promise_uses.proofs.desks.nine_cancels.Goals as goal
 

@@ -1,8 +1,9 @@
 use Rattle.promise_uses.proofs.Parts.{if-ok}
+use Rattle.promise_uses.proofs.Replied.{reply-at}
 use Rattle.promise_uses.proofs.runs.table_of_nine.Goals as goal
 
 pub returns : goal.returns
 returns g c =
-    if-ok c.run.result (λ run replies tenant words there done.
-    let is = replies 9 5 tenant words there done in
-    (is.own, is.opp, is.depth, is.asked.words, is.reply.table.all, λ i entry at. let one = is.reply.table.each i entry at in (one.of, one.low, one.high, one.exact, one.best))) c.run.ensures.replies
+    if-ok c.run.result (λ run headline tenant words there done.
+    let has = reply-at _ tenant.jobs 5 words (headline.replies 9 tenant there) done in
+    (has.origin, has.at, has.reply.table.each, has.reply.table.holds, has.reply.table.best)) c.run.ensures.headline

@@ -115,22 +115,22 @@ impl Recorded {
     }
 
     /// What tenant 7 comes to, by its third job.
-    fn seven(&self, alloc: Global) -> Result<After<Global>, AllocError> {
+    fn seven(&self, alloc: Global) -> Result<After<Jamboree, Global>, AllocError> {
         words_of_seven(alloc, grain_1(), wide(), &self.steps)
     }
 
     /// What tenant 9 comes to, by its fifth job.
-    fn nine(&self, alloc: Global) -> Result<After<Global>, AllocError> {
+    fn nine(&self, alloc: Global) -> Result<After<Jamboree, Global>, AllocError> {
         table_of_nine(alloc, grain_1(), wide(), &self.steps)
     }
 
     /// What the list is answered.
-    fn answered(&self, alloc: Global) -> Result<After<Global>, AllocError> {
+    fn answered(&self, alloc: Global) -> Result<After<Jamboree, Global>, AllocError> {
         three_answers(alloc, grain_1(), wide(), &self.steps)
     }
 
     /// Which steps of the list are refused.
-    fn refused(&self, alloc: Global) -> Result<After<Global>, AllocError> {
+    fn refused(&self, alloc: Global) -> Result<After<Jamboree, Global>, AllocError> {
         refusals(alloc, grain_1(), wide(), &self.steps)
     }
 
@@ -139,7 +139,7 @@ impl Recorded {
         &self,
         alloc: Global,
         other: &Recorded,
-    ) -> Result<(After<Global>, After<Global>), AllocError> {
+    ) -> Result<(After<Jamboree, Global>, After<Jamboree, Global>), AllocError> {
         nine_is_undisturbed(
             alloc,
             grain_1(),
@@ -155,7 +155,7 @@ impl Recorded {
         &self,
         alloc: Global,
         own: &Recorded,
-    ) -> Result<(After<Global>, After<Global>), AllocError> {
+    ) -> Result<(After<Jamboree, Global>, After<Jamboree, Global>), AllocError> {
         seven_alone(alloc, grain_1(), wide(), &self.steps, &own.steps)
     }
 }
@@ -272,7 +272,7 @@ fn are_same(one: &[StepAnswer], other: &[StepAnswer]) -> bool {
 }
 
 /// Whether a tenant's job of this number is worth this in a core, by d3 (19); a word has a million more.
-fn is_worth(after: &After<Global>, tenant: u64, job: u64, value: u64) -> bool {
+fn is_worth(after: &After<Jamboree, Global>, tenant: u64, job: u64, value: u64) -> bool {
     is_done_with(after.core.job(tenant, job), value, 19)
 }
 
@@ -309,7 +309,7 @@ fn is_refused_twice(recorded: &Recorded, alloc: Global) -> bool {
 }
 
 /// Whether tenant 9's fifth job is worth -3 after both lists, and it has as much left.
-fn is_undisturbed(one: &After<Global>, other: &After<Global>) -> bool {
+fn is_undisturbed(one: &After<Jamboree, Global>, other: &After<Jamboree, Global>) -> bool {
     is_worth(one, 9, 5, 999_997)
         && is_worth(other, 9, 5, 999_997)
         && one.core.left(9) == other.core.left(9)
@@ -324,7 +324,7 @@ fn is_nine_undisturbed(recorded: &Recorded, other: &Recorded, alloc: Global) -> 
 }
 
 /// Whether tenant 7 comes to the same alone, and is told the same.
-fn is_alone(recorded: &Recorded, alone: &After<Global>) -> bool {
+fn is_alone(recorded: &Recorded, alone: &After<Jamboree, Global>) -> bool {
     alone.answers.len() > 32
         && is_worth(alone, 7, 3, 999_996)
         && is_told(&alone.answers, &recorded.tenants, &recorded.answers, 7)

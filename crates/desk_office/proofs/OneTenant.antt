@@ -1,0 +1,303 @@
+-- A session has one tenant at most.
+use Rattle.std.proofs.Common.{◌≡◌, ℕ, List, [], ◌∷◌, ◌++◌, Bool, true, false, Option, Some, None, Result, Ok, Err, refl, sym, ap, subst, ◌∙◌, inl, inr, codes}
+use Rattle.std.specs.Prelude.{◌⊎◌, ◌==◌, if◌then◌else◌, option_map}
+use Rattle.std.specs.Str.{bytes_eq}
+use Rattle.line_io.specs.Leads.{Leads}
+use Rattle.line_io.specs.Lines.{LineText, Whole, TooLong, lines_of}
+use Rattle.line_io.specs.Talks.{upto}
+use Rattle.tenant_quota.specs.Quota.{Quota}
+use Rattle.sched_rules.specs.declared.step.StepOf.{StepOf}
+use Rattle.sched_rules.specs.declared.step.StepOf.TheVariants.{Admit, Leave as LeaveStep}
+use Rattle.desk.specs.Traces.{Known}
+use Rattle.desk.specs.hall.jamboree_rules.declared.leaf.LeafAnswer.{LeafAnswer}
+use Rattle.desk.specs.hall.Halls.{HallOf}
+use Rattle.desk.specs.Seats.{SeatOf}
+use Rattle.session.specs.declared.faults.End.{End}
+use Rattle.session.specs.declared.faults.SessionFault.{SessionFault}
+use Rattle.session.specs.declared.faults.SessionFault.TheVariants.{Read, Write}
+use Rattle.session.specs.Asks.{KeepsAsks, IsOfficeReplyTo}
+use Rattle.session.specs.Calls.{Call, Hello, Reserve, Get, Wait, Cancel, Leave, OfficeReply, Welcome, Gone, Refused}
+use Rattle.session.specs.Forms.{Form, HelloOf, ReserveOf, AskOf, GetOf, WaitOf, CancelOf, TableOf, QuotaForm, LiveForm, ByeForm, form_of, form_by, form_after, is_bye}
+use Rattle.session.specs.Requests.{Request, Fault, Makes, Tabulates, Ends, request, form_request, seated_request, quota_request, quota_of, ask_request, job_request}
+use Rattle.session.specs.Sessions.{Called, IsAnsweredOf, session_lines}
+use Rattle.session.specs.Turns.{turns, calls_in, leaving, next_reply, later_replies, seated_after}
+use Rattle.session.proofs.Served.{next_turns}
+use Rattle.desk_office.specs.Offices.{asks_of}
+use Rattle.desk_office.specs.Moments.{OfficeOf, AllStay, IsHello, IsOneTenancy, IsTenantOf, IsTurnAt, IsTurnOf, NobodyCame, is_stay, is_welcome}
+use Rattle.desk_office.proofs.Tenancies.{tenancy}
+
+-- ---- what a line asks for
+
+-- neither the end of the session nor a call by which the tenant leaves
+abbrev Goes : Request → Type 0
+Goes (Makes call) = is_stay call ≡ true
+Goes Ends = ⊥
+Goes _ = Unit {0}
+
+quota_goes : (call : Quota → Call) → ((quota : Quota) → is_stay (call quota) ≡ true) → (quota : Option Quota) → Goes (quota_request call quota)
+quota_goes call stays None = tt
+quota_goes call stays (Some quota) = stays quota
+
+ask_goes : (asked : _) → Goes (ask_request asked)
+ask_goes (Ok asked) = refl
+ask_goes (Err fault) = tt
+
+job_goes : (asked : ℕ → Request) → ((job : ℕ) → Goes (asked job)) → (job : Option ℕ) → Goes (job_request asked job)
+job_goes asked goes None = tt
+job_goes asked goes (Some job) = goes job
+
+seated_goes : (form : Form) → (form ≡ ByeForm) ⊎ Goes (seated_request form)
+seated_goes (HelloOf segments nodes) = inr tt
+seated_goes (ReserveOf segments nodes) = inr (quota_goes Reserve (λ quota. refl) (quota_of segments nodes))
+seated_goes (AskOf depth text) = inr (ask_goes _)
+seated_goes (GetOf job) = inr (job_goes (λ k. Makes (Get k)) (λ k. refl) job)
+seated_goes (WaitOf job) = inr (job_goes (λ k. Makes (Wait k)) (λ k. refl) job)
+seated_goes (CancelOf job) = inr (job_goes (λ k. Makes (Cancel k)) (λ k. refl) job)
+seated_goes (TableOf job) = inr (job_goes Tabulates (λ k. tt) job)
+seated_goes QuotaForm = inr refl
+seated_goes LiveForm = inr refl
+seated_goes ByeForm = inl refl
+
+seated_ends : (form : Option Form) → form_request true form ≡ Ends → form ≡ Some ByeForm
+seated_ends None e = absurd (cc e)
+seated_ends (Some form) e = by (seated_goes form)
+  where
+    by : (form ≡ ByeForm) ⊎ Goes (seated_request form) → Some form ≡ Some ByeForm
+    by (inl is) = ap (λ (f : Form). Some f) is
+    by (inr goes) = absurd (subst Goes e goes)
+
+form_stays : (form : Option Form) (call : Call) → form_request true form ≡ Makes call → is_stay call ≡ true
+form_stays None call e = absurd (cc e)
+form_stays (Some form) call e = by (seated_goes form)
+  where
+    by : (form ≡ ByeForm) ⊎ Goes (seated_request form) → is_stay call ≡ true
+    by (inl is) = let ends : Ends ≡ Makes call = ap seated_request (sym is) ∙ e in absurd (cc ends)
+    by (inr goes) = subst Goes e goes
+
+seated_stays : (line : LineText) (call : Call) → request true line ≡ Makes call → is_stay call ≡ true
+seated_stays TooLong call e = absurd (cc e)
+seated_stays (Whole bytes) call e = form_stays (form_of bytes) call e
+
+-- only the line BYE is read as the end
+bare : (q l b : Bool) → (if q then Some QuotaForm else (if l then Some LiveForm else (if b then Some ByeForm else None))) ≡ Some ByeForm → b ≡ true
+bare true l b e = absurd (cc e)
+bare false true b e = absurd (cc e)
+bare false false true e = refl
+bare false false false e = absurd (cc e)
+
+no_one : (a b c d : Bool) (job : Option ℕ) → (if a then Some (GetOf job) else (if b then Some (WaitOf job) else (if c then Some (CancelOf job) else (if d then Some (TableOf job) else None)))) ≡ Some ByeForm → ⊥
+no_one true b c d job e = cc e
+no_one false true c d job e = cc e
+no_one false false true d job e = cc e
+no_one false false false true job e = cc e
+no_one false false false false job e = cc e
+
+no_two : (a b c : Bool) (depth text : List ℕ) (segments nodes : Option ℕ) → (if a then Some (AskOf depth text) else (if b then Some (HelloOf segments nodes) else (if c then Some (ReserveOf segments nodes) else None))) ≡ Some ByeForm → ⊥
+no_two true b c depth text segments nodes e = cc e
+no_two false true c depth text segments nodes e = cc e
+no_two false false true depth text segments nodes e = cc e
+no_two false false false depth text segments nodes e = cc e
+
+after_bye : (word rest : List ℕ) (split : Option (List ℕ × List ℕ)) → form_after word rest split ≡ Some ByeForm → ⊥
+after_bye word rest None e = no_one _ _ _ _ _ e
+after_bye word rest (Some words) e = no_two _ _ _ _ _ _ _ e
+
+by_bye : (bytes : List ℕ) (split : Option (List ℕ × List ℕ)) → form_by bytes split ≡ Some ByeForm → bytes_eq bytes (codes "BYE") ≡ true
+by_bye bytes None e = bare _ _ _ e
+by_bye bytes (Some words) e = absurd (after_bye words.0 words.1 _ e)
+
+-- how a line splits at its first space, as `protocol` says it, which has no name here
+abbrev split : List ℕ → Option (List ℕ × List ℕ)
+split [] = None
+split (b ∷ bs) = if b == 32 then Some ([], bs) else option_map (λ p. (b ∷ p.0, p.1)) (split bs)
+
+ends_is_bye : (line : LineText) → request true line ≡ Ends → is_bye line ≡ true
+ends_is_bye TooLong e = absurd (cc e)
+ends_is_bye (Whole bytes) e = by_bye bytes (split bytes) (seated_ends (form_of bytes) e)
+
+-- before a tenant is there, the only call is HELLO
+abbrev IsEarly : Request → Type 0
+IsEarly (Fault fault) = Unit {0}
+IsEarly (Makes (Hello quota)) = Unit {0}
+IsEarly (Makes _) = ⊥
+IsEarly (Tabulates job) = ⊥
+IsEarly Ends = Unit {0}
+
+quota_early : (quota : Option Quota) → IsEarly (quota_request Hello quota)
+quota_early None = tt
+quota_early (Some quota) = tt
+
+form_early : (form : Option Form) → IsEarly (form_request false form)
+form_early None = tt
+form_early (Some (HelloOf segments nodes)) = quota_early (quota_of segments nodes)
+form_early (Some _) = tt
+
+early : (line : LineText) → IsEarly (request false line)
+early TooLong = tt
+early (Whole bytes) = form_early (form_of bytes)
+
+-- ---- only the last line may be BYE
+
+abbrev EndsAtBye : List LineText → Type 0
+EndsAtBye [] = Unit {0}
+EndsAtBye (line ∷ lines) = (is_bye line ≡ true → lines ≡ []) × EndsAtBye lines
+
+upto_ends : (lines : List LineText) → EndsAtBye (upto is_bye lines)
+upto_ends [] = tt
+upto_ends (line ∷ lines) =
+    elim (is_bye line) as (λ b. is_bye line ≡ b → EndsAtBye (if b then line ∷ [] else line ∷ upto is_bye lines)) [
+      | true ↦ λ bye. (λ is. refl, tt)
+      | false ↦ λ other. (λ is. absurd (let e : true ≡ false = sym is ∙ other in cc e), upto_ends lines)
+    ] refl
+
+none_before : (xs rest : List LineText) → xs ++ rest ≡ [] → xs ≡ []
+none_before [] rest is = refl
+none_before (x ∷ xs) rest is = absurd (cc is)
+
+prefix_ends : (xs rest : List LineText) → EndsAtBye (xs ++ rest) → EndsAtBye xs
+prefix_ends [] rest ends = tt
+prefix_ends (x ∷ xs) rest ends = (λ bye. none_before xs rest (ends.0 bye), prefix_ends xs rest ends.1)
+
+pub answered_ends : (r : Result End SessionFault) (answered : List LineText) (bytes : List ℕ) → IsAnsweredOf r answered (session_lines bytes) → EndsAtBye answered
+answered_ends (Ok how) answered bytes is = subst EndsAtBye (sym is) (upto_ends (lines_of bytes))
+answered_ends (Err Read) answered bytes is = subst EndsAtBye (sym is) (upto_ends (lines_of bytes))
+answered_ends (Err Write) answered bytes is = prefix_ends answered is.0 (subst EndsAtBye (sym is.1) (upto_ends (lines_of bytes)))
+
+-- ---- the calls of a session
+
+module _ (begun : HallOf) where
+  abbrev Led : OfficeOf → List (Call × OfficeReply) → OfficeOf → Type 0
+  Led from calls to = Leads (Called (IsTurnAt begun)) from calls to
+
+  stays_seated : (call : Call) (reply : OfficeReply) → is_stay call ≡ true → IsOfficeReplyTo call reply → seated_after true reply ≡ true
+  stays_seated call Gone stays to = let leaves : is_stay call ≡ false = ap is_stay to in absurd (let e : true ≡ false = sym stays ∙ leaves in cc e)
+  stays_seated call (Welcome quota) stays to = refl
+  stays_seated call _ stays to = refl
+
+  -- these calls are made for a tenant that is there, and it leaves by the last
+  abbrev AreSeated : List (Call × OfficeReply) → Type 0
+  AreSeated calls = (later : List (Call × OfficeReply)) × AllStay later × (calls ≡ later ++ (Leave, Gone) ∷ [])
+
+  one_more : (call : Call) (reply : OfficeReply) (seated : Bool) (lines : List LineText) (replies : List OfficeReply) → is_stay call ≡ true → seated ≡ true → AreSeated (calls_in true (turns true lines replies)) → AreSeated ((call, reply) ∷ calls_in seated (turns seated lines replies))
+  one_more call reply seated lines replies stays is rest =
+      ((call, reply) ∷ rest.0, (stays, rest.1), ap (λ (b : Bool). (call, reply) ∷ calls_in b (turns b lines replies)) is ∙ ap (λ (l : List (Call × OfficeReply)). (call, reply) ∷ l) rest.2)
+
+  -- a line, where the same holds of those after it
+  turn_seated : (line : LineText) (lines : List LineText) (replies : List OfficeReply) (from to : OfficeOf) → EndsAtBye (line ∷ lines) →
+      ((rs : List OfficeReply) (next : OfficeOf) → Led next (calls_in true (turns true lines rs)) to → AreSeated (calls_in true (turns true lines rs))) →
+      (q : Request) → request true line ≡ q → Led from (calls_in true (next_turns q true lines replies)) to → AreSeated (calls_in true (next_turns q true lines replies))
+  turn_seated line lines replies from to last again (Fault fault) is h = again replies from h
+  turn_seated line lines replies from to last again (Makes call) is h =
+      let reply = next_reply replies in
+      let later = later_replies replies in
+      let keeps : KeepsAsks (asks_of from.seat) call reply (asks_of h.0.seat) = h.1.1 in
+      let stays = seated_stays line call is in
+      let seated = stays_seated call reply stays keeps.3 in
+      let P : Bool → Type 0 = λ b. Led h.0 (calls_in b (turns b lines later)) to in
+      one_more call reply (seated_after true reply) lines later stays seated (again later h.0 (subst P seated h.2))
+  turn_seated line lines replies from to last again (Tabulates job) is h =
+      let reply = next_reply replies in
+      let later = later_replies replies in
+      let keeps : KeepsAsks (asks_of from.seat) (Get job) reply (asks_of h.0.seat) = h.1.1 in
+      let seated = stays_seated (Get job) reply refl keeps.3 in
+      let P : Bool → Type 0 = λ b. Led h.0 (calls_in b (turns b lines later)) to in
+      one_more (Get job) reply (seated_after true reply) lines later refl seated (again later h.0 (subst P seated h.2))
+  turn_seated line lines replies from to last again Ends is h = ([], tt, ap (λ (ls : List LineText). (Leave, Gone) ∷ calls_in false (turns false ls replies)) (last.0 (ends_is_bye line is)))
+
+  while_seated : (lines : List LineText) (replies : List OfficeReply) (from to : OfficeOf) → EndsAtBye lines → Led from (calls_in true (turns true lines replies)) to → AreSeated (calls_in true (turns true lines replies))
+  while_seated [] replies from to last h = ([], tt, refl)
+  while_seated (line ∷ lines) replies from to last h = turn_seated line lines replies from to last (λ rs next more. while_seated lines rs next to last.1 more) (request true line) refl h
+
+  -- the tenant that comes by these calls, if one does
+  abbrev Comes : OfficeOf → List (Call × OfficeReply) → OfficeOf → Type 0
+  Comes from calls to = (NobodyCame calls × (to.knew ≡ from.knew)) ⊎ ((known : Known (StepOf LeafAnswer)) × (to.knew ≡ Some known) × IsOneTenancy begun calls known)
+
+  -- a HELLO that was refused
+  one_refused : (quota : Quota) (reply : OfficeReply) (number : ℕ) (from next to : OfficeOf) (calls : List (Call × OfficeReply)) → reply ≡ Refused number → next ≡ from → Comes next calls to → Comes from ((Hello quota, reply) ∷ calls) to
+  one_refused quota reply number from next to calls said same (inl none) = inl ((ap (λ (r : OfficeReply). is_welcome r) said, none.0), none.1 ∙ ap (λ (o : OfficeOf). o.knew) same)
+  one_refused quota reply number from next to calls said same (inr came) =
+      let t = came.2 in
+      inr (
+        came.0,
+        came.1,
+        record {
+          early = (Hello quota, reply) ∷ t.early;
+          quota = t.quota;
+          later = t.later;
+          are = ap (λ (l : List (Call × OfficeReply)). (Hello quota, reply) ∷ l) t.are;
+          nobody = (ap (λ (r : OfficeReply). is_welcome r) said, t.nobody);
+          stay = t.stay;
+          number = t.number;
+          true_to = t.true_to;
+          steps = t.steps;
+          mine = t.mine;
+          asked = t.asked;
+        },
+      )
+
+  -- a HELLO that brought a tenant
+  one_welcome : (quota : Quota) (reply : OfficeReply) (from next to : OfficeOf) (seat : SeatOf) (calls : List (Call × OfficeReply)) → reply ≡ Welcome quota → next.seat ≡ Some seat → seat.known.mine ≡ Admit seat.tenant quota ∷ [] → AreSeated calls → Led next calls to → Comes from ((Hello quota, reply) ∷ calls) to
+  one_welcome quota reply from next to seat calls said here mine seated h =
+      let t = tenancy begun seat seated.0 next to here seated.1 (subst (λ (l : List (Call × OfficeReply)). Led next l to) seated.2 h) in
+      inr (
+        t.known,
+        t.knew,
+        record {
+          early = [];
+          quota = quota;
+          later = seated.0;
+          are = ap (λ (r : OfficeReply). (Hello quota, r) ∷ calls) said ∙ ap (λ (l : List (Call × OfficeReply)). (Hello quota, Welcome quota) ∷ l) seated.2;
+          nobody = tt;
+          stay = seated.1;
+          number = seat.tenant;
+          true_to = t.true_to;
+          steps = t.steps;
+          mine = t.mine ∙ ap (λ (l : List (StepOf LeafAnswer)). l ++ (t.steps ++ LeaveStep seat.tenant ∷ [])) mine;
+          asked = t.asked;
+        },
+      )
+
+  -- a line, where the same holds of those after it
+  turn_before : (line : LineText) (lines : List LineText) (replies : List OfficeReply) (from to : OfficeOf) → EndsAtBye (line ∷ lines) → from.seat ≡ None →
+      ((rs : List OfficeReply) (next : OfficeOf) → next.seat ≡ None → Led next (calls_in false (turns false lines rs)) to → Comes next (calls_in false (turns false lines rs)) to) →
+      (q : Request) → request false line ≡ q → Led from (calls_in false (next_turns q false lines replies)) to → Comes from (calls_in false (next_turns q false lines replies)) to
+  turn_before line lines replies from to last none again (Fault fault) is h = again replies from none h
+  turn_before line lines replies from to last none again Ends is h = again replies from none h
+  turn_before line lines replies from to last none again (Makes (Hello quota)) is h = hello (subst (λ (seat : Option SeatOf). IsTurnOf begun seat (Hello quota) reply from h.0) none h.1.0)
+    where
+      reply : OfficeReply
+      reply = next_reply replies
+
+      later : List OfficeReply
+      later = later_replies replies
+
+      P : Bool → Type 0
+      P b = Led h.0 (calls_in b (turns b lines later)) to
+
+      Q : Bool → Type 0
+      Q b = Comes from ((Hello quota, reply) ∷ calls_in b (turns b lines later)) to
+
+      hello : IsHello (Hello quota) reply from h.0 → Q (seated_after false reply)
+      hello (inl new) =
+          let seated : seated_after false reply ≡ true = ap (seated_after false) new.4 in
+          let more = subst P seated h.2 in
+          subst Q (sym seated) (one_welcome quota reply from h.0 to new.0 (calls_in true (turns true lines later)) new.4 (ap (λ (o : OfficeOf). o.seat) new.1) new.2.mine (while_seated lines later h.0 to last.1 more) more)
+      hello (inr refused) =
+          let seated : seated_after false reply ≡ false = ap (seated_after false) refused.2 in
+          let nobody : h.0.seat ≡ None = ap (λ (o : OfficeOf). o.seat) refused.0 ∙ none in
+          subst Q (sym seated) (one_refused quota reply refused.1 from h.0 to (calls_in false (turns false lines later)) refused.2 refused.0 (again later h.0 nobody (subst P seated h.2)))
+  turn_before line lines replies from to last none again _ is h = absurd (subst IsEarly is (early line))
+
+  before_hello : (lines : List LineText) (replies : List OfficeReply) (from to : OfficeOf) → EndsAtBye lines → from.seat ≡ None → Led from (calls_in false (turns false lines replies)) to → Comes from (calls_in false (turns false lines replies)) to
+  before_hello [] replies from to last none h = inl (tt, ap (λ (o : OfficeOf). o.knew) (sym h))
+  before_hello (line ∷ lines) replies from to last none h = turn_before line lines replies from to last none (λ rs next nobody more. before_hello lines rs next to last.1 nobody more) (request false line) refl h
+
+  pub one_tenant : (lines : List LineText) (replies : List OfficeReply) (from to : OfficeOf) → EndsAtBye lines → from.seat ≡ None → from.knew ≡ None → Led from (calls_in false (turns false lines replies)) to → IsTenantOf begun (calls_in false (turns false lines replies)) to.knew
+  one_tenant lines replies from to last none new h = by (before_hello lines replies from to last none h)
+    where
+      calls : List (Call × OfficeReply)
+      calls = calls_in false (turns false lines replies)
+
+      by : Comes from calls to → IsTenantOf begun calls to.knew
+      by (inl nobody) = subst (λ (k : Option (Known (StepOf LeafAnswer))). IsTenantOf begun calls k) (sym (nobody.1 ∙ new)) nobody.0
+      by (inr came) = subst (λ (k : Option (Known (StepOf LeafAnswer))). IsTenantOf begun calls k) (sym came.1) came.2
