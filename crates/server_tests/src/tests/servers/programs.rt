@@ -91,7 +91,21 @@ fn status_of<S: Input, K: Output, E: Sink, R>(
 where
     R: Net<Listener = TcpListener, Stream = TcpStream> + AllocGlobal + Threads + Wait + Sync,
 {
-    run(rt, rt.alloc(), words, streams)
+    status_in(rt, rt.alloc(), words, streams)
+}
+
+/// The same under a runtime of another kind.
+fn status_in<S: Input, K: Output, E: Sink, R>(
+    rt: &R,
+    alloc: Global,
+    words: &[&str],
+    streams: &mut Streams<S, K, E>,
+) -> u8
+where
+    R: Net<Stream = TcpStream> + Threads + Wait + Sync,
+    R::Listener: Send,
+{
+    run(rt, alloc, words, streams)
 }
 
 /// The exit status with this input and this output, the output then, and what was said on the errors.
