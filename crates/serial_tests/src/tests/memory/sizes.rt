@@ -88,6 +88,9 @@ fn full_tables_of_all_sizes(rt: HostRuntime) {
     let heap = heap_of(&rt, rt.alloc(), 1 << 21);
     let at_once = used_after_a_raise(&rt, &heap, 4096);
     for places in [1, 2, 63, 64, 65, 500, 1000, 2032] {
-        holds(&rt, used_after_a_raise_of_frames(&rt, &heap, places) == at_once);
+        holds(
+            &rt,
+            used_after_a_raise_of_frames(&rt, &heap, places) == at_once,
+        );
     }
 }
