@@ -5,7 +5,7 @@ usage: tools/wrong_bodies.py [CRATE..]      (all crates where none is named; sta
 
 A wrong body is a file `crates/CRATE/must-fail/NAME.edit`, or `must-fail/more/NAME.edit`: the gate tries the first, this script all. It
 has a line `file: PATH`, then pairs of lines `old: TEXT` and `new: TEXT`; a line `# test: CRATE WORD` says that no clause can tell
-it, and which test must fail with it; `# an equal body of this form is accepted` that a right body of the same form was tried too, as
+it, and which test must fail with it, or which text of `transcripts`; `# an equal body of this form is accepted` that a right body of the same form was tried too, as
 has to be done where the edit changes the form of a function whose proof is written by hand.
 
 Each crate is checked first. Then those bodies that change different functions are put in together, over a copy of what that check kept,
@@ -107,6 +107,8 @@ def is_of(function, place, line, texts, folder):
         if place != path:
             return False
         lines = (texts.get(path) or (folder / path).read_text()).splitlines(keepends=True)
+        while line < len(lines) and lines[line - 1].lstrip().startswith("#["):  # a function's place is that of its attributes
+            line += 1
         return function_at("".join(lines), sum(map(len, lines[:line])))[1] == name
     folders = place.split("/")[1:-1]
     return bool(folders) and folders[-1] == name and (not owner or len(folders) < 2 or owner in folders or "Engine" in folders)
@@ -149,14 +151,17 @@ def by_prover(rt, crate, folder, edits):
 
 
 def by_test(folder, edit, where, word):
-    """Whether the test fails with this body, in a copy of the tree, without a proof."""
+    """Whether the test fails with this body, or a row of the text, in a copy of the tree, without a proof."""
     with tempfile.TemporaryDirectory(prefix="wrong-bodies-") as room:
-        subprocess.run(["rsync", "-a", "--exclude=out", "--exclude=.git", f"{TOP}/crates", f"{TOP}/crates.txt", f"{TOP}/HANDLES", room], check=True)
+        shutil.copytree(TOP / "crates", f"{room}/crates", ignore=shutil.ignore_patterns("out"))
+        for name in ("crates.txt", "HANDLES"):
+            shutil.copy(TOP / name, room)
         pathlib.Path(room, ".git").mkdir()
         made = changed(folder, edit, {})
         for path, text in made[0].items():
             pathlib.Path(room, "crates", folder.name, path).write_text(text)
-        ran = subprocess.run(["rt", "try", "--test", "--", word], cwd=f"{room}/crates/{where}", stdin=subprocess.DEVNULL, capture_output=True, text=True, check=False)
+        asked = ["--data", f"{word}={room}/crates/{where}/data/{word}"] if where == "transcripts" else ["--test", "--", word]
+        ran = subprocess.run(["rt", "try", "--steps", "1", "--seconds", "120", *asked], cwd=f"{room}/crates/{where}", stdin=subprocess.DEVNULL, capture_output=True, text=True, check=False)
         return f"test {word} of {where}" if ran.returncode in (1, 4, 6) and word in ran.stdout + ran.stderr else None
 
 

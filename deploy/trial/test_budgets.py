@@ -121,6 +121,45 @@ def test_connections_beyond_a_guests_number_are_closed_but_for_a_token(wanted: l
             assert session.is_answered(4, wanted)
 
 
+def test_connections_beyond_the_sites_number_are_closed() -> None:
+    with Site(terms=[("connections = 8192 ", "connections = 12 ")]) as site, contextlib.ExitStack() as open_ones:
+
+        def heard(number: int) -> bytes:
+            stream = open_ones.enter_context(socket.create_connection(("127.0.0.1", site.plain), 10, (address_of(number), 0)))
+            try:
+                stream.sendall(b"QUOTA\n")
+                return stream.recv(100)
+            except ConnectionError:
+                return b""
+
+        until(lambda: site.ask("STATS")[0] == "connections=0 heard=0", 10, "nobody is there")
+        assert [heard(number) for number in range(12)] == [b"ERR 28\n"] * 12
+        assert [heard(number) for number in range(12, 20)] == [b""] * 8
+        open_ones.close()
+        until(lambda: site.ask("STATS")[0] == "connections=0 heard=0", 10, "all have gone")
+        assert heard(20) == b"ERR 28\n"
+
+
+def test_a_file_may_have_many_customers_addresses_and_connections() -> None:
+    names = [f"c{number}" for number in range(1, 41)]
+    more = "".join(f"""
+[[customer]]
+name = "{name}"
+address = [{", ".join(f'"127.{100 + number}.0.{place}"' for place in range(25))}]
+sessions = 1
+segments = 64
+nodes = 2048
+connections = 20000
+""" for number, name in enumerate(names))  # fmt: skip
+    less = [(old, new.replace("sessions = 56", "sessions = 24")) for old, new in LEFT]
+    with Site(terms=[*less, ("connections = 8192 ", "connections = 100000 ")], more=more) as site, contextlib.ExitStack() as open_ones:
+        for number in (0, 8, 39):
+            open_ones.enter_context(site.opened(f"127.{100 + number}.0.24", *SMALL))
+            assert site.told(f"127.{100 + number}.0.1", *SMALL)[1] == 14, "it has one session"
+        open_ones.enter_context(site.opened("127.139.0.25", *SMALL))
+        assert site.has().keys() >= {"c1", "c9", "c40"}, site.has()
+
+
 def test_a_network_of_48_bits() -> None:
     with Site(terms=[("[guests.network]           # the guests of the first 48 bits of an address of IPv6; of IPv4 of one address\nsessions = 8", "[guests.network]\nsessions = 3")]) as site:
         streams = [socket.create_connection(("127.0.0.1", site.inner), 10) for _ in range(5)]

@@ -188,5 +188,8 @@ def test_a_log_line_can_not_be_forged() -> None:
         site.said(address_of(1), b"HELLO 1 1 x\x1b[31m\revent=session\n")
         site.said(address_of(1), b"HELLO 1 1\nBYE\n")
         until(lambda: "address=127.1.0.2" in site.log.read_text(), 5, "the session is logged")
+        assert site.ask('END \x1b[31m\revent=session "\\\x7f\xe9 \tx')[0].startswith("ERR")
+        until(lambda: "event=command" in site.log.read_text(), 5, "the command is logged")
         text = site.log.read_bytes()
         assert b"\x1b" not in text and b"\r" not in text
+        assert b'event=command line="END ?[31m?event=session ????? ?x"\n' in text, text

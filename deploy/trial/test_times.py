@@ -3,6 +3,8 @@ from __future__ import annotations
 
 import concurrent.futures
 import contextlib
+import ctypes
+import os
 import socket
 import time
 
@@ -89,3 +91,26 @@ def test_a_header_that_is_not_understood_closes_the_connection_and_is_never_read
             stream.sendall(header_of("127.6.0.1") + b"\nHELLO 1 1\nBYE\n")
             found = b"".join(iter(lambda: stream.recv(100), b""))
         assert found.endswith(b"WELCOME 1 1\nBYE\n") and found.startswith(b"ERR 21\n"), found
+
+
+def other_end(process: int, stream: socket.socket) -> socket.socket:
+    """The other end of a connection, which a child process of this one has."""
+    handle, call = os.pidfd_open(process), ctypes.CDLL(None).syscall
+    try:
+        for name in os.listdir(f"/proc/{process}/fd"):
+            if os.readlink(f"/proc/{process}/fd/{name}").startswith("socket:"):
+                found = socket.socket(fileno=call(438, handle, int(name), 0))  # pidfd_getfd
+                with contextlib.suppress(OSError):
+                    if found.family == socket.AF_INET and found.getpeername() == stream.getsockname():
+                        return found
+                found.close()
+    finally:
+        os.close(handle)
+    raise AssertionError("the process has no such connection")
+
+
+def test_an_answer_waits_for_no_acknowledgement() -> None:
+    with Site() as site, site.opened(address_of(1), *SMALL) as session:
+        assert site.process
+        with other_end(site.process.pid, session.socket) as end:
+            assert end.getsockopt(socket.IPPROTO_TCP, socket.TCP_NODELAY) == 1

@@ -32,7 +32,7 @@ VERSIONED = {  # where the version stands beside VERSION itself; in documents it
     "crates/command_line/src/commands.rt": r'const VERSION: &str = "(.*?)"',
     "crates/othello_site/src/running.rt": r'"othello_site (.*?)\\n"',
     "crates/othello_site/src/telling.rt": r'version=\\"(.*?)\\"',
-    "crates/server_tests/src/tests/servers/commands.rt": r'"othello (\d.*?)\\n"',
+    "crates/server_tests/src/tests/servers/programs.rt": r'"othello (\d.*?)\\n"',
     "clients/python/src/coluwen/__init__.py": r'__version__ = "(.*?)"',
     "clients/javascript/package.json": r'"version": "(.*?)"',
     "clients/java/pom.xml": r"<artifactId>coluwen</artifactId>\s*<version>(.*?)</version>",

@@ -10,7 +10,8 @@ import hypothesis
 import hypothesis.strategies as st
 import pytest
 from coluwen import Broken, Closed, Late, Refused, TooDeep, Unreachable
-from coluwen._core import Core, Ended, Errand, Found, Info, Open, Options, Question, Send, Shut, Told, Wire, Work, pause_after, ping
+from coluwen._answers import parse
+from coluwen._core import PROBES, Core, Ended, Errand, Found, Info, Open, Options, Question, Send, Shut, Told, Wire, Work, pause_after, ping
 from told import value_of
 
 OPENING = "---------------------------OX------XO--------------------------- X"
@@ -476,7 +477,7 @@ class Hand:
     """A core, moved by hand: what happens is said, and what is done is read as texts."""
 
     def __init__(self, **options: Any):
-        self.core, self.now, self.ended = Core(Options("here", **options)), 0.0, list[Work]()
+        self.core, self.now, self.ended = Core(Options("here", **options)), 1000.0, list[Work]()
 
     def does(self) -> list[str]:
         found = []
@@ -712,6 +713,85 @@ def test_a_job_that_ends_while_it_is_given_up(answer: str, then: list[str]) -> N
     asked(hand, given := Question(2, OPENING))
     hand.core.give_up(given, Closed("not wanted"), hand.now)
     assert hand.ask(Question(3, OPENING)) == [] and hand.hear(1, answer) == then
+
+
+def test_how_a_server_is_found_out() -> None:
+    """Line by line; a probe that takes 50 nodes is within a ply of the grain, and one of 51 is not."""
+    hand = Hand(sessions=1)
+    hand.ask(errand := hand.core.learning())
+    assert hand.opens(1) == ["1 INFO"] and hand.hear(1, "ERR 21") == ["1 QUOTA"] and hand.hear(1, "QUOTA 1 8000 1") == [f"1 ASK 2 {PROBES[0]}"]
+    assert hand.hear(1, "JOB 1") == ["1 GET 1"] and hand.hear(1, "PENDING 1") == [] and hand.waits(0.0003) == ["1 GET 1"]
+    assert hand.hear(1, "DONE 1 0 d3") == ["1 QUOTA"] and hand.hear(1, "QUOTA 1 7950 1") == [f"1 ASK 3 {PROBES[0]}"]
+    hand.hear(1, "JOB 2", "DONE 2 0 d3")
+    assert hand.hear(1, "QUOTA 1 7899 1") == [f"1 ASK 2 {PROBES[1]}"]
+    hand.hear(1, "JOB 3")
+    assert hand.hear(1, "SPENT 3") == ["1 QUOTA"] and hand.hear(1, "QUOTA 1 7899 1") == ["1 BYE"]
+    assert errand.found == Info(0) == hand.core.info and [(info.sure, info.mostly) for info in (Info(0), Info(7), Info(9))] == [(4, 5), (11, 12), (12, 12)]
+
+
+def test_how_long_a_server_is_tried_that_was_never_there() -> None:
+    """For as long as silence says, however many tries that takes; who asks behind that begins at once."""
+    hand = Hand(sessions=1, outage=0)
+    hand.ask(question := Question(2, OPENING))
+    hand.now += 1
+    hand.core.failed(1, "nobody is there", hand.now)
+    assert hand.does() == ["shut 1"] and hand.waits(0.45) == ["open 2"] and hand.waits(0.06) == ["shut 2"]
+    assert isinstance(question.fault, Unreachable) and "no connection in" in str(question.fault)
+    hand = Hand(sessions=2)
+    hand.ask(Question(2, OPENING))
+    hand.ask(Question(3, OPENING))
+    hand.core.failed(1, "nobody is there", hand.now)
+    hand.core.failed(2, "there is no such host", hand.now, True)
+    assert hand.does() == ["shut 1", "shut 2"] and len(hand.ended) == 2 and hand.ask(Question(2, OPENING)) == ["open 3"]
+
+
+def test_how_long_it_is_asked_too_fast() -> None:
+    hand = Hand(sessions=1, patience=1)
+    hand.ask(question := Question(2, OPENING))
+    hand.opens(1)
+    for _ in range(10):
+        assert hand.hear(1, "ERR 31") == [] and not question.ended and hand.waits(0.1) == [f"1 ASK 2 {OPENING}"]
+    hand.waits(0.01)
+    hand.hear(1, "ERR 31")
+    assert isinstance(question.fault, Refused) and question.fault.number == 31
+
+
+def test_what_is_given_up_while_its_session_is_raised() -> None:
+    hand = Hand(sessions=1)
+    hand.ask(Question(2, OPENING))
+    hand.ask(given := Question(3, OPENING))
+    hand.opens(1)
+    hand.hear(1, "JOB 1", "DONE 1 5 d3", "TABLE 1 d3=5")
+    assert hand.hear(1, "ERR 10") == ["1 RESERVE 512 16384"]
+    hand.core.give_up(given, Closed("not wanted"), hand.now)
+    assert hand.hear(1, "RESERVED 512 16384") == [] and hand.ask(Question(4, OPENING)) == [f"1 ASK 4 {OPENING}"]
+
+
+@pytest.mark.parametrize("answer, fault", [("CANCELLED 1", Late), ("DONE 1 5 d3", type(None))])
+def test_a_job_that_ends_while_it_is_cancelled(answer: str, fault: type) -> None:
+    """Its time was over, and the server says that it has ended: how, is asked once more."""
+    hand = Hand(sessions=1)
+    asked(hand, question := Question(2, OPENING, timeout=0.5))
+    hand.hear(1, "PENDING 1")
+    while (done := hand.waits(0.01)) != ["1 CANCEL 1"]:
+        assert not done or hand.hear(1, "PENDING 1") == []
+    assert hand.hear(1, "ERR 17") == ["1 GET 1"]
+    hand.hear(1, answer, *(["TABLE 1 d3=5"] if fault is not Late else []))
+    assert question.ended and isinstance(question.fault, fault) and getattr(question.fault, "seconds", 0.5) == 0.5
+
+
+def test_a_second_question_of_a_session_waits_while_others_come() -> None:
+    hand = Hand(sessions=2, ahead=3)
+    asked(hand, Question(2, OPENING))
+    assert hand.hear(1, "PENDING 1") == [] and hand.ask(Question(3, OPENING)) == ["open 2"]
+    assert hand.ask(Question(4, OPENING)) == [f"1 ASK 3 {OPENING}"]  # one of the two is for the session that comes
+
+
+def test_what_no_answer_is_told_as() -> None:
+    for answer, told in ((b"y" * 119 + b"\n", repr("y" * 119 + "\n")), (b"y" * 120 + b"\n", repr("y" * 120) + "..")):
+        with pytest.raises(Broken) as fault:
+            parse("BYE", answer)
+        assert str(fault.value) == f"'BYE' was answered by {told}"
 
 
 def test_how_long_a_job_is_left_alone() -> None:

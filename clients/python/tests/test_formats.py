@@ -251,6 +251,7 @@ def test_pgn() -> None:
     found = list(pgn.read('[Black "a"]\n\nf5 d6\nz9\n[Black "b"]\n\nf5\n'))
     assert [one.words() for one in found if isinstance(one, formats.Game)] == [["f5", "d6"], ["f5"]] and [str(one).split(" ")[0] for one in found if isinstance(one, FormatError)] == ["text:4:1:"]
     assert [str(one) for one in pgn.read('f5 [Black "a"]\n\nf5')][0].startswith("text:1:1: here is no head")
+    assert [str(one) for one in pgn.read('[Black "a"]\n[FEN "8/7/8 X"]\n\nf5\n')] == ["text:2:10: row 2 has 7 cells"]
 
 
 @pytest.mark.parametrize("text, result", [("f5d6c3 33-31", 2), ("f5d6c3 +2", 2), ("f5d6c3, W+10", -10), ("f5d6c3: 20:44", -24), ("f5d6c3 0", 0), ("F5D6C3 (B+4)", 4), ("f5d6c3", None), ("\uff26\uff15\uff44\uff16\u3000c3\u300033\uff0d31", 2)])
@@ -275,6 +276,9 @@ def test_boards() -> None:
     assert [one.position.text for one in found] == [f"{OPENING.cells} O", f"{OPENING.cells} O", OPENING.text, OPENING.play("f5").text, OPENING.text, OPENING.text]
     assert [one.place.line for one in found] == [2, 13, 23, 23, 24, 33] and found[0].place == formats.Place("a.txt", 2, 1)
     assert [one.position.text for one in strictly(formats.problems_of(f"8 {' '.join(rows)} *\nBO[8 {OPENING.cells} O]".encode()))] == [OPENING.text, f"{OPENING.cells} O"]
+    for blank, side in ((4, "O"), (5, "X")):  # who is to move stands within 12 lines, or not there
+        found = position.read_board([*rows, *[""] * blank, "O"], 0)
+        assert found and (found[0].position.text, found[1]) == (f"{OPENING.cells} {side}", 13 if blank == 4 else 12)
 
 
 def test_japanese_bytes() -> None:

@@ -191,7 +191,7 @@ def test_classes():
             rooms.show(opened["room"], "key", "#b")
         rooms.show(opened["room"], opened["key"], "#b")
         rooms.show(opened["room"], opened["key"], "#c")
-        assert json.loads(await anext(pupil)) == {"state": "#c"}  # the last one counts
+        assert json.loads(await anext(pupil)) == {"state": "#c"} == json.loads(await anext(rooms.follow(opened["room"])))  # the last one counts, also for who comes later
         rooms.show(opened["room"], opened["key"], None)
         assert json.loads(await anext(pupil)) == {"state": None}
         with pytest.raises(StopAsyncIteration):

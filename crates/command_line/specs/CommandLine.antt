@@ -58,13 +58,13 @@ bare_program = record (new_app (codes "othello")) {
   top = record (new_app (codes "othello")).top { has_version = true; subcommand_required = true };
 }
 
--- the program with its commands
-abbrev pub program : App
-program = with_subcommand (with_subcommand bare_program solve_shape) serve_shape
-
--- the program that has the command `solve` alone
+-- the program with the command `solve`, and `serve` not yet
 abbrev pub solve_program : App
 solve_program = with_subcommand bare_program solve_shape
+
+-- the program with its commands
+abbrev pub program : App
+program = with_subcommand solve_program serve_shape
 
 -- whether the words set a flag: then its value is `true`
 abbrev pub is_set : Text → List Row → Bool
@@ -107,20 +107,6 @@ asked_of (Some named) = command_asked named
 -- `subcommand_of` is clap's own definition of which command and which values the words give
 abbrev pub options_asked : List Text → Option Options
 options_asked words = asked_of (subcommand_of program words)
-
--- what the command that the words name asks for, in the program that has `solve` alone; None where they name none
-abbrev pub solve_asked_of : Option (Text × List Row) → Option Options
-solve_asked_of None = None
-solve_asked_of (Some named) = if bytes_eq named.0 (codes "solve") then solve_asked named.1 else None
-
--- what the words ask the program for that has `solve` alone
-abbrev pub solve_options_asked : List Text → Option Options
-solve_options_asked words = solve_asked_of (subcommand_of solve_program words)
-
--- the options are those of `solve`
-abbrev pub IsSolve : Options → Type 0
-IsSolve (Solve grain visited) = Unit {0}
-IsSolve (Serve sessions port workers segments nodes grain) = ⊥
 
 -- each option is within its limits
 abbrev pub IsWithinLimits : Options → Type 0

@@ -6,7 +6,7 @@ use Rattle.clap.specs.declared.error.kind.ErrorKind.TheVariants.{DisplayHelp, Di
 use Rattle.command_line.specs.declared.faults.WordsFault.{WordsFault}
 use Rattle.command_line.specs.declared.faults.WordsFault.TheVariants.{OutOfMemory, Refused}
 use Rattle.command_line.specs.declared.options.Options.{Options}
-use Rattle.command_line.specs.CommandLine.{options_asked, program, solve_options_asked, solve_program}
+use Rattle.command_line.specs.CommandLine.{options_asked, program}
 
 -- words have a fault of this kind: one of those that clap finds, or it finds none and they ask for nothing, as a value
 -- is outside its limits
@@ -21,10 +21,6 @@ IsRefusalOf found asked (Refused error) = IsFaultOf found asked (kind_of error)
 -- these words of the program are refused for a fault that they have, or there was no memory
 abbrev pub IsRefusal : List Text → WordsFault → Type 0
 IsRefusal words fault = IsRefusalOf (fault_of program words) (options_asked words) fault
-
--- the same of the program that has `solve` alone
-abbrev pub IsSolveRefusal : List Text → WordsFault → Type 0
-IsSolveRefusal words fault = IsRefusalOf (fault_of solve_program words) (solve_options_asked words) fault
 
 -- a value is refused, as an error of the kind `ValueValidation`, or there was no memory
 abbrev pub IsOutside : WordsFault → Type 0

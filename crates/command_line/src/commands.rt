@@ -27,8 +27,8 @@ pub(crate) fn othello_command<'a>(alloc: Global) -> Result<Command<'a>, AllocErr
     with_solve(alloc)?.subcommand(serve)
 }
 
-/// The program `othello` with the command `solve` alone.
-pub(crate) fn with_solve<'a>(alloc: Global) -> Result<Command<'a>, AllocError>
+/// The program `othello` with the command `solve`, and `serve` not yet.
+fn with_solve<'a>(alloc: Global) -> Result<Command<'a>, AllocError>
     ensures { IfOk result (λ command. app_of command ≡ solve_program) }
 {
     let solve = solve_command(alloc)?;

@@ -2,10 +2,10 @@
 ghost use Rattle.std.specs.Prelude.{◌≡◌, [], map, IfErr, IfOk, None, OnErr, OnOk, Some};
 ghost use Rattle.clap.specs.Words.{fault_of, found_of, kind_of, rows_of, subcommand_rows_of};
 ghost use Rattle.clap.specs.declared.error.kind.ErrorKind.TheVariants.{ValueValidation};
-ghost use Rattle.command_line.specs.CommandLine.{IsSolve, IsWithinLimits, asked_of, command_asked, options_asked, program, serve_asked, solve_asked, solve_asked_of, solve_options_asked, solve_program};
-ghost use Rattle.command_line.specs.Faults.{IsOutside, IsRefusal, IsSolveRefusal};
+ghost use Rattle.command_line.specs.CommandLine.{IsWithinLimits, asked_of, command_asked, options_asked, program, serve_asked, solve_asked};
+ghost use Rattle.command_line.specs.Faults.{IsOutside, IsRefusal};
 
-use crate::commands::{command_of, flag_in, othello_command, with_solve};
+use crate::commands::{command_of, flag_in, othello_command};
 use crate::faults::WordsFault;
 use crate::settings::{GRAIN, Missing, NODES, PORT, SEGMENTS, SESSIONS, WORKERS};
 use clap::error::ErrorKind;
@@ -65,29 +65,6 @@ impl Options {
             Err(error) => Err(WordsFault::Refused(error)),
         }
     }
-
-    /// What the words ask a program for that has the command `solve` alone, its name first: as `read`, but `serve` is no
-    /// command, and help doesn't list it. At Ok the options are those of `solve`.
-    pub fn read_solve<S: AsStr>(alloc: Global, words: &[S]) -> Result<Options, WordsFault>
-        ensures read { IfOk result (λ options. solve_options_asked (map S.text words.now) ≡ Some options) }
-        ensures within { IfOk result IsWithinLimits }
-        ensures alone { IfOk result IsSolve }
-        ensures faultless { OnOk result (fault_of solve_program (map S.text words.now) ≡ []) }
-        ensures refused { IfErr result (IsSolveRefusal (map S.text words.now)) }
-    {
-        let command = match with_solve(alloc) {
-            Ok(command) => command,
-            Err(AllocError) => return Err(WordsFault::OutOfMemory),
-        };
-        match command.try_get_matches_from(words) {
-            Ok(matches) => match solve_options_of(&matches) {
-                Ok(options) => Ok(options),
-                Err(missing) => Err(outside(alloc, missing, &matches)),
-            },
-            Err(error) if error.kind() == ErrorKind::OutOfMemory => Err(WordsFault::OutOfMemory),
-            Err(error) => Err(WordsFault::Refused(error)),
-        }
-    }
 }
 
 /// What the command that the words name asks for. Err where they name none, or an option has no value within its
@@ -99,26 +76,6 @@ fn options_of(matches: &ArgMatches<'_>) -> Result<Options, Missing>
 {
     match matches.subcommand() {
         Some((name, given)) => options_given(name, given),
-        None => Err(Missing::Command),
-    }
-}
-
-/// What the command that the words name asks for, in a program that has `solve` alone. Err where they name none, or an
-/// option has no value within its limits.
-fn solve_options_of(matches: &ArgMatches<'_>) -> Result<Options, Missing>
-    ensures asked { IfOk result (λ options. solve_asked_of (subcommand_rows_of matches.now) ≡ Some options) }
-    ensures within { IfOk result IsWithinLimits }
-    ensures alone { IfOk result IsSolve }
-    ensures none { OnErr result (solve_asked_of (subcommand_rows_of matches.now) ≡ None) }
-{
-    match matches.subcommand() {
-        Some((name, given)) => {
-            if name == "solve" {
-                solve_of(given)
-            } else {
-                Err(Missing::Command)
-            }
-        }
         None => Err(Missing::Command),
     }
 }
@@ -143,7 +100,6 @@ fn options_given(name: &str, given: &ArgMatches<'_>) -> Result<Options, Missing>
 fn solve_of(given: &ArgMatches<'_>) -> Result<Options, Missing>
     ensures asked { IfOk result (λ options. solve_asked (rows_of (found_of given.now)) ≡ Some options) }
     ensures within { IfOk result IsWithinLimits }
-    ensures alone { IfOk result IsSolve }
     ensures none { OnErr result (solve_asked (rows_of (found_of given.now)) ≡ None) }
 {
     let grain = GRAIN.value_in(given)?;

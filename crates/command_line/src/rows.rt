@@ -1,9 +1,9 @@
 //! The definition of what words ask for, tried on some: each contract is computed from the definitions alone.
 ghost use Rattle.std.specs.Prelude.{◌≡◌, [], ◌∷◌, true, false, codes, None, Some};
 ghost use Rattle.clap.specs.Words.{fault_of};
-ghost use Rattle.clap.specs.declared.error.kind.ErrorKind.TheVariants.{ArgumentConflict, DisplayHelp, DisplayVersion, InvalidSubcommand, MissingRequiredArgument, MissingSubcommand, TooManyValues, UnknownArgument};
+ghost use Rattle.clap.specs.declared.error.kind.ErrorKind.TheVariants.{ArgumentConflict, DisplayHelp, DisplayVersion, MissingRequiredArgument, MissingSubcommand, TooManyValues, UnknownArgument};
 ghost use Rattle.command_line.specs.declared.options.Options.TheVariants.{Serve, Solve};
-ghost use Rattle.command_line.specs.CommandLine.{options_asked, program, solve_options_asked, solve_program};
+ghost use Rattle.command_line.specs.CommandLine.{options_asked, program};
 
 /// The options of `solve` are set where they are given, and else have their defaults.
 pub fn solve_is_asked()
@@ -23,14 +23,6 @@ pub fn serve_is_asked()
     ensures greatest { options_asked (codes "othello" ∷ codes "serve" ∷ codes "--sessions=1000" ∷ codes "--port=65535" ∷ []) ≡ Some (Serve 1000 65535 4 4096 65536 2) }
     ensures too_many { options_asked (codes "othello" ∷ codes "serve" ∷ codes "--sessions=1001" ∷ []) ≡ None }
     ensures too_few { options_asked (codes "othello" ∷ codes "serve" ∷ codes "--sessions=2" ∷ codes "--workers=0" ∷ []) ≡ None }
-{}
-
-/// In the program that has `solve` alone, `serve` is no command.
-pub fn serve_is_unknown_to_solve()
-    ensures solve { solve_options_asked (codes "othello" ∷ codes "solve" ∷ codes "--grain=6" ∷ []) ≡ Some (Solve 6 false) }
-    ensures serve { solve_options_asked (codes "othello" ∷ codes "serve" ∷ codes "--sessions" ∷ codes "2" ∷ []) ≡ None }
-    ensures unknown { fault_of solve_program (codes "othello" ∷ codes "serve" ∷ codes "--sessions" ∷ codes "2" ∷ []) ≡ UnknownArgument ∷ InvalidSubcommand ∷ [] }
-    ensures help { fault_of solve_program (codes "othello" ∷ codes "--help" ∷ []) ≡ DisplayHelp ∷ [] }
 {}
 
 /// Other words have the faults that they should have.

@@ -8,7 +8,7 @@ use Rattle.solve_engine.specs.Solving.{SolvedRun, VisitedRun}
 use Rattle.command_line.specs.declared.options.Options.{Options}
 use Rattle.command_line.specs.declared.options.Options.TheVariants.{Serve, Solve}
 use Rattle.command_line.specs.declared.faults.WordsFault.{WordsFault}
-use Rattle.command_line.specs.CommandLine.{options_asked, program, solve_options_asked, solve_program}
+use Rattle.command_line.specs.CommandLine.{options_asked, program}
 use Rattle.command_line.specs.Faults.{IsRefusalOf, status_of}
 
 -- what the words of a command line are read as, by the faults that are found in them and what they ask for: that,
@@ -17,13 +17,9 @@ abbrev pub IsReadBy : List ErrorKind → Option Options → Result Options Words
 IsReadBy found asked (Ok options) = (asked ≡ Some options) × (found ≡ [])
 IsReadBy found asked (Err fault) = IsRefusalOf found asked fault
 
--- what the words of a command line are read as by the program that has all commands
+-- what the words of a command line are read as by the program
 abbrev pub IsReadOf : List Text → Result Options WordsFault → Type 0
 IsReadOf words read = IsReadBy (fault_of program words) (options_asked words) read
-
--- what the words are read as by the program that has `solve` alone
-abbrev pub IsSolveReadOf : List Text → Result Options WordsFault → Type 0
-IsSolveReadOf words read = IsReadBy (fault_of solve_program words) (solve_options_asked words) read
 
 -- the exit status of a run: 0 where the input has ended, 1 where it or the output failed
 abbrev pub status_of_run : Result (Unit {0}) LineFault → ℕ
@@ -37,8 +33,8 @@ module _ {S K : Type 0} (gives : S → ReadAnswer → S → Type 0) (takes : K �
   IsAnsweredRun false r = SolvedRun gives takes source sink source' sink' r
   IsAnsweredRun true r = VisitedRun gives takes source sink source' sink' r
 
-  -- what a program without a server does for the words, and its exit status: `solve` answers the input's lines.
-  -- Nothing is read where the words are refused (the fault's status). They ask for no server
+  -- what is done for words that ask for no server, and the exit status: `solve` answers the input's lines, and nothing is
+  -- read where the words are refused (the fault's status)
   abbrev pub IsSolvedAsAsked : Result Options WordsFault → ℕ → Type 0
   IsSolvedAsAsked (Ok (Solve grain visited)) status = (r : Result (Unit {0}) LineFault) × IsAnsweredRun visited r × (status ≡ status_of_run r)
   IsSolvedAsAsked (Ok (Serve sessions port workers segments nodes grain)) status = ⊥

@@ -35,7 +35,7 @@ IsServed {K} takes sink sessions sink' =
 module _ {S K : Type 0} (gives : S → ReadAnswer → S → Type 0) (takes : K → WriteAnswer → K → Type 0) (source : S) (sink : K) (source' : S) (sink' : K) where
   -- what is done for the words, and the exit status, 0 or 1 for a server: it reads nothing of the input, and where its
   -- status is 0 the output was told when it listened and when its sessions had ended. All other words are followed as
-  -- by a program without a server
+  -- those that ask for no server
   abbrev pub IsFollowed : Result Options WordsFault → ℕ → Type 0
   IsFollowed (Ok (Serve sessions port workers segments nodes grain)) status = (source' ≡ source) × (status ≤ 1) × (status ≡ 0 → IsServed takes sink sessions sink')
   IsFollowed asked status = IsSolvedAsAsked gives takes source sink source' sink' asked status

@@ -1,18 +1,14 @@
 //! The lines of an input, answered as `solve` answers them.
-ghost use Rattle.std.specs.Prelude.{◌≡◌, ◌≤◌, map, Ok, Result};
+ghost use Rattle.std.specs.Prelude.{◌≡◌, ◌≤◌, Result};
 ghost use Rattle.line_io.specs.declared.faults.LineFault.{LineFault};
-ghost use Rattle.command_line.specs.declared.options.Options.{Options};
-ghost use Rattle.command_line.specs.declared.faults.WordsFault.{WordsFault};
-ghost use Rattle.commands.specs.Answering.{IsAnsweredRun, IsSolveReadOf, IsSolvedAsAsked, status_of_run};
+ghost use Rattle.commands.specs.Answering.{IsAnsweredRun, status_of_run};
 
-use crate::saying::{refuse, say};
+use crate::saying::say;
 use crate::streams::{Input, Output, Streams};
 use crate::{EXIT_FAILED, EXIT_OK};
-use command_line::Options;
 use line_io::{LineFault, Sink};
 use solve_engine::{solve, solve_visited};
 use std::alloc::{AllocError, Global};
-use std::convert::AsStr;
 
 /// Bytes of the block that is allocated and freed before the first line of `solve`. Freeing it raises glibc's mmap
 /// threshold to this size, so that smaller blocks stay with the process when freed, their pages mapped. Speed only.
@@ -20,26 +16,6 @@ const KEPT: usize = 16 << 20;
 
 /// What `solve` writes on the errors at its start where the input is a terminal.
 const HINT: &str = "reading lines `depth position`; `othello solve --help` explains them";
-
-/// Does what the words of the command line ask for, in a program that has the command `solve` alone, and returns the
-/// exit status: 0 where all went well, 1 where the input or the output failed or there was no memory to read the words, 2
-/// where the words are refused, as those that ask for a server are. Answers, help and the version go to the output, and
-/// all else that there is to say to the errors. The status stays the same where a text of help or of refusal can't be
-/// written.
-pub fn run_solve<T: AsStr, S: Input, K: Output, E: Sink>(
-    alloc: Global,
-    words: &[T],
-    streams: &mut Streams<S, K, E>,
-) -> u8
-    ensures { (asked : Result Options WordsFault) × IsSolveReadOf (map T.text words.now) asked
-        × IsSolvedAsAsked S.gives K.takes streams.old.source streams.old.sink streams.new.source streams.new.sink asked result }
-{
-    match Options::read_solve(alloc, words) {
-        Ok(Options::Solve { grain, visited }) => answer(alloc, grain, visited, streams),
-        Ok(Options::Serve { .. }) => unreachable!(),
-        Err(fault) => refuse(&fault, &mut streams.sink, &mut streams.errors),
-    }
-}
 
 /// Answers the lines of the input until it ends, and returns the exit status: 0, or 1 where the input or the output
 /// failed. Where `visited` is true each answer has the number of positions visited too, and `grain` isn't used. The

@@ -15,7 +15,7 @@ use line_io::Sink;
 use std::alloc::Global;
 use std::convert::AsStr;
 use std::marker::Brand;
-use std::net::{Net, TcpListener, TcpStream};
+use std::net::{Net, TcpStream};
 use std::sync::Wait;
 use std::sync::ledger::Blank;
 use std::thread::Threads;
@@ -32,7 +32,8 @@ pub fn run<R, T: AsStr, S: Input, K: Output, E: Sink>(
     streams: &mut Streams<S, K, E>,
 ) -> u8
 where
-    R: Net<Listener = TcpListener, Stream = TcpStream> + Threads + Wait + Sync,
+    R: Net<Stream = TcpStream> + Threads + Wait + Sync,
+    R::Listener: Send,
     ensures { (asked : Result Options WordsFault) × IsReadOf (map T.text words.now) asked
         × IsFollowed S.gives K.takes streams.old.source streams.old.sink streams.new.source streams.new.sink asked result }
 {
@@ -41,8 +42,9 @@ where
         Ok(options) => {
             let asked = Service::of(options).unwrap();
             let Streams { sink, errors, .. } = streams;
-            let Ok(opened) = Opened::new(alloc) else {
-                return failed(errors, Unserved::OutOfMemory);
+            let opened = match Opened::new(alloc) {
+                Ok(opened) => opened,
+                Err(refused) => return failed(errors, Unserved::from(refused)),
             };
             let blank = Blank::new(PARTS);
             serve_as_asked::<Brand, R, K, E>(rt, alloc, blank, opened, asked, sink, errors)

@@ -16,9 +16,9 @@ use crate::{EXIT_FAILED, EXIT_OK};
 use command_line::Options;
 use line_io::{Sink, write_text};
 use sched_rules::Worker;
-use std::alloc::Global;
+use std::alloc::{AllocError, Global};
 use std::io;
-use std::net::{Ipv4Addr, Net, SocketAddr, TcpListener, TcpStream};
+use std::net::{Ipv4Addr, Net, OpenListener, SocketAddr, TcpListener, TcpStream};
 use std::sync::Wait;
 use std::sync::ledger::{Blank, Share};
 use std::thread::Threads;
@@ -48,6 +48,12 @@ pub enum Unserved {
     /// All sessions have ended, but some seat or badge hasn't come back, so steps may be uncounted.
     #[error("not every step is accounted for")]
     Uncounted,
+}
+
+impl From<AllocError> for Unserved {
+    fn from(_refused: AllocError) -> Unserved {
+        Unserved::OutOfMemory
+    }
 }
 
 impl From<ServeFault> for Unserved {
@@ -121,7 +127,8 @@ pub fn serve_as_asked<L, R, K: Sink, E: Sink>(
 ) -> u8
 where
     L: DeskLedger + Send + Sync,
-    R: Net<Listener = TcpListener, Stream = TcpStream> + Threads + Wait + Sync,
+    R: Net<Stream = TcpStream> + Threads + Wait + Sync,
+    R::Listener: Send,
     requires name { blank.name ≡ L.name }
     requires parts { (blank.parts ≡ L.parts) × (L.all ≡ L.parts) × (L.all ≡ PARTS) }
     requires history { opened ≡ L.table }
@@ -156,7 +163,8 @@ fn serve_at<L, R, K: Sink>(
 ) -> Result<Share<L>, Unserved>
 where
     L: DeskLedger + Send + Sync,
-    R: Net<Listener = TcpListener, Stream = TcpStream> + Threads + Wait + Sync,
+    R: Net<Stream = TcpStream> + Threads + Wait + Sync,
+    R::Listener: Send,
     requires name { blank.name ≡ L.name }
     requires parts { (blank.parts ≡ L.parts) × (L.all ≡ L.parts) × (L.all ≡ PARTS) }
     requires history { opened ≡ L.table }
@@ -168,25 +176,24 @@ where
         Ok(listener) => listener,
         Err(error) => return Err(Unserved::Port(asked.port, error)),
     };
-    let Ok(hall) = Hall::new(alloc, asked.config, asked.grain) else {
-        return Err(Unserved::OutOfMemory);
-    };
+    let hall = Hall::new(alloc, asked.config, asked.grain)?;
     let desk: Desk<L> = Desk::new(hall, blank, opened);
     serve_to_the_end(rt, alloc, desk, listener, asked, sink)
 }
 
 /// Serves at this desk (`serve_from`), and then takes the hall out of it. `Ok` as for `serve_at`.
-fn serve_to_the_end<L, R, K: Sink>(
+fn serve_to_the_end<L, R, N, K: Sink>(
     rt: &R,
     alloc: Global,
     desk: Desk<L>,
-    listener: TcpListener,
+    listener: N,
     asked: Service,
     sink: &mut K,
 ) -> Result<Share<L>, Unserved>
 where
     L: DeskLedger + Send + Sync,
-    R: Net<Listener = TcpListener, Stream = TcpStream> + Threads + Wait + Sync,
+    R: Net + Threads + Wait + Sync,
+    N: OpenListener<Stream = TcpStream> + Drop + Send,
     requires { L.all ≡ L.parts }
     ensures told { IfOk result (λ _. IsServed K.takes sink.old asked.sessions sink.new) }
     ensures whole { IfOk result (λ whole. whole.parts ≡ L.parts) }
@@ -211,17 +218,18 @@ fn accounted<L: DeskLedger>(desk: Desk<L>, badge: Badge<L>) -> Result<Share<L>, 
 /// Serves the sessions that are asked for at this desk, and returns when they have ended or the server has failed.
 /// Writes the line `listening` once all workers were started, and `ended` after the last session. `Ok` where both were
 /// written: then the badge of all workers is returned.
-fn serve_from<L, R, K: Sink>(
+fn serve_from<L, R, N, K: Sink>(
     rt: &R,
     alloc: Global,
     desk: &Desk<L>,
-    listener: TcpListener,
+    listener: N,
     asked: Service,
     sink: &mut K,
 ) -> Result<Badge<L>, Unserved>
 where
     L: DeskLedger + Send + Sync,
-    R: Net<Listener = TcpListener, Stream = TcpStream> + Threads + Wait + Sync,
+    R: Net + Threads + Wait + Sync,
+    N: OpenListener<Stream = TcpStream> + Drop + Send,
     requires { L.all ≡ L.parts }
     ensures { IfOk result (λ _. IsServed K.takes sink.old asked.sessions sink.new) }
 {

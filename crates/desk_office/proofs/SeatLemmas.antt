@@ -24,7 +24,7 @@ use Rattle.desk_rules.specs.Asked.{cancel_refusals, IsShown, seat_asked_at}
 use Rattle.desk_office.specs.Offices.{ask_of, analysis_of, standing_of, told_answer}
 
 -- what was asked under a number
-asked_at-map : (asks : List SeatAsked) (job : ℕ) → asked_at (map ask_of asks) job ≡ option_map ask_of (seat_asked_at asks job)
+pub asked_at-map : (asks : List SeatAsked) (job : ℕ) → asked_at (map ask_of asks) job ≡ option_map ask_of (seat_asked_at asks job)
 asked_at-map [] job = refl
 asked_at-map (a ∷ more) job =
     elim (job == 1) as (λ t. (if t then Some (ask_of a) else asked_at (map ask_of more) (job - 1)) ≡ option_map ask_of (if t then Some a else seat_asked_at more (job - 1))) [ true ↦ refl | false ↦ asked_at-map more (job - 1) ]
@@ -49,24 +49,24 @@ shown_found asks job Spent h = tt
 shown_found asks job Cancelled h = tt
 
 -- how a job stands is told where something was asked under its number, and else refused
-told_of : (job : ℕ) (o : Option SeatAsked) (answer : Result Outcome Refusal) → IsShown o answer → IsToldOf job (option_map ask_of o) (reply_of (ToldOf job) (told_answer answer))
+pub told_of : (job : ℕ) (o : Option SeatAsked) (answer : Result Outcome Refusal) → IsShown o answer → IsToldOf job (option_map ask_of o) (reply_of (ToldOf job) (told_answer answer))
 told_of job None (Ok outcome) h = absurd (cc h)
 told_of job None (Err refusal) h = let is : refusal ≡ NoJob = cc h in ap (λ r. Refused (refusal_number r)) is
 told_of job (Some asked) (Ok outcome) h = (standing_of outcome, refl)
 told_of job (Some asked) (Err refusal) h = absurd h
 
 -- what a seat's list makes of an answer
-says : (asks : List SeatAsked) (job : ℕ) (answer : Result Outcome Refusal) → IsShown (seat_asked_at asks job) answer → SaysTrue (map ask_of asks) (reply_of (ToldOf job) (told_answer answer))
+pub says : (asks : List SeatAsked) (job : ℕ) (answer : Result Outcome Refusal) → IsShown (seat_asked_at asks job) answer → SaysTrue (map ask_of asks) (reply_of (ToldOf job) (told_answer answer))
 says asks job (Ok outcome) h = shown_found asks job outcome h
 says asks job (Err refusal) h = tt
 
 -- an answer about a job changes no ask
-same_asks : (asks : List Asked) (call : Call) (job : ℕ) (said : Result Standing Refusal) → asks ≡ asks_after asks call (reply_of (ToldOf job) said)
+pub same_asks : (asks : List Asked) (call : Call) (job : ℕ) (said : Result Standing Refusal) → asks ≡ asks_after asks call (reply_of (ToldOf job) said)
 same_asks asks call job (Ok outcome) = refl
 same_asks asks call job (Err refusal) = refl
 
 -- and it answers a call that named that job
-told_to : (call : Call) (job : ℕ) (said : Result Standing Refusal) → (call ≡ Get job) ⊎ (call ≡ Wait job) → IsOfficeReplyTo call (reply_of (ToldOf job) said)
+pub told_to : (call : Call) (job : ℕ) (said : Result Standing Refusal) → (call ≡ Get job) ⊎ (call ≡ Wait job) → IsOfficeReplyTo call (reply_of (ToldOf job) said)
 told_to call job (Ok outcome) named = named
 told_to call job (Err refusal) named = tt
 
@@ -89,7 +89,7 @@ pub refused_by : (refusals : List Refusal) (refusal : Refusal) → Contains refu
 refused_by refusals refusal h = (h.0, subst (λ n. h.0 < n) (sym (length-map refusals refusal_number)) h.1, get_or-map refusal_number refusals h.0 refusal ∙ ap refusal_number h.2)
 
 -- nothing is asked under a number where the seat has nothing
-unasked : (o : Option SeatAsked) → option_map ask_of o ≡ None → o ≡ None
+pub unasked : (o : Option SeatAsked) → option_map ask_of o ≡ None → o ≡ None
 unasked None h = refl
 unasked (Some asked) h = absurd (cc h)
 

@@ -32,4 +32,5 @@ mod serving;
 
 pub use laws::own_steps_are_what_was_asked;
 pub use office::DeskOffice;
+pub use outcomes::told_answer;
 pub use serving::{serve_desk, serve_desk_seen};

@@ -39,7 +39,7 @@ fn standing_of(outcome: Outcome) -> Standing
 }
 
 /// The desk's answer about a job, as a session tells it; a refusal stays as it is.
-pub(crate) fn told_answer(answer: Result<Outcome, Refusal>) -> Result<Standing, Refusal>
+pub fn told_answer(answer: Result<Outcome, Refusal>) -> Result<Standing, Refusal>
     ensures { result ≡ told_answer answer }
 {
     Ok(standing_of(answer?))

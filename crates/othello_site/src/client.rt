@@ -243,24 +243,24 @@ fn receive<R: Clock + Wait>(
 
 /// What ended a connection, in a word.
 fn word_of(end: Result<TalkEnd, LineFault>, reading: Reading, told: Option<Told>) -> &'static str {
-    match (end, told) {
+    match (end, reading) {
         (Ok(TalkEnd::Line), _) => "bye",
-        (_, Some(why)) => word_told(why),
-        (Ok(TalkEnd::Input), None) => "input",
-        (Err(LineFault::Write), None) => "unwritten",
-        (Err(_), None) if reading == Reading::Late => "silence",
-        (Err(_), None) => "lost",
+        (Ok(TalkEnd::Input), _) => word_told(told, "input"),
+        (Err(LineFault::Write), _) => word_told(told, "unwritten"),
+        (Err(_), Reading::Late) => word_told(told, "silence"),
+        (Err(_), _) => word_told(told, "lost"),
     }
 }
 
-/// Why a session was told to end, in a word.
-fn word_told(why: Told) -> &'static str {
-    match why {
-        Told::Gone => "gone",
-        Told::Idle => "idle",
-        Told::ForAnother => "another",
-        Told::ByOperator => "operator",
-        Told::ByPlan => "reload",
+/// Why a session was told to end, in a word; another one where it wasn't.
+fn word_told(told: Option<Told>, other: &'static str) -> &'static str {
+    match told {
+        None => other,
+        Some(Told::Gone) => "gone",
+        Some(Told::Idle) => "idle",
+        Some(Told::ForAnother) => "another",
+        Some(Told::ByOperator) => "operator",
+        Some(Told::ByPlan) => "reload",
     }
 }
 

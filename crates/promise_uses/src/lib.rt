@@ -20,8 +20,8 @@ mod sessions;
 mod solving;
 
 pub use customers::{
-    a_guest_at_its_limits, customer_seven_at_its_limits, nobody_is_left, plans_that_come_in,
-    room_for_nine, seven_and_the_guests, within_all_budgets,
+    a_customer_and_the_guests, a_customer_at_its_limits, a_guest_at_its_limits, nobody_is_left,
+    plans_that_come_in, room_for_all, within_all_budgets,
 };
 pub use desks::{
     a_new_seat, job_three_of_nine, live_of_nine, nine_asks, nine_asks_in_vain, nine_cancels,

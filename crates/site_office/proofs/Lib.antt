@@ -2,4 +2,3 @@ mod TokenLemmas
 mod ChainLemmas
 mod ClerkLemmas
 pub mod SeatLemmas
-pub mod Entries

@@ -46,7 +46,6 @@ mod entering;
 mod house;
 mod laws;
 mod office;
-mod outcomes;
 mod reception;
 mod requests;
 pub mod rows;

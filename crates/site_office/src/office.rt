@@ -8,8 +8,8 @@ ghost use Rattle.site_office.specs.Refusing.{comer_refusal, comer_refusals};
 
 use crate::entering::{cause_of, comer_refusal, raise_refusal};
 use crate::house::{Cause, House, Met, Note};
-use crate::outcomes::told_answer;
 use crate::reception::{Greeted, Info, Reception};
+use desk_office::told_answer;
 use hall::Refusal;
 use session::{Live, Office, Question, Standing};
 use site_book::{Amount, Comer, Mark, Refusal as BookRefusal, Who, Whom};

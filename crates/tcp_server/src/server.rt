@@ -8,7 +8,7 @@ use line_io::{FromReader, FromWriter};
 use sched_rules::Worker;
 use std::alloc::Global;
 use std::io;
-use std::net::{Net, SocketAddr, TcpListener, TcpStream};
+use std::net::{Net, OpenListener, SocketAddr, TcpStream};
 use std::sync::Wait;
 use std::sync::atomic::{AtomicBool, Ordering};
 use std::thread::{self, Builder, Scope, Threads};
@@ -60,11 +60,16 @@ impl ServerConfig {
 /// where no more connections could be taken, or the listener's address couldn't be had; `OutOfMemory` where there was
 /// no memory for the pool; `NoThread` where no thread could be had for a worker or for taking the connections, or no
 /// badge for a worker.
-pub fn serve<L: DeskLedger + Send + Sync, G: Gate + Sync, R: Net + Threads + Wait + Sync>(
+pub fn serve<
+    L: DeskLedger + Send + Sync,
+    G: Gate + Sync,
+    R: Net + Threads + Wait + Sync,
+    N: OpenListener<Stream = TcpStream> + Drop + Send,
+>(
     rt: &R,
     alloc: Global,
     desk: &Desk<L>,
-    listener: TcpListener,
+    listener: N,
     config: ServerConfig,
     gate: &G,
 ) -> Result<PoolEnd<L>, ServeFault>
@@ -85,12 +90,13 @@ pub fn serve_announced<
     L: DeskLedger + Send + Sync,
     G: Gate + Sync,
     R: Net + Threads + Wait + Sync,
+    N: OpenListener<Stream = TcpStream> + Drop + Send,
     A: Announce + Drop,
 >(
     rt: &R,
     alloc: Global,
     desk: &Desk<L>,
-    listener: TcpListener,
+    listener: N,
     config: ServerConfig,
     gate: &G,
     call: A,
@@ -132,25 +138,17 @@ fn ended_as<A: Drop, L: DeskLedger>(
 fn serve_beside<
     L: DeskLedger + Send + Sync,
     R: Net + Threads + Wait + Sync,
+    N: OpenListener<Stream = TcpStream> + Drop + Send,
     T: Drop,
     P: FnOnce() -> Result<T, ServeFault>,
->(
-    rt: &R,
-    desk: &Desk<L>,
-    listener: TcpListener,
-    sessions: Sessions,
-    pool: P,
-) -> Result<T, ServeFault>
+>(rt: &R, desk: &Desk<L>, listener: N, sessions: Sessions, pool: P) -> Result<T, ServeFault>
     requires all { L.all ≡ L.parts }
     requires pool { P.pre pool }
     ensures { IfOk result (λ served. P.post pool (Ok served)) }
 {
     let address = match listener.local_addr() {
         Ok(address) => address,
-        Err(error) => {
-            desk.close(rt);
-            return Err(ServeFault::Listener(error));
-        }
+        Err(error) => return Err(closing(rt, desk, ServeFault::Listener(error))),
     };
     let given_up = AtomicBool::new(false);
     let stop = &given_up;
@@ -168,8 +166,7 @@ fn serve_beside<
                 { serve_and_close(rt, desk, listener, sessions, stop) },
             );
             let Ok(taking) = started else {
-                desk.close(rt);
-                return Err(ServeFault::NoThread);
+                return Err(closing(rt, desk, ServeFault::NoThread));
             };
             let ended = pool();
             if ended.is_err() {
@@ -178,6 +175,12 @@ fn serve_beside<
             ended_with(taking.join(rt), ended)
         },
     )
+}
+
+/// Closes the desk, since a server ends by this fault before its pool has begun.
+fn closing<L: DeskLedger, R: Wait>(rt: &R, desk: &Desk<L>, fault: ServeFault) -> ServeFault {
+    desk.close(rt);
+    fault
 }
 
 /// Makes the thread that takes connections stop: sets the flag `stop`, and connects to the listener at this address, so
@@ -200,13 +203,11 @@ fn ended_with<T: Drop>(taken: io::Result<()>, ended: Result<T, ServeFault>) -> R
 
 /// Takes connections and serves them (`take_all`), waits until all their sessions have ended, and closes the desk. It
 /// does so at an error of the listener too, which it returns at the end.
-fn serve_and_close<L: DeskLedger + Send + Sync, R: Threads + Wait + Sync>(
-    rt: &R,
-    desk: &Desk<L>,
-    listener: TcpListener,
-    sessions: Sessions,
-    stop: &AtomicBool,
-) -> io::Result<()>
+fn serve_and_close<
+    L: DeskLedger + Send + Sync,
+    R: Threads + Wait + Sync,
+    N: OpenListener<Stream = TcpStream> + Drop,
+>(rt: &R, desk: &Desk<L>, listener: N, sessions: Sessions, stop: &AtomicBool) -> io::Result<()>
     requires { L.all ≡ L.parts }
 {
     let taken = thread::scope(
@@ -224,11 +225,17 @@ fn serve_and_close<L: DeskLedger + Send + Sync, R: Threads + Wait + Sync>(
 /// wait for the sessions. A connection for which no thread or descriptor can be had is closed, and counts as one of
 /// them. Where `stop` is set when a connection was taken, that one is closed and no more are taken. `Err` where the
 /// listener fails.
-fn take_all<'s, E, L: DeskLedger + Send + Sync, R: Wait + Sync>(
+fn take_all<
+    's,
+    E,
+    L: DeskLedger + Send + Sync,
+    R: Wait + Sync,
+    N: OpenListener<Stream = TcpStream> + Drop,
+>(
     scope: &'s Scope<'s, E>,
     rt: &'s R,
     desk: &'s Desk<L>,
-    listener: TcpListener,
+    listener: N,
     sessions: Sessions,
     stop: &AtomicBool,
 ) -> io::Result<()>

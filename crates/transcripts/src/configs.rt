@@ -202,9 +202,8 @@ fn push_plan(plan: &Plan, customers: usize, came: &mut String) -> Result<(), All
     push_amount(came, "each guest", plan.budget(Who::V4(0)))?;
     push_amount(came, "network", plan.limit(Part::Network(Who::V4(0))))?;
     push_amount(came, "all guests", plan.limit(Part::Guests))?;
-    for number in 0..customers {
-        let budget = plan.budget(Who::Named(number as u32));
-        push_amount(came, "customer", budget)?;
+    for number in 0..u32::try_from(customers).unwrap_or(u32::MAX) {
+        push_amount(came, "customer", plan.budget(Who::Named(number)))?;
     }
     Ok(())
 }

@@ -5,6 +5,7 @@ ghost use Rattle.std.specs.Prelude.{◌≡◌};
 mod all_jobs;
 mod doors;
 mod failing;
+mod looked_at;
 mod programs;
 mod reserving;
 mod tables;
@@ -17,7 +18,7 @@ use sched_rules::{Config, Worker};
 use std::alloc::Global;
 use std::io::{Read, Write};
 use std::marker::Brand;
-use std::net::{Net, SocketAddr, TcpListener, TcpStream};
+use std::net::{Net, OpenListener, SocketAddr, TcpListener, TcpStream};
 use std::process::Abort;
 use std::sync::Wait;
 use std::sync::atomic::{AtomicU32, Ordering};
@@ -334,6 +335,10 @@ enum Trial {
     Stopped,
     /// Its listener fails.
     Hasty,
+    /// Its connections are looked at.
+    Prompt,
+    /// Its listener has no address.
+    Unnamed,
 }
 
 /// Whether all is as it should be where this is tried at this desk and this listener.
@@ -359,6 +364,8 @@ where
         Trial::Threadless => is_threadless(rt, desk, listener),
         Trial::Stopped => doors::is_stopped(rt, desk, listener),
         Trial::Hasty => failing::is_hasty(rt, desk, listener),
+        Trial::Prompt => looked_at::is_prompt(rt, desk, listener),
+        Trial::Unnamed => looked_at::is_unnamed(rt, desk, listener),
     }
 }
 
@@ -494,11 +501,16 @@ where
 }
 
 /// A server whose workers go through a gate: why it failed.
-fn fault_of<L: DeskLedger + Send + Sync, R: Net + Threads + Wait + Sync, G: Gate + Sync>(
+fn fault_of<
+    L: DeskLedger + Send + Sync,
+    R: Net + Threads + Wait + Sync,
+    N: OpenListener<Stream = TcpStream> + Drop + Send,
+    G: Gate + Sync,
+>(
     rt: &R,
     alloc: Global,
     desk: &Desk<L>,
-    listener: TcpListener,
+    listener: N,
     server: ServerConfig,
     gate: &G,
 ) -> Option<ServeFault>

@@ -1,4 +1,6 @@
 //! A site's sessions over a desk without workers: bytes in, bytes out, and a clock that goes on by a step at each look.
+ghost use Rattle.std.specs.Prelude.{◌≡◌};
+
 use crate::tests::holds;
 use fair_pool::FairShare;
 use hall::{Config, Hall};
@@ -25,7 +27,9 @@ const SCHOOL: Who = Who::Named(0);
 const TOKEN: &[u8] = b"sesame";
 
 /// An amount.
-fn amount(sessions: u32, segments: u64, nodes: u64) -> Amount {
+fn amount(sessions: u32, segments: u64, nodes: u64) -> Amount
+    ensures { result ≡ record { sessions = sessions; segments = segments; nodes = nodes } }
+{
     Amount {
         sessions,
         segments,

@@ -1,7 +1,7 @@
 //! What one thread tells another, and how long the other waits for it.
 use std::sync::atomic::{AtomicBool, AtomicU64, Ordering};
 use std::thread;
-use std::time::{Clock, Duration};
+use std::time::{Clock, CpuClock, Duration};
 
 /// The most turns of a loop that waits for another thread.
 pub(crate) const MOST_TURNS: u32 = 10_000_000;
@@ -77,4 +77,29 @@ pub(crate) fn comes<C: Clock>(clock: &C, count: &AtomicU64, many: u64) -> bool {
 /// Lets so many milliseconds pass.
 pub(crate) fn pass<C: Clock>(clock: &C, millis: u64) {
     thread::sleep(clock, Duration::from_millis(millis));
+}
+
+/// What all threads but this one have used of processors, or a little more: this one's time is read first.
+pub(crate) fn used_by_others<C: CpuClock>(clock: &C) -> Duration {
+    let own = clock.thread_cpu_time().unwrap_or(Duration::ZERO);
+    let all = clock.process_cpu_time().unwrap_or(Duration::MAX);
+    all.saturating_sub(own)
+}
+
+/// Whether all threads but this one have used more than that: this one's time is read last.
+fn have_others_worked<C: CpuClock>(clock: &C, before: Duration) -> bool {
+    let all = clock.process_cpu_time().unwrap_or(Duration::ZERO);
+    let own = clock.thread_cpu_time().unwrap_or(Duration::MAX);
+    all.saturating_sub(own) > before
+}
+
+/// Whether another thread has worked within ten seconds, beyond what others had used before.
+pub(crate) fn others_work<C: Clock + CpuClock>(clock: &C, before: Duration) -> bool {
+    for _ in 0..10_000u32 {
+        if have_others_worked(clock, before) {
+            return true;
+        }
+        pass(clock, 1);
+    }
+    false
 }

@@ -44,12 +44,13 @@ def game_of(text: str, heads: dict[str, tuple[str, int]], found: re.Match[str], 
     moves = re.sub(SAID, lambda one: re.sub(r"[^\n]", " ", one[0]), text[found.end() : end].rstrip() + " ")
     begun = place_of(text, found.start(), file)
     start = None
-    try:
-        if "fen" in said:
-            start = position.read_fen(said["fen"], place_of(text, heads["fen"][1], file)).position
-    except FormatError as fault:
-        yield fault
-        return
+    if "fen" in said:
+        head = place_of(text, heads["fen"][1], file)
+        try:
+            start = position.read_fen(said["fen"], head).position
+        except FormatError as fault:
+            yield head.fault(fault.text, head.column + fault.column - 1)
+            return
     score = SCORE.fullmatch(said.get("result", "").strip())
     result = float(int(score[1]) - int(score[2])) if score and said["result"].strip() not in ("1-0", "0-1") else None
     tags = tuple((name, value) for name, value in said.items() if name not in ("event", "black", "white", "date", "result", "fen"))

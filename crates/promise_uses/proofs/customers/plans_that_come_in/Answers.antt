@@ -10,8 +10,8 @@ returns-clause-totals c book plan none = ((c.a_plan_comes_in.ensures book plan).
 pub returns-clause-fits : goal.returns-clause-fits
 returns-clause-fits c book plan none = ((c.a_plan_comes_in.ensures book plan).0 none).1
 
-pub returns-clause-seven : goal.returns-clause-seven
-returns-clause-seven c book plan none = (((c.a_plan_comes_in.ensures book plan).0 none).2 (Own (Named 7))).sessions
+pub returns-clause-named : goal.returns-clause-named
+returns-clause-named c number book plan none = (((c.a_plan_comes_in.ensures book plan).0 none).2 (Own (Named number))).sessions
 
 pub returns-clause-guests : goal.returns-clause-guests
 returns-clause-guests c book plan none = (((c.a_plan_comes_in.ensures book plan).0 none).2 Guests).nodes

@@ -40,7 +40,7 @@ fn put<T: Copy, A: Allocator>(
 }
 
 /// Adds a frame at home 0 where that can be done, with ten times its serial as its value.
-fn add<A: Allocator>(
+pub fn add<A: Allocator>(
     rt: &impl Abort,
     table: &mut FrameTable<u64, A>,
     f: FrameId,

@@ -1,7 +1,7 @@
 //! Where there is room no growth is refused, whatever the size that is asked for.
 ghost use Rattle.std.specs.Prelude.{◌≤◌};
 
-use crate::tests::memory::frames::{make_places, table_of};
+use crate::tests::memory::frames::{add, make_places, name, table_of};
 use crate::tests::memory::{heap_of, holds};
 use frame_tree::FrameTable;
 use linked_list_allocator::LocalHeap;
@@ -63,5 +63,34 @@ fn tables_of_all_sizes(rt: HostRuntime) {
     for places in 1usize..4096 {
         let used = used_after_a_raise(&rt, &heap, places);
         holds(&rt, used == at_once || places > 2032 && used > at_once);
+    }
+}
+
+/// Fills a tenant's places with frames, all but the first under that.
+fn fill(rt: &impl Abort, table: &mut FrameTable<u64, &LocalHeap>, tenant: u64, places: u64) {
+    for serial in 1..places.saturating_add(1) {
+        let parent = if serial == 1 { None } else { Some(1) };
+        add(rt, table, name(tenant, serial), parent);
+    }
+}
+
+/// The same where all places have frames when they are raised.
+fn used_after_a_raise_of_frames(rt: &impl Abort, heap: &LocalHeap, places: usize) -> usize {
+    let mut table: FrameTable<u64, &LocalHeap> = table_of(rt, heap, 7, places);
+    fill(rt, &mut table, 7, places as u64);
+    make_places(rt, &mut table, 7, 4096);
+    heap.used()
+}
+
+/// Places with frames are raised to no more than those without.
+#[test]
+fn full_tables_of_all_sizes(rt: HostRuntime) {
+    let heap = heap_of(&rt, rt.alloc(), 1 << 21);
+    let at_once = used_after_a_raise(&rt, &heap, 4096);
+    for places in [1, 2, 63, 64, 65, 500, 1000, 2032] {
+        holds(
+            &rt,
+            used_after_a_raise_of_frames(&rt, &heap, places) == at_once,
+        );
     }
 }

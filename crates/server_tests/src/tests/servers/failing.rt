@@ -1,7 +1,7 @@
 //! Listeners that fail: by want of descriptors, for which there is a spare one, or otherwise, which ends the server.
 ghost use Rattle.std.specs.Prelude.{◌≡◌};
 
-use super::{Trial, fault_of, holds, is_well, server_of};
+use super::{Trial, fault_of, holds, is_closed, is_well, server_of};
 use crate::tests::says;
 use std::alloc::Global;
 use std::io::{self, Error, ErrorKind};
@@ -118,6 +118,66 @@ fn each_error_of_a_listener(rt: HostRuntime) {
     for tried in &TRIES {
         assert!(rt; is_as_tried(&rt, tried), "error {}", tried.0);
     }
+}
+
+/// A listener whose every other try to take a connection finds no descriptor left, and that can't have a second name at the
+/// second time.
+#[derive(Drop)]
+struct Scarce {
+    listener: TcpListener,
+    tries: AtomicU32,
+    names: AtomicU32,
+}
+
+/// A listener that was never tried.
+fn scarce_of(listener: TcpListener) -> Scarce {
+    Scarce {
+        listener,
+        tries: AtomicU32::new(0),
+        names: AtomicU32::new(0),
+    }
+}
+
+impl OpenListener for Scarce {
+    type Stream = TcpStream;
+
+    fn accept(&self) -> io::Result<(TcpStream, SocketAddr)> {
+        if self.tries.fetch_add(1, Ordering::SeqCst) % 2 == 0 {
+            return Err(Error::from_raw_os_error(24));
+        }
+        self.listener.accept()
+    }
+
+    fn try_clone(&self) -> io::Result<Scarce> {
+        if self.names.fetch_add(1, Ordering::SeqCst) == 1 {
+            return Err(Error::from_raw_os_error(24));
+        }
+        Ok(scarce_of(self.listener.try_clone()?))
+    }
+}
+
+/// Whether of two who come through a door the first is turned away, as there is no other spare descriptor, and the second is
+/// taken by the spare one that was made anew then.
+fn is_second_taken<R: Net<Listener = TcpListener, Stream = TcpStream> + Wait>(rt: &R) -> bool {
+    let Ok(listener) = TcpListener::bind(rt, "127.0.0.1:0") else {
+        return false;
+    };
+    let Ok(address) = listener.local_addr() else {
+        return false;
+    };
+    let (Ok(first), Ok(_second)) = (
+        TcpStream::connect(rt, address),
+        TcpStream::connect(rt, address),
+    ) else {
+        return false;
+    };
+    let mut door = Door::new(scarce_of(listener));
+    matches!(door.next(rt), Ok(None)) && is_closed(&first) && matches!(door.next(rt), Ok(Some(_)))
+}
+
+#[test]
+fn a_spare_descriptor_is_had_again(rt: HostRuntime) {
+    holds(&rt, is_second_taken(&rt));
 }
 
 /// Whether a server whose listener doesn't wait for connections fails, and its desk is closed then.

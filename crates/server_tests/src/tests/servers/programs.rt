@@ -6,7 +6,7 @@ mod streams;
 mod words;
 
 use super::holds;
-use commands::{Explained, Input, Output, Streams, run, run_solve};
+use commands::{Explained, Input, Output, Streams, run};
 use line_io::{FromReader, FromWriter, Sink};
 use std::alloc::Global;
 use std::io::{self, Error, ErrorKind, IsTerminal, Read, Write};
@@ -91,7 +91,21 @@ fn status_of<S: Input, K: Output, E: Sink, R>(
 where
     R: Net<Listener = TcpListener, Stream = TcpStream> + AllocGlobal + Threads + Wait + Sync,
 {
-    run(rt, rt.alloc(), words, streams)
+    status_in(rt, rt.alloc(), words, streams)
+}
+
+/// The same under a runtime of another kind.
+fn status_in<S: Input, K: Output, E: Sink, R>(
+    rt: &R,
+    alloc: Global,
+    words: &[&str],
+    streams: &mut Streams<S, K, E>,
+) -> u8
+where
+    R: Net<Stream = TcpStream> + Threads + Wait + Sync,
+    R::Listener: Send,
+{
+    run(rt, alloc, words, streams)
 }
 
 /// The exit status with this input and this output, the output then, and what was said on the errors.
@@ -205,18 +219,14 @@ othello: no space and side after the cells
 othello: the depth is over 12
 ";
 
-/// Whether the input is a terminal, whether the whole program is run or the one without a server, and the words.
-type Explaining = (bool, bool, &'static [&'static str]);
+/// Whether the input is a terminal, and the words.
+type Explaining = (bool, &'static [&'static str]);
 
-const EXPLAINING: [Explaining; 8] = [
-    (false, false, &["othello", "solve"]),
-    (false, false, &["othello", "solve", "--visited"]),
-    (false, true, &["othello", "solve"]),
-    (false, true, &["othello", "solve", "--visited"]),
-    (true, false, &["othello", "solve"]),
-    (true, false, &["othello", "solve", "--visited"]),
-    (true, true, &["othello", "solve"]),
-    (true, true, &["othello", "solve", "--visited"]),
+const EXPLAINING: [Explaining; 4] = [
+    (false, &["othello", "solve"]),
+    (false, &["othello", "solve", "--visited"]),
+    (true, &["othello", "solve"]),
+    (true, &["othello", "solve", "--visited"]),
 ];
 
 /// What a program says to lines with each fault.
@@ -228,32 +238,15 @@ struct Said {
     errors: Vec<u8>,
 }
 
-/// The status of the whole program with these words, or of the one without a server.
-fn explaining_status<K: Output, E: Sink, R>(
-    rt: &R,
-    is_whole: bool,
-    words: &[&str],
-    streams: &mut Streams<FromReader<Keys>, K, E>,
-) -> u8
-where
-    R: Net<Listener = TcpListener, Stream = TcpStream> + AllocGlobal + Threads + Wait + Sync,
-{
-    if is_whole {
-        status_of(rt, words, streams)
-    } else {
-        run_solve(rt.alloc(), words, streams)
-    }
-}
-
 fn said_of_faults<R>(rt: &R, explaining: &Explaining) -> Said
 where
     R: Net<Listener = TcpListener, Stream = TcpStream> + AllocGlobal + Threads + Wait + Sync,
 {
-    let (is_terminal, is_whole, words) = *explaining;
+    let (is_terminal, words) = *explaining;
     let source = typed(FAULTY, is_terminal);
     let alloc = rt.alloc();
     let mut streams = Streams::explained(source, memory(alloc), memory(alloc), memory(alloc));
-    let status = explaining_status(rt, is_whole, words, &mut streams);
+    let status = status_of(rt, words, &mut streams);
     let Streams { sink, errors, .. } = streams;
     let Explained {
         sink,
@@ -270,7 +263,7 @@ where
 
 /// Whether faults are said in words at a terminal, behind the line of hints, and nowhere else.
 fn is_explained(said: &Said, explaining: &Explaining) -> bool {
-    let (is_terminal, _, words) = *explaining;
+    let (is_terminal, words) = *explaining;
     let in_words = if is_terminal {
         IN_WORDS
     } else {

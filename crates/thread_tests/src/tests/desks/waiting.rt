@@ -38,7 +38,7 @@ pub(super) enum What {
     Asks(u64),
     /// Two frames become ready while one holds the desk.
     Children,
-    /// A frame that another takes, and then one that stays.
+    /// Two frames that another takes, one after the other, and then one that stays.
     InVain,
     /// A worker that holds the desk lets it go.
     Release,
@@ -238,8 +238,7 @@ where
 /// Takes the roots that are to have children, the first by worker 1 and the second by worker 2.
 fn take_roots<L: DeskLedger, R: Wait + Abort>(rt: &R, desk: &Desk<L>, what: What) {
     let roots = match what {
-        What::Children => 2u8,
-        What::InVain => 1,
+        What::Children | What::InVain => 2u8,
         _ => 0,
     };
     for before in 0..roots {

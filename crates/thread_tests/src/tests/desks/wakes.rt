@@ -3,7 +3,7 @@
 use super::waiting::{Watch, What, Who, are_back, come_back};
 use super::{Said, Trial, badge_of, compute, does, root_of, seat_of, talks, try_out, worker_of};
 use crate::tests::calls::{Turn, offer_held};
-use crate::tests::signs::pass;
+use crate::tests::signs::{others_work, pass, used_by_others};
 use crate::tests::{holds, holds_that};
 use desk::{Badge, Desk, DeskGuard, DeskLedger, DidOf, Worker};
 use frame_tree::FrameId;
@@ -99,28 +99,35 @@ fn open_children<L: DeskLedger, R: Wait + Abort>(rt: &R, desk: &Desk<L>) {
     held.release();
 }
 
-/// A root opens a child, which another worker takes before the desk is let go.
-fn open_in_vain<L: DeskLedger, R: Wait + Abort>(rt: &R, desk: &Desk<L>) {
+/// The root that this worker has taken opens a child, which another worker takes before the desk is let go.
+fn open_in_vain<L: DeskLedger, R: Wait + Abort>(rt: &R, desk: &Desk<L>, number: u8) {
+    let (opener, thief) = (
+        worker_of(rt, number),
+        worker_of(rt, number.saturating_add(2)),
+    );
+    let root = root_of(u64::from(number), 1);
     let mut badge = badge_of(rt, desk);
     let mut held = desk.hold(rt, &mut badge);
-    let child = opens(rt, &mut held, &mut badge, worker_of(rt, 1), root_of(1, 1));
-    let taken = offer_held(
-        rt,
-        &mut held,
-        &mut badge,
-        worker_of(rt, 2),
-        child,
-        Turn::Steal(1),
-    );
+    let child = opens(rt, &mut held, &mut badge, opener, root);
+    let taken = offer_held(rt, &mut held, &mut badge, thief, child, Turn::Steal(number));
     holds(rt, taken.is_ok());
     held.release();
 }
 
-/// A worker that waits is woken for a frame that is gone by then: it waits on, for the next.
-fn wake_in_vain<L: DeskLedger, R: Wait + Abort + Clock>(rt: &R, desk: &Desk<L>, watch: &Watch) {
-    open_in_vain(rt, desk);
-    pass(rt, 100);
-    are_back(rt, watch, 0);
+/// A worker that waits is woken twice for a frame that is gone by then: it waits on, for the next. The next comes only once the worker
+/// has worked, as nobody else does beside this thread: so it has been awake; at the second time also where it fell asleep late.
+fn wake_in_vain<L, R>(rt: &R, desk: &Desk<L>, watch: &Watch)
+where
+    L: DeskLedger,
+    R: Wait + Abort + Clock + CpuClock,
+{
+    for number in [1, 2] {
+        let before = used_by_others(rt);
+        open_in_vain(rt, desk, number);
+        holds_that(rt, others_work(rt, before), "who waits is woken");
+        pass(rt, 100);
+        are_back(rt, watch, 0);
+    }
     ask_all(rt, desk, watch, 1);
 }
 

@@ -1,9 +1,10 @@
 //! Streams that fail by each error that a process can meet, and terminals.
-use super::{Broken, LINE, followed, input, status_of, typed, written};
+use super::{Broken, LINE, followed, input, memory, status_in, status_of, typed, written};
+use crate::tests::servers::looked_at::{Nameless, no_address};
 use crate::tests::{holds, says};
 use commands::{Streams, Unserved};
 use line_io::FromWriter;
-use std::alloc::Global;
+use std::alloc::{AllocError, Global};
 use std::io::ErrorKind;
 use std::net::{Net, TcpListener, TcpStream};
 use std::sync::Wait;
@@ -135,12 +136,10 @@ fn each_input(rt: HostRuntime) {
 fn faults_of_the_program_are_told(rt: HostRuntime) {
     let alloc = rt.alloc();
     let unsaid = Unserved::from(ServeFault::Unsaid);
+    let refused = Unserved::from(AllocError);
     let no_memory = Unserved::from(ServeFault::OutOfMemory);
     let no_thread = Unserved::from(ServeFault::NoThread);
-    holds(
-        &rt,
-        says(alloc, Unserved::OutOfMemory, "no memory for the segments"),
-    );
+    holds(&rt, says(alloc, refused, "no memory for the segments"));
     holds(
         &rt,
         says(
@@ -152,4 +151,31 @@ fn faults_of_the_program_are_told(rt: HostRuntime) {
     holds(&rt, says(alloc, unsaid, "the output could not be written"));
     holds(&rt, says(alloc, no_memory, "no memory for the workers"));
     holds(&rt, says(alloc, no_thread, "no thread for a worker"));
+}
+
+/// The status of a server whose listener has no address, what it says, and what on the errors.
+fn unnamed<R>(rt: &R) -> (u8, Vec<u8>, Vec<u8>)
+where
+    R: Net<Listener = TcpListener, Stream = TcpStream> + AllocGlobal + Threads + Wait + Sync,
+{
+    let mut streams = Streams {
+        source: typed(LINE, false),
+        sink: memory(rt.alloc()),
+        errors: memory(rt.alloc()),
+    };
+    let status = status_in(&Nameless { rt }, rt.alloc(), SERVE, &mut streams);
+    let Streams { sink, errors, .. } = streams;
+    (status, sink.writer, errors.writer)
+}
+
+/// It is told why, and not that anything couldn't be written.
+#[test]
+fn an_address_that_cannot_be_had_is_told(rt: HostRuntime) {
+    let (status, answers, errors) = unnamed(&rt);
+    let error = no_address();
+    match format!(in rt.alloc(); "othello: {error}\n") {
+        Ok(told) => holds(&rt, errors.as_slice() == told.as_bytes()),
+        Err(_) => panic!(rt; "no memory"),
+    }
+    holds(&rt, status == 1 && answers.is_empty());
 }

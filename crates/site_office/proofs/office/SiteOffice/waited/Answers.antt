@@ -1,7 +1,8 @@
 use Rattle.std.proofs.Common.{inr, refl}
 use Rattle.session.specs.Calls.{Wait}
 use Rattle.site_office.specs.Offices.{asks_of}
-use Rattle.site_office.proofs.SeatLemmas.{same_asks, seat_shows, told_to}
+use Rattle.desk_office.proofs.SeatLemmas.{same_asks, told_to}
+use Rattle.site_office.proofs.SeatLemmas.{seat_shows}
 use Rattle.site_office.proofs.office.SiteOffice.waited.Goals as goal
 
 pub returns-in-Some : goal.returns-in-Some
