@@ -1,5 +1,4 @@
 mod Parts
-mod Solved
 mod Served
 mod Turned
 mod Replied

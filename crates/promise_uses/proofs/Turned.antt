@@ -26,7 +26,7 @@ use Rattle.desk_rules.specs.Asked.{found_or_no_tenant}
 use Rattle.desk.specs.Histories.{seat_steps, steps_of, AreTaken}
 use Rattle.session.specs.declared.faults.End.{End}
 use Rattle.session.specs.declared.faults.SessionFault.{SessionFault}
-use Rattle.session.specs.Calls.{Hello, Ask, AskQuota, Cancel, Leave, OfficeReply, Welcome, Job, Rest, Gone, Refused, reply_of}
+use Rattle.session.specs.Calls.{Call, Hello, Ask, AskQuota, Cancel, Leave, OfficeReply, Welcome, Job, Rest, Gone, Refused, reply_of}
 use Rattle.session.specs.Sessions.{Called, calls_for, talk_result, texts_for, IsWrittenOf}
 use Rattle.desk_office.specs.Moments.{OfficeOf, vacant, AreStepsOf, IsHello, IsTenancy, IsTenantOf, IsTurnAt, IsTurnOf, NobodyCame, SeenSession, is_welcome}
 use Rattle.promises.specs.Replies.{SearchStep}

@@ -1,8 +1,9 @@
 //! What `solve` writes for three lines.
-ghost use Rattle.std.specs.Prelude.{◌≡◌, ◌⊎◌, ◌++◌, ◌∷◌, [], ℕ, ◌≤◌, ◌<◌, Bool, List, Ok, Err, codes, length, map};
+ghost use Rattle.std.specs.Prelude.{◌≡◌, ◌⊎◌, ◌++◌, ◌∷◌, [], ℕ, ◌≤◌, ◌<◌, List, Some, Ok, Err, codes, length, map};
 ghost use Rattle.std.specs.List.{concat};
 ghost use Rattle.othello_eval.specs.Minimax.{minimax, best_choice};
-ghost use Rattle.protocol.specs.Questions.{QuestionOf};
+ghost use Rattle.protocol.specs.Questions.{QuestionOf, question};
+ghost use Rattle.protocol.specs.Words.{split_at_space};
 ghost use Rattle.protocol.specs.Texts.{error_text, value_text};
 ghost use Rattle.line_io.specs.declared.faults.LineFault.TheVariants.{Read, Write};
 ghost use Rattle.line_io.specs.Leads.{Leads};
@@ -10,7 +11,6 @@ ghost use Rattle.line_io.specs.Lines.{LineText, Whole, lines_of};
 ghost use Rattle.line_io.specs.Streams.{ReadAnswer, Gave, Ended, Failed};
 ghost use Rattle.line_io.specs.Runs.{bytes_due, write_result};
 ghost use Rattle.line_io.specs.Writes.{writes_of, written_texts};
-ghost use Rattle.promises.specs.solve_engine.Solving.{line_question};
 
 use line_io::{LineFault, Sink, Source};
 use promises::solve;
@@ -38,7 +38,8 @@ where
         × (result ≡ Ok tt → (last ≡ Ended ∷ []) × (concat pieces ≡ due))
         × (result ≡ Err Read → (last ≡ Failed ∷ []) × (concat pieces ≡ due))
         × (result ≡ Err Write → (rest : List ℕ) × (concat pieces ++ rest ≡ due) × (0 < length rest))
-        × ((first third : LineText) (asked : QuestionOf) → lines_of (bytes_due result (concat blocks)) ≡ first ∷ Whole (codes "opening") ∷ third ∷ [] → line_question third ≡ Ok asked →
+        × ((first : LineText) (third : List ℕ) (words : List ℕ × List ℕ) (asked : QuestionOf) → lines_of (bytes_due result (concat blocks)) ≡ first ∷ Whole (codes "opening") ∷ Whole third ∷ [] →
+        split_at_space third ≡ Some words → question words.0 words.1 ≡ Ok asked →
         (one : List ℕ) × (three : List ℕ) × (due ≡ written_texts (one ∷ error_text 21 ∷ three ∷ []))
         × ((three ≡ value_text (minimax asked.depth asked.board) (best_choice asked.depth asked.board)) ⊎ (three ≡ error_text 19))) }
 {

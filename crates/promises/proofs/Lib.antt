@@ -2,3 +2,4 @@ pub mod Answered
 pub mod Isolation
 pub mod Refused
 pub mod HallLemmas
+pub mod Solved

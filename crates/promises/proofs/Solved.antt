@@ -1,8 +1,9 @@
--- What `SolvedRun` comes to, where three lines are answered.
-use Rattle.std.proofs.Common.{◌≡◌, ◌⊎◌, inl, inr, ℕ, ◌<◌, Bool, true, false, List, [], ◌∷◌, ◌++◌, map, length, codes, Result, Ok, Err, refl, ap, subst, sym, ◌∙◌}
+-- What `SolvedRun` comes to, where three lines are answered: for `promise_uses`, which can't name the words of `solve_engine`.
+use Rattle.std.proofs.Common.{◌≡◌, ◌⊎◌, inl, inr, ℕ, ◌<◌, Bool, true, false, List, [], ◌∷◌, ◌++◌, map, length, codes, Option, Some, Result, Ok, Err, refl, ap, subst, sym, ◌∙◌}
 use Rattle.std.specs.List.{concat}
 use Rattle.othello_eval.specs.Minimax.{minimax, best_choice}
-use Rattle.protocol.specs.Questions.{QuestionOf}
+use Rattle.protocol.specs.Questions.{QuestionOf, question}
+use Rattle.protocol.specs.Words.{split_at_space}
 use Rattle.protocol.specs.Texts.{error_text, value_text}
 use Rattle.protocol.specs.declared.faults.ProtocolFault.{ProtocolFault}
 use Rattle.line_io.specs.declared.faults.LineFault.{LineFault}
@@ -12,7 +13,7 @@ use Rattle.line_io.specs.Lines.{LineText, Whole, lines_of}
 use Rattle.line_io.specs.Streams.{ReadAnswer, WriteAnswer, Gave, Ended, Failed}
 use Rattle.line_io.specs.Runs.{IsEnding, IsOutput, bytes_due, write_result}
 use Rattle.line_io.specs.Writes.{writes_of, written_texts}
-use Rattle.promises.specs.solve_engine.Solving.{SolvedRun, answers_unless, line_question, question_answer, solve_line_unless, solve_out_unless, solved_unless}
+use Rattle.solve_engine.specs.Solving.{SolvedRun, answers_unless, line_question, question_answer, solve_line_unless, solve_out_unless, solved_unless, words_question}
 
 ended : (r : Result (Unit {0}) LineFault) (bytes : List ℕ) (last : List ReadAnswer) (written due : List ℕ) → IsEnding r bytes last → IsOutput (write_result r) written due → r ≡ Ok tt → (last ≡ Ended ∷ []) × (written ≡ due)
 ended (Ok it) bytes last written due ends output is = (ends, output)
@@ -31,7 +32,7 @@ cut (Err Write) written due output is = output
 cut (Err TooMuch) written due output is = absurd cc
 
 -- a line that asks for something is answered by its value and choice, or by ERR 19
-abbrev IsSolved : QuestionOf → List ℕ → Type 0
+abbrev pub IsSolved : QuestionOf → List ℕ → Type 0
 IsSolved asked text = (text ≡ value_text (minimax asked.depth asked.board) (best_choice asked.depth asked.board)) ⊎ (text ≡ error_text 19)
 
 solved-or-not : (refused : Bool) (line : LineText) (asked : QuestionOf) → line_question line ≡ Ok asked → IsSolved asked (solve_line_unless refused line)
@@ -60,10 +61,10 @@ none-left : (refused : List Bool) → answers_unless refused [] ≡ []
 none-left [] = refl
 none-left (flag ∷ refused) = refl
 
-abbrev Three : LineText → QuestionOf → List ℕ → Type 0
-Three third asked due = (one : List ℕ) × (three : List ℕ) × (due ≡ written_texts (one ∷ error_text 21 ∷ three ∷ [])) × IsSolved asked three
+abbrev pub Three : QuestionOf → List ℕ → Type 0
+Three asked due = (one : List ℕ) × (three : List ℕ) × (due ≡ written_texts (one ∷ error_text 21 ∷ three ∷ [])) × IsSolved asked three
 
-three-answers : (refused : List Bool) (first third : LineText) (asked : QuestionOf) → line_question third ≡ Ok asked → Three third asked (answers_unless refused (first ∷ Whole (codes "opening") ∷ third ∷ []))
+three-answers : (refused : List Bool) (first third : LineText) (asked : QuestionOf) → line_question third ≡ Ok asked → Three asked (answers_unless refused (first ∷ Whole (codes "opening") ∷ third ∷ []))
 three-answers refused first third asked is =
     let second = later_of refused in
     let last = later_of second in
@@ -82,7 +83,8 @@ SolvesThree gives takes source sink source' sink' r = (blocks : List (List ℕ))
     × (r ≡ Ok tt → (last ≡ Ended ∷ []) × (concat pieces ≡ due))
     × (r ≡ Err Read → (last ≡ Failed ∷ []) × (concat pieces ≡ due))
     × (r ≡ Err Write → (rest : List ℕ) × (concat pieces ++ rest ≡ due) × (0 < length rest))
-    × ((first third : LineText) (asked : QuestionOf) → lines_of (bytes_due r (concat blocks)) ≡ first ∷ Whole (codes "opening") ∷ third ∷ [] → line_question third ≡ Ok asked → Three third asked due)
+    × ((first : LineText) (third : List ℕ) (words : List ℕ × List ℕ) (asked : QuestionOf) → lines_of (bytes_due r (concat blocks)) ≡ first ∷ Whole (codes "opening") ∷ Whole third ∷ [] →
+    split_at_space third ≡ Some words → question words.0 words.1 ≡ Ok asked → Three asked due)
 
 pub solves-three : {S K : Type 0} (gives : S → ReadAnswer → S → Type 0) (takes : K → WriteAnswer → K → Type 0) (source : S) (sink : K) (source' : S) (sink' : K) (r : Result (Unit {0}) LineFault) →
     SolvedRun gives takes source sink source' sink' r → SolvesThree gives takes source sink source' sink' r
@@ -98,6 +100,6 @@ solves-three gives takes source sink source' sink' r solved =
       ended r (concat is.blocks) is.last (concat is.pieces) due is.ends is.written,
       failed r (concat is.blocks) is.last (concat is.pieces) due is.ends is.written,
       cut r (concat is.pieces) due is.written,
-      λ first third asked lines question.
-          subst (λ (ls : List LineText). Three third asked (answers_unless solved.0 ls)) (sym lines) (three-answers solved.0 first third asked question),
+      λ first third words asked lines splits question.
+          subst (λ (ls : List LineText). Three asked (answers_unless solved.0 ls)) (sym lines) (three-answers solved.0 first (Whole third) asked (ap (λ (s : Option (List ℕ × List ℕ)). words_question s) splits ∙ question)),
     )
