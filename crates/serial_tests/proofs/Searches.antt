@@ -1,7 +1,7 @@
 -- A list of steps of searches, and one more of them.
 use Rattle.std.proofs.Common.{◌≡◌, List, [], ◌∷◌, ◌++◌, Bool, true, false, if◌then◌else◌, sym, subst}
 use Rattle.jamboree_core.specs.Replies.{AreSearches, IsSearch}
-use Rattle.promises.specs.Tenants.{SearchStep}
+use Rattle.promises.specs.Replies.{SearchStep}
 
 -- a list of searches with one more
 searches-with : (steps : List SearchStep) (step : SearchStep) → AreSearches steps → IsSearch step → AreSearches (steps ++ step ∷ [])
