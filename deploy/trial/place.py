@@ -40,6 +40,9 @@ burst = 1000
 # What is left for the guests beside the school.
 LEFT = [("[guests.together]          # in each hall\nsessions = 64\nsegments = 65536\nnodes = 4194304", "[guests.together]\nsessions = 56\nsegments = 57344\nnodes = 3670016")]
 DEPTH, SMALL, GREAT = 3, (64, 2048), (256, 20000)
+# A job that lasts for seconds where these terms hold, and what it takes.
+LONG, LONGEST = "12 ----------OX--O----O-OO-O-OXOOO--OXXOXOXO-OX-XO--OXXXXO--XO-X--O X", (1024, 65536)
+SLOW = [("grain = 4 ", "grain = 6 "), ("# workers = 4 ", "workers = 1 ")]
 LINES = [f"{DEPTH} {position}" for position in stage.positions(50, 1)]
 
 

@@ -11,7 +11,7 @@ import subprocess
 import time
 
 import pytest
-from place import LEFT, OPENING, SCHOOL, SMALL, TOKEN, Answer, From, Site, address_of, free_port, is_there, program, until
+from place import LEFT, LONG, LONGEST, SCHOOL, SLOW, SMALL, TOKEN, Answer, From, Site, address_of, free_port, is_there, program, until
 
 
 def test_stats_and_ends(wanted: list[Answer]) -> None:
@@ -34,8 +34,8 @@ def test_stats_and_ends(wanted: list[Answer]) -> None:
 
 
 def test_an_end_wakes_a_wait() -> None:
-    with Site() as site, site.opened(address_of(1), 256, 65536) as session:
-        session.socket.sendall(f"ASK 12 {'-' * 27}OX------XO{'-' * 27} X\nWAIT 1\n".encode())
+    with Site(terms=SLOW) as site, site.opened(address_of(1), *LONGEST) as session:
+        session.socket.sendall(f"ASK {LONG}\nWAIT 1\n".encode())
         time.sleep(0.5)
         begun = time.monotonic()
         site.ask(f"END ADDRESS {address_of(1)}")
@@ -148,22 +148,22 @@ def test_without_a_file(wanted: list[Answer]) -> None:
 
 
 def test_the_log_says_what_ended_each_session() -> None:
-    terms = [*LEFT, ("guest = 60", "guest = 1"), ("sessions = 56", "sessions = 6")]
+    terms = [*LEFT, ("guest = 60", "guest = 1"), ("sessions = 56", "sessions = 6"), *SLOW]
     with Site(terms=terms, more=SCHOOL) as site, contextlib.ExitStack() as open_ones:
 
-        def opened(address: str) -> From:
-            session = site.opened(address, *SMALL)
+        def opened(address: str, reserve: tuple[int, int] = SMALL) -> From:
+            session = site.opened(address, *reserve)
             open_ones.callback(session.socket.close)
             return session
 
         opened(address_of(1)).close()
         opened(address_of(2)).socket.close()
-        waits = opened(address_of(3))
-        waits.socket.sendall(f"ASK 12 {OPENING}\nWAIT 1\n".encode())
+        waits = opened(address_of(3), LONGEST)
+        waits.socket.sendall(f"ASK {LONG}\nWAIT 1\n".encode())
         until(lambda: any(" waits=1 " in line for line in site.ask("STATS")), 5, "it waits")
         waits.reset()
-        told = [opened(address_of(4)) for _ in range(2)]
-        told[1].socket.sendall(f"ASK 12 {OPENING}\nWAIT 1\n".encode())
+        told = [opened(address_of(4), LONGEST) for _ in range(2)]
+        told[1].socket.sendall(f"ASK {LONG}\nWAIT 1\n".encode())
         assert site.ask(f"END ADDRESS {address_of(4)}") == ["OK 2"]
         until(lambda: not site.has(), 5, "they have ended")
         idle = [opened(address_of(number)) for number in range(5, 11)]

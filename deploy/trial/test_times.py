@@ -8,7 +8,7 @@ import os
 import socket
 import time
 
-from place import OPENING, SMALL, Answer, Site, address_of, header_of, until
+from place import LONG, OPENING, SLOW, SMALL, Answer, Site, address_of, header_of, until
 
 TERMS = [("welcome = 10 ", "welcome = 3 "), ("idle = 3600 ", "idle = 6 "), ("write = 60 ", "write = 3 "), ("hangup = 60 ", "hangup = 3 ")]
 
@@ -60,18 +60,18 @@ def test_who_takes_no_answer_is_ended() -> None:
 
 
 def test_a_wait_goes_on_behind_an_end_of_input_for_a_while() -> None:
-    with Site(terms=TERMS) as site:
+    with Site(terms=[*TERMS, *SLOW]) as site:
         found = site.said(address_of(1), f"HELLO 64 2048\nASK 3 {OPENING}\nWAIT 1\n".encode())
         assert found.splitlines()[2].startswith(b"DONE 1 "), found
         begun = time.monotonic()
-        site.said(address_of(2), f"HELLO 256 65536\nASK 12 {OPENING}\nWAIT 1\n".encode())
+        site.said(address_of(2), f"HELLO 1024 65536\nASK {LONG}\nWAIT 1\n".encode())
         assert 2 < time.monotonic() - begun < 6
         until(lambda: not site.has(), 3, "what it had is given back")
 
 
 def test_a_reset_ends_a_wait_at_once() -> None:
-    with Site() as site, socket.create_connection(("127.0.0.1", site.plain), 10) as stream:
-        stream.sendall(f"HELLO 256 65536\nASK 12 {OPENING}\nWAIT 1\n".encode())
+    with Site(terms=SLOW) as site, socket.create_connection(("127.0.0.1", site.plain), 10) as stream:
+        stream.sendall(f"HELLO 1024 65536\nASK {LONG}\nWAIT 1\n".encode())
         until(lambda: site.has(), 5, "the session is there")
         time.sleep(0.5)
         stream.setsockopt(socket.SOL_SOCKET, socket.SO_LINGER, b"\1\0\0\0\0\0\0\0")
