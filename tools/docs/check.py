@@ -164,11 +164,6 @@ def session_transcript():
     return "\n".join(["```text", *shown, "```"]) + "\n"
 
 
-def gate_rows():
-    """The rows of a crate that tools/gate_cost.py printed of the last gate, as they are kept in gate.txt beside this script."""
-    return "```text\n" + (HERE / "gate.txt").read_text() + "```\n"
-
-
 def error_table():
     """The numbers of ERR that a client may see, with the words of the code for each, in four columns."""
     words = dict(enumerate(re.findall(r'#\[error\("(.*?)"\)\]\n', (TOP / "crates/protocol/src/faults.rt").read_text()), 21))
@@ -203,7 +198,7 @@ def chosen(text, names):
     return "```text\n" + head + "".join(clause for at, clause in enumerate(kept) if clause != "    ..\n" or kept[at - 1 : at] != [clause]) + "```\n"
 
 
-LISTS = {"crates": crate_table, "solve": solve_transcript, "session": session_transcript, "gate": gate_rows, "errors": error_table, "depths": depth_table, "excerpt": excerpt, "contract": contract}
+LISTS = {"crates": crate_table, "solve": solve_transcript, "session": session_transcript, "errors": error_table, "depths": depth_table, "excerpt": excerpt, "contract": contract}
 
 
 def with_lists(text):
