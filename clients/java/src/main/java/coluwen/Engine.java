@@ -45,13 +45,9 @@ public final class Engine implements Analyst {
   }
 
   /** An engine with a process for each processor, of the program that {@code COLUWEN_OTHELLO} names, or that stands on PATH, or in this package. */
-  public static Engine start() {
-    return start(Runtime.getRuntime().availableProcessors());
-  }
+  public static Engine start() { return start(Runtime.getRuntime().availableProcessors()); }
 
-  public static Engine start(int workers) {
-    return start(null, workers, null);
-  }
+  public static Engine start(int workers) { return start(null, workers, null); }
 
   /** The same of a program that is named (or null), with the time that a question may take from when its search begins (null: no limit). */
   public static Engine start(String program, int workers, Duration timeout) {
@@ -242,14 +238,10 @@ public final class Engine implements Analyst {
   }
 
   @Override
-  public Duration timeout() {
-    return timeout;
-  }
+  public Duration timeout() { return timeout; }
 
   @Override
-  public int window() {
-    return 64 * workers;
-  }
+  public int window() { return 64 * workers; }
 
   @Override
   public CompletableFuture<Result> analyseAsync(Position position, int depth, Duration timeout) {
@@ -267,9 +259,7 @@ public final class Engine implements Analyst {
 
   /** Every depth can be had. */
   @Override
-  public Info info() {
-    return new Info(Core.DEEPEST, Core.DEEPEST, Core.DEEPEST, Optional.empty());
-  }
+  public Info info() { return new Info(Core.DEEPEST, Core.DEEPEST, Core.DEEPEST, Optional.empty()); }
 
   /** How long a question takes that needs no search. */
   @Override
