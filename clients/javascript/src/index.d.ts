@@ -94,10 +94,10 @@ export type Outcome<Asked extends Question = Question> = { readonly index: numbe
 
 /** What a client of a server and an engine of this host have in common. */
 export declare abstract class Analyst extends EventTarget {
-  abstract analyse(position: string | Position, depth: number, how?: How): Promise<Result>;
-  abstract info(): Promise<Info>;
-  abstract ping(): Promise<number>;
-  abstract close(): Promise<void>;
+  analyse(position: string | Position, depth: number, how?: How): Promise<Result>;
+  info(): Promise<Info>;
+  ping(): Promise<number>;
+  close(): Promise<void>;
   readonly window: number;
   analyseAll(position: string | Position, depth: number, how?: How): Promise<Entry[]>;
   analyseMany<Asked extends Question>(questions: Iterable<Asked> | AsyncIterable<Asked>, depth?: number, how?: ManyHow): AsyncGenerator<Outcome<Asked>, void, void>;
@@ -135,10 +135,6 @@ export interface EngineOptions { workers?: number; timeout?: number; }
 /** Values without a server: the proved search as WebAssembly, in workers of this process or page. No depth is beyond it. */
 export declare class Engine extends Analyst {
   constructor(options?: EngineOptions);
-  analyse(position: string | Position, depth: number, how?: How): Promise<Result>;
-  info(): Promise<Info>;
-  ping(): Promise<number>;
-  close(): Promise<void>;
 }
 
 export interface ClientEvents {
@@ -151,10 +147,6 @@ export declare class ClientEvent<Detail> extends Event { readonly detail: Detail
 
 export declare class Client extends Analyst {
   constructor(options?: ClientOptions);
-  analyse(position: string | Position, depth: number, how?: How): Promise<Result>;
-  info(): Promise<Info>;
-  ping(): Promise<number>;
-  close(): Promise<void>;
   addEventListener<Name extends keyof ClientEvents>(name: Name, heard: (event: ClientEvents[Name]) => void, options?: Listened[2]): void;
   addEventListener(name: string, heard: Listened[1], options?: Listened[2]): void;
   removeEventListener<Name extends keyof ClientEvents>(name: Name, heard: (event: ClientEvents[Name]) => void, options?: Parameters<EventTarget["removeEventListener"]>[2]): void;

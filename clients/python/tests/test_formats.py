@@ -46,6 +46,12 @@ def test_transcript_faults(text: str, place: str) -> None:
         transcript.read(text, None, formats.Place("", 1))
 
 
+def test_a_transcript_that_begins_within_a_line() -> None:
+    for text, place in (("f5x3", "a:2:7: "), ("f5\nx3", "a:3:1: ")):
+        with pytest.raises(FormatError, match=place):
+            transcript.read(text, None, formats.Place("a", 2, 5))
+
+
 def test_a_transcript_from_another_start() -> None:
     start = Position.parse("XO" + "-" * 62 + "O")
     game = transcript.read("c1", start)
@@ -122,6 +128,9 @@ def test_wthor_by_hand() -> None:
     record = bytes([7, 0, 1, 0, 2, 0, 33, 34]) + bytes([56, 64, 33]) + bytes(57)
     (game,) = strictly(wthor.read(head + record, "hand.wtb"))
     assert (game.words(), game.black, game.white, game.event, game.theoretical) == (["f5", "d6", "c3"], "player 1", "player 2", "tournament 7", 34)
+    for names, black, white in ((["one"], "player 1", "player 2"), (["one", "other"], "other", "player 2"), (["one", "other", "third"], "other", "third")):
+        (game,) = strictly(wthor.read(head + record, "hand.wtb", names, names))
+        assert (game.black, game.white, game.event) == (black, white, "tournament 7")
     for data, place in ((head + record[:-1], "hand.wtb:5:"), (head[:4] + b"\2" + head[5:] + record, "hand.wtb:5:"), (head[:10], "hand.wtb:11:"), (head[:12] + b"\x0a" + head[13:] + record, "hand.wtb:13:"),
                         (head + record[:8] + bytes([56, 11]) + bytes(58), "hand.wtb:26:"), (head + record[:8] + bytes([99]) + bytes(59), "hand.wtb:25:")):  # fmt: skip
         with pytest.raises(FormatError, match=re.escape(place)):

@@ -11,11 +11,11 @@ socket. clients/behaviour/README.md says the rules.
 """
 from __future__ import annotations
 
-import collections
+import bisect
 import dataclasses
 import functools
 import itertools
-from collections.abc import Callable, Generator, Iterator
+from collections.abc import Callable, Generator
 from typing import Any
 
 from ._answers import LONGEST, Answer, parse
@@ -115,6 +115,7 @@ class Work:
     losses = 0
     silences = 0  # how often it was met by silence, and since when
     silent_since = 0.0
+    depth = -1
     level = 0
     alone = False  # it begins in a session of its own
 
@@ -256,10 +257,6 @@ class _Session:
         self.not_before = 0.0  # nothing is sent before
         self.left = reserved.nodes  # where nodes are counted
 
-    def suits(self, work: Work, levels: tuple[Reservation, ...]) -> bool:
-        """Whether it could take this, once it has nothing else to do."""
-        return not self.takes_no_more and not self.is_ending and self.reserved.nodes >= levels[work.level].nodes and not (work.alone and self.wire.jobs)
-
     @property
     def questions(self) -> list[Question]:
         return [*self.running, *([self.asking] if self.asking else [])]
@@ -282,7 +279,7 @@ class Core:
         self.closed = False
         self.info: Info | None = None
         self._sessions: dict[int, _Session] = {}
-        self._waiting: dict[tuple[int, bool, bool], collections.deque[Work]] = {}
+        self._waiting: list[Work] = []  # for whom there is no session yet, the oldest first
         self._too_deep: list[Question] = []
         self._learning: Errand | None = None
         self._needs: dict[int, int] = {}  # of a depth the level that its last job needed
@@ -307,8 +304,7 @@ class Core:
 
     def learning(self) -> Errand:
         """The errand that finds out what the server is: a new one, or the one that is under way."""
-        if not self._learning or self._learning.ended:
-            self._learning = Errand(_grain, alone=True)
+        self._learning = self._learning or Errand(_grain, alone=True)
         return self._learning
 
     def give_up(self, work: Work, fault: ColuwenError, now: float) -> None:
@@ -323,7 +319,7 @@ class Core:
         if self.closed:
             return
         self.closed = True
-        for work in [*self._all_waiting(), *self._too_deep]:
+        for work in [*self._waiting, *self._too_deep]:
             self._end(work, fault=Closed("the client was closed"))
         for session in list(self._sessions.values()):
             if session.is_idle:
@@ -347,7 +343,7 @@ class Core:
     def opened(self, key: int, now: float) -> None:
         """The connection is there: the session begins."""
         if session := self._sessions.get(key):
-            self._send(session, f"HELLO {session.reserved.segments} {session.reserved.nodes}", self._greeted, now, keep_deadline=True)
+            self._send(session, f"HELLO {session.reserved.segments} {session.reserved.nodes}", self._greeted, now)
 
     def failed(self, key: int, text: str, now: float, is_final: bool = False) -> None:
         """The connection couldn't be made, or was lost. Final: trying again can't mend it."""
@@ -357,9 +353,6 @@ class Core:
         if is_final:
             self._shut(session)
             self._fail_waiting(lambda: Unreachable(f"{self.options.address}: {text}"))
-        elif not session.is_ready:
-            self._shut(session)
-            self._unreached(text, now)
         else:
             self._lose(session, Broken(text), now)
         self._advance(now)
@@ -369,20 +362,12 @@ class Core:
         session = self._sessions.get(key)
         if not session:
             return
-        if session.is_ending and not data:
-            self._shut(session)
-            self._advance(now)
-            return
         try:
             found: Answer | Refused | None = session.wire.receive(data)
         except Refused as refusal:
             found = refusal
         except Broken as fault:
-            if session.is_ready:
-                self._lose(session, fault, now)
-            else:
-                self._shut(session)
-                self._unreached(str(fault), now)
+            self._lose(session, fault, now)
             self._advance(now)
             return
         if found is not None:
@@ -417,54 +402,42 @@ class Core:
                 if session.running:
                     times.append(max(session.running[0].look, session.not_before))
             times += [question.deadline for question in session.questions if question.deadline is not None]
-        if self._pause and any(True for _ in self._all_waiting()):
+        if self._pause and self._waiting:
             times.append(self._pause)
         return min(times, default=None)
 
     # Questions that wait.
 
-    def _all_waiting(self) -> Iterator[Work]:
-        return (work for waiting in self._waiting.values() for work in waiting if not work.ended)
-
     def _wait(self, work: Work) -> None:
-        """Puts it among those of its kind that wait, behind those that came before it; one whose depth is known to need more among those that do."""
-        if isinstance(work, Question):
-            work.level = max(work.level, self._needs.get(work.depth, 0))
-        waiting = self._waiting.setdefault((work.level, work.alone, isinstance(work, Errand)), collections.deque())
-        at = len(waiting)
-        while at and waiting[at - 1].sequence > work.sequence:
-            at -= 1
-        waiting.insert(at, work)
+        """Puts it among those that wait, behind those that came before it."""
+        bisect.insort(self._waiting, work, key=lambda one: one.sequence)
 
-    def _need(self, depth: int, level: int) -> None:
-        """A depth is known to need so much, also of those that wait."""
-        self._needs[depth] = max(level, self._needs.get(depth, 0))
-        waiting = list(self._all_waiting())
-        self._waiting.clear()
-        for work in waiting:
-            self._wait(work)
+    def _take(self, work: Work) -> None:
+        """Takes it out of those that wait, if it is one."""
+        at = bisect.bisect_left(self._waiting, work.sequence, key=lambda one: one.sequence)
+        if self._waiting[at : at + 1] == [work]:
+            del self._waiting[at]
 
-    def _oldest(self) -> list[Work]:
-        """The oldest of each kind that waits, in their order."""
-        for waiting in self._waiting.values():
-            while waiting and waiting[0].ended:
-                waiting.popleft()
-        return sorted((waiting[0] for waiting in self._waiting.values() if waiting), key=lambda work: work.sequence)
+    def _level_of(self, work: Work) -> int:
+        """What it needs, as far as that is known."""
+        return max(work.level, self._needs.get(work.depth, 0))
 
-    def _taken(self, work: Work) -> None:
-        self._waiting[work.level, work.alone, isinstance(work, Errand)].popleft()
+    def _suits(self, session: _Session, work: Work) -> bool:
+        """Whether a session could take this, once it has nothing else to do."""
+        has_enough = session.reserved.nodes >= self.levels[self._level_of(work)].nodes
+        return has_enough and not session.takes_no_more and not session.is_ending and not (work.alone and session.wire.jobs)
 
     def _end(self, work: Work, found: Any = None, fault: ColuwenError | None = None) -> None:
         if not work.ended:
             work.ended, work.found, work.fault = True, found, fault
             self._events.append(Ended(work))
+            self._take(work)
+            if work is self._learning:
+                self._learned(work)
 
     def _fail_waiting(self, fault: Callable[[], ColuwenError]) -> None:
-        for work in list(self._all_waiting()):
+        for work in list(self._waiting):
             self._end(work, fault=fault())
-            if work is self._learning:
-                self._learned(now=0.0)
-        self._waiting.clear()
         self._trouble = self._full = None
         self._pause = 0.0
         self._noted.clear()
@@ -486,21 +459,20 @@ class Core:
 
     def _open(self, now: float) -> None:
         """Opens sessions for those who wait and whom none of those that are being opened is for."""
-        if self._is_full or now < self._pause or not self._waiting:
+        if now < self._pause:
             return
         coming = [session for session in self._sessions.values() if not session.is_ready]
-        wanted = sorted(itertools.chain(*(itertools.islice(waiting, self.options.sessions) for waiting in self._waiting.values())), key=lambda work: work.sequence)
-        for work in wanted:
-            if work.ended or self._is_full:
-                continue
-            one = next((session for session in coming if session.suits(work, self.levels)), None)
+        for work in self._waiting:
+            if self._is_full:
+                return
+            one = next((session for session in coming if self._suits(session, work)), None)
             if one:
                 coming.remove(one)
                 continue
             silence = min(self.options.silence * 2**work.silences, max(LONGEST_SILENCE, self.options.silence))
             self._trouble = now if self._trouble is None else self._trouble
             left = silence if self._endures else max(silence - (now - self._trouble), 0.05)
-            session = _Session(next(self._keys), self.levels[work.level], silence, now + left)
+            session = _Session(next(self._keys), self.levels[self._level_of(work)], silence, now + left)
             self._sessions[session.key] = session
             self._events.append(Open(session.key))
 
@@ -514,10 +486,10 @@ class Core:
         """Whether a server that can't be reached any more is tried for longer than a moment."""
         return self._reached and self.options.outage > 0
 
-    def _send(self, session: _Session, line: str, doing: Callable[[_Session, Answer | Refused, float], None], now: float, keep_deadline: bool = False) -> None:
+    def _send(self, session: _Session, line: str, doing: Callable[[_Session, Answer | Refused, float], None], now: float) -> None:
         session.doing = lambda found, at: doing(session, found, at)
         data = session.wire.send(line, self.options.token if line.startswith("HELLO") else None)
-        if not keep_deadline:
+        if session.is_ready:  # else it has as long to be opened and welcomed
             session.deadline = now + session.silence
         self._events.append(Send(session.key, data))
 
@@ -572,19 +544,14 @@ class Core:
 
     def _silent(self, session: _Session, now: float) -> None:
         word = (session.wire.line or "").partition(" ")[0]
-        fault = Silent(f"no answer to {word} in {session.silence:.3g} s" if word else f"no connection in {session.silence:.3g} s")
-        if session.is_ending:
-            self._shut(session)
-        elif not session.is_ready:
-            self._shut(session)
-            self._unreached(str(fault), now)
-        else:
-            self._lose(session, fault, now)
+        self._lose(session, Silent(f"no answer to {word} in {session.silence:.3g} s" if word else f"no connection in {session.silence:.3g} s"), now)
 
     def _lose(self, session: _Session, fault: Broken | Silent, now: float) -> None:
         """Drops a session; what it had to do is asked again in another one, or can't be had."""
         works = [work for work in session.works if not work.ended]
         self._shut(session)
+        if not session.is_ready:
+            return self._unreached(str(fault), now)
         for work in sorted(works, key=lambda work: -work.sequence):
             if isinstance(fault, Silent):
                 work.silent_since = work.silent_since if work.silences else now - session.silence
@@ -597,8 +564,6 @@ class Core:
                 self._wait(work)
             else:
                 self._end(work, fault=Unreachable(f"{self.options.address}: {fault}"))
-                if work is self._learning:
-                    self._learned(now)
         if any(not work.ended for work in works):
             self._tell(f"{self.options.address}: {fault}; what was asked is asked again")
 
@@ -621,7 +586,7 @@ class Core:
             session.takes_no_more = True
         work = None if session.takes_no_more else self._next_for(session)
         if work:
-            self._taken(work)
+            self._take(work)
             if isinstance(work, Errand):
                 session.errand, session.script = work, work.script()
                 self._go_on(session, None, now)
@@ -642,12 +607,12 @@ class Core:
             spare = sum(not other.is_ready or other.is_idle for other in self._sessions.values())
             if len(session.running) >= self.options.ahead or session.running[0].alone:
                 return None
-            if not self._is_full and not self._pause or spare and spare >= sum(1 for _ in self._all_waiting()):
+            if not self._is_full and not self._pause or spare and spare >= len(self._waiting):
                 return None
-        for work in self._oldest():
-            if session.suits(work, self.levels):
+        for work in self._waiting:
+            if self._suits(session, work):
                 return work if not (session.running and (work.alone or isinstance(work, Errand))) else None
-            others = any(other is not session and other.suits(work, self.levels) for other in self._sessions.values())
+            others = any(other is not session and self._suits(other, work) for other in self._sessions.values())
             if not others and len(self._sessions) >= self._granted:
                 session.takes_no_more = True
                 return None
@@ -728,7 +693,7 @@ class Core:
             question.level, question.alone = min(max(level, question.level) + 1, len(self.levels) - 1), True
             self._wait(question)
             return
-        self._need(question.depth, level)
+        self._needs[question.depth] = level
         if self.info or not self.options.is_free:
             self._end(question, fault=self._beyond(question.depth))
         else:
@@ -761,7 +726,7 @@ class Core:
         done = question.done
         assert done
         if question.alone:
-            self._need(question.depth, question.level)
+            self._needs[question.depth] = question.level
         self._end(question, Found(done.value, done.move, entries, question.seconds, nodes))
 
     def _cancelled(self, question: Question, session: _Session, found: Answer | Refused, now: float) -> None:
@@ -782,33 +747,30 @@ class Core:
         try:
             wanted = script.throw(found) if isinstance(found, Refused) else script.send(found)
         except StopIteration as end:
-            self._errand_ended(session, end.value, None, now)
+            self._errand_ended(session, end.value, None)
         except Refused as refusal:
             if refusal.number == 31 and not errand.ended:
                 session.script, session.not_before = errand.script(), now + AGAIN
             else:
-                self._errand_ended(session, None, refusal, now)
+                self._errand_ended(session, None, refusal)
         else:
             if isinstance(wanted, str):
                 self._send(session, wanted, self._go_on, now)
             else:
                 session.not_before = now + wanted
 
-    def _errand_ended(self, session: _Session, found: Any, fault: ColuwenError | None, now: float) -> None:
+    def _errand_ended(self, session: _Session, found: Any, fault: ColuwenError | None) -> None:
         errand, session.errand, session.script = session.errand, None, None
         assert errand
         session.takes_no_more = errand.alone
         self._end(errand, found, fault)
-        if errand is self._learning:
-            self._learned(now)
 
-    def _learned(self, now: float) -> None:
+    def _learned(self, errand: Work) -> None:
         """What the server is, is known, or can't be found out: who waits for it is told."""
-        errand, self._learning = self._learning, None
+        self._learning, self.info = None, errand.found or self.info
         waiting, self._too_deep = self._too_deep, []
-        self.info = errand.found if errand and errand.found else self.info
         for question in waiting:
-            self._end(question, fault=errand.fault if errand and errand.fault and not self.info else self._beyond(question.depth))
+            self._end(question, fault=errand.fault if errand.fault and not self.info else self._beyond(question.depth))
 
 
 def _grain() -> Generator[Any, Any, Info]:

@@ -105,17 +105,3 @@ class Entry:
 
     def __str__(self) -> str:
         return f"{self.move}{self.score.sign}{self.score.value}"
-
-
-def loss_of(best: Score, score: Score) -> str:
-    """What was lost by a move of this score where another has the best one, in words; nothing where they are the same."""
-    if best.value == score.value:
-        return ""
-    if not best.ends and not score.ends:
-        return str(best.value - score.value)
-    if best.ends and score.ends:
-        discs = (best.value - score.value) // A_DISC
-        return f"{discs} disc{'s' * (discs != 1)}"
-    if best.ends:
-        return "a sure win" if best.value > 0 else "a sure draw"
-    return "the game" if score.value < 0 else str(best.value - score.value)

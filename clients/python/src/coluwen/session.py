@@ -9,6 +9,7 @@ Most callers want `Client`, which opens sessions as they are needed.
 """
 from __future__ import annotations
 
+import contextlib
 import dataclasses
 import socket
 import ssl
@@ -78,7 +79,7 @@ class Session:
         self._lock, self._wire = threading.Lock(), Wire()
         self._timeout, self._silence = timeout, silence
         self.reserved = Reservation(segments, nodes)
-        self._socket = self._connect(host, port, silence)
+        self._socket = socket.create_connection((host, port), silence)
         try:
             self._socket.setsockopt(socket.IPPROTO_TCP, socket.TCP_NODELAY, 1)
             if tls:
@@ -87,9 +88,6 @@ class Session:
         except BaseException:
             self._socket.close()
             raise
-
-    def _connect(self, host: str, port: int, timeout: float | None) -> socket.socket:
-        return socket.create_connection((host, port), timeout)
 
     @property
     def jobs(self) -> int:
@@ -156,10 +154,8 @@ class Session:
 
     def stopped(self, job: int) -> State:
         """Cancels a job, if it hasn't ended meanwhile; how it ended."""
-        try:
+        with contextlib.suppress(Refused):
             self.cancel(job)
-        except Refused:
-            pass
         return self.get(job)
 
     def table(self, job: int) -> tuple[Entry, ...] | None:
@@ -183,20 +179,14 @@ class Session:
     def drop(self, why: str = "it was dropped") -> None:
         """Ends the connection under a call that waits; another thread may do so."""
         self._wire.broken = self._wire.broken or why
-        try:
+        with contextlib.suppress(OSError):
             self._socket.shutdown(socket.SHUT_RDWR)
-        except OSError:
-            pass
 
     def close(self) -> None:
         """Ends the session. A broken one is dropped without a word, since BYE would wait behind what it left."""
-        try:
+        with contextlib.suppress(OSError, Broken, Refused), self._socket:
             self._call("BYE")
-        except (OSError, Broken, Refused):
-            pass
-        finally:
-            self._wire.broken = self._wire.broken or "it was closed"
-            self._socket.close()
+        self._wire.broken = self._wire.broken or "it was closed"
 
     def __enter__(self) -> Session:
         return self

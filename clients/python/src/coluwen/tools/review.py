@@ -20,7 +20,7 @@ from ..analyst import Analyst, Result
 from ..board import NAMES, PASS, SQUARES, Board, Position
 from ..errors import ColuwenError, Late, TooDeep
 from ..formats import Game, transcript
-from ..score import GREATEST_EVALUATION, Score, loss_of
+from ..score import A_DISC, GREATEST_EVALUATION, Score
 from .command import LONG_OUTAGE, NO_VALUE, analyst_of, ending, parser, say
 
 NAME = "coluwen-review"
@@ -89,6 +89,20 @@ def summary(rows: list[Row]) -> Iterator[str]:
         theirs = [row for row in rows if row.before.side == side and row.value]
         points = sum(row.lost for row in theirs if row.value and row.best_value and max(abs(row.best_value.value), abs(row.value.value)) <= GREATEST_EVALUATION)
         yield f"{NAMES[side]}: {sum(row.lost == 0 for row in theirs)} of {len(theirs)} moves were best; {points} points lost by the others"
+
+
+def loss_of(best: Score, score: Score) -> str:
+    """What was lost by a move of this score where another has the best one, in words; nothing where they are the same."""
+    if best.value == score.value:
+        return ""
+    if not best.ends and not score.ends:
+        return str(best.value - score.value)
+    if best.ends and score.ends:
+        discs = (best.value - score.value) // A_DISC
+        return f"{discs} disc{'s' * (discs != 1)}"
+    if best.ends:
+        return "a sure win" if best.value > 0 else "a sure draw"
+    return "the game" if score.value < 0 else str(best.value - score.value)
 
 
 def game_of(file: str, number: int) -> Game:

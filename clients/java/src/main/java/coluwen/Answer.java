@@ -2,11 +2,7 @@ package coluwen;
 
 import coluwen.ColuwenException.Broken;
 import coluwen.ColuwenException.Refused;
-import java.util.ArrayList;
-import java.util.Arrays;
-import java.util.HashSet;
-import java.util.List;
-import java.util.Map;
+import java.util.*;
 import java.util.regex.Matcher;
 import java.util.regex.Pattern;
 import java.util.stream.Stream;

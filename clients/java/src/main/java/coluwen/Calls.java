@@ -1,9 +1,6 @@
 package coluwen;
 
-import java.util.concurrent.CancellationException;
-import java.util.concurrent.CompletableFuture;
-import java.util.concurrent.CompletionException;
-import java.util.concurrent.ExecutionException;
+import java.util.concurrent.*;
 
 /** What clients and engines do alike with depths, futures and threads. */
 final class Calls {

@@ -1,20 +1,7 @@
 package coluwen;
 
-import coluwen.ColuwenException.Broken;
-import coluwen.ColuwenException.Closed;
-import coluwen.ColuwenException.Late;
-import coluwen.ColuwenException.Refused;
-import coluwen.ColuwenException.Silent;
-import coluwen.ColuwenException.TooDeep;
-import coluwen.ColuwenException.Unreachable;
-import java.util.ArrayList;
-import java.util.Comparator;
-import java.util.HashMap;
-import java.util.LinkedHashSet;
-import java.util.LinkedList;
-import java.util.List;
-import java.util.Map;
-import java.util.Optional;
+import coluwen.ColuwenException.*;
+import java.util.*;
 import java.util.function.Supplier;
 
 /**

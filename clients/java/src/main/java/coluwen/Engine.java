@@ -1,32 +1,12 @@
 package coluwen;
 
-import coluwen.ColuwenException.Broken;
-import coluwen.ColuwenException.Closed;
-import coluwen.ColuwenException.Late;
-import coluwen.ColuwenException.Refused;
-import coluwen.ColuwenException.Unreachable;
-import java.io.BufferedReader;
-import java.io.File;
-import java.io.IOException;
-import java.io.InputStreamReader;
-import java.io.UncheckedIOException;
+import coluwen.ColuwenException.*;
+import java.io.*;
 import java.nio.charset.StandardCharsets;
-import java.nio.file.Files;
-import java.nio.file.Path;
-import java.nio.file.StandardCopyOption;
+import java.nio.file.*;
 import java.time.Duration;
-import java.util.ArrayDeque;
-import java.util.Deque;
-import java.util.HashSet;
-import java.util.List;
-import java.util.Optional;
-import java.util.Set;
-import java.util.concurrent.CompletableFuture;
-import java.util.concurrent.ExecutorService;
-import java.util.concurrent.Executors;
-import java.util.concurrent.Future;
-import java.util.concurrent.ScheduledThreadPoolExecutor;
-import java.util.concurrent.TimeUnit;
+import java.util.*;
+import java.util.concurrent.*;
 import java.util.regex.Pattern;
 import java.util.stream.Stream;
 
@@ -65,13 +45,9 @@ public final class Engine implements Analyst {
   }
 
   /** An engine with a process for each processor, of the program that {@code COLUWEN_OTHELLO} names, or that stands on PATH, or in this package. */
-  public static Engine start() {
-    return start(Runtime.getRuntime().availableProcessors());
-  }
+  public static Engine start() { return start(Runtime.getRuntime().availableProcessors()); }
 
-  public static Engine start(int workers) {
-    return start(null, workers, null);
-  }
+  public static Engine start(int workers) { return start(null, workers, null); }
 
   /** The same of a program that is named (or null), with the time that a question may take from when its search begins (null: no limit). */
   public static Engine start(String program, int workers, Duration timeout) {
@@ -262,14 +238,10 @@ public final class Engine implements Analyst {
   }
 
   @Override
-  public Duration timeout() {
-    return timeout;
-  }
+  public Duration timeout() { return timeout; }
 
   @Override
-  public int window() {
-    return 64 * workers;
-  }
+  public int window() { return 64 * workers; }
 
   @Override
   public CompletableFuture<Result> analyseAsync(Position position, int depth, Duration timeout) {
@@ -287,9 +259,7 @@ public final class Engine implements Analyst {
 
   /** Every depth can be had. */
   @Override
-  public Info info() {
-    return new Info(Core.DEEPEST, Core.DEEPEST, Core.DEEPEST, Optional.empty());
-  }
+  public Info info() { return new Info(Core.DEEPEST, Core.DEEPEST, Core.DEEPEST, Optional.empty()); }
 
   /** How long a question takes that needs no search. */
   @Override

@@ -1,12 +1,8 @@
 package coluwen;
 
-import coluwen.ColuwenException.Broken;
-import coluwen.ColuwenException.Closed;
-import coluwen.ColuwenException.Silent;
+import coluwen.ColuwenException.*;
 import java.io.IOException;
-import java.net.InetSocketAddress;
-import java.net.Socket;
-import java.net.SocketTimeoutException;
+import java.net.*;
 import java.nio.charset.StandardCharsets;
 import java.time.Duration;
 import java.util.List;

@@ -2,9 +2,7 @@ package coluwen;
 
 import coluwen.ColuwenException.Broken;
 import coluwen.ColuwenException.Refused;
-import java.util.ArrayDeque;
-import java.util.ArrayList;
-import java.util.List;
+import java.util.*;
 
 /** The lines of one session, and which answer is whose: without input and output. */
 final class Wire {
