@@ -54,31 +54,6 @@ lay() { # FOLDER CRATES LINE
     cp "$top/HANDLES" "$1/"
 }
 
-# Lays out the files of a text, each under a line '=== PATH', in a folder.
-unpack() { # TEXT FOLDER
-    mkdir -p "$2"
-    (cd "$2" && awk '
-        /^=== / {
-            file = substr($0, 5)
-            folder = file
-            if (sub(/\/[^\/]*$/, "", folder)) system("mkdir -p \"" folder "\"")
-            printf "" > file
-            next
-        }
-        { print > file }' "$1")
-}
-
-# Proves a program of a folder and all below it, as far as that isn't kept, and builds it. It is also run, without input or words:
-# whether that run is well doesn't count here.
-prove() { # FOLDER CRATE
-    (
-        cd "$1/crates/$2"
-        rt fmt > /dev/null
-        rm -f "out/$2"
-        rt run > "$1/run.log" 2>&1 < /dev/null || [ -x "out/$2" ]
-    ) || { tail -20 "$1/run.log"; exit 1; }
-}
-
 # Builds a crate of a folder as a static library, or says why not.
 library() { # FOLDER CRATE
     (

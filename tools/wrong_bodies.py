@@ -152,6 +152,8 @@ def by_prover(rt, crate, folder, edits):
 
 def by_test(folder, edit, where, word):
     """Whether the test fails with this body, or a row of the text, in a copy of the tree, without a proof."""
+    if word.startswith("drawn_"):
+        subprocess.run([TOP / "tools/rows/make.py"], stdout=subprocess.DEVNULL, check=True)
     with tempfile.TemporaryDirectory(prefix="wrong-bodies-") as room:
         shutil.copytree(TOP / "crates", f"{room}/crates", ignore=shutil.ignore_patterns("out"))
         for name in ("crates.txt", "HANDLES"):

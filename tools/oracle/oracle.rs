@@ -5,7 +5,6 @@
 //! depth, and a pass none.
 //!
 //!     oracle solve                   answers lines `depth position` from standard input
-//!     oracle tables                  answers such lines by each choice, in order, with its value: `d3=-3 c4=-3 ..`
 //!     oracle positions N SEED MOST   writes N lines with positions from random games, depth 0 to MOST, but none
 //!                                    below which plain recursion enters more than 200,000 positions
 //!     oracle ends N SEED MOST        the same, with positions that are at most 12 plies before the end of a random
@@ -126,22 +125,6 @@ fn solve(board: &Board, player: char, depth: u32) -> (i64, String) {
     best.unwrap()
 }
 
-/// Each choice with its value, in the order of the choices; none at depth 0 and in a finished game.
-fn table(board: &Board, player: char, depth: u32) -> Vec<(String, i64)> {
-    let moves = legal(board, player);
-    if depth == 0 || (moves.is_empty() && legal(board, other(player)).is_empty()) {
-        return Vec::new();
-    }
-    if moves.is_empty() {
-        return vec![("pass".to_string(), -solve(board, other(player), depth).0)];
-    }
-    let value = |(row, column): (i32, i32)| {
-        let name = format!("{}{}", (b'a' + column as u8) as char, row + 1);
-        (name, -solve(&played(board, player, row, column), other(player), depth - 1).0)
-    };
-    moves.into_iter().map(value).collect()
-}
-
 fn text(board: &Board, player: char) -> String {
     let cells: String = board.iter().flatten().collect();
     format!("{cells} {player}")
@@ -162,12 +145,6 @@ fn answer(line: &str) -> Option<String> {
     let (board, player, depth) = asked(line)?;
     let (value, name) = solve(&board, player, depth);
     Some(format!("{value} {name}"))
-}
-
-fn told(line: &str) -> Option<String> {
-    let (board, player, depth) = asked(line)?;
-    let entries: Vec<String> = table(&board, player, depth).into_iter().map(|(name, value)| format!("{name}={value}")).collect();
-    Some(entries.join(" "))
 }
 
 /// A linear congruential generator, so that a seed gives the same positions everywhere.
@@ -297,9 +274,8 @@ fn main() {
         }
         return;
     }
-    let reply_to = if words.get(1).is_some_and(|word| word == "tables") { told } else { answer };
     for line in io::stdin().lock().lines() {
-        let reply = reply_to(&line.expect("a line")).expect("a line `depth position`");
+        let reply = answer(&line.expect("a line")).expect("a line `depth position`");
         writeln!(out, "{reply}").unwrap();
     }
 }

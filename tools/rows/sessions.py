@@ -16,26 +16,28 @@ import othello
 from talks import Desk, Session, escaped
 
 ANSWERS = ["WELCOME", "RESERVED", "JOB", "PENDING", "DONE", "SPENT", "CANCELLED", "TABLE", "QUOTA", "LIVE", "BYE"]
-FAULTS = [10, 11, 13, 14, 17, 20, 21, 22, 23, 24, 25, 26, 27, 28, 29]
+FAULTS = [10, 11, 13, 14, 17, 19, 20, 21, 22, 23, 24, 25, 26, 27, 28, 29]
 
 
 class Scene:
     """Sessions at one desk, and their text."""
 
-    def __init__(self, seed, met, segments, nodes, pieces=None):
+    def __init__(self, seed, met, segments, nodes, pieces=None, refuses=None):
         self.random, self.met = random.Random(seed), met
         self.desk, self.sessions = Desk(segments, nodes), {}
-        self.lines = [f"= desk segments {segments} nodes {nodes} grain 0" + (f" pieces {pieces}" if pieces else "")]
+        self.lines = [f"= desk segments {segments} nodes {nodes} grain 0" + (f" pieces {pieces}" if pieces else "") + (f" refuses {refuses}" if refuses else "")]
         self.rows = 0
+
+    def tell(self, name, line, answer):
+        self.lines += [f"{name}> {line}".rstrip(" "), f"{name}< {answer}"]
+        words = answer.split(" ")
+        self.met[int(words[1]) if words[0] == "ERR" else words[0]] += 1
+        self.rows += 1
 
     def send(self, name, raw, ended=True):
         session = self.sessions.setdefault(name, Session(self.desk))
         answer = session.answer(raw, ended)
-        said = escaped(raw, ended)
-        self.lines += [f"{name}> {said}".rstrip(" "), f"{name}< {answer}"]
-        words = answer.split(" ")
-        self.met[int(words[1]) if words[0] == "ERR" else words[0]] += 1
-        self.rows += 1
+        self.tell(name, escaped(raw, ended), answer)
         return answer
 
     def end(self, name):
@@ -195,6 +197,67 @@ def many_raises(met):
     return scene
 
 
+def raises_in_turn(met):
+    """Twelve tenants that are there at once, each with a raise to more than 900 segments, in turn."""
+    scene = Scene("raises in turn", met, 16384, 16384)
+    for at in range(1, 13):
+        scene.send(f"t{at}", b"HELLO 4 8")
+    for at in range(1, 13):
+        scene.send(f"t{at}", f"RESERVE {900 + at} {900 + at}".encode())
+        scene.send(f"t{at}", b"QUOTA")
+    return scene
+
+
+def raises_beside_frames(met):
+    """A tenant with 256 frames, as many as its segments and nodes, reserves one of each more, 64 times."""
+    scene = Scene("raises beside frames", met, 320, 320)
+    scene.send("", b"HELLO 256 256")
+    for _ in range(256):
+        scene.send("", f"ASK 0 {othello.text(othello.OPENING, 'X')}".encode())
+    scene.send("", b"LIVE")
+    for more in range(1, 65):
+        scene.send("", f"RESERVE {256 + more} {256 + more}".encode())
+    scene.send("", b"QUOTA")
+    return scene
+
+
+def raises_to_the_most(met):
+    """Sixteen tenants reserve more, one after another, until each has as many segments as a tenant may have and there are no more. The
+    ninth leaves, and who comes then has what it had."""
+    scene = Scene("raises to the most", met, 65536, 4096)
+    for line in (b"HELLO 1 1", b"RESERVE 901 2", b"RESERVE 4096 2"):
+        for at in range(1, 17):
+            scene.send(f"t{at}", line)
+    for name, lines in ("late", [b"HELLO 1 1"]), ("t9", [b"QUOTA", b"BYE"]), ("late", [b"HELLO 8 2", b"RESERVE 4097 2", b"RESERVE 4096 200", b"QUOTA"]):
+        for line in lines:
+            scene.send(name, line)
+    return scene
+
+
+# a session's lines, of which the second name's is refused memory and tried again, and the growths that are its own
+WANTING = [
+    (range(1, 11), [("", "HELLO 4 16"), ("", "ASK"), ("", "WAIT 1"), ("", "QUOTA")], 0),
+    (range(11, 20), [("one", "HELLO 4 16"), ("one", "ASK"), ("two", "HELLO 60 48"), ("two", "QUOTA"), ("one", "WAIT 1")], 2),
+    (range(11, 19), [("", "HELLO 4 16"), ("", "ASK"), ("", "RESERVE 60 48"), ("", "WAIT 1"), ("", "QUOTA")], 2),
+]
+
+
+def wanting(met):
+    """Growths that are refused: each of the first HELLO, of another session's HELLO, and of RESERVE while a job runs. The answer is ERR 19,
+    nothing has changed, and the same line is taken the next time."""
+    ask = f"ASK 0 {othello.text(othello.OPENING, 'X')}"
+    for growths, lines, tried in WANTING:
+        for growth in growths:
+            scene = Scene("wanting", met, 64, 64, refuses=growth)
+            for at, (name, line) in enumerate(lines):
+                if at == tried:
+                    scene.tell(name, line, "ERR 19")
+                    if at:
+                        scene.send(lines[0][0], b"QUOTA")
+                scene.send(name, (ask if line == "ASK" else line).encode())
+            yield scene
+
+
 def every_reservation(met):
     """The opening to depth 2 with each reservation of 1 to 8 segments and 1 to 32 nodes: it is done, or spent."""
     scene = Scene("every reservation", met, 8, 32)
@@ -220,7 +283,8 @@ def main():
     texts = {
         "mutated": [one_session(f"{seed} one {at}", met) for at in range(400)],
         "alternate": [several_sessions(f"{seed} several {at}", met) for at in range(60)],
-        "many": [many_tenants(met), many_jobs(met), many_raises(met)],
+        "many": [many_tenants(met), many_jobs(met), many_raises(met), raises_in_turn(met), raises_beside_frames(met), raises_to_the_most(met)],
+        "wanting": list(wanting(met)),
         "reservations": [every_reservation(met)],
     }
     for name, scenes in texts.items():

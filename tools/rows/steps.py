@@ -65,6 +65,9 @@ class List:
         looks.append(scheduling.look_at_job(self.core, number, self.random.randrange(len(tenant.jobs) + 2) if tenant else 1))
         self.lines += [f"{asked} = {seen}" for asked, seen in looks]
 
+    def look_at_core(self):
+        self.lines += [f"{asked} = {seen}" for asked, seen in scheduling.looks_at_core(self.core)]
+
     def look_at_all(self):
         """Writes all that is read."""
         looks = scheduling.looks_at_core(self.core)
@@ -362,6 +365,51 @@ def turn(drawn, worker, at):
     return (("Advance", name) if answer[0] in ("Grew", "Spawned", "Answered") else None), kind == "Answer" and answer[0] == "Err"
 
 
+def crowd(met):
+    """64 tenants at once, one with a segment and the next with two: there is no place for a 65th, and some numbers can't be taken at
+    all; one of the 64 reserves more. Once all have left, 64 more come under numbers of their own."""
+    drawn, last = List("crowd", Fan(), 159, 159, met), scheduling.LAST_TENANT
+    for number in range(1, 65):
+        drawn.take("Admit", number, 1 + number % 2, 1 + number % 2)
+    for number in (65, 64, 0, last, last + 1):
+        drawn.take("Admit", number, 1, 1)
+    drawn.take("AdmitMore", 7, 65, 65)
+    for number in (*range(1, 65), 64):
+        drawn.take("Leave", number)
+    drawn.take("Admit", 64, 1, 1)
+    drawn.look_at_core()
+    for number in range(65, 129):
+        drawn.take("Admit", number, 1 + number % 2, 1 + number % 2)
+    drawn.take("Admit", 129, 1, 1)
+    return drawn
+
+
+def all_jobs(met):
+    """A tenant has 256 jobs: the next is refused, also after one has ended."""
+    drawn = List("all jobs", Fan(), 300, 300, met)
+    drawn.take("Admit", 1, 300, 300)
+    for _ in range(256):
+        drawn.take("Submit", 1, 4, 0, 0)
+    drawn.look_at_core()
+    drawn.take("Submit", 1, 4, 0, 0)
+    for job in (256, 256, 257):
+        drawn.take("Cancel", 1, job)
+    drawn.take("Submit", 1, 4, 0, 0)
+    drawn.look_at_core()
+    return drawn
+
+
+def greatest(met):
+    """The greatest core has room for 16 tenants that each reserve the most."""
+    drawn = List("greatest", Fan(), 65536, 4194304, met)
+    for number in range(1, 17):
+        drawn.take("Admit", number, 4096, 65536)
+    drawn.take("Admit", 17, 1, 1)
+    drawn.take("AdmitMore", 3, 4096, 65536)
+    drawn.look_at_core()
+    return drawn
+
+
 def follow(drawn):
     """Worker 1 does tenant 1's job."""
     while (newest := drawn.core.newest_ready(1)) is not None:
@@ -412,6 +460,7 @@ def main():
         if name == "reader":
             lists += [jobs(f"{seed} jobs", met), out_of_steps(f"{seed} out of steps", met)]
         total += write(folder, name, lists, text)
+    total += write(folder, "limits", [crowd(met), all_jobs(met), greatest(met)], text)
     missing = [(kind, number) for kind, numbers in REFUSALS.items() for number in numbers if not met[kind, number]]
     print(f"{total} steps; of each kind of step, how often it was refused by each number:")
     for kind, numbers in REFUSALS.items():

@@ -7,28 +7,12 @@ const PASS: u8 = 64;
 const NODES: u32 = 65_536;
 const CORNERS: u64 = 0x8100_0000_0000_0081;
 
-fn ray(own: u64, opp: u64, square: u32, column: i32, row: i32) -> u64 {
-    let (mut c, mut r, mut run) = (square as i32 % 8 + column, square as i32 / 8 + row, 0);
-    while (0..8).contains(&c) && (0..8).contains(&r) {
-        let disc = 1u64 << (8 * r + c);
-        if opp & disc == 0 {
-            return if own & disc != 0 { run } else { 0 };
-        }
-        run |= disc;
-        (c, r) = (c + column, r + row);
-    }
-    0
-}
-
 pub fn play(own: u64, opp: u64, choice: u8) -> (u64, u64) {
     if choice == PASS {
         return (opp, own);
     }
-    let square = u32::from(choice);
-    let flips = [(1, 0), (-1, 0), (0, 1), (0, -1), (1, 1), (-1, 1), (1, -1), (-1, -1)]
-        .iter()
-        .fold(0, |all, (column, row)| all | ray(own, opp, square, *column, *row));
-    (opp & !flips, own | flips | 1 << square)
+    let flips = vectors::flips(own, opp, u32::from(choice));
+    (opp & !flips, own | flips | 1 << choice)
 }
 
 /// The choices in order: legal corners, then the others by rising index; a pass; none where the game is over.
@@ -151,7 +135,6 @@ pub struct Core {
     pub grain: u8,
     pub tenants: Vec<Tenant>,
     pub closed: bool,
-    pub steps: u64,
 }
 
 impl Tenant {
@@ -202,14 +185,15 @@ impl Tenant {
     }
 }
 
-fn child_of(parent: &Frame, slot: usize, role: Role, number: usize, alpha: i32, beta: i32, home: u8) -> Frame {
+/// A frame that is to be opened: of a board, with a window.
+fn frame_of(parent: Option<usize>, home: u8, board: (u64, u64), depth: u8, (alpha, beta): (i32, i32), (role, number): (Role, usize)) -> Frame {
     Frame {
         serial: 0,
-        parent: Some(slot),
+        parent,
         children: Vec::new(),
         state: State::Ready(home),
-        board: play(parent.board.0, parent.board.1, parent.choices[number]),
-        depth: parent.depth - u8::from(parent.choices[number] != PASS),
+        board,
+        depth,
         alpha,
         beta,
         role,
@@ -222,25 +206,15 @@ fn child_of(parent: &Frame, slot: usize, role: Role, number: usize, alpha: i32, 
     }
 }
 
+fn child_of(parent: &Frame, slot: usize, role: Role, number: usize, window: (i32, i32), home: u8) -> Frame {
+    let choice = parent.choices[number];
+    let depth = parent.depth - u8::from(choice != PASS);
+    frame_of(Some(slot), home, play(parent.board.0, parent.board.1, choice), depth, window, (role, number))
+}
+
 impl Core {
     pub fn submit(&mut self, tenant: usize, board: (u64, u64), depth: u8) {
-        let frame = Frame {
-            serial: 0,
-            parent: None,
-            children: Vec::new(),
-            state: State::Ready(0),
-            board,
-            depth,
-            alpha: -INF,
-            beta: INF,
-            role: Role::Root,
-            number: 0,
-            phase: Phase::New,
-            best: -1_000_000,
-            choice: NONE,
-            choices: Vec::new(),
-            statuses: Vec::new(),
-        };
+        let frame = frame_of(None, 0, board, depth, (-INF, INF), (Role::Root, 0));
         self.tenants[tenant] = Tenant { nodes_left: NODES, steps_left: 16 * NODES, outcome: Some(Outcome::Pending), serials: self.tenants[tenant].serials, ..Tenant::default() };
         self.tenants[tenant].open(frame);
     }
@@ -258,7 +232,6 @@ impl Core {
 
     fn tick(&mut self, tenant: usize) {
         self.tenants[tenant].steps_left -= 1;
-        self.steps += 1;
     }
 
     pub fn take(&mut self, worker: u8, task: Task) -> Did {
@@ -306,7 +279,7 @@ impl Core {
                     return Did::Short;
                 }
                 frame.statuses[0] = Status::Runs;
-                let child = child_of(frame, name.slot, Role::First, 0, -frame.beta, -frame.alpha, worker);
+                let child = child_of(frame, name.slot, Role::First, 0, (-frame.beta, -frame.alpha), worker);
                 self.spawned(name.tenant, child)
             }
             Phase::Tests => {
@@ -322,7 +295,7 @@ impl Core {
                             return Did::Short;
                         }
                         frame.statuses[at] = Status::RunsAgain;
-                        let child = child_of(frame, name.slot, Role::Again, at, -frame.beta, -floor, worker);
+                        let child = child_of(frame, name.slot, Role::Again, at, (-frame.beta, -floor), worker);
                         self.spawned(name.tenant, child)
                     }
                     (_, Some(at)) => {
@@ -330,7 +303,7 @@ impl Core {
                             return Did::Short;
                         }
                         frame.statuses[at] = Status::Runs;
-                        let child = child_of(frame, name.slot, Role::Test, at, -(floor + 1), -floor, worker);
+                        let child = child_of(frame, name.slot, Role::Test, at, (-(floor + 1), -floor), worker);
                         self.spawned(name.tenant, child)
                     }
                     _ => self.waits(name),

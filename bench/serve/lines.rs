@@ -1,23 +1,20 @@
 //! Drives a server of lines from many connections at once, and is the bare echo server that it is measured beside.
 //!
-//!     soak echo                                       listens, says `listening 127.0.0.1:port`, and echoes lines
-//!     soak lines PORT CONNECTIONS COUNT               each connection sends COUNT lines, each after the answer to the
-//!                                                     one before: `QUOTA`, after a HELLO
-//!     soak jobs PORT CONNECTIONS COUNT FILE           each asks for COUNT positions and waits for each; FILE has lines
-//!                                                     `depth position = value move`, and every answer is compared
-//!     soak visits PORT CONNECTIONS COUNT              each has COUNT sessions, one after another, of a HELLO and a BYE
-//!     soak leaves PORT CONNECTIONS COUNT              each asks for COUNT positions to depth 0 and waits for each, 250 in
-//!                                                     a session
+//!     lines echo                           listens, says `listening 127.0.0.1:port`, and echoes lines
+//!     lines lines PORT CONNECTIONS COUNT   each connection sends COUNT lines, each after the answer to the one before:
+//!                                          `QUOTA`, after a HELLO
+//!     lines visits PORT CONNECTIONS COUNT  each has COUNT sessions, one after another, of a HELLO and a BYE
+//!     lines leaves PORT CONNECTIONS COUNT  each asks for COUNT positions to depth 0 and waits for each, 250 in a session
 //!
 //! All but the first print the round trips (lines and answers) a second, over all connections.
 use std::io::{BufRead, BufReader, Write};
 use std::net::{TcpListener, TcpStream};
-use std::sync::{Arc, Barrier};
+use std::sync::Barrier;
 use std::time::Instant;
-use std::{env, fs, process, thread};
+use std::{env, process, thread};
 
 fn fail(text: String) -> ! {
-    eprintln!("soak: {text}");
+    eprintln!("lines: {text}");
     process::exit(1)
 }
 
@@ -76,27 +73,15 @@ fn echo() {
     }
 }
 
-fn lines(talk: &mut Talk, connections: usize, count: usize) {
-    let hello = hello(connections);
-    talk.call(&format!("HELLO {hello}"));
+fn lines(port: u16, connections: usize, count: usize) -> u64 {
+    let mut talk = Talk::open(port);
+    talk.call(&format!("HELLO {}", hello(connections)));
     let first = talk.call("QUOTA").to_string();
     for _ in 0..count {
         talk.expect("QUOTA", &first);
     }
     talk.call("BYE");
-}
-
-fn jobs(talk: &mut Talk, number: usize, connections: usize, count: usize, rows: &[(String, String)]) {
-    let hello = hello(connections);
-    talk.expect(&format!("HELLO {hello}"), &format!("WELCOME {hello}"));
-    for i in 0..count {
-        let (asked, found) = &rows[(number * 7919 + i) % rows.len()];
-        let job = i + 1;
-        talk.expect(&format!("ASK {asked}"), &format!("JOB {job}"));
-        talk.expect(&format!("WAIT {job}"), &format!("DONE {job} {found}"));
-    }
-    talk.expect("LIVE", "LIVE 0 0");
-    talk.expect("BYE", "BYE");
+    talk.trips
 }
 
 const OPENING: &str = "---------------------------OX------XO--------------------------- X";
@@ -130,48 +115,32 @@ fn leaves(port: u16, connections: usize, count: usize) -> u64 {
     trips
 }
 
-fn drive(words: &[String]) {
-    let what = words[0].clone();
-    let port: u16 = words[1].parse().unwrap();
-    let connections: usize = words[2].parse().unwrap();
-    let count: usize = words[3].parse().unwrap();
-    let rows: Vec<(String, String)> = words.get(4).map_or(Vec::new(), |path| {
-        let text = fs::read_to_string(path).unwrap();
-        text.lines().map(|row| row.split_once(" = ").unwrap()).map(|(a, b)| (a.to_string(), b.to_string())).collect()
+fn drive(what: fn(u16, usize, usize) -> u64, words: &[String]) {
+    let port: u16 = words[0].parse().unwrap();
+    let connections: usize = words[1].parse().unwrap();
+    let count: usize = words[2].parse().unwrap();
+    let start = Barrier::new(connections + 1);
+    let (trips, begun) = thread::scope(|scope| {
+        let drive = || {
+            start.wait();
+            what(port, connections, count)
+        };
+        let threads: Vec<_> = (0..connections).map(|_| scope.spawn(drive)).collect();
+        start.wait();
+        let begun = Instant::now();
+        let trips: u64 = threads.into_iter().map(|each| each.join().unwrap_or_else(|_| fail("a thread failed".into()))).sum();
+        (trips, begun)
     });
-    let rows = Arc::new(rows);
-    let start = Arc::new(Barrier::new(connections + 1));
-    let threads: Vec<_> = (0..connections)
-        .map(|number| {
-            let (rows, start, what) = (rows.clone(), start.clone(), what.clone());
-            thread::spawn(move || {
-                if what == "visits" || what == "leaves" {
-                    start.wait();
-                    return if what == "visits" { visits(port, connections, count) } else { leaves(port, connections, count) };
-                }
-                let mut talk = Talk::open(port);
-                start.wait();
-                if rows.is_empty() {
-                    lines(&mut talk, connections, count);
-                } else {
-                    jobs(&mut talk, number, connections, count, &rows);
-                }
-                talk.trips
-            })
-        })
-        .collect();
-    start.wait();
-    let begun = Instant::now();
-    let trips: u64 = threads.into_iter().map(|t| t.join().unwrap_or_else(|_| fail("a thread failed".into()))).sum();
     println!("{:.0}", trips as f64 / begun.elapsed().as_secs_f64());
 }
 
 fn main() {
     let words: Vec<String> = env::args().skip(1).collect();
-    match words.first().map(String::as_str) {
-        Some("echo") => echo(),
-        Some("lines" | "visits" | "leaves") if words.len() == 4 => drive(&words),
-        Some("jobs") if words.len() == 5 => drive(&words),
-        _ => fail("see the head of soak.rs".into()),
+    match words.iter().map(String::as_str).collect::<Vec<_>>().as_slice() {
+        ["echo"] => echo(),
+        ["lines", _, _, _] => drive(lines, &words[1..]),
+        ["visits", _, _, _] => drive(visits, &words[1..]),
+        ["leaves", _, _, _] => drive(leaves, &words[1..]),
+        _ => fail("see the head of lines.rs".into()),
     }
 }
