@@ -27,9 +27,9 @@ fn see_all<A: Allocator>(hall: &Hall<A>, shares: &mut FairShare)
 fn see_one<A: Allocator>(hall: &Hall<A>, shares: &mut FairShare, place: usize)
     ensures { shares.new ≡ seen place (is_some (newest_ready_in hall.now.shared (tenant_at shares.old place).name)) shares.old }
 {
-    let tenant = shares.tenant_at(place);
-    if tenant != 0 {
-        let newest = hall.core().newest_ready(tenant);
+    let name = shares.tenant_at(place);
+    if name != 0 {
+        let newest = hall.core().newest_ready(name);
         shares.see(place, newest.is_some());
     }
 }
