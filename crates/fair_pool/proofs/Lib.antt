@@ -1,3 +1,4 @@
+pub mod NameLemmas
 mod WaitLemmas
 mod LeadLemmas
 pub mod PickLemmas

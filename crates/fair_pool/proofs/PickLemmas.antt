@@ -1,9 +1,11 @@
 -- What was seen of one place more.
-use Rattle.std.proofs.Common.{◌≡◌, ℕ, ◌+◌, suc, refl, add-one, ap, ◌∙◌}
+use Rattle.std.proofs.Common.{◌≡◌, ◌==◌, ℕ, ◌+◌, suc, Bool, true, false, ◌||◌, if◌then◌else◌, refl, add-one, ap, ◌∙◌}
 use Rattle.std.specs.Prelude.{is_some}
 use Rattle.sched_rules.specs.Cores.{CoreState}
 use Rattle.sched_rules.specs.Views.{newest_ready_in}
-use Rattle.fair_pool.specs.Shares.{SharesOf, tenant_at, seen}
+use Rattle.fair_pool.specs.Accounts.{is_active}
+use Rattle.fair_pool.specs.Lines.{has_rival, woken, rested_at}
+use Rattle.fair_pool.specs.Shares.{SharesOf, tenant_at, network_at, customer_at, rested_unless, seen}
 use Rattle.fair_pool.specs.Picks.{seen_up_to}
 
 pub seen_none : (core : CoreState) (shares : SharesOf) → seen_up_to core 0 shares ≡ shares
@@ -16,3 +18,19 @@ seen_next core place shares = refl
 
 pub seen_more : (core : CoreState) (place : ℕ) (shares : SharesOf) → seen_up_to core (place + 1) shares ≡ seen place (is_some (newest_ready_in core (tenant_at (seen_up_to core place shares) place).name)) (seen_up_to core place shares)
 seen_more core place shares = ap (λ (n : ℕ). seen_up_to core n shares) (add-one place) ∙ seen_next core place shares
+
+-- nothing is seen of a free place, whatever the hall has
+pub seen_nobody : (place : ℕ) (ready : Bool) (shares : SharesOf) → (tenant_at shares place).name ≡ 0 → seen place ready shares ≡ shares
+seen_nobody place true shares free = ap (λ (name : ℕ). if (name == 0) || is_active (tenant_at shares place) then shares else record shares {
+  customers = if has_rival (customer_at shares place) shares.networks.accounts then shares.customers else woken (customer_at shares place) shares.customers;
+  networks = if has_rival (network_at shares place) shares.tenants.accounts then shares.networks else woken (network_at shares place) shares.networks;
+  tenants = woken place shares.tenants;
+}) free
+seen_nobody place false shares free = ap (λ (name : ℕ).
+    let tenants = rested_at place shares.tenants in
+    let networks = rested_unless (network_at shares place) tenants.accounts shares.networks in
+    if name == 0 then shares else record shares {
+      customers = rested_unless (customer_at shares place) networks.accounts shares.customers;
+      networks = networks;
+      tenants = tenants;
+    }) free

@@ -1,5 +1,5 @@
 -- Meaning: a line of accounts, and who comes next in a group.
-use Rattle.std.specs.Prelude.{ℕ, ◌+◌, ◌≡◌, ◌==◌, ◌<◌, nat_lt, Bool, true, false, ◌&&◌, ◌||◌, List, [], ◌∷◌, Option, Some, None, unwrap_or, if◌then◌else◌, replicate, slice_index_or, slice_set}
+use Rattle.std.specs.Prelude.{ℕ, ◌+◌, ◌≡◌, ◌==◌, ◌<◌, nat_lt, Bool, true, false, ◌&&◌, ◌||◌, List, [], ◌∷◌, Option, Some, None, unwrap_or, if◌then◌else◌, map, replicate, slice_index_or, slice_set}
 use Rattle.fair_pool.specs.declared.account.Account.{Account}
 use Rattle.fair_pool.specs.Accounts.{nobody, is_active, is_rival, is_before, capped_sum, with_more, woken_from, rested}
 
@@ -94,6 +94,19 @@ named_from first name (account ∷ accounts) = if account.name == name then Some
 -- the first place whose account has this name
 abbrev pub place_named : ℕ → List Account → Option ℕ
 place_named name accounts = named_from 0 name accounts
+
+-- the names of the accounts, by their places
+abbrev pub account_names : List Account → List ℕ
+account_names accounts = map (λ account. account.name) accounts
+
+-- the first place, counted from this on, at which this name stands; None where there is none
+abbrev pub place_among_from : ℕ → ℕ → List ℕ → Option ℕ
+place_among_from first name [] = None
+place_among_from first name (other ∷ names) = if other == name then Some first else place_among_from (first + 1) name names
+
+-- the first place at which this name stands
+abbrev pub place_among : ℕ → List ℕ → Option ℕ
+place_among name names = place_among_from 0 name names
 
 -- the first of two, if it is there
 abbrev pub first_of : Option ℕ → Option ℕ → Option ℕ

@@ -2,7 +2,7 @@
 ghost use Rattle.std.specs.Prelude.{◌≡◌, ℕ, ◌+◌, ◌<◌, List, IfOk, IfNone, IfSome, false};
 ghost use Rattle.fair_pool.specs.declared.account.Account.{Account};
 ghost use Rattle.fair_pool.specs.Accounts.{is_rival};
-ghost use Rattle.fair_pool.specs.Lines.{empty_line, account_at, has_rival, IsNext, IsBestBelow, lesser, least_served, woken, rested_at, charged, put_at, place_of, place_named, joined_place, joined, has_member};
+ghost use Rattle.fair_pool.specs.Lines.{empty_line, account_at, has_rival, IsNext, IsBestBelow, lesser, least_served, woken, rested_at, charged, put_at, place_of, place_named, place_among, joined_place, joined, has_member};
 
 use crate::account::{Account, capped_sum};
 use std::alloc::{AllocError, Global};
@@ -15,18 +15,21 @@ pub(crate) const PLACES: usize = 64;
 #[derive(Drop)]
 pub(crate) struct Line {
     accounts: Vec<Account>,
+    /// The accounts' names, side by side. A charge writes to no name, so that the search for one finds all of them in the cache of any
+    /// processor, where the accounts are in that of the processor that charged last.
+    names: Vec<u64>,
     turn: u64,
 }
 
 impl Model for Line {
     ghost use Rattle.std.specs.Prelude.{◌≡◌, length};
-    ghost use Rattle.fair_pool.specs.Lines.{LineOf};
+    ghost use Rattle.fair_pool.specs.Lines.{LineOf, account_names};
 
     ghost Value = { LineOf };
 
     ghost view = { λ l. record { accounts = l.accounts.items; turn = l.turn } };
 
-    ghost invariant = { λ l. length l.accounts.items ≡ 64 };
+    ghost invariant = { λ l. (length l.accounts.items ≡ 64) × (l.names.items ≡ account_names l.accounts.items) };
 }
 
 impl Line {
@@ -35,10 +38,16 @@ impl Line {
         ensures { IfOk result (λ line. line ≡ empty_line) }
     {
         let mut accounts = Vec::with_capacity(alloc, PLACES)?;
+        let mut names = Vec::with_capacity(alloc, PLACES)?;
         for _place in 0..PLACES {
             accounts.push_reserved(Account::nobody());
+            names.push_reserved(0);
         }
-        Ok(Line { accounts, turn: 1 })
+        Ok(Line {
+            accounts,
+            names,
+            turn: 1,
+        })
     }
 
     /// The account at a place.
@@ -49,6 +58,18 @@ impl Line {
             self.accounts[place]
         } else {
             Account::nobody()
+        }
+    }
+
+    /// The name of the account at a place; 0 where the place is free.
+    #[tactic(auto, using(crate::proofs::NameLemmas::name_alike))]
+    pub(crate) fn name_at(&self, place: usize) -> u64
+        ensures { result ≡ (account_at self.now.accounts place).name }
+    {
+        if place < self.names.len() {
+            self.names[place]
+        } else {
+            0
         }
     }
 
@@ -82,10 +103,11 @@ impl Line {
     }
 
     /// The first place whose account has this name in any group.
+    #[tactic(auto, using(crate::proofs::NameLemmas::place_alike))]
     pub(crate) fn place_named(&self, name: u64) -> Option<usize>
         ensures { result ≡ place_named name self.now.accounts }
     {
-        place_named(&self.accounts, name)
+        place_among(&self.names, name)
     }
 
     /// The place of who has this name in this group: the one that it has, else a free one, at which it begins with so much served;
@@ -141,6 +163,9 @@ impl Line {
     {
         if place < self.accounts.len() {
             self.accounts[place] = account;
+            if self.names[place] != account.name {
+                self.names[place] = account.name;
+            }
         }
     }
 }
@@ -243,12 +268,12 @@ fn place_of(accounts: &[Account], group: usize, name: u64) -> Option<usize>
     None
 }
 
-/// The first place whose account has this name.
-fn place_named(accounts: &[Account], name: u64) -> Option<usize>
-    ensures { result ≡ place_named name accounts.now }
+/// The first place at which this name stands.
+fn place_among(names: &[u64], name: u64) -> Option<usize>
+    ensures { result ≡ place_among name names.now }
 {
-    for (place, account) in accounts.iter().enumerate() {
-        if account.name == name {
+    for (place, other) in names.iter().enumerate() {
+        if *other == name {
             return Some(place);
         }
     }

@@ -1,5 +1,7 @@
 //! Which frame of a hall comes next, by who was served least.
-ghost use Rattle.std.specs.Prelude.{◌≡◌, IfSome, IfNone};
+ghost use Rattle.std.specs.Prelude.{◌≡◌, IfSome, IfNone, is_some};
+ghost use Rattle.sched_rules.specs.Views.{newest_ready_in};
+ghost use Rattle.fair_pool.specs.Shares.{seen, tenant_at};
 ghost use Rattle.fair_pool.specs.Picks.{charged_to, seen_all, IsFairTask, IsNoTask};
 
 use crate::shares::FairShare;
@@ -16,7 +18,18 @@ fn see_all<A: Allocator>(hall: &Hall<A>, shares: &mut FairShare)
     ensures { shares.new ≡ seen_all hall.now.shared shares.old }
 {
     for place in 0..PLACES {
-        let newest = hall.core().newest_ready(shares.tenant_at(place));
+        see_one(hall, shares, place);
+    }
+}
+
+/// Sees whether the tenant at a place has a ready frame. Nobody is looked for where the place is free.
+#[tactic(auto, using(crate::proofs::PickLemmas::seen_nobody))]
+fn see_one<A: Allocator>(hall: &Hall<A>, shares: &mut FairShare, place: usize)
+    ensures { shares.new ≡ seen place (is_some (newest_ready_in hall.now.shared (tenant_at shares.old place).name)) shares.old }
+{
+    let name = shares.tenant_at(place);
+    if name != 0 {
+        let newest = hall.core().newest_ready(name);
         shares.see(place, newest.is_some());
     }
 }

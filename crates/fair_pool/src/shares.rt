@@ -150,7 +150,7 @@ impl FairShare {
     pub fn tenant_at(&self, place: usize) -> u64
         ensures { result ≡ (tenant_at self.now place).name }
     {
-        self.tenants.at(place).name
+        self.tenants.name_at(place)
     }
 
     fn wake(&mut self, place: usize)

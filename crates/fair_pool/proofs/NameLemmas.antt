@@ -1,0 +1,28 @@
+-- The names of a line's accounts, by which somebody is found there.
+use Rattle.std.proofs.Common.{◌≡◌, ℕ, ◌+◌, ◌==◌, refl, List, [], ◌∷◌, Some, if◌then◌else◌, ap, sym, ◌∙◌}
+use Rattle.std.specs.Prelude.{slice_index_or, slice_set}
+use Rattle.std.proofs.lemmas.List.{map-set}
+use Rattle.std.proofs.Math.Seq.{map-set_same}
+use Rattle.std.proofs.Math.ListN.{get_or-map}
+use Rattle.fair_pool.specs.declared.account.Account.{Account}
+use Rattle.fair_pool.specs.Accounts.{nobody}
+use Rattle.fair_pool.specs.Lines.{account_at, account_names, named_from, place_named, place_among_from, place_among}
+
+-- who stands first among the names stands first among the accounts
+named_alike : (first name : ℕ) (accounts : List Account) → place_among_from first name (account_names accounts) ≡ named_from first name accounts
+named_alike first name [] = refl
+named_alike first name (account ∷ accounts) = ap (λ later. if account.name == name then Some first else later) (named_alike (first + 1) name accounts)
+
+pub place_alike : (name : ℕ) (accounts : List Account) → place_among name (account_names accounts) ≡ place_named name accounts
+place_alike name accounts = named_alike 0 name accounts
+
+-- the name at a place is its account's
+pub name_alike : (accounts : List Account) (place : ℕ) → slice_index_or (account_names accounts) place 0 ≡ (account_at accounts place).name
+name_alike accounts place = get_or-map (λ (a : Account). a.name) accounts place nobody
+
+-- a name is written where an account comes, or is there already
+pub names_put : (accounts : List Account) (names : List ℕ) (place : ℕ) (account : Account) → names ≡ account_names accounts → slice_set names place account.name ≡ account_names (slice_set accounts place account)
+names_put accounts names place account alike = ap (λ (n : List ℕ). slice_set n place account.name) alike ∙ sym (map-set (λ (a : Account). a.name) accounts place account)
+
+pub names_stay : (accounts : List Account) (names : List ℕ) (place : ℕ) (account : Account) → names ≡ account_names accounts → account.name ≡ slice_index_or names place account.name → names ≡ account_names (slice_set accounts place account)
+names_stay accounts names place account alike is = alike ∙ sym (map-set_same (λ (a : Account). a.name) accounts place account account (is ∙ ap (λ (n : List ℕ). slice_index_or n place account.name) alike ∙ get_or-map (λ (a : Account). a.name) accounts place account))

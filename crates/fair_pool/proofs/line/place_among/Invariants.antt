@@ -1,0 +1,6 @@
+use Rattle.std.proofs.Common.{◌≡◌, drop}
+use Rattle.fair_pool.specs.Lines.{place_among_from}
+use Rattle.fair_pool.proofs.line.place_among.Given as goal
+
+abbrev pub invariant-loop-place : goal.invariant-loop-place
+invariant-loop-place l = place_among_from l.place l.name (drop l.place l.names) ≡ place_among_from 0 l.name l.names
