@@ -23,7 +23,7 @@
 //! - A tenant's activity is seen at picks alone, and not at each step: a step would pay for what a pick uses.
 //!
 //! ```text
-//! impl HeldHall for Locked<'_> {
+//! impl HeldHall for SiteGuard<'_> {
 //!     fn pick(&mut self) -> Option<Task> { fair_task(&self.hall, &mut self.shares) }
 //!     ..
 //! }
