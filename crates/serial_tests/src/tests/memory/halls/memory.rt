@@ -116,10 +116,17 @@ const SEGMENTS: [u32; 8] = [1, 500, 501, 4_095, 5_001, 32_769, 65_535, 65_536];
 /// Nodes of a hall, from the least to the most.
 const NODES: [u32; 8] = [1, 501, 4_095, 32_769, 65_535, 70_002, 1_000_000, 4_194_304];
 
-/// A tenant is admitted that reserves as much of a new hall as a tenant may, and no segment is taken.
+/// A tenant is admitted that reserves as much of a new hall as a tenant may, and no segment is taken. Another comes after it with
+/// the least there is, and reserves as much, where that is more.
 fn is_used<A: Allocator + Clone>(rt: &impl Abort, hall: &mut Hall<A>, segments: u32, nodes: u32) {
-    admit(rt, hall, 1, most_of(rt, segments, nodes));
+    let (least, most) = (reserve_of(rt, 1, 1), most_of(rt, segments, nodes));
+    admit(rt, hall, 1, most);
     holds(rt, free_segments(hall.core()) == segments as usize);
+    does(rt, hall, &StepOf::Leave(1), DidOf::Left);
+    admit(rt, hall, 2, least);
+    if most != least {
+        does(rt, hall, &StepOf::AdmitMore(2, most), DidOf::AdmittedMore);
+    }
 }
 
 /// Whether a hall is made; it admits a tenant that reserves as much of it as a tenant may.
