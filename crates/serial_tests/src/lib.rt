@@ -20,7 +20,6 @@
 //! reserve(&rt, &mut book, 1, 5, 8, Ok(()));
 //! reserve(&rt, &mut book, 2, 3, 8, Ok(()));
 //! reserve(&rt, &mut book, 3, 1, 1, Err(Refusal::Full));
-//! is_served(rt, office, b"HELLO 4 64\nQUOTA\nBYE\n", b"WELCOME 4 64\nQUOTA 4 64 1024\nBYE\n")
 //! ```
 #![tactic(auto)]
 
