@@ -5,6 +5,7 @@ use frame_tree::FrameId;
 use jamboree::{Jamboree, Leaf, LeafAnswer};
 use jamboree_core::{run_searches, submit};
 use jamboree_rules::leaf_search::INF;
+use promises::{After, run, run_two};
 use sched_core::Core;
 use sched_rules::{Config, Did, Job, Refusal, Step, StepOf, Worker};
 use std::alloc::{AllocError, Global};
@@ -94,4 +95,41 @@ fn a_list_of_steps(rt: HostRuntime) {
     let mut core = Core::new(rt.alloc(), totals(), grain_2()).expect(&rt, "there is memory");
     holds(&rt, is_list_run(rt.alloc(), &mut core));
     holds(&rt, is_done_with(core.job(7, 1), 1_000_000, 65));
+}
+
+/// What the law of one list comes to. It says nothing of what `run` promises, so that a call is cheap to prove.
+fn ran(alloc: Global, steps: &[Step<Jamboree>]) -> Option<After<Jamboree, Global>>
+    requires { AreSearches steps.now }
+{
+    run(alloc, grain_2(), totals(), steps).ok()
+}
+
+/// What the law of two lists comes to, with this list as both.
+fn ran_twice(
+    alloc: Global,
+    steps: &[Step<Jamboree>],
+) -> Option<(After<Jamboree, Global>, After<Jamboree, Global>)>
+    requires { AreSearches steps.now }
+{
+    run_two(alloc, grain_2(), totals(), steps, totals(), steps).ok()
+}
+
+/// Whether the seven steps were taken, and the job is done.
+fn is_run(after: &After<Jamboree, Global>) -> bool {
+    taken(&after.answers) == 7 && is_done_with(after.core.job(7, 1), 1_000_000, 65)
+}
+
+/// Whether both laws run the seven steps.
+fn are_run(alloc: Global) -> bool {
+    let steps = seven_steps();
+    match (ran(alloc, steps.as_slice()), ran_twice(alloc, steps.as_slice())) {
+        (Some(after), Some((one, other))) => is_run(&after) && is_run(&one) && is_run(&other),
+        _ => false,
+    }
+}
+
+/// The laws of lists run their lists: where they always said that memory is wanting, they would promise nothing.
+#[test]
+fn laws_of_lists_are_run(rt: HostRuntime) {
+    holds(&rt, are_run(rt.alloc()));
 }

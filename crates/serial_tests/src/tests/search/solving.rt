@@ -4,10 +4,11 @@ ghost use Rattle.std.specs.Prelude.{◌≤◌};
 use super::{given, heap_of, holds};
 use line_io::{FromReader, FromWriter, LineFault, ReadFailed, Sink, Source};
 use linked_list_allocator::LocalHeap;
-use solve_engine::{solve, solve_bytes};
+use promises::solve;
+use solve_engine::solve_bytes;
 use std::alloc::{Allocator, Global};
 
-/// Solves lines, at this grain.
+/// Solves lines, at this grain, by the law that calls `solve` of `solve_engine` alone.
 fn solves<A: Allocator + Copy, S: Source, K: Sink>(
     alloc: A,
     source: &mut S,
