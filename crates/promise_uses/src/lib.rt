@@ -6,8 +6,7 @@
 //! Nothing else stands on `promises`, so nothing else would notice where one of its laws came to say less. Each
 //! function here calls one law and says in lower terms, without the words of `promises`, what it gives of such a
 //! case: a law that is narrowed to some tenant, job, grain or list, or a definition of it that lost a part, no longer
-//! suffices. The tests of `serial_tests` call each law on real lists, halls and streams, so that no premise is one that
-//! nobody meets.
+//! suffices.
 #![tactic(auto)]
 
 mod customers;

@@ -1,14 +1,11 @@
-//! Tests of all that runs in one thread: storage, cores and halls, lines, boards, searches and sessions, and the laws of
-//! `promise_uses` on real lists.
+//! Tests of all that runs in one thread: storage, cores and halls, lines, boards, searches and sessions.
 //!
 //! What each call does is proved in its crate. No contract can say that a call succeeds where there is room, that no
 //! other call asks the allocator, or that a refused growth gives all back; nor can one tell the known numbers of leaf
 //! positions from the opening, what comes of readers and writers that fail, or that an answer which comes too late is
 //! noticed. `memory` has heaps of one unit more each time, which refuse each growth in turn; all is looked at afterwards,
 //! and once room is given back the same call succeeds. `search` runs searches whose core has little memory, and whole
-//! sessions over memory, with an office of prepared replies and with a desk that has little memory. `uses` calls each law
-//! of `promise_uses`, so that no premise is one that nobody meets. The examples at the heads of the crates stand here
-//! too.
+//! sessions over memory, with an office of prepared replies. The examples at the heads of the crates stand here too.
 //!
 //! The tests stand in a crate of their own, so that the crates below are not proved once more with them, and in one
 //! crate, since the prover reads the libraries below it before the first of them; what needs no such allocator, reader or
@@ -23,7 +20,6 @@
 //! reserve(&rt, &mut book, 1, 5, 8, Ok(()));
 //! reserve(&rt, &mut book, 2, 3, 8, Ok(()));
 //! reserve(&rt, &mut book, 3, 1, 1, Err(Refusal::Full));
-//! is_served(rt, office, b"HELLO 4 64\nQUOTA\nBYE\n", b"WELCOME 4 64\nQUOTA 4 64 1024\nBYE\n")
 //! ```
 #![tactic(auto)]
 

@@ -2,7 +2,6 @@ ghost use Rattle.std.specs.Prelude.{◌≡◌, true};
 
 mod memory;
 mod search;
-mod uses;
 
 use std::process::Abort;
 

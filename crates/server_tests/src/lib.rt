@@ -2,8 +2,8 @@
 //!
 //! What a session answers is proved in `desk_office`, which errors of a listener pass in `tcp_door`, and which status the program ends
 //! with in `commands`. No contract can say that a connection is taken, that its session has a thread, or that a server
-//! ends. Here are one connection and sixty-four, whole lines and single bytes, connections that are lost, descriptors and threads
-//! that can't be had, and a pool that can't begin. The tests stand in a crate of their own, so that the crates below are not proved
+//! ends. Here are two connections and sixty-four, connections that are lost, descriptors and threads that can't be had, and a pool
+//! that can't begin. The tests stand in a crate of their own, so that the crates below are not proved
 //! once more with them, and beside `thread_tests`, so that both are proved at once.
 //!
 //! Of a site's session, what a line asks for and what comes of it is proved in `site_office`, and what lies under the lock in `site_desk`.
@@ -11,11 +11,10 @@
 //! is told. Whole sessions are played over a desk without workers, in a house whose clock goes on by a step at each look.
 //!
 //! ```text
-//! // a server of one session and two workers, and a client that is told what it should be told
-//! is_visited(rt, 1, Visit::Answered)
+//! // a server of two sessions and two workers, and clients that are told what they should be told
+//! is_visited(rt, 2, Visit::Both)
 //! ```
 #![tactic(auto)]
 
-pub mod rows;
 #[cfg(test)]
 mod tests;

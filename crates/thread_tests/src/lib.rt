@@ -15,6 +15,5 @@
 //! ```
 #![tactic(auto)]
 
-pub mod rows;
 #[cfg(test)]
 mod tests;

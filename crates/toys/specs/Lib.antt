@@ -3,4 +3,3 @@ pub mod ToyLaws
 pub mod FanRows
 pub mod ChainRows
 pub mod SmallStates
-pub mod LawRows

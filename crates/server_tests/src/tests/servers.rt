@@ -2,18 +2,14 @@
 //! the server does.
 ghost use Rattle.std.specs.Prelude.{◌≡◌};
 
-mod all_jobs;
 mod doors;
 mod failing;
 mod looked_at;
 mod programs;
-mod reserving;
 mod tables;
 
 use super::holds;
-use all_jobs::are_all_told;
-use doors::{Attended, Guest, Together};
-use reserving::{MORE, is_held};
+use doors::{Attended, Guest};
 use sched_rules::{Config, Worker};
 use std::alloc::Global;
 use std::io::{Read, Write};
@@ -60,51 +56,6 @@ const SPENT: [Row; 6] = [
     ("BYE\n", "BYE\n"),
 ];
 
-/// Lines that are no command as they stand, up to BYE with CR.
-const FOREIGN: [(&[u8], &str); 20] = [
-    (b"WAIT x\n", "ERR 28\n"),
-    (b"HELLO 4097 1\n", "ERR 23\n"),
-    (b"HELLO 4 8\n", "WELCOME 4 8\n"),
-    (b"\n", "ERR 21\n"),
-    (b"get 1\n", "ERR 21\n"),
-    (b"GET\n", "ERR 21\n"),
-    (b"GET 1 \n", "ERR 21\n"),
-    (
-        b"AAAAAAAAAAAAAAAAAAAAAAAAAAAAAAAAAAAAAAAAAAAAAAAAAAAAAAAAAAAAAAAAAAAAAAAAAAAAAAAAAAAAAAAAAAAAAAAAAAAAAAAAAAAAAAAAAAAAAAAAAAAAAAAA\r\n",
-        "ERR 21\n",
-    ),
-    (
-        b"AAAAAAAAAAAAAAAAAAAAAAAAAAAAAAAAAAAAAAAAAAAAAAAAAAAAAAAAAAAAAAAAAAAAAAAAAAAAAAAAAAAAAAAAAAAAAAAAAAAAAAAAAAAAAAAAAAAAAAAAAAAAAAAAA\n",
-        "ERR 22\n",
-    ),
-    (b"GET 123456789\n", "ERR 23\n"),
-    (b"WAIT x\n", "ERR 23\n"),
-    (b"GET 0\n", "ERR 17\n"),
-    (
-        b"ASK 0  ---------------------------OX------XO--------------------------- X\n",
-        "ERR 24\n",
-    ),
-    (
-        b"ASK 0 ---\xff-----------------------OX------XO--------------------------- X\n",
-        "ERR 25\n",
-    ),
-    (
-        b"ASK 0 ---------------------------OX------XO--------------------------- Q\n",
-        "ERR 26\n",
-    ),
-    (
-        b"ASK 13 ---------------------------OX------XO--------------------------- X\n",
-        "ERR 27\n",
-    ),
-    (b"HELLO 1 1\n", "ERR 29\n"),
-    (
-        b"ASK 0 ---------------------------OX------XO--------------------------- X\n",
-        "JOB 1\n",
-    ),
-    (b"WAIT 1\n", "DONE 1 0 -\n"),
-    (b"BYE\r\n", "BYE\n"),
-];
-
 /// Lines that reserve all there is, and wait for a job that takes a while.
 const LONG_WAIT: &str =
     "HELLO 4096 65536\nASK 7 ---------------------------OX------XO--------------------------- X\nWAIT 1\n";
@@ -139,26 +90,12 @@ const TURNS: u32 = 1_000_000;
 /// What the clients of a server do.
 #[derive(Clone, Copy)]
 enum Visit {
-    /// One job is answered, each line sent after the answer to the one before.
-    Answered,
-    /// One job is spent.
-    Spent,
-    /// The two at once, line by line.
+    /// A job is answered and another is spent at once, line by line.
     Both,
-    /// The lines of one job, a byte at a time.
-    Bytes,
     /// A connection is lost while its session waits; another one then gets what it had reserved.
     Lost,
     /// Each connection has two jobs of its own.
     Many,
-    /// Most lines are foreign.
-    Foreign,
-    /// A tenant reserves more.
-    More,
-    /// One asks as many jobs as a tenant can ask.
-    All,
-    /// A tenant asks this while its job's first computation is held; and how the job ends.
-    Held(&'static [Row], &'static str),
 }
 
 /// Sends bytes, and tells whether they were sent.
@@ -208,36 +145,6 @@ fn are_both_answered(one: &TcpStream, two: &TcpStream) -> bool {
         }
     }
     is_answered(two, LAST)
-}
-
-/// Sends a line a byte at a time, and tells whether this is its answer.
-fn is_answered_by_bytes(stream: &TcpStream, row: Row) -> bool {
-    for byte in row.0.as_bytes() {
-        if !is_sent(stream, &[*byte]) {
-            return false;
-        }
-    }
-    is_told(stream, row.1)
-}
-
-/// Whether lines that come a byte at a time are answered as whole ones.
-fn are_bytes_answered(stream: &TcpStream) -> bool {
-    for row in &ANSWERED {
-        if !is_answered_by_bytes(stream, *row) {
-            return false;
-        }
-    }
-    true
-}
-
-/// Whether each foreign line gets its fault, and the session goes on.
-fn are_faults_told(stream: &TcpStream) -> bool {
-    for (line, answer) in &FOREIGN {
-        if !is_sent(stream, line) || !is_told(stream, answer) {
-            return false;
-        }
-    }
-    is_closed(stream)
 }
 
 /// The next byte that the server says.
@@ -303,18 +210,11 @@ fn is_given_back(lost: TcpStream, kept: &TcpStream) -> bool {
     told && is_welcome(kept)
 }
 
-/// Whether the clients at these connections are told what they should be told, beside workers that go through this gate.
-fn are_served(alloc: Global, visit: Visit, mut streams: Vec<TcpStream>, gate: &Together) -> bool {
+/// Whether the clients at these connections are told what they should be told.
+fn are_served(visit: Visit, mut streams: Vec<TcpStream>) -> bool {
     match (visit, streams.as_slice()) {
-        (Visit::Answered, [stream]) => are_answered(stream, &ANSWERED),
-        (Visit::Spent, [stream]) => are_answered(stream, &SPENT),
         (Visit::Both, [one, two]) => are_both_answered(one, two),
-        (Visit::Bytes, [stream]) => are_bytes_answered(stream),
-        (Visit::Foreign, [stream]) => are_faults_told(stream),
-        (Visit::More, [stream]) => are_told(stream, &MORE),
-        (Visit::All, [stream]) => are_all_told(alloc, stream),
         (Visit::Many, many) => are_told_of_their_own(many),
-        (Visit::Held(more, end), [stream]) => is_held(stream, gate, more, end),
         _ => match (streams.pop(), streams.pop()) {
             (Some(lost), Some(kept)) => is_given_back(lost, &kept),
             _ => false,
@@ -520,28 +420,8 @@ fn fault_of<
 }
 
 #[test]
-fn a_job_is_answered(rt: HostRuntime) {
-    holds(&rt, is_visited(&rt, 1, Visit::Answered));
-}
-
-#[test]
-fn a_job_is_spent(rt: HostRuntime) {
-    holds(&rt, is_visited(&rt, 1, Visit::Spent));
-}
-
-#[test]
 fn two_at_once_are_served_as_each_alone(rt: HostRuntime) {
     holds(&rt, is_visited(&rt, 2, Visit::Both));
-}
-
-#[test]
-fn a_byte_at_a_time_is_enough(rt: HostRuntime) {
-    holds(&rt, is_visited(&rt, 1, Visit::Bytes));
-}
-
-#[test]
-fn foreign_lines_get_their_faults(rt: HostRuntime) {
-    holds(&rt, is_visited(&rt, 1, Visit::Foreign));
 }
 
 #[test]

@@ -90,20 +90,6 @@ pub(crate) fn admit<L: DeskLedger, R: Wait>(
     }
 }
 
-/// A seat reserves so much: what it is answered.
-pub(crate) fn reserve<L: DeskLedger, R: Wait>(
-    rt: &R,
-    desk: &Desk<L>,
-    seat: &mut Seat<L>,
-    segments: u32,
-    nodes: u32,
-) -> Result<(), Refusal> {
-    match Reserve::new(segments, nodes) {
-        Some(reserve) => desk.reserve(rt, seat, reserve),
-        None => Err(Refusal::NoJob),
-    }
-}
-
 /// A seat asks for a position to this depth, at most 12: what it is answered.
 pub(crate) fn ask<L: DeskLedger, R: Wait>(
     rt: &R,

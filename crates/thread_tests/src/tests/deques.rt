@@ -90,14 +90,6 @@ fn dealt(rt: &impl Abort, alloc: Global, last: Worker, room: usize) -> Vec<Deque
     deal(alloc, last, room).expect(rt, "there is memory")
 }
 
-/// Worker 3 has no task of its own, and steals worker 1's.
-#[test]
-fn a_task_is_stolen(rt: HostRuntime) {
-    let mut all = dealt(&rt, rt.alloc(), worker(3), 8);
-    holds(&rt, pushes(&mut all, worker(1), 1));
-    holds(&rt, takes(&mut all, worker(3)) == 1);
-}
-
 /// A worker tries the deques in the order of their numbers after its own, and then from the first on:
 /// worker 2 steals worker 3's task before worker 1's.
 #[test]
@@ -155,72 +147,6 @@ fn own_newest_else_the_next_workers_oldest(rt: HostRuntime) {
     let mut all = dealt(&rt, rt.alloc(), three, 3);
     holds(&rt, are_kept(&mut all) && are_taken(&mut all));
     holds(&rt, sums(rt.alloc(), three, all) == Ok(sums_of(5, 5, 0)));
-}
-
-/// Of five tasks one is stolen and one popped: three are left.
-#[test]
-fn what_is_left_is_counted(rt: HostRuntime) {
-    let (one, two) = (worker(1), worker(2));
-    let mut all = dealt(&rt, rt.alloc(), two, 8);
-    holds(&rt, pushes_three(&mut all, one) && pushes(&mut all, one, 4));
-    holds(&rt, pushes(&mut all, one, 5));
-    holds(&rt, takes(&mut all, two) == 1 && takes(&mut all, one) == 5);
-    holds(&rt, sums(rt.alloc(), two, all) == Ok(sums_of(5, 2, 3)));
-}
-
-/// A worker takes its own newest task of a list, else the oldest.
-fn takes_of(list: &mut Vec<Task>, worker: Worker) -> u64 {
-    let own = list
-        .iter()
-        .rposition(|task| task.home == worker.number())
-        .unwrap_or(0);
-    if own >= list.len() {
-        return 0;
-    }
-    list.remove(own).frame.serial
-}
-
-/// Whether a worker pushes a task with this number, or takes one, as from one list.
-fn is_as_a_list(
-    list: &mut Vec<Task>,
-    all: &mut Vec<DequeEnds<Global>>,
-    worker: Worker,
-    serial: u64,
-    is_push: bool,
-) -> bool {
-    if is_push && list.len() < 16 {
-        list.push(task(serial, worker.number())).is_ok() && pushes(all, worker, serial)
-    } else {
-        takes_of(list, worker) == takes(all, worker)
-    }
-}
-
-/// Whether up to two workers take from their deques what they take from one list of tasks, as long as
-/// one thread plays for both: each turn pushes a task or takes one, by turns that repeat after long.
-fn are_as_a_list(rt: &impl Abort, alloc: Global, last: Worker) -> bool {
-    let mut list = Vec::new(alloc);
-    let mut all = dealt(rt, alloc, last, 16);
-    let mut draw = 1u64;
-    for turn in 1..2_000u64 {
-        draw = draw.wrapping_mul(75) % 65_537;
-        let number = (draw / 2) % u64::from(last.number());
-        let worker = Worker::new(number as u8 + 1).expect(rt, "a worker");
-        if !is_as_a_list(&mut list, &mut all, worker, turn, draw % 5 < 2) {
-            return false;
-        }
-    }
-    true
-}
-
-/// With one or two workers in one thread the deques answer as one list of tasks does.
-#[test]
-fn as_one_list(rt: HostRuntime) {
-    holds_that(&rt, are_as_a_list(&rt, rt.alloc(), worker(1)), "one worker");
-    holds_that(
-        &rt,
-        are_as_a_list(&rt, rt.alloc(), worker(2)),
-        "two workers",
-    );
 }
 
 /// How many of so many pushes by a worker are kept.

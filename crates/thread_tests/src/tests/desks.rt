@@ -3,14 +3,11 @@ ghost use Rattle.std.specs.Prelude.{◌≡◌};
 
 mod endings;
 mod holds;
-mod many;
-mod reserving;
 mod waiting;
 mod wakes;
 
 use super::calls::{
-    self, Found, Turn, admit, all_white, ask, cancel, corner, end, get, hall_of, live, offer,
-    opening, quota, wait,
+    self, Found, Turn, admit, ask, cancel, end, get, hall_of, live, offer, opening, quota, wait,
 };
 use super::{holds, holds_of};
 use desk::{
@@ -18,8 +15,6 @@ use desk::{
     Step, Worker,
 };
 use frame_tree::FrameId;
-use othello_moves::Choice;
-use position_text::Position;
 use std::alloc::Global;
 use std::marker::Brand;
 use std::process::Abort;
@@ -35,48 +30,15 @@ use waiting::{What, Who};
 enum Trial {
     /// One seat, and one badge for its worker.
     One,
-    /// Two seats ask in turn.
-    InTurn,
-    /// As many asks as there are jobs, a desk without room, and its closing.
-    Limits,
     /// All calls after the closing.
     Closed,
-    /// A seat is still there at the end.
-    SeatStays,
-    /// A badge was dropped before the end.
-    BadgeDropped,
-    /// Answers that come too late.
-    Late,
-    /// A seat reserves more.
-    More,
-    /// A seat with 256 frames reserves more 64 times.
-    ManyRaises,
-    /// All jobs of a seat are done, and each is told.
-    AllJobs,
-    /// As many tenants as there can be, each told of its own.
-    AllTenants,
     /// So many wait at once, and this comes to them.
     Crowd(Who, u64, What),
-}
-
-/// The segments of each desk.
-const SEGMENTS: u32 = 32;
-
-/// The nodes of each desk.
-const NODES: u32 = 512;
-
-/// The segments and nodes of the desk at which this is tried.
-fn totals(trial: Trial) -> (u32, u32) {
-    match trial {
-        Trial::AllTenants | Trial::ManyRaises => (many::SEGMENTS, many::NODES),
-        _ => (SEGMENTS, NODES),
-    }
 }
 
 /// Tries something at a new desk of this hall.
 fn try_at<L, R>(
     rt: &R,
-    alloc: Global,
     hall: Hall,
     blank: Blank,
     opened: Opened<Step<Jamboree>>,
@@ -90,7 +52,7 @@ where
     requires history { opened ≡ L.table }
     requires begun { hall ≡ L.begun }
 {
-    is_tried(rt, alloc, Desk::<L>::new(hall, blank, opened), trial);
+    is_tried(rt, Desk::<L>::new(hall, blank, opened), trial);
 }
 
 /// The same with a hall of its own, in which one worker searches each job.
@@ -98,14 +60,13 @@ fn try_out<R>(rt: &R, alloc: Global, trial: Trial)
 where
     R: Wait + Abort + Threads + Clock + CpuClock + Sync,
 {
-    let (segments, nodes) = totals(trial);
-    let hall = hall_of(alloc, segments, nodes, 6).expect(rt, "there is memory");
+    let hall = hall_of(alloc, 32, 512, 6).expect(rt, "there is memory");
     let opened = Opened::new(alloc).expect(rt, "there is memory");
-    try_at::<Brand, R>(rt, alloc, hall, Blank::new(PARTS), opened, trial);
+    try_at::<Brand, R>(rt, hall, Blank::new(PARTS), opened, trial);
 }
 
-/// What is tried up to the desk's end, and what is tried at a desk that is there.
-fn is_tried<L, R>(rt: &R, alloc: Global, desk: Desk<L>, trial: Trial)
+/// What is tried at this desk.
+fn is_tried<L, R>(rt: &R, desk: Desk<L>, trial: Trial)
 where
     L: DeskLedger + Send + Sync,
     R: Wait + Abort + Threads + Clock + CpuClock + Sync,
@@ -114,29 +75,7 @@ where
     match trial {
         Trial::One => one_stays(rt, desk),
         Trial::Closed => endings::go_on(rt, desk),
-        Trial::SeatStays => endings::seat_stays(rt, desk),
-        Trial::BadgeDropped => endings::badge_is_dropped(rt, desk),
-        Trial::More => reserving::more(rt, desk),
-        Trial::AllTenants => many::all_tenants(rt, alloc, &desk),
-        _ => is_tried_at(rt, &desk, trial),
-    }
-}
-
-/// What is tried at a desk that is there.
-fn is_tried_at<L, R>(rt: &R, desk: &Desk<L>, trial: Trial)
-where
-    L: DeskLedger + Send + Sync,
-    R: Wait + Abort + Threads + Clock + CpuClock + Sync,
-    requires { L.all ≡ L.parts }
-{
-    match trial {
-        Trial::InTurn => two_seats_ask(rt, desk),
-        Trial::Limits => limits(rt, desk),
-        Trial::Late => endings::late(rt, desk),
-        Trial::AllJobs => many::all_jobs(rt, desk),
-        Trial::ManyRaises => many::many_raises(rt, desk),
-        Trial::Crowd(who, many, what) => waiting::come_back_there(rt, desk, who, many, what),
-        _ => {}
+        Trial::Crowd(who, many, what) => waiting::come_back_there(rt, &desk, who, many, what),
     }
 }
 
@@ -235,8 +174,6 @@ enum Said {
     Ask(u8, Result<u64, Refusal>),
     /// It cancels a job.
     Cancel(u64, Result<(), Refusal>),
-    /// It reserves so many segments and nodes.
-    Reserve(u32, u32, Result<(), Refusal>),
     /// It gets a job.
     Get(u64, Found),
     /// It waits for a job.
@@ -263,9 +200,6 @@ fn is_answered<L: DeskLedger, R: Wait>(
     match said {
         Said::Ask(depth, answer) => ask(rt, desk, seat, &opening(), depth) == answer,
         Said::Cancel(job, answer) => cancel(rt, desk, seat, job) == answer,
-        Said::Reserve(segments, nodes, answer) => {
-            calls::reserve(rt, desk, seat, segments, nodes) == answer
-        }
         _ => is_seen(rt, desk, seat, said),
     }
 }
@@ -407,159 +341,5 @@ fn a_seat_and_a_badge(rt: HostRuntime) {
     try_out(&rt, rt.alloc(), Trial::One);
 }
 
-/// A frame is ready, the root of this seat's job.
-fn next_root<L: DeskLedger, R: Wait + Abort>(rt: &R, desk: &Desk<L>, seat: &Seat<L>) -> FrameId {
-    let (root, home) = desk.next_ready(rt).expect(rt, "the root is ready");
-    holds(rt, root.tenant == seat.tenant() && home == 0);
-    root
-}
-
-/// A position, how deep it is asked, and the reply.
-#[derive(Clone, Copy)]
-struct Asked {
-    position: Position,
-    depth: u8,
-    value: i32,
-}
-
-/// Whether a job is done with the reply, told by `get` and by `wait`; none of them has a choice.
-fn is_told<L: DeskLedger, R: Wait>(
-    rt: &R,
-    desk: &Desk<L>,
-    seat: &Seat<L>,
-    job: u64,
-    value: i32,
-) -> bool {
-    let done = Found::Done(value, None);
-    get(rt, desk, seat, job) == done && wait(rt, desk, seat, job) == done
-}
-
-/// A seat asks for a position; its worker, who waits until something is ready, computes it; it is read
-/// back twice.
-fn ask_and_read<L: DeskLedger, R: Wait + Abort>(
-    rt: &R,
-    desk: &Desk<L>,
-    badge: &mut Badge<L>,
-    worker: Worker,
-    seat: &mut Seat<L>,
-    asked: &Asked,
-) {
-    let job = ask(rt, desk, seat, &asked.position, asked.depth).expect(rt, "there is room");
-    holds(rt, has_frames(rt, desk, seat, 1));
-    let root = next_root(rt, desk, seat);
-    holds(rt, compute(rt, desk, badge, worker, root) == Some(job));
-    holds(rt, is_told(rt, desk, seat, job, asked.value));
-}
-
-/// What the two seats ask, and the replies.
-fn three() -> [Asked; 3] {
-    [
-        Asked {
-            position: opening(),
-            depth: 0,
-            value: 0,
-        },
-        Asked {
-            position: corner(),
-            depth: 0,
-            value: 124,
-        },
-        Asked {
-            position: all_white(),
-            depth: 12,
-            value: -128_000,
-        },
-    ]
-}
-
-/// Two seats ask for three positions in turn, which worker 7 computes.
-fn two_seats_ask<L: DeskLedger, R: Wait + Abort>(rt: &R, desk: &Desk<L>) {
-    let mut one = seat_of(rt, desk, 4, 8);
-    let mut other = seat_of(rt, desk, 3, 9);
-    let mut badge = badge_of(rt, desk);
-    ask_in_turn(rt, desk, &mut badge, &mut one, &mut other);
-    talks(
-        rt,
-        desk,
-        &mut one,
-        &[Said::Left(4, 5, 113), Said::Share(4, 3)],
-    );
-    talks(
-        rt,
-        desk,
-        &mut other,
-        &[Said::Left(3, 6, 129), Said::Share(4, 3)],
-    );
-    holds(rt, badge.share() == 30);
-}
-
-/// The two seats ask in turn.
-fn ask_in_turn<L: DeskLedger, R: Wait + Abort>(
-    rt: &R,
-    desk: &Desk<L>,
-    badge: &mut Badge<L>,
-    one: &mut Seat<L>,
-    other: &mut Seat<L>,
-) {
-    let worker = worker_of(rt, 7);
-    for asked in three() {
-        ask_and_read(rt, desk, badge, worker, one, &asked);
-        ask_and_read(rt, desk, badge, worker, other, &asked);
-    }
-}
-
-#[test]
-fn two_seats_ask_in_turn(rt: HostRuntime) {
-    try_out(&rt, rt.alloc(), Trial::InTurn);
-}
-
-/// 256 asks, each of which is cancelled, and the 257th.
-fn ask_all<L: DeskLedger, R: Wait + Abort>(rt: &R, desk: &Desk<L>, seat: &mut Seat<L>) {
-    for job in 1..257u64 {
-        let turns = [Said::Ask(3, Ok(job)), Said::Cancel(job, Ok(()))];
-        talks(rt, desk, seat, &turns);
-    }
-    let last = [
-        Said::Ask(3, Err(Refusal::NoJobsLeft)),
-        Said::Get(257, Found::Refused(Refusal::NoJob)),
-        Said::Share(513, 256),
-    ];
-    talks(rt, desk, seat, &last);
-}
-
-/// A tenant that finds no room.
-fn is_refused<L: DeskLedger, R: Wait + Abort>(rt: &R, desk: &Desk<L>) {
-    let refusal = admit(rt, desk, 1, 1).err();
-    holds(rt, refusal == Some(Refusal::Full));
-}
-
-/// A tenant of all segments asks as often as it may, and leaves.
-fn fill<L: DeskLedger, R: Wait + Abort>(rt: &R, desk: &Desk<L>)
-    requires { L.all ≡ L.parts }
-{
-    let mut seat = seat_of(rt, desk, SEGMENTS, 300);
-    ask_all(rt, desk, &mut seat);
-    is_refused(rt, desk);
-    desk.leave(rt, seat);
-}
-
 /// At a closed desk no frame is ready, and who waits finds the job pending.
 const WAIT_CLOSED: [Said; 2] = [Said::NoneReady, Said::Wait(1, Found::Pending)];
-
-/// 256 asks and the 257th; a desk without room, and a desk that is closed.
-fn limits<L: DeskLedger, R: Wait + Abort>(rt: &R, desk: &Desk<L>)
-    requires { L.all ≡ L.parts }
-{
-    fill(rt, desk);
-    let mut seat = seat_of(rt, desk, 1, 1);
-    holds(rt, seat.tenant() == 2);
-    talks(rt, desk, &mut seat, &[Said::Ask(3, Ok(1))]);
-    desk.close(rt);
-    talks(rt, desk, &mut seat, &WAIT_CLOSED);
-    talks(rt, desk, &mut seat, &[Said::Get(1, Found::Pending)]);
-}
-
-#[test]
-fn asks_room_and_closing(rt: HostRuntime) {
-    try_out(&rt, rt.alloc(), Trial::Limits);
-}

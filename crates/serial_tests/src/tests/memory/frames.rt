@@ -101,12 +101,6 @@ fn remove_leaf<A: Allocator>(rt: &impl Abort, table: &mut FrameTable<u64, A>, f:
     holds(rt, table.remove(f) == f.serial.wrapping_mul(10));
 }
 
-/// Gives back the places of a tenant that has no frame.
-fn release<A: Allocator>(rt: &impl Abort, table: &mut FrameTable<u64, A>, tenant: u64) {
-    holds(rt, table.places(tenant) > 0 && table.is_empty(tenant));
-    table.release(tenant);
-}
-
 /// Whether a frame is there.
 fn is_there<A: Allocator>(rt: &impl Abort, table: &FrameTable<u64, A>, f: FrameId, is: bool) {
     holds(rt, table.contains(f) == is);
@@ -231,24 +225,6 @@ fn abort_five<A: Allocator>(rt: &impl Abort, table: &mut FrameTable<u64, A>, ten
 #[test]
 fn an_abort_at_the_root_of_five_leaves_it(rt: HostRuntime) {
     abort_five(&rt, &mut table_of(&rt, rt.alloc(), 7, 5), 7);
-}
-
-/// A tenant's one frame goes, and then its two places.
-fn give_back<A: Allocator>(rt: &impl Abort, table: &mut FrameTable<u64, A>) {
-    add(rt, table, name(3, 1), None);
-    has_places(rt, table, 3, 2, 1);
-    can_add(rt, table, name(3, 1), None, false);
-    can_add(rt, table, name(3, 2), Some(name(3, 2)), false);
-    can_add(rt, table, name(3, 2), Some(name(4, 1)), false);
-    can_add(rt, table, name(3, 2), Some(name(3, 1)), true);
-    remove_leaf(rt, table, name(3, 1));
-    release(rt, table, 3);
-    has_places(rt, table, 3, 0, 0);
-}
-
-#[test]
-fn places_are_given_back(rt: HostRuntime) {
-    give_back(&rt, &mut table_of(&rt, rt.alloc(), 3, 2));
 }
 
 /// Two tenants that share a guess have a frame more each; of the first the frame before the last goes,

@@ -13,14 +13,6 @@ pub fn made<P: Procedure + Drop, A: Allocator + Clone>(
     Core::new(alloc, config, procedure)
 }
 
-/// One step.
-pub fn step<P: Procedure, A: Allocator + Clone>(
-    core: &mut Core<P, A>,
-    step: &Step<P>,
-) -> Result<Did<P>, Refusal> {
-    core.step(step)
-}
-
 /// A list of steps in one run.
 pub fn run<P: Procedure, A: Allocator + Clone>(
     core: &mut Core<P, A>,

@@ -175,24 +175,6 @@ fn growths(rt: &impl Abort, alloc: Global) {
     holds(rt, refused > 16 && done > 0);
 }
 
-/// Whether the opening can't be searched in this heap.
-fn finds_none(heap: &LocalHeap, depth: u8, grain: u8) -> bool
-    requires depth { depth ≤ 12 }
-    requires grain { grain ≤ 6 }
-{
-    solved(heap, &opening(), depth, grain).is_err()
-}
-
-/// Searches to each depth, at each grain, in a heap without room.
-fn searches_without_memory(rt: &impl Abort, alloc: Global) {
-    let heap = heap_of(rt, alloc, 0);
-    for depth in 0..13 {
-        for grain in 0..7 {
-            holds(rt, finds_none(&heap, depth, grain));
-        }
-    }
-}
-
 /// How often a search that is done by its core calls its allocator; 0 where it isn't.
 fn calls_of(counted: &Counted<Global>, depth: u8) -> u64
     requires { depth ≤ 12 }
@@ -224,8 +206,6 @@ enum Trial {
     Spent,
     /// Growths that are refused.
     Growths,
-    /// Searches without memory.
-    NoMemory,
     /// The calls of an allocator.
     Calls,
 }
@@ -237,7 +217,6 @@ fn tries(rt: &impl Abort, alloc: Global, trial: Trial) {
         Trial::Deep => deep_searches(rt, alloc),
         Trial::Spent => holds(rt, is_spent(alloc)),
         Trial::Growths => growths(rt, alloc),
-        Trial::NoMemory => searches_without_memory(rt, alloc),
         Trial::Calls => calls_of_searches(rt, alloc),
     }
 }
@@ -266,12 +245,6 @@ fn a_search_goes_on_to_its_last_node(rt: HostRuntime) {
 #[test]
 fn each_growth_is_refused_in_turn(rt: HostRuntime) {
     tries(&rt, rt.alloc(), Trial::Growths);
-}
-
-/// A search to any depth makes a core: without memory none is found.
-#[test]
-fn no_search_without_a_core(rt: HostRuntime) {
-    tries(&rt, rt.alloc(), Trial::NoMemory);
 }
 
 /// What a search takes of its allocator doesn't grow with it: the core takes its memory when it is made.

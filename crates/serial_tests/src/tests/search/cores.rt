@@ -1,14 +1,14 @@
 ghost use Rattle.jamboree_core.specs.Replies.{AreSearches};
 
-use super::{OPENING, heap_of, holds, opening};
+use super::{OPENING, holds, opening};
 use frame_tree::FrameId;
 use jamboree::{Jamboree, Leaf, LeafAnswer};
-use jamboree_core::{run_from_new, run_searches, submit};
+use jamboree_core::{run_searches, submit};
 use jamboree_rules::leaf_search::INF;
+use promises::{After, run, run_two};
 use sched_core::Core;
 use sched_rules::{Config, Did, Job, Refusal, Step, StepOf, Worker};
-use std::alloc::{AllocError, Allocator, Global};
-use std::process::Abort;
+use std::alloc::{AllocError, Global};
 use tenant_quota::Reserve;
 
 /// Whether a job is done with these as its words 8 and 9.
@@ -97,50 +97,39 @@ fn a_list_of_steps(rt: HostRuntime) {
     holds(&rt, is_done_with(core.job(7, 1), 1_000_000, 65));
 }
 
-/// Runs the seven steps from nothing. False where a growth was refused.
-fn is_run<A: Allocator + Copy>(
-    alloc: A,
-    answers: &mut Vec<Result<Did<Jamboree>, Refusal>, A>,
-) -> bool {
+/// What the law of one list comes to. It says nothing of what `run` promises, so that a call is cheap to prove.
+fn ran(alloc: Global, steps: &[Step<Jamboree>]) -> Option<After<Jamboree, Global>>
+    requires { AreSearches steps.now }
+{
+    run(alloc, grain_2(), totals(), steps).ok()
+}
+
+/// What the law of two lists comes to, with this list as both.
+fn ran_twice(
+    alloc: Global,
+    steps: &[Step<Jamboree>],
+) -> Option<(After<Jamboree, Global>, After<Jamboree, Global>)>
+    requires { AreSearches steps.now }
+{
+    run_two(alloc, grain_2(), totals(), steps, totals(), steps).ok()
+}
+
+/// Whether the seven steps were taken, and the job is done.
+fn is_run(after: &After<Jamboree, Global>) -> bool {
+    taken(&after.answers) == 7 && is_done_with(after.core.job(7, 1), 1_000_000, 65)
+}
+
+/// Whether both laws run the seven steps.
+fn are_run(alloc: Global) -> bool {
     let steps = seven_steps();
-    run_from_new(alloc, totals(), grain_2(), steps.as_slice(), answers).is_ok()
-}
-
-/// How many of the seven were taken, or none where a growth was refused, and then nothing was answered.
-fn taken_from_new<A: Allocator + Copy>(rt: &impl Abort, alloc: A, answer_alloc: A) -> Option<u32> {
-    let mut answers = Vec::new(answer_alloc);
-    if is_run(alloc, &mut answers) {
-        Some(taken(&answers))
-    } else {
-        holds(rt, answers.is_empty());
-        None
+    match (ran(alloc, steps.as_slice()), ran_twice(alloc, steps.as_slice())) {
+        (Some(after), Some((one, other))) => is_run(&after) && is_run(&one) && is_run(&other),
+        _ => false,
     }
 }
 
-/// The same, the core in a heap of so many bytes and the answers in another. All is given back.
-fn taken_in(rt: &impl Abort, alloc: Global, bytes: usize, answer_bytes: usize) -> Option<u32> {
-    let heap = heap_of(rt, alloc, bytes);
-    let answer_heap = heap_of(rt, alloc, answer_bytes);
-    let count = taken_from_new(rt, &heap, &answer_heap);
-    holds(rt, heap.used() == 0 && answer_heap.used() == 0);
-    count
-}
-
-/// In heaps with more and more room each growth of the core is refused in turn, and with more room the
-/// admission, so that no step is taken. Where the answers find no room, no core is left.
+/// The laws of lists run their lists: where they always said that memory is wanting, they would promise nothing.
 #[test]
-fn each_growth_of_a_run_from_new(rt: HostRuntime) {
-    let (mut refused, mut none, mut some) = (0u32, 0u32, 0u32);
-    for units in 0..256usize {
-        match taken_in(&rt, rt.alloc(), units * 1024, 4096) {
-            None => refused = refused.wrapping_add(1),
-            Some(0) => none = none.wrapping_add(1),
-            Some(count) => {
-                holds(&rt, count == 7);
-                some = some.wrapping_add(1);
-            }
-        }
-    }
-    holds(&rt, refused > 0 && none > 0 && some > 0);
-    holds(&rt, taken_in(&rt, rt.alloc(), 262_144, 0).is_none());
+fn laws_of_lists_are_run(rt: HostRuntime) {
+    holds(&rt, are_run(rt.alloc()));
 }

@@ -1,21 +1,15 @@
 //! What no contract says: that input is read in blocks, that an error is answered at once, and that an answer is
 //! written before more is read.
-ghost use Rattle.std.specs.Prelude.{◌≡◌, ℕ, List, codes, false};
-ghost use Rattle.std.specs.Str.{bytes_eq};
-ghost use Rattle.line_io.specs.Lines.{Whole, TooLong};
-
 use super::{given, holds, holds_at};
 use arrayvec::ArrayVec;
 use line_io::{
-    Answer, Ends, FromReader, FromWriter, Line, ReadFailed, Sink, Source, TalkEnd, WriteFailed,
-    answer_lines, talk_lines,
+    Answer, FromReader, FromWriter, Line, ReadFailed, Sink, Source, WriteFailed, answer_lines,
 };
 use std::alloc::Global;
 use std::cell::Cell;
 use std::io::{self, ErrorKind, Read, Write};
-use std::sync::Wait;
 
-/// Answers a line by itself, where it has fewer than 16 bytes, and else by nothing. `bye` is the last line.
+/// Answers a line by itself, where it has fewer than 16 bytes, and else by nothing.
 #[derive(Drop)]
 struct Echo {
     text: ArrayVec<u8, 16>,
@@ -52,11 +46,6 @@ impl Answer for Echo {
 /// Whether all lines are echoed.
 fn echoes<S: Source, K: Sink>(source: &mut S, sink: &mut K) -> bool {
     answer_lines(source, sink, &mut Echo::new()).is_ok()
-}
-
-/// How a talk that is echoed ends, where nothing fails.
-fn talks<R: Wait, S: Source, K: Sink>(rt: &R, source: &mut S, sink: &mut K) -> Option<TalkEnd> {
-    talk_lines(rt, source, sink, &mut Echo::new()).ok()
 }
 
 /// Whether these bytes are answered by those.
@@ -165,7 +154,7 @@ fn whole_blocks_are_read_and_written_and_errors_answered_at_once(rt: HostRuntime
     }
 }
 
-/// What the two ends of a talk know of each other.
+/// What the two ends know of each other.
 #[derive(Drop)]
 struct Ear {
     asked: Cell<usize>,
@@ -232,56 +221,20 @@ impl Sink for Hearing<'_> {
     }
 }
 
-impl Ends for Echo {
-    ghost ends = { elim [ Whole bytes ↦ bytes_eq bytes (codes "bye") | TooLong ↦ false ] };
+/// Three lines.
+const THREE: [[u8; 4]; 3] = [*b"one\n", *b"two\n", *b"six\n"];
 
-    fn is_last(&self, line: Line<'_>) -> bool {
-        match line {
-            Line::Whole(bytes) => bytes == b"bye".as_slice(),
-            Line::TooLong => false,
-        }
-    }
-}
-
-/// Three lines, none of which ends a talk.
-const SILENT: [[u8; 4]; 3] = [*b"one\n", *b"two\n", *b"six\n"];
-
-/// Three lines, the second of which ends a talk.
-const BYE: [[u8; 4]; 3] = [*b"one\n", *b"bye\n", *b"six\n"];
-
-/// How a talk of these lines ends.
-fn end_of_talk<R: Wait>(rt: &R, ear: &Ear, lines: &[[u8; 4]]) -> Option<TalkEnd> {
-    talks(rt, &mut Asking { ear, lines }, &mut Hearing(ear))
-}
-
-/// Whether a talk of three lines ends by its input, after all of them.
-fn is_talked_to_its_end<R: Wait>(rt: &R) -> bool {
-    let ear = Ear::new();
-    matches!(
-        end_of_talk(rt, &ear, SILENT.as_slice()),
-        Some(TalkEnd::Input)
-    ) && ear.has_heard(3)
-}
-
-/// Whether one ends by its second line.
-fn is_talked_to_a_line<R: Wait>(rt: &R) -> bool {
-    let ear = Ear::new();
-    matches!(end_of_talk(rt, &ear, BYE.as_slice()), Some(TalkEnd::Line)) && ear.has_heard(2)
-}
-
-/// Whether all of three lines are answered, though the second would end a talk.
+/// Whether all of three lines are answered, none too late.
 fn is_heard_to_its_end() -> bool {
     let ear = Ear::new();
     let mut source = Asking {
         ear: &ear,
-        lines: BYE.as_slice(),
+        lines: THREE.as_slice(),
     };
     echoes(&mut source, &mut Hearing(&ear)) && ear.has_heard(3)
 }
 
 #[test]
 fn each_answer_is_written_before_more_is_read(rt: HostRuntime) {
-    holds(&rt, is_talked_to_its_end(&rt));
-    holds(&rt, is_talked_to_a_line(&rt));
     holds(&rt, is_heard_to_its_end());
 }

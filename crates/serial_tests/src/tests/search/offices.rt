@@ -1,10 +1,9 @@
 //! Offices of a desk: no contract says that HELLO ever succeeds, nor what an office answers that has no tenant.
-mod hello;
 mod strangers;
 
 ghost use Rattle.std.specs.Prelude.{◌≤◌};
 
-use super::{given, heap_of, holds};
+use super::holds;
 use desk::{Config, Hall};
 use std::alloc::Allocator;
 

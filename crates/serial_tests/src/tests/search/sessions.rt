@@ -4,7 +4,7 @@ mod tables;
 ghost use Rattle.std.specs.Prelude.{◌≤◌};
 
 use super::{given, holds, holds_at, joined};
-use line_io::{FromReader, FromWriter, ReadFailed, Sink, Source, WriteFailed};
+use line_io::{FromWriter, ReadFailed, Sink, Source, WriteFailed};
 use othello_eval::Valued;
 use sched_rules::Refusal;
 use session::{Analysis, Bounds, End, Live, Office, Question, SessionFault, Standing, serve_lines};
@@ -114,21 +114,6 @@ fn session<R: Wait, S: Source, K: Sink>(
     office: &mut Prepared,
 ) -> Result<End, SessionFault> {
     serve_lines(rt, source, sink, office)
-}
-
-/// Whether a session of these lines ends so and writes this, and its tenant is gone.
-fn is_served<R: Wait>(
-    rt: &R,
-    alloc: Global,
-    office: &mut Prepared,
-    lines: &[u8],
-    end: End,
-    due: &[u8],
-) -> bool {
-    let mut source = FromReader { reader: lines };
-    let mut sink = FromWriter::new(Vec::new(alloc));
-    let result = session(rt, &mut source, &mut sink, office);
-    result == Ok(end) && !office.here && sink.writer.as_slice() == due
 }
 
 /// A session of all lines but BYE.
@@ -342,51 +327,6 @@ fn is_whole_after<R: Wait>(rt: &R, alloc: Global, calls: usize) -> bool
     }
 }
 
-/// Blocks whose last line no LF ends, the answers to the lines before it, those to all, and how the session ends.
-type Cut = (&'static [&'static [u8]], &'static [u8], &'static [u8], End);
-
-const CUT: [Cut; 4] = [
-    (
-        &[b"GET 1\nHELLO 4 8\nQUO"],
-        b"ERR 28\nWELCOME 4 8\n",
-        b"ERR 28\nWELCOME 4 8\nERR 21\n",
-        End::EndOfInput,
-    ),
-    (
-        &[b"HELLO 4 8\nQUOTA\nLIVE"],
-        b"WELCOME 4 8\nQUOTA 4 7 123\n",
-        b"WELCOME 4 8\nQUOTA 4 7 123\nLIVE 0 0\n",
-        End::EndOfInput,
-    ),
-    (
-        &[b"HELLO", b" 4 8\nBY", b"E"],
-        b"WELCOME 4 8\n",
-        b"WELCOME 4 8\nBYE\n",
-        End::Bye,
-    ),
-    (&[b"BYE\r"], b"", b"ERR 21\n", End::EndOfInput),
-];
-
-/// Whether such blocks are answered so before a source that fails, or before its end.
-fn is_cut<R: Wait>(rt: &R, alloc: Global, cut: &Cut, fails: bool) -> bool {
-    let (blocks, before, all, end) = *cut;
-    let source = Blocks {
-        blocks,
-        given: 0,
-        fails,
-    };
-    let due = if fails { before } else { all };
-    is_heard(rt, alloc, source, end_of(fails, end), due)
-}
-
-/// Whether it is so of the blocks of this place in both cases.
-fn is_cut_at<R: Wait>(rt: &R, alloc: Global, place: usize) -> bool {
-    match CUT.get(place) {
-        Some(cut) => is_cut(rt, alloc, cut, true) && is_cut(rt, alloc, cut, false),
-        None => false,
-    }
-}
-
 /// What the two ends of a session know of each other.
 #[derive(Drop)]
 struct Wire {
@@ -455,8 +395,6 @@ enum Trial {
     Write,
     /// A write of an answer that fails.
     Answer,
-    /// A line that no LF ends.
-    Cut,
     /// A source and a sink that know of each other.
     Wire,
 }
@@ -467,7 +405,6 @@ fn cases(trial: &Trial) -> usize {
         Trial::Read => 11,
         Trial::Write => BYTES,
         Trial::Answer => 10,
-        Trial::Cut => 4,
         Trial::Wire => 1,
     }
 }
@@ -478,7 +415,6 @@ fn is_so<R: Wait>(rt: &R, alloc: Global, trial: &Trial, case: usize) -> bool {
         Trial::Read => case <= 10 && is_answered_after(rt, alloc, case),
         Trial::Write => is_begun_after(rt, alloc, case),
         Trial::Answer => case <= 10 && is_whole_after(rt, alloc, case),
-        Trial::Cut => is_cut_at(rt, alloc, case),
         Trial::Wire => is_answered_in_time(rt),
     }
 }
@@ -506,11 +442,6 @@ fn a_write_that_fails_leaves_a_beginning(rt: HostRuntime) {
 #[test]
 fn a_write_that_fails_leaves_whole_answers(rt: HostRuntime) {
     tries(&rt, rt.alloc(), Trial::Answer);
-}
-
-#[test]
-fn a_cut_line_is_answered_at_the_end_alone(rt: HostRuntime) {
-    tries(&rt, rt.alloc(), Trial::Cut);
 }
 
 #[test]

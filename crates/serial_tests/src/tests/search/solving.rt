@@ -1,14 +1,14 @@
-//! `solve` where readers and writers fail, or memory is wanting.
+//! `solve` where memory is wanting.
 ghost use Rattle.std.specs.Prelude.{◌≤◌};
 
-use super::{given, heap_of, holds, holds_at};
-use arrayvec::ArrayVec;
-use line_io::{FromReader, FromWriter, LineFault, ReadFailed, Sink, Source, WriteFailed};
+use super::{given, heap_of, holds};
+use line_io::{FromReader, FromWriter, LineFault, ReadFailed, Sink, Source};
 use linked_list_allocator::LocalHeap;
-use solve_engine::{solve, solve_bytes};
+use promises::solve;
+use solve_engine::solve_bytes;
 use std::alloc::{Allocator, Global};
 
-/// Solves lines, at this grain.
+/// Solves lines, at this grain, by the law that calls `solve` of `solve_engine` alone.
 fn solves<A: Allocator + Copy, S: Source, K: Sink>(
     alloc: A,
     source: &mut S,
@@ -18,88 +18,6 @@ fn solves<A: Allocator + Copy, S: Source, K: Sink>(
     requires { grain ≤ 6 }
 {
     solve(alloc, source, sink, grain)
-}
-
-/// The opening at depth 0 and 1.
-const TWO_LINES: &[u8; 138] = b"0 ---------------------------OX------XO--------------------------- X
-1 ---------------------------OX------XO--------------------------- X
-";
-
-/// Gives a line a call, and fails once its calls are used up.
-#[derive(Drop)]
-struct Given<'a> {
-    bytes: &'a [u8],
-    calls: usize,
-}
-
-impl Source for Given<'_> {
-    ghost gives = { λ _ _ _. Unit {0} };
-
-    fn fill(&mut self, block: &mut [u8]) -> Result<usize, ReadFailed> {
-        if self.calls == 0 {
-            return Err(ReadFailed);
-        }
-        self.calls -= 1;
-        let bytes = self.bytes;
-        let count = bytes.len().min(69).min(block.len());
-        block[..count].copy_from_slice(&bytes[..count]);
-        self.bytes = &bytes[count..];
-        Ok(count)
-    }
-}
-
-/// Keeps the bytes of each write, and fails once its calls are used up.
-#[derive(Drop)]
-struct Kept {
-    bytes: ArrayVec<u8, 16>,
-    calls: usize,
-}
-
-impl Sink for Kept {
-    ghost takes = { λ _ _ _. Unit {0} };
-
-    fn put(&mut self, bytes: &[u8]) -> Result<usize, WriteFailed> {
-        if self.calls == 0 || self.bytes.try_extend_from_slice(bytes).is_err() {
-            return Err(WriteFailed);
-        }
-        self.calls -= 1;
-        Ok(bytes.len())
-    }
-}
-
-/// How many reads and writes don't fail, the answers that are written, and how the run ends.
-type Run = (usize, usize, &'static [u8], Result<(), LineFault>);
-
-const RUNS: [Run; 6] = [
-    (0, 9, b"", Err(LineFault::Read)),
-    (1, 9, b"0 -\n", Err(LineFault::Read)),
-    (2, 9, b"0 -\n-3 d3\n", Err(LineFault::Read)),
-    (9, 0, b"", Err(LineFault::Write)),
-    (9, 1, b"0 -\n", Err(LineFault::Write)),
-    (3, 2, b"0 -\n-3 d3\n", Ok(())),
-];
-
-/// Whether a run of two lines is so.
-fn is_run(alloc: Global, run: &Run) -> bool {
-    let (reads, writes, answers, end) = *run;
-    let mut source = Given {
-        bytes: TWO_LINES,
-        calls: reads,
-    };
-    let mut sink = Kept {
-        bytes: ArrayVec::new(),
-        calls: writes,
-    };
-    solves(alloc, &mut source, &mut sink, 0) == end && sink.bytes.as_slice() == answers
-}
-
-#[test]
-fn readers_and_writers_fail_at_each_call(rt: HostRuntime) {
-    let mut case = 0usize;
-    for run in &RUNS {
-        holds_at(&rt, case, is_run(rt.alloc(), run));
-        case = case.saturating_add(1);
-    }
 }
 
 /// The bytes of a heap in which a core has room.

@@ -300,12 +300,11 @@ fn are_turned_away<R: Net<Stream = TcpStream> + Clock + CpuClock>(
     is_one_served && is_fourth_served && is_refused(rt, address)
 }
 
-/// Whether a guest is content, beside workers that go through this gate.
-fn is_guest_content<R: Net<Stream = TcpStream> + AllocGlobal + Clock + CpuClock>(
+/// Whether a guest is content.
+fn is_guest_content<R: Net<Stream = TcpStream> + Clock + CpuClock>(
     rt: &R,
     guest: Guest,
     before: Before,
-    gate: &Together,
 ) -> bool {
     let Before {
         address,
@@ -313,7 +312,7 @@ fn is_guest_content<R: Net<Stream = TcpStream> + AllocGlobal + Clock + CpuClock>
         taken,
     } = before;
     match guest {
-        Guest::Visit(visit) => are_served(rt.alloc(), visit, streams, gate),
+        Guest::Visit(visit) => are_served(visit, streams),
         Guest::Followed => is_followed(rt, address),
         Guest::Silent => is_answered_beside(rt, address),
         Guest::Four => is_visited(rt, address, &FOUR),
@@ -368,7 +367,6 @@ fn come_before<R: Net<Stream = TcpStream> + AllocGlobal>(
 fn at_once(guest: Guest) -> u32 {
     match guest {
         Guest::Four => 4,
-        Guest::Visit(Visit::Held(_, _)) => 2,
         _ => 1,
     }
 }
@@ -407,7 +405,7 @@ where
     let there = &gate;
     let (content, served) = thread::join(
         rt,
-        move || is_guest_content(rt, guest, before, there),
+        move || is_guest_content(rt, guest, before),
         ||
             requires { L.all ≡ L.parts }
         { serve(rt, rt.alloc(), &desk, listener, server, there) },

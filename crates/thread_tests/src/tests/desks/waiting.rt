@@ -268,48 +268,8 @@ fn are_content(rt: &impl Abort, watch: &Watch) {
     should_be(rt, watch, value(&watch.content) == watch.many, watch.many);
 }
 
-/// A seat that waits is woken where the desk is closed, and finds its job pending.
-#[test]
-fn a_closing_wakes_a_seat(rt: HostRuntime) {
-    try_out(
-        &rt,
-        rt.alloc(),
-        Trial::Crowd(Who::Seat(0), 1, What::Closing),
-    );
-}
-
-/// It is woken where its job is finished.
-#[test]
-fn a_finish_wakes_a_seat(rt: HostRuntime) {
-    try_out(
-        &rt,
-        rt.alloc(),
-        Trial::Crowd(Who::Seat(0), 1, What::Finishes),
-    );
-}
-
-/// It is woken where its job is spent.
+/// A seat that waits is woken where its job is spent.
 #[test]
 fn a_spend_wakes_a_seat(rt: HostRuntime) {
     try_out(&rt, rt.alloc(), Trial::Crowd(Who::Seat(7), 1, What::Spend));
-}
-
-/// A worker that waits is woken where a seat asks, and finds the root of what it asked.
-#[test]
-fn an_ask_wakes_a_worker(rt: HostRuntime) {
-    try_out(
-        &rt,
-        rt.alloc(),
-        Trial::Crowd(Who::Workers, 1, What::Asks(1)),
-    );
-}
-
-/// It is woken where the desk is closed, and finds none.
-#[test]
-fn a_closing_wakes_a_worker(rt: HostRuntime) {
-    try_out(
-        &rt,
-        rt.alloc(),
-        Trial::Crowd(Who::Workers, 1, What::Closing),
-    );
 }

@@ -1,18 +1,13 @@
 //! Jobs of several seats.
 ghost use Rattle.std.specs.Prelude.{◌≡◌};
 
-use super::seats::{asks, end_of, ends, is_found, seat};
+use super::seats::{asks, ends, is_found, seat};
 use super::{Played, Scenario, Table, play};
-use crate::tests::calls::{Found, all_white, ask, cancel, corner, live, quota};
-use crate::tests::signs::{becomes_set, is_set, set, unset};
+use crate::tests::calls::{all_white, ask, corner};
 use crate::tests::{holds, holds_of};
 use desk::{Desk, DeskLedger, Seat};
-use sched_rules::Worker;
-use std::alloc::Global;
 use std::sync::Wait;
-use std::sync::atomic::AtomicBool;
-use std::thread::Threads;
-use steal_pool::{Gate, OpenGate, Task};
+use steal_pool::OpenGate;
 
 /// Two seats.
 #[derive(Drop)]
@@ -190,107 +185,5 @@ fn two_hundred_pools_end(rt: HostRuntime) {
     let table = Table::of(&Four { depth: 2 }, &OpenGate, 8, 0, 1_024);
     for run in 0..200u64 {
         holds_of(&rt, play(&rt, rt.alloc(), &table).is_some(), "run", run);
-    }
-}
-
-/// The first computations pass; those after them wait within a limit until they are let go on.
-#[derive(Drop)]
-struct Midst {
-    passing: u64,
-    let_go: AtomicBool,
-    late: AtomicBool,
-}
-
-impl Gate for Midst {
-    fn before(&self, _worker: Worker, _task: &Task) {}
-
-    fn inside(&self, _worker: Worker, number: u64) {
-        if number > self.passing && !becomes_set(&self.let_go) {
-            set(&self.late);
-        }
-    }
-}
-
-/// Four seats: one cancels, one has too little, one leaves, and one waits for its reply. No job of
-/// depth 5 can end before it is cancelled or left, as all but a few of its computations wait until then.
-#[derive(Drop)]
-struct Mixed<'g> {
-    gate: &'g Midst,
-}
-
-impl Scenario for Mixed<'_> {
-    fn play<L: DeskLedger, R: Wait>(&self, rt: &R, desk: &Desk<L>) -> bool {
-        let going = two_seats(rt, desk, (4, 3), (64, 1_024));
-        let (Some(mut going), Some(cut)) = (going, two_seats(rt, desk, (64, 1_024), (64, 1_024)))
-        else {
-            return false;
-        };
-        let asked = ask_both(rt, desk, &mut going, 5, 2);
-        let is_cut = cut_short(rt, desk, cut, self.gate);
-        let are_over = are_over(rt, desk, &going);
-        leave_both(rt, desk, going);
-        asked && is_cut && are_over
-    }
-}
-
-/// Two seats ask; the first cancels its job and the second leaves, and then all are let go on: whether the first
-/// finds its job cancelled.
-fn cut_short<L: DeskLedger, R: Wait>(rt: &R, desk: &Desk<L>, pair: Pair<L>, gate: &Midst) -> bool
-    requires { L.all ≡ L.parts }
-{
-    let mut pair = pair;
-    let asked = ask_both(rt, desk, &mut pair, 5, 5);
-    let Pair { mut one, two } = pair;
-    let is_cancelled = cancel(rt, desk, &mut one, 1).is_ok();
-    desk.leave(rt, two);
-    set(&gate.let_go);
-    let is_over = is_over(rt, desk, &one);
-    desk.leave(rt, one);
-    asked && is_cancelled && is_over
-}
-
-/// Whether the first one's job is spent and all is back, and the second one's is done.
-fn are_over<L: DeskLedger, R: Wait>(rt: &R, desk: &Desk<L>, pair: &Pair<L>) -> bool {
-    ends(rt, desk, &pair.two, 1, 2)
-        && end_of(rt, desk, &pair.one, 1) == Found::Spent
-        && has_all_back(rt, desk, &pair.one, 4)
-}
-
-/// Whether a job is cancelled, and all is back.
-fn is_over<L: DeskLedger, R: Wait>(rt: &R, desk: &Desk<L>, seat: &Seat<L>) -> bool {
-    end_of(rt, desk, seat, 1) == Found::Cancelled && has_all_back(rt, desk, seat, 64)
-}
-
-/// Whether a seat has no frame, and all its segments.
-fn has_all_back<L: DeskLedger, R: Wait>(
-    rt: &R,
-    desk: &Desk<L>,
-    seat: &Seat<L>,
-    segments: u32,
-) -> bool {
-    match quota(rt, desk, seat) {
-        Some(left) => left.segments == segments && live(rt, desk, seat) == Some((0, 0)),
-        None => false,
-    }
-}
-
-/// Whether jobs that end in the midst, once so many computations have passed, leave all as it should be.
-fn is_well<R: Threads + Wait + Sync>(rt: &R, alloc: Global, passing: u64) -> bool {
-    let gate = Midst {
-        passing,
-        let_go: unset(),
-        late: unset(),
-    };
-    let scenario = Mixed { gate: &gate };
-    let played = play(rt, alloc, &Table::of(&scenario, &gate, 8, 0, 196));
-    adds_up(played) && !is_set(&gate.late)
-}
-
-/// Jobs that are cancelled, spent or left in the midst, after up to four computations: nothing is lost,
-/// and all segments are back.
-#[test]
-fn jobs_end_in_the_midst(rt: HostRuntime) {
-    for run in 0..20u64 {
-        holds_of(&rt, is_well(&rt, rt.alloc(), run / 4), "run", run);
     }
 }

@@ -1,6 +1,8 @@
 //! What a hall asks of its allocator: nothing but at an admission, and there what is to be had.
 use super::turns::play;
 use super::*;
+use othello_eval::{Bound, Valued};
+use promises::{entry_in, value_in};
 use toys::Counted;
 
 /// A tenant asks for a position to depth 2.
@@ -53,10 +55,31 @@ fn has_segments<A: Allocator>(rt: &impl Abort, hall: &Hall<A>, tenant: u64, segm
     holds(rt, segments_of(left(hall.core(), tenant)) == segments);
 }
 
+/// What the law of values tells of a tenant's first job.
+fn told<A: Allocator>(hall: &Hall<A>, tenant: u64) -> Option<Valued> {
+    value_in(hall, tenant, 1)
+}
+
+/// What the law of entries tells of the first of its table.
+fn first_entry<A: Allocator>(hall: &Hall<A>, tenant: u64) -> Option<Bound> {
+    entry_in(hall, tenant, 1, 0)
+}
+
+/// The laws tell of a job that is done, and of no other: where they told of none, they would promise nothing.
+fn laws_tell<A: Allocator>(rt: &impl Abort, hall: &Hall<A>) {
+    let best = Valued {
+        value: -4,
+        choice: Some(Choice::Square(19)),
+    };
+    holds(rt, told(hall, 2) == Some(best) && told(hall, 1) == None);
+    holds(rt, matches!(first_entry(hall, 2), Some(entry) if entry.score == -4));
+}
+
 /// One job is done, by a root that is stolen and children that are taken, computed and taken in; another is
 /// spent, and the third is cancelled. All segments of both tenants are back.
 fn have_ended<A: Allocator>(rt: &impl Abort, hall: &Hall<A>) {
     is_done(rt, hall, 2, -4, Some(Choice::Square(19)));
+    laws_tell(rt, hall);
     has_become(rt, hall, 1, 1, Outcome::Spent);
     has_become(rt, hall, 2, 2, Outcome::Cancelled);
     has_segments(rt, hall, 1, 4);
@@ -116,10 +139,17 @@ const SEGMENTS: [u32; 8] = [1, 500, 501, 4_095, 5_001, 32_769, 65_535, 65_536];
 /// Nodes of a hall, from the least to the most.
 const NODES: [u32; 8] = [1, 501, 4_095, 32_769, 65_535, 70_002, 1_000_000, 4_194_304];
 
-/// A tenant is admitted that reserves as much of a new hall as a tenant may, and no segment is taken.
+/// A tenant is admitted that reserves as much of a new hall as a tenant may, and no segment is taken. Another comes after it with
+/// the least there is, and reserves as much, where that is more.
 fn is_used<A: Allocator + Clone>(rt: &impl Abort, hall: &mut Hall<A>, segments: u32, nodes: u32) {
-    admit(rt, hall, 1, most_of(rt, segments, nodes));
+    let (least, most) = (reserve_of(rt, 1, 1), most_of(rt, segments, nodes));
+    admit(rt, hall, 1, most);
     holds(rt, free_segments(hall.core()) == segments as usize);
+    does(rt, hall, &StepOf::Leave(1), DidOf::Left);
+    admit(rt, hall, 2, least);
+    if most != least {
+        does(rt, hall, &StepOf::AdmitMore(2, most), DidOf::AdmittedMore);
+    }
 }
 
 /// Whether a hall is made; it admits a tenant that reserves as much of it as a tenant may.

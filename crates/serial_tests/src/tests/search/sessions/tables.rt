@@ -1,20 +1,11 @@
-//! The answers to TABLE.
-use super::{Prepared, holds, is_served, joined, session};
+//! The answer to TABLE: one call, however long it is.
+use super::{Prepared, holds, joined, session};
 use line_io::{FromReader, Sink, WriteFailed};
 use othello_eval::{Bound, BoundKind, Valued};
 use othello_moves::Choice;
 use session::{Analysis, Bounds, End, Standing};
 use std::alloc::{AllocError, Global};
 use std::sync::Wait;
-
-/// An entry for a square.
-fn square(number: u8, kind: BoundKind, score: i32) -> Bound {
-    Bound {
-        choice: Choice::Square(number),
-        score,
-        kind,
-    }
-}
 
 /// A job that is done, with these entries, of at most 64.
 fn done(value: i32, choice: Choice, entries: &[Bound]) -> Standing {
@@ -31,37 +22,6 @@ fn done(value: i32, choice: Choice, entries: &[Bound]) -> Standing {
         },
         bounds,
     })
-}
-
-/// Whether this is written of `TABLE 1` and `GET 1` where a job stands so.
-fn is_shown<R: Wait>(rt: &R, alloc: Global, standing: Standing, due: &[u8]) -> bool {
-    let mut office = Prepared::new(standing, 4, 7, 123);
-    let lines = b"HELLO 4 8
-ASK 1 ---------------------------OX------XO--------------------------- X
-TABLE 1
-GET 1
-";
-    is_served(rt, alloc, &mut office, lines, End::EndOfInput, due)
-}
-
-#[test]
-fn a_pass_and_each_kind_are_shown(rt: HostRuntime) {
-    let pass = Bound {
-        choice: Choice::Pass,
-        score: -6000,
-        kind: BoundKind::Exact,
-    };
-    let passed = done(-6000, Choice::Pass, &[pass]);
-    let due = b"WELCOME 4 8\nJOB 1\nTABLE 1 pass=-6000\nDONE 1 -6000 pass\n";
-    holds(&rt, is_shown(&rt, rt.alloc(), passed, due));
-    let three = [
-        square(0, BoundKind::Exact, 89),
-        square(4, BoundKind::Low, 40),
-        square(63, BoundKind::High, 128_000),
-    ];
-    let corner = done(89, Choice::Square(0), &three);
-    let due = b"WELCOME 4 8\nJOB 1\nTABLE 1 a1=89 e1<40 h8>128000\nDONE 1 89 a1\n";
-    holds(&rt, is_shown(&rt, rt.alloc(), corner, due));
 }
 
 /// Takes each answer by one call, and keeps the last.
