@@ -7,10 +7,11 @@ ghost use Rattle.sched_rules.specs.declared.refusal.Refusal.TheVariants.{OutOfMe
 ghost use Rattle.desk_rules.specs.hall.Journals.{is_worker_step};
 ghost use Rattle.site_desk.specs.Sites.{IsOffered};
 
+use crate::bells::{Bells, bell_of};
 use crate::locked_site::LockedSite;
 use desk_rules::{Backoff, Change};
 use fair_pool::HeldHall;
-use hall::{DidOf, Jamboree, Step, StepAnswer};
+use hall::{DidOf, Jamboree, Step, StepAnswer, StepOf};
 use std::alloc::{Allocator, Global};
 use std::marker::Model;
 use std::sync::{Condvar, MutexGuard};
@@ -21,11 +22,11 @@ use task_deques::pool_rules::Task;
 pub struct SiteGuard<'d, A: Allocator = Global> {
     pub(crate) kept: MutexGuard<'d, LockedSite<A>>,
     pub(crate) ready: &'d Condvar,
-    pub(crate) ended: &'d Condvar,
+    pub(crate) bells: &'d Bells,
     /// How many frames became ready while some worker slept.
     pub(crate) wakes: u32,
-    /// Whether one of the steps ended a job.
-    pub(crate) has_ended: bool,
+    /// The bells of those whose jobs the steps ended, a bit each.
+    pub(crate) rung: u64,
 }
 
 // Clauses see what lies under the lock.
@@ -65,28 +66,25 @@ impl<'d, A: Allocator + Clone> SiteGuard<'d, A> {
                 self.wakes = self.wakes.saturating_add(1);
             }
             Change::InReady | Change::Nothing => {}
-            Change::Job => self.has_ended = true,
+            Change::Job => self.rung |= bell_of(tenant_of(step)),
         }
         answer
     }
 
-    /// Unlocks the desk, and then wakes a worker for each frame that became ready while one slept, and all seats that wait if a job
-    /// ended.
+    /// Unlocks the desk, and then wakes a worker for each frame that became ready while one slept, and each seat whose job ended.
     pub fn release(self) {
         let SiteGuard {
             kept,
             ready,
-            ended,
+            bells,
             wakes,
-            has_ended,
+            rung,
         } = self;
         drop(kept);
         for _ in 0..wakes {
             ready.notify_one();
         }
-        if has_ended {
-            ended.notify_all();
-        }
+        bells.ring_places(rung);
     }
 }
 
@@ -106,5 +104,23 @@ impl<'d, A: Allocator + Clone> HeldHall for SiteGuard<'d, A> {
 
     fn charge(&mut self, tenant: u64, amount: u64) {
         self.kept.charge(tenant, amount);
+    }
+}
+
+/// Whose a step is.
+fn tenant_of(step: &Step<Jamboree>) -> u64 {
+    match step {
+        StepOf::Take(_, frame)
+        | StepOf::Steal(_, _, frame)
+        | StepOf::Advance(_, frame)
+        | StepOf::Answer(_, frame, _)
+        | StepOf::Inlet(_, frame)
+        | StepOf::Finish(_, frame)
+        | StepOf::Spend(frame) => frame.tenant,
+        StepOf::Admit(tenant, _)
+        | StepOf::AdmitMore(tenant, _)
+        | StepOf::Submit(tenant, _, _)
+        | StepOf::Cancel(tenant, _)
+        | StepOf::Leave(tenant) => *tenant,
     }
 }

@@ -16,6 +16,8 @@
 //! - Whoever ends a session only tells it so and wakes its WAIT; its own thread leaves. So no thread touches another's seat, and a
 //!   session's end is one call wherever it comes from. Who comes meanwhile is told `Later`, and waits for one to leave
 //!   ([`SiteDesk::await_left`]): sessions that have left are counted under the lock, so that none is missed.
+//! - Nobody sleeps on the lock: who does is handed it, and until that thread runs nobody else can take it. Who waits sleeps at a condition
+//!   of its own, and takes the lock as all others do.
 //! - Under the lock at most 64 grants and sessions are looked at, and no memory is taken but by an admission and a raise. Digests,
 //!   texts and files are the caller's, before it or behind it.
 //! - What desks have in common stands in `desk_rules`. There is no ledger here: a seat shows of a job only a reply to what was asked
@@ -30,6 +32,7 @@
 //! ```
 #![tactic(auto)]
 
+mod bells;
 mod booked;
 mod came;
 mod entry;

@@ -9,6 +9,7 @@ ghost use Rattle.task_deques.specs.Deals.{posts};
 ghost use Rattle.site_desk.specs.Entries.{IsEntry};
 ghost use Rattle.site_desk.specs.Seats.{IsAsked};
 
+use crate::bells::{A_SLEEP, Bells};
 use crate::booked::BookedHall;
 use crate::came::Came;
 use crate::entry::Entry;
@@ -29,9 +30,9 @@ use site_book::{
 use std::alloc::{Allocator, Global};
 use std::hint::spin_loop;
 use std::sync::atomic::AtomicU64;
-use std::sync::{Condvar, CondvarTimeouts, Mutex, MutexGuard, Wait};
+use std::sync::{Condvar, Mutex, MutexGuard, Wait};
 use std::thread::yield_now;
-use std::time::{Clock, Duration};
+use std::time::Duration;
 use task_deques::pool_rules::{Holding, Task};
 use tenant_quota::{Left, Reserve};
 
@@ -42,7 +43,7 @@ pub struct SiteDesk<A: Allocator = Global> {
     /// Where workers wait until a frame is ready or the desk is closed.
     ready: Condvar,
     /// Where seats wait until their job has ended, they are told to end, or the desk is closed.
-    ended: Condvar,
+    bells: Bells,
     /// Where who comes waits until a session has left.
     left: Condvar,
 }
@@ -53,7 +54,7 @@ impl<A: Allocator> Drop for SiteDesk<A> {
         let SiteDesk {
             lock: _lock,
             ready: _ready,
-            ended: _ended,
+            bells: _bells,
             left: _left,
         } = self;
     }
@@ -68,7 +69,7 @@ impl<A: Allocator + Clone> SiteDesk<A> {
         SiteDesk {
             lock: Mutex::new(LockedSite::new(booked, shares)),
             ready: Condvar::new(),
-            ended: Condvar::new(),
+            bells: Bells::new(),
             left: Condvar::new(),
         }
     }
@@ -98,7 +99,7 @@ impl<A: Allocator + Clone> SiteDesk<A> {
     /// One asks for a session: where the book allows it the tenant is admitted, the grant entered and the session listed, under one
     /// lock. `Later` where it is refused now, but there is room once those have left who were told to end; the idlest guest is one of
     /// them from now on where it is refused as all guests together have too much, and that helps. `Turned` away else; then nothing
-    /// has changed. Who waits for a job is woken where somebody was told to end.
+    /// has changed. Who was told to end is woken, if it waits for a job.
     pub fn come<R: Wait>(&self, rt: &R, comer: &Comer) -> Entry
         ensures { IsEntry comer.now.who result }
     {
@@ -114,7 +115,7 @@ impl<A: Allocator + Clone> SiteDesk<A> {
                 left,
             },
             Came::Ending(session, refusal) => {
-                self.ended.notify_all();
+                self.bells.ring(session);
                 Entry::Later {
                     refusal,
                     ending: Some(session),
@@ -125,13 +126,13 @@ impl<A: Allocator + Clone> SiteDesk<A> {
         }
     }
 
-    /// Waits until another number of sessions has left than `seen`, at most so long.
-    pub fn await_left<R: Wait + Clock>(&self, rt: &R, seen: u64, most: Duration) {
-        let kept = self.enter(rt);
-        let (kept, _timed_out) = self
-            .left
-            .wait_timeout_while(rt, kept, most, |kept| kept.left() == seen);
-        drop(kept);
+    /// Waits until another number of sessions has left than `seen`, at most so long; now and then for no reason.
+    pub fn await_left<R: Wait>(&self, rt: &R, seen: u64, most: Duration) {
+        let rung = self.left.notifications();
+        let left = self.enter(rt).left();
+        if left == seen {
+            self.left.sleep(rt, rung, most);
+        }
     }
 
     /// Raises what the session reserves to `ask`, where the book allows it: in the hall and in the book, or in neither. Turned away
@@ -171,26 +172,35 @@ impl<A: Allocator + Clone> SiteDesk<A> {
 
     /// Waits until a job has ended, the session is told to end, or the desk is closed, and answers as `get` does then. The session
     /// counts as waiting from `now` on: `mark` says when it doesn't any more. Where the hall has no such job it answers at once.
+    ///
+    /// It sleeps at its bell, and never on the lock, as [`SiteDesk::enter_late`] says. What ends its job happens under the lock, and the
+    /// bell is rung behind it: so none is missed where the count of rings is read under the lock.
     pub fn wait<R: Wait>(&self, rt: &R, seat: &Seat, job: u64, now: u64) -> Result<Outcome, Refusal>
         ensures { IsShown (seat_asked_at seat.now.asked job) result }
     {
         let number = seat.number();
         let mut kept = self.enter(rt);
         kept.mark(Whom::One(number), Mark::Waits(true, now));
-        let kept = self
-            .ended
-            .wait_while(rt, kept, |kept| kept.keeps_waiting(number, job));
+        for _ in rt.forever() {
+            if !kept.keeps_waiting(number, job) {
+                break;
+            }
+            let rung = self.bells.rung(number);
+            drop(kept);
+            self.bells.sleep(rt, number, rung);
+            kept = self.enter(rt);
+        }
         kept.get(seat, job)
     }
 
-    /// Cancels a job that hasn't ended: its frames are removed, and all seats that wait are woken, to look at their jobs again.
+    /// Cancels a job that hasn't ended: its frames are removed, and who waits for it is woken.
     /// `NoJob` where its number is 0 or above the length of the seat's list, or it has ended; the only other refusal is `NoTenant`.
     pub fn cancel<R: Wait>(&self, rt: &R, seat: &Seat, job: u64) -> Result<(), Refusal>
         ensures none { seat_asked_at seat.now.asked job ≡ None → result ≡ Err NoJob }
         ensures refused { IfErr result (Contains cancel_refusals) }
     {
         self.enter(rt).cancel(seat, job)?;
-        self.ended.notify_all();
+        self.bells.ring(seat.number());
         Ok(())
     }
 
@@ -226,10 +236,9 @@ impl<A: Allocator + Clone> SiteDesk<A> {
     }
 
     /// The session leaves, and the seat is used up: its tenant with its jobs and frames is gone, its grant is taken back, and it is
-    /// listed no more. All seats that wait are woken, to look at their jobs again, and all who wait for one to leave.
+    /// listed no more. All who wait for one to leave are woken.
     pub fn leave<R: Wait>(&self, rt: &R, seat: Seat) {
         let _was_there = self.enter(rt).leave(seat.who(), seat.number());
-        self.ended.notify_all();
         self.left.notify_all();
     }
 
@@ -241,13 +250,13 @@ impl<A: Allocator + Clone> SiteDesk<A> {
     /// Tells these sessions to end, and wakes those of them that wait for a job. Their own threads leave.
     pub fn tell<R: Wait>(&self, rt: &R, whom: Whom, why: Told) {
         self.enter(rt).mark(whom, Mark::Told(why));
-        self.ended.notify_all();
+        self.bells.ring_all();
     }
 
     /// Tells those to end that don't stay under another plan, as `tell` does.
     pub fn tell_by<R: Wait>(&self, rt: &R, plan: &Plan) {
         self.enter(rt).tell_by(plan);
-        self.ended.notify_all();
+        self.bells.ring_all();
     }
 
     /// Whether the session is there and wasn't told to end.
@@ -272,7 +281,7 @@ impl<A: Allocator + Clone> SiteDesk<A> {
     }
 
     /// Locks the desk and offers a worker's step to the hall. Returns what the step did or why it is refused, which is never
-    /// `OutOfMemory`. A frame that became ready wakes a worker that sleeps, if one does, and the end of a job all seats that wait.
+    /// `OutOfMemory`. A frame that became ready wakes a worker that sleeps, if one does, and the end of a job the seat that waits for it.
     pub fn offer<R: Wait>(&self, rt: &R, backoff: &mut Backoff, step: &Step<Jamboree>) -> StepAnswer
         requires { is_worker_step step.now ≡ true }
         ensures { result ≢ Err OutOfMemory }
@@ -300,9 +309,9 @@ impl<A: Allocator + Clone> SiteDesk<A> {
         SiteGuard {
             kept,
             ready: &self.ready,
-            ended: &self.ended,
+            bells: &self.bells,
             wakes: 0,
-            has_ended: false,
+            rung: 0,
         }
     }
 
@@ -351,9 +360,15 @@ impl<A: Allocator + Clone> SiteDesk<A> {
             Some(kept) => kept,
             None => self.enter_late(rt, Backoff::idle()),
         };
-        if !kept.has_news() {
+        for _ in rt.forever() {
+            if kept.has_news() {
+                break;
+            }
             kept.begin_sleep();
-            kept = self.ready.wait_while(rt, kept, |kept| !kept.has_news());
+            let rung = self.ready.notifications();
+            drop(kept);
+            self.ready.sleep(rt, rung, Duration::from_secs(A_SLEEP));
+            kept = self.enter_late(rt, Backoff::idle());
             kept.end_sleep();
         }
         kept
@@ -364,7 +379,7 @@ impl<A: Allocator + Clone> SiteDesk<A> {
     pub fn close<R: Wait>(&self, rt: &R) {
         self.enter(rt).close();
         self.ready.notify_all();
-        self.ended.notify_all();
+        self.bells.ring_all();
     }
 
     /// How many steps the hall has taken since it was made.
@@ -377,7 +392,7 @@ impl<A: Allocator + Clone> SiteDesk<A> {
         let SiteDesk {
             lock,
             ready: _ready,
-            ended: _ended,
+            bells: _bells,
             left: _left,
         } = self;
         lock.into_inner().into_booked()
