@@ -67,6 +67,7 @@ impl<L: DeskLedger, A: Allocator> Model for LockedHall<L, A> {
     ghost use Rattle.std.specs.Prelude.{◌≡◌, ◌+◌, ◌^◌, ◌≤◌};
     ghost use Rattle.hall.specs.Halls.{count_of};
     ghost use Rattle.desk.specs.Counts.{LockedHallOf};
+    ghost use Rattle.desk.specs.Parts.{ledger_parts};
     ghost use Rattle.desk.specs.Histories.{IsComeBy};
 
     ghost Value = { LockedHallOf };
@@ -74,7 +75,7 @@ impl<L: DeskLedger, A: Allocator> Model for LockedHall<L, A> {
     ghost view = { λ k. record { hall = k.hall; closed = k.closed; sleepers = k.sleepers; badges = k.badges; history = k.history } };
 
     ghost invariant = { λ k. (count_of k.hall ≡ k.before + k.book.total) × (k.hall.kept ≡ k.before + k.spare.amount) × (k.spare.parts ≡ k.parts)
-        × (L.all ≡ 13835058055282163712) × (k.parts ≤ 13835058055282163712) × (13835058055282163712 ≤ k.parts + k.badges + k.hall.shared.newest) × (k.badges ≤ 2 ^ 62)
+        × (L.all ≡ ledger_parts) × (k.parts ≤ ledger_parts) × (ledger_parts ≤ k.parts + k.badges + k.hall.shared.newest) × (k.badges ≤ 2 ^ 62)
         × IsComeBy L.begun k.hall.grain k.hall.shared k.history };
 }
 
