@@ -4,4 +4,5 @@ pub use Rattle.hall.specs.jamboree_core as jamboree_core
 pub mod Traces
 pub mod Seats
 pub mod Counts
+pub mod Parts
 pub mod Histories

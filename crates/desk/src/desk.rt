@@ -6,6 +6,7 @@ ghost use Rattle.hall.specs.Halls.{count_of};
 ghost use Rattle.hall.specs.jamboree_rules.Places.{root_words, frame_size};
 ghost use Rattle.hall.specs.jamboree_rules.Procedure.{jamboree};
 ghost use Rattle.sched_rules.specs.declared.step.StepOf.TheVariants.{AdmitMore, Submit, Cancel, Leave};
+ghost use Rattle.sched_rules.specs.Cores.{tenant_in};
 ghost use Rattle.sched_rules.specs.Views.{left_in_core, live_of};
 ghost use Rattle.desk_rules.specs.Asked.{found_or_no_tenant, ask_refusals, cancel_refusals, seat_asked_at, IsShown};
 ghost use Rattle.desk.specs.Seats.{admit_refusals, reserve_refusals, seeing, stepped, IsAsked};
@@ -88,10 +89,11 @@ impl<L: DeskLedger, A: Allocator + Clone> Desk<L, A> {
     }
 
     /// Admits a tenant under the number after the greatest so far, and returns its seat. The seat's share is 1, as its
-    /// admission was a step. The only refusals are `Full`, `OutOfMemory`, and `OldTenant` after 2^62 tenants.
+    /// admission was a step. The hall that the desk was made with had no such tenant. The only refusals are `Full`, `OutOfMemory`, and `OldTenant` after 2^62 tenants.
     pub fn admit<R: Wait>(&self, rt: &R, reserve: Reserve) -> Result<Seat<L>, Refusal>
         ensures seat { IfOk result (λ seat. (seat.share ≡ 1) × (seat.asked ≡ [])) }
         ensures admitted { IfOk result (IsAdmitted reserve) }
+        ensures new { IfOk result (λ seat. tenant_in L.begun.shared.tenants seat.tenant ≡ None) }
         ensures refused { IfErr result (Contains admit_refusals) }
     {
         self.enter(rt).admit(reserve)

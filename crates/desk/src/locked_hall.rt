@@ -10,6 +10,7 @@ ghost use Rattle.hall.specs.jamboree_rules.Procedure.{jamboree};
 ghost use Rattle.hall.specs.Journals.{is_worker_step};
 ghost use Rattle.hall.specs.Halls.{count_of};
 ghost use Rattle.sched_rules.specs.Headline.{is_admission};
+ghost use Rattle.sched_rules.specs.Cores.{tenant_in};
 ghost use Rattle.sched_rules.specs.Views.{left_in_core, live_of, job_of};
 ghost use Rattle.hall.specs.jamboree_core.Replies.{IsSearch};
 ghost use Rattle.hall.specs.jamboree_core.declared.outcomes.Outcome.{Outcome as OutcomeOf};
@@ -67,6 +68,7 @@ impl<L: DeskLedger, A: Allocator> Model for LockedHall<L, A> {
     ghost use Rattle.std.specs.Prelude.{◌≡◌, ◌+◌, ◌^◌, ◌≤◌};
     ghost use Rattle.hall.specs.Halls.{count_of};
     ghost use Rattle.desk.specs.Counts.{LockedHallOf};
+    ghost use Rattle.desk.specs.Parts.{ledger_parts};
     ghost use Rattle.desk.specs.Histories.{IsComeBy};
 
     ghost Value = { LockedHallOf };
@@ -74,7 +76,7 @@ impl<L: DeskLedger, A: Allocator> Model for LockedHall<L, A> {
     ghost view = { λ k. record { hall = k.hall; closed = k.closed; sleepers = k.sleepers; badges = k.badges; history = k.history } };
 
     ghost invariant = { λ k. (count_of k.hall ≡ k.before + k.book.total) × (k.hall.kept ≡ k.before + k.spare.amount) × (k.spare.parts ≡ k.parts)
-        × (L.all ≡ 13835058055282163712) × (k.parts ≤ 13835058055282163712) × (13835058055282163712 ≤ k.parts + k.badges + k.hall.shared.newest) × (k.badges ≤ 2 ^ 62)
+        × (L.all ≡ ledger_parts) × (k.parts ≤ ledger_parts) × (ledger_parts ≤ k.parts + k.badges + k.hall.shared.newest) × (k.badges ≤ 2 ^ 62)
         × IsComeBy L.begun k.hall.grain k.hall.shared k.history };
 }
 
@@ -176,6 +178,7 @@ impl<L: DeskLedger, A: Allocator + Clone> LockedHall<L, A> {
     pub(crate) fn admit(&mut self, reserve: Reserve) -> Result<Seat<L>, Refusal>
         ensures seat { IfOk result (λ seat. (seat.tenant ≡ self.old.hall.shared.newest + 1) × (seat.share ≡ 1) × (seat.asked ≡ [])) }
         ensures admitted { IfOk result (IsAdmitted reserve) }
+        ensures new { IfOk result (λ seat. tenant_in L.begun.shared.tenants seat.tenant ≡ None) }
         ensures step { MatchResult result
             (λ _. (did : DidOf LeafOf) × IsOffered self.old.hall (Admit (self.old.hall.shared.newest + 1) reserve) (Ok did) self.new.hall)
             (λ refusal. IsOffered self.old.hall (Admit (self.old.hall.shared.newest + 1) reserve) (Err refusal) self.new.hall) }

@@ -1,5 +1,6 @@
 //! A worker's badge, and the ledger of which its share is a part.
 ghost use Rattle.std.specs.Prelude.{◌≡◌, ℕ, ◌+◌, ◌*◌, ◌<◌, ◌≤◌};
+ghost use Rattle.desk.specs.Parts.{ledger_parts};
 
 use crate::history::Trace;
 use crate::passes::Naming;
@@ -56,7 +57,7 @@ impl<L: DeskLedger> Model for Badge<L> {
 
     ghost view = { λ b. b.steps };
 
-    ghost invariant = { λ b. (b.mine.amount ≡ b.steps) × (b.mine.parts ≡ b.parts) × (0 < b.parts) × (L.all ≡ 13835058055282163712) × (b.steps ≤ b.parts * 18446744073709551615) };
+    ghost invariant = { λ b. (b.mine.amount ≡ b.steps) × (b.mine.parts ≡ b.parts) × (0 < b.parts) × (L.all ≡ ledger_parts) × (b.steps ≤ b.parts * 18446744073709551615) };
 }
 
 impl<L: DeskLedger> Badge<L> {

@@ -2,3 +2,4 @@ mod Parts
 mod Served
 mod Turned
 mod Replied
+mod Solved

@@ -25,7 +25,8 @@ use std::sync::Wait;
 use tenant_quota::{Left, Reserve};
 
 /// A seat that is new at a desk: the history that it has seen ends with its tenant's admission, which is all that it made.
-/// Uses `desk::Desk::admit` (`seat`, `admitted`, `refused`).
+/// Its tenant wasn't in the hall that the desk was made with.
+/// Uses `desk::Desk::admit` (`seat`, `admitted`, `new`, `refused`).
 pub fn a_new_seat<L: DeskLedger, A: Allocator + Clone, R: Wait>(
     rt: &R,
     desk: &Desk<L, A>,
@@ -34,6 +35,7 @@ pub fn a_new_seat<L: DeskLedger, A: Allocator + Clone, R: Wait>(
     ensures asked { IfOk result (λ seat. (seat.share ≡ 1) × (seat.asked ≡ [])) }
     ensures seen { IfOk result (λ seat. (before : List (ℕ × SearchStep)) × (seat.known.seen ≡ before ++ (seat.known.maker, Admit seat.tenant reserve) ∷ [])
         × (only seat.tenant (steps_of before) ≡ []) × (own seat.known.maker before ≡ []) × (seat.known.mine ≡ Admit seat.tenant reserve ∷ [])) }
+    ensures new { IfOk result (λ seat. tenant_in L.begun.shared.tenants seat.tenant ≡ None) }
     ensures refused { IfErr result (Contains (Full ∷ OldTenant ∷ OutOfMemory ∷ [])) }
 {
     desk.admit(rt, reserve)

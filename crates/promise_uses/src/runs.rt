@@ -27,13 +27,13 @@ ghost use Rattle.promises.specs.Tenants.{own_steps, AreAdmissionsTaken};
 
 use jamboree_core::jamboree::Jamboree;
 use jamboree_core::laws::{every_completed_reply_is_the_minimax_value, every_frame_is_sound};
-use promises::{After, run, run_two};
+use promises::{After, run, run_any, run_two};
 use sched_rules::{Config, Step};
 use std::alloc::{AllocError, Allocator};
 
 /// After any list: tenant 7's job 3, where it is done, has in its words the board (two words) and the depth that the
 /// tenant's third Submit carried, their minimax value, their best choice and their table.
-/// Uses `promises::run` (`headline`).
+/// Uses `promises::run`.
 pub fn words_of_seven<A: Allocator + Clone>(
     alloc: A,
     procedure: Jamboree,
@@ -54,7 +54,7 @@ pub fn words_of_seven<A: Allocator + Clone>(
 
 /// After any list: tenant 9's job 5, where it is done, has in its words a table of the board and the depth that the
 /// tenant's fifth Submit carried: an entry for each choice, in order, each true of it, and the best choice's exact.
-/// Uses `promises::run` (`headline`).
+/// Uses `promises::run`.
 pub fn table_of_nine<A: Allocator + Clone>(
     alloc: A,
     procedure: Jamboree,
@@ -73,30 +73,28 @@ pub fn table_of_nine<A: Allocator + Clone>(
 }
 
 /// A list of three steps has three answers, and one of some length has as many.
-/// Uses `promises::run` (`answered`).
+/// Uses `promises::run_any` (`answered`).
 pub fn three_answers<A: Allocator + Clone>(
     alloc: A,
     procedure: Jamboree,
     config: Config,
     steps: &[Step<Jamboree>],
 ) -> Result<After<Jamboree, A>, AllocError>
-    requires { AreSearches steps.now }
     ensures { IfOk result (λ run. (count : ℕ) → length steps.now ≡ count + 3 → length run.answers.items ≡ count + 3) }
 {
-    run(alloc, procedure, config, steps)
+    run_any(alloc, procedure, config, steps)
 }
 
 /// Worker 5's Steal for tenant 7, somewhere in any list, is refused as tenant 7 alone would refuse it, where it has
 /// taken its own steps before; or with Busy, and then there is another tenant for which worker 5 runs or computes a
 /// frame. A Spend of tenant 9 is refused as tenant 9 alone would refuse it.
-/// Uses `promises::run` (`refused`).
+/// Uses `promises::run_any` (`refused`).
 pub fn refusals<A: Allocator + Clone>(
     alloc: A,
     procedure: Jamboree,
     config: Config,
     steps: &[Step<Jamboree>],
 ) -> Result<After<Jamboree, A>, AllocError>
-    requires { AreSearches steps.now }
     ensures seven { IfOk result (λ run. (before later : List SearchStep) (said more : List (Result (DidOf Leaf) Refusal)) (home serial : ℕ) (refusal : Refusal) →
         steps.now ≡ before ++ Steal 5 home (record { tenant = 7; serial = serial }) ∷ later → run.answers.items ≡ said ++ Err refusal ∷ more → length said ≡ length before →
         (lone_refusal (jamboree procedure.grain) (alone (jamboree procedure.grain) (own_steps 7 before said)) (Steal 5 home (record { tenant = 7; serial = serial })) ≡ Some refusal)
@@ -105,7 +103,7 @@ pub fn refusals<A: Allocator + Clone>(
         steps.now ≡ before ++ Spend (record { tenant = 9; serial = serial }) ∷ later → run.answers.items ≡ said ++ Err refusal ∷ more → length said ≡ length before →
         lone_refusal (jamboree procedure.grain) (alone (jamboree procedure.grain) (own_steps 9 before said)) (Spend (record { tenant = 9; serial = serial })) ≡ Some refusal) }
 {
-    run(alloc, procedure, config, steps)
+    run_any(alloc, procedure, config, steps)
 }
 
 /// Tenant 9 after two lists in which its own taken steps are the same: it is there after both, in the
@@ -150,25 +148,22 @@ pub fn seven_alone<A: Allocator + Clone>(
 }
 
 /// After any list tenant 9 is what its own taken steps make of it alone, and was told what they give; the second step is answered as the
-/// core after the first asks for; the core is the one that all answers lead to; and tenant 9's jobs and frames are as its Submits asked.
-/// Uses `promises::run` (`headline`).
+/// core after the first asks for; and the core is the one that all answers lead to.
+/// Uses `promises::run_any` (`headline`).
 pub fn nine_by_its_own_steps<A: Allocator + Clone>(
     alloc: A,
     procedure: Jamboree,
     config: Config,
     steps: &[Step<Jamboree>],
 ) -> Result<After<Jamboree, A>, AllocError>
-    requires { AreSearches steps.now }
     ensures state { IfOk result (λ run. tenant_in run.core.shared.tenants 9 ≡ alone (jamboree procedure.grain) (own_steps 9 steps.now run.answers.items)) }
     ensures told { IfOk result (λ run. own_answers 9 steps.now run.answers.items ≡ answers_from (jamboree procedure.grain) None (own_steps 9 steps.now run.answers.items)) }
     ensures second { IfOk result (λ run. (first second : SearchStep) (later : List SearchStep) (one two : Result (DidOf Leaf) Refusal) (more : List (Result (DidOf Leaf) Refusal)) →
         steps.now ≡ first ∷ second ∷ later → run.answers.items ≡ one ∷ two ∷ more →
         IsAnswerTo (jamboree procedure.grain) (after_answer (jamboree procedure.grain) (shared_by_nobody config) first one) second two) }
     ensures left { IfOk result (λ run. run.core.shared ≡ after_answers (jamboree procedure.grain) (shared_by_nobody config) steps.now run.answers.items) }
-    ensures jobs { IfOk result (λ run. (tenant : Tenant) → tenant_in run.core.shared.tenants 9 ≡ Some tenant → AreReplies (submitted_by steps.now run.answers.items 9) tenant.jobs) }
-    ensures frames { IfOk result (λ run. (tenant : Tenant) → tenant_in run.core.shared.tenants 9 ≡ Some tenant → AreAllSound tenant.frames tenant.frames) }
 {
-    run(alloc, procedure, config, steps)
+    run_any(alloc, procedure, config, steps)
 }
 
 /// Tenant 7 is after each of two lists what its own taken steps of that list make of it alone, and was told what they give. Where each

@@ -2,4 +2,3 @@ pub mod Answered
 pub mod Isolation
 pub mod Refused
 pub mod HallLemmas
-pub mod Solved

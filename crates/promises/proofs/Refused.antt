@@ -16,10 +16,6 @@ use Rattle.sched_rules.specs.Cores.{CoreState, shared_by_nobody, tenant_in, with
 use Rattle.sched_rules.specs.Headline.{IsAnswerTo, IsAnswerToStep, AreAnswersTo, after_answer, after_answers, IsHeadline}
 use Rattle.sched_rules.proofs.Isolation.{headline}
 use Rattle.sched_rules.proofs.Tenants.{tenant_in_other-with_tenant, tenant_in_other-without_tenant}
-use Rattle.jamboree_core.specs.jamboree_rules.declared.leaf.Leaf.{Leaf}
-use Rattle.jamboree_core.specs.jamboree_rules.declared.leaf.LeafAnswer.{LeafAnswer}
-use Rattle.jamboree_core.specs.jamboree_rules.Procedure.{jamboree}
-use Rattle.jamboree_core.specs.NewRuns.{IsHeadlineFromNew}
 use Rattle.promises.specs.Tenants.{stands, free_worker, IsForOwnState, IsForBusyWorker, AreRefusedForThese}
 
 abbrev Entries : Type 0
@@ -136,7 +132,7 @@ refused-there f at before said step refusal own apart right =
           })
     ]
 
-refused-for-these : {I A : Type 0} (f : Functions I A) (totals : Quota) (steps : List (StepOf A)) (answers : List (Result (DidOf I) Refusal)) (after : CoreState) → IsHeadline f (shared_by_nobody totals) steps answers after → AreRefusedForThese f steps answers
+pub refused-for-these : {I A : Type 0} (f : Functions I A) (totals : Quota) (steps : List (StepOf A)) (answers : List (Result (DidOf I) Refusal)) (after : CoreState) → IsHeadline f (shared_by_nobody totals) steps answers after → AreRefusedForThese f steps answers
 refused-for-these {I = I} {A = A} f totals steps answers after whole before later said more step refusal steps_are answers_are len no_admission =
     let new = shared_by_nobody totals in
     let P : List (StepOf A) → Type 0 = λ all. AreAnswersTo f new all answers in
@@ -144,7 +140,3 @@ refused-for-these {I = I} {A = A} f totals steps answers after whole before late
     let split = split-answers f new before later said more step (Err refusal) len (subst Q answers_are (subst P steps_are whole.refused)) in
     let head = headline f new before said tt split.0 in
     refused-there f (after_answers f new before said) before said step refusal (λ number. (head.undisturbed number).state) (apart-after f new before said tt) (split.1.1 no_admission)
-
--- the same of a list of searches
-pub refused-of-searches : (grain : ℕ) (totals : Quota) (steps : List (StepOf LeafAnswer)) (answers : List (Result (DidOf Leaf) Refusal)) (after : CoreState) → IsHeadlineFromNew grain totals steps answers after → AreRefusedForThese (jamboree grain) steps answers
-refused-of-searches grain totals steps answers after whole = refused-for-these (jamboree grain) totals steps answers after whole.tenants

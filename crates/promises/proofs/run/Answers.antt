@@ -1,9 +1,5 @@
-use Rattle.promises.proofs.Answered.{as-many, if-ok}
-use Rattle.promises.proofs.Refused.{refused-of-searches}
+use Rattle.promises.proofs.Answered.{if-ok}
 use Rattle.promises.proofs.run.Goals as goal
 
-pub returns-clause-answered : goal.returns-clause-answered
-returns-clause-answered g c = if-ok c.searched.result (λ run whole. as-many _ _ _ _ whole.tenants.refused) c.searched.ensures
-
-pub returns-clause-refused : goal.returns-clause-refused
-returns-clause-refused g c = if-ok c.searched.result (λ run whole. refused-of-searches _ _ _ _ _ whole) c.searched.ensures
+pub returns : goal.returns
+returns g c = if-ok c.searched.result (λ run whole. whole.replies) c.searched.ensures

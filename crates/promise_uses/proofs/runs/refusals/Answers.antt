@@ -4,10 +4,10 @@ use Rattle.promise_uses.proofs.runs.refusals.Goals as goal
 
 pub returns-clause-seven : goal.returns-clause-seven
 returns-clause-seven g c =
-    if-ok c.run.result (λ run these before later said more home serial refusal steps answers as_many.
-    of-seven c.args.procedure.grain before said home serial refusal (these before later said more _ refusal steps answers as_many refl)) c.run.ensures.refused
+    if-ok c.run_any.result (λ run these before later said more home serial refusal steps answers as_many.
+    of-seven c.args.procedure.grain before said home serial refusal (these before later said more _ refusal steps answers as_many refl)) c.run_any.ensures.refused
 
 pub returns-clause-nine : goal.returns-clause-nine
 returns-clause-nine g c =
-    if-ok c.run.result (λ run these before later said more serial refusal steps answers as_many.
-    of-nine c.args.procedure.grain before said serial refusal (these before later said more _ refusal steps answers as_many refl)) c.run.ensures.refused
+    if-ok c.run_any.result (λ run these before later said more serial refusal steps answers as_many.
+    of-nine c.args.procedure.grain before said serial refusal (these before later said more _ refusal steps answers as_many refl)) c.run_any.ensures.refused

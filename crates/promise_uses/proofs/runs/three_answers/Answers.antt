@@ -3,4 +3,4 @@ use Rattle.promise_uses.proofs.Parts.{if-ok}
 use Rattle.promise_uses.proofs.runs.three_answers.Goals as goal
 
 pub returns : goal.returns
-returns g c = if-ok c.run.result (λ run as_many count three. as_many ∙ three) c.run.ensures.answered
+returns g c = if-ok c.run_any.result (λ run as_many count three. as_many ∙ three) c.run_any.ensures.answered

@@ -1,4 +1,4 @@
-use Rattle.promises.proofs.Solved.{solves-three}
+use Rattle.promise_uses.proofs.Solved.{solves-three}
 use Rattle.promise_uses.proofs.solving.three_lines.Goals as goal
 
 pub returns : goal.returns

@@ -5,6 +5,7 @@ use Rattle.hall.specs.jamboree_rules.declared.leaf.LeafAnswer.{LeafAnswer}
 use Rattle.desk.specs.Traces.{Known}
 use Rattle.desk.specs.Histories.{AllOwn, AreSeats, HasNoLeave, IsAdmitted, IsComeBy}
 use Rattle.desk.proofs.Coming.{come_admitted, new_unused}
+use Rattle.desk.proofs.Judged.{tenant_in-new}
 use Rattle.desk.proofs.locked_hall.LockedHall.admit.Goals as goal
 
 pub invariant_of-self-2 : goal.invariant_of-self-2
@@ -44,3 +45,13 @@ returns-clause-admitted g c =
     let is : c.add.new.trace ≡ known = c.add.ensures.trace ∙ (λ i. record { maker = m; seen = seen i; mine = mine i }) in
     subst (λ (k : Known (StepOf LeafAnswer)). IsAdmitted c.args.reserve (record { tenant = t; share = 1; asked = c.new.result.items; known = k })) (sym is)
     (record { before = log; seen = refl; unused = new_unused g.L.DeskLedger.begun c.self.inside.hall log t c.self.invariant.7 c.next_tenant-tenant.ensures.value; unmade = c.begin-trace.ensures.fresh; mine = refl })
+
+pub returns-clause-new : goal.returns-clause-new
+returns-clause-new g c =
+    let begun = g.L.DeskLedger.begun in
+    let come = c.self.invariant.7 in
+    let later = come.later in
+    let number = c.next_tenant-tenant.ensures.value in
+    let t = c.next_tenant-tenant.result in
+    let above : begun.shared.newest < t = omega (arith, later, number) in
+    tenant_in-new begun.shared.newest t begun.shared.tenants above come.first

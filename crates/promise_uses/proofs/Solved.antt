@@ -1,4 +1,4 @@
--- What `SolvedRun` comes to, where three lines are answered: for `promise_uses`, which can't name the words of `solve_engine`.
+-- What `SolvedRun` comes to, where three lines are answered.
 use Rattle.std.proofs.Common.{◌≡◌, ◌⊎◌, inl, inr, ℕ, ◌<◌, Bool, true, false, List, [], ◌∷◌, ◌++◌, map, length, codes, Option, Some, Result, Ok, Err, refl, ap, subst, sym, ◌∙◌}
 use Rattle.std.specs.List.{concat}
 use Rattle.othello_eval.specs.Minimax.{minimax, best_choice}

@@ -1,0 +1,6 @@
+-- Meaning: how many parts a desk's ledger has.
+use Rattle.std.specs.Prelude.{ℕ}
+
+-- all parts of a desk's ledger: 3 * 2 ^ 62
+abbrev pub ledger_parts : ℕ
+ledger_parts = 13835058055282163712
