@@ -13,6 +13,7 @@ usage: tools/docs/check.py [FILE..]     (all where none is named)
 A counted figure stands in a document as `<!--n:NAME-->123<!---->`, which shows as 123; `figures` below has the names. A list that
 is made stands between `<!--made:NAME-->` and `<!--/made-->`; `LISTS` below has the names, and `words` leaves it out.
 """
+import collections
 import pathlib
 import re
 import subprocess
@@ -286,6 +287,19 @@ def head_faults(files, words):
                         yield f"{name}: no name {word} (in `{code}`)"
 
 
+def name_faults(files):
+    """The definitions that several crates have under one name, but for those that GLOSSARY lists, and what it lists for nothing."""
+    crates = collections.defaultdict(set)
+    for name in files:
+        if re.fullmatch(r"crates/\w+/specs/.*\.antt", name):
+            for word in re.findall(r"^(?:abbrev )?(?:pub )?(?:record |data )?([A-Za-z][\w'-]*) *[:({]", (TOP / name).read_text(), flags=re.M):
+                crates[word].add(name.split("/")[1])
+    shared = {word for word, those in crates.items() if len(those) > 1}
+    listed = set(re.findall(r"`([^`]+)`", (TOP / "docs/GLOSSARY.md").read_text().partition("\nSeveral crates define ")[2].partition("\n")[0]))
+    for word in sorted(shared ^ listed):
+        yield f"docs/GLOSSARY.md: {word} is defined in {' and '.join(sorted(crates[word])) or 'no crate'}: one name for one thing"
+
+
 def documents():
     found = [TOP / "README.md", TOP / "CONTRIBUTING.md", TOP / "CHANGELOG.md", TOP / "SECURITY.md", TOP / "clients/README.md", *sorted((TOP / "docs").glob("*.md")), *BY_HAND]
     return [path for path in found if path.exists()]
@@ -342,7 +356,7 @@ def main():
     if not words:
         others = [TOP / name for name in files if name.endswith(".md") and not name.startswith("docs/") and TOP / name not in documents()]
         linked = [f"{other.relative_to(TOP)}: {fault}" for other in others for fault in link_faults(other, other.read_text())]
-        for fault in sorted({*head_faults(files, names), *linked, *version_faults(), *count_words()[2]}):
+        for fault in sorted({*head_faults(files, names), *name_faults(files), *linked, *version_faults(), *count_words()[2]}):
             print(fault)
             bad += 1
         for script in MADE:
