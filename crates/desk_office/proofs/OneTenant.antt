@@ -7,11 +7,12 @@ use Rattle.line_io.specs.Lines.{LineText, Whole, TooLong, lines_of}
 use Rattle.line_io.specs.Talks.{upto}
 use Rattle.tenant_quota.specs.Quota.{Quota}
 use Rattle.sched_rules.specs.declared.step.StepOf.{StepOf}
-use Rattle.sched_rules.specs.declared.step.StepOf.TheVariants.{Admit, Leave as LeaveStep}
+use Rattle.sched_rules.specs.Cores.{tenant_in}
 use Rattle.desk.specs.Traces.{Known}
 use Rattle.desk.specs.hall.jamboree_rules.declared.leaf.LeafAnswer.{LeafAnswer}
 use Rattle.desk.specs.hall.Halls.{HallOf}
 use Rattle.desk.specs.Seats.{SeatOf}
+use Rattle.desk.specs.Histories.{IsAdmitted}
 use Rattle.session.specs.declared.faults.End.{End}
 use Rattle.session.specs.declared.faults.SessionFault.{SessionFault}
 use Rattle.session.specs.declared.faults.SessionFault.TheVariants.{Read, Write}
@@ -20,10 +21,11 @@ use Rattle.session.specs.Calls.{Call, Hello, Reserve, Get, Wait, Cancel, Leave, 
 use Rattle.session.specs.Forms.{Form, HelloOf, ReserveOf, AskOf, GetOf, WaitOf, CancelOf, TableOf, QuotaForm, LiveForm, ByeForm, form_of, form_by, form_after, is_bye}
 use Rattle.session.specs.Requests.{Request, Fault, Makes, Tabulates, Ends, request, form_request, seated_request, quota_request, quota_of, ask_request, job_request}
 use Rattle.session.specs.Sessions.{Called, IsAnsweredOf, session_lines}
-use Rattle.session.specs.Turns.{turns, calls_in, leaving, next_reply, later_replies, seated_after}
+use Rattle.session.specs.Turns.{turns, calls_in, next_reply, later_replies, seated_after}
 use Rattle.session.proofs.Served.{next_turns}
 use Rattle.desk_office.specs.Offices.{asks_of}
-use Rattle.desk_office.specs.Moments.{OfficeOf, AllStay, IsHello, IsOneTenancy, IsTenantOf, IsTurnAt, IsTurnOf, NobodyCame, is_stay, is_welcome}
+use Rattle.desk_office.specs.Answers.{AllStay, IsOneTenancy, IsTenantOf, NobodyCame, is_stay, is_welcome}
+use Rattle.desk_office.specs.Moments.{OfficeOf, IsHello, IsTurnAt, IsTurnOf}
 use Rattle.desk_office.proofs.Tenancies.{tenancy}
 
 -- ---- what a line asks for
@@ -229,16 +231,16 @@ module _ (begun : HallOf) where
           stay = t.stay;
           number = t.number;
           true_to = t.true_to;
-          steps = t.steps;
-          mine = t.mine;
-          asked = t.asked;
+          before = t.before;
+          unused = t.unused;
+          answered = t.answered;
         },
       )
 
   -- a HELLO that brought a tenant
-  one_welcome : (quota : Quota) (reply : OfficeReply) (from next to : OfficeOf) (seat : SeatOf) (calls : List (Call × OfficeReply)) → reply ≡ Welcome quota → next.seat ≡ Some seat → seat.known.mine ≡ Admit seat.tenant quota ∷ [] → AreSeated calls → Led next calls to → Comes from ((Hello quota, reply) ∷ calls) to
-  one_welcome quota reply from next to seat calls said here mine seated h =
-      let t = tenancy begun seat seated.0 next to here seated.1 (subst (λ (l : List (Call × OfficeReply)). Led next l to) seated.2 h) in
+  one_welcome : (quota : Quota) (reply : OfficeReply) (from next to : OfficeOf) (seat : SeatOf) (calls : List (Call × OfficeReply)) → reply ≡ Welcome quota → next.seat ≡ Some seat → IsAdmitted quota seat → tenant_in begun.shared.tenants seat.tenant ≡ None → seat.asked ≡ [] → AreSeated calls → Led next calls to → Comes from ((Hello quota, reply) ∷ calls) to
+  one_welcome quota reply from next to seat calls said here admitted new none seated h =
+      let t = tenancy begun quota seat seated.0 next to admitted new none here seated.1 (subst (λ (l : List (Call × OfficeReply)). Led next l to) seated.2 h) in
       inr (
         t.known,
         t.knew,
@@ -251,9 +253,9 @@ module _ (begun : HallOf) where
           stay = seated.1;
           number = seat.tenant;
           true_to = t.true_to;
-          steps = t.steps;
-          mine = t.mine ∙ ap (λ (l : List (StepOf LeafAnswer)). l ++ (t.steps ++ LeaveStep seat.tenant ∷ [])) mine;
-          asked = t.asked;
+          before = t.before;
+          unused = t.unused;
+          answered = t.answered;
         },
       )
 
@@ -277,11 +279,11 @@ module _ (begun : HallOf) where
       Q : Bool → Type 0
       Q b = Comes from ((Hello quota, reply) ∷ calls_in b (turns b lines later)) to
 
-      hello : IsHello (Hello quota) reply from h.0 → Q (seated_after false reply)
+      hello : IsHello begun (Hello quota) reply from h.0 → Q (seated_after false reply)
       hello (inl new) =
-          let seated : seated_after false reply ≡ true = ap (seated_after false) new.4 in
+          let seated : seated_after false reply ≡ true = ap (seated_after false) new.5 in
           let more = subst P seated h.2 in
-          subst Q (sym seated) (one_welcome quota reply from h.0 to new.0 (calls_in true (turns true lines later)) new.4 (ap (λ (o : OfficeOf). o.seat) new.1) new.2.mine (while_seated lines later h.0 to last.1 more) more)
+          subst Q (sym seated) (one_welcome quota reply from h.0 to new.0 (calls_in true (turns true lines later)) new.5 (ap (λ (o : OfficeOf). o.seat) new.1) new.2 new.3 new.4 (while_seated lines later h.0 to last.1 more) more)
       hello (inr refused) =
           let seated : seated_after false reply ≡ false = ap (seated_after false) refused.2 in
           let nobody : h.0.seat ≡ None = ap (λ (o : OfficeOf). o.seat) refused.0 ∙ none in

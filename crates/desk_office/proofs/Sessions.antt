@@ -11,9 +11,19 @@ use Rattle.desk.specs.hall.Halls.{HallOf}
 use Rattle.session.specs.declared.faults.End.{End}
 use Rattle.session.specs.declared.faults.SessionFault.{SessionFault}
 use Rattle.session.specs.Calls.{Call, OfficeReply}
+use Rattle.session.specs.Asks.{KeepsAsks}
 use Rattle.session.specs.Sessions.{Called, Session, calls_for, talk_result}
-use Rattle.desk_office.specs.Moments.{OfficeOf, vacant, IsTenantOf, IsTurnAt, SeenSession}
+use Rattle.session.proofs.DoneLemmas.{each_done}
+use Rattle.session.proofs.TrueCalls.{all_true}
+use Rattle.desk_office.specs.Offices.{asks_of}
+use Rattle.desk_office.specs.Answers.{IsTenantOf, SeenSession}
+use Rattle.desk_office.specs.Moments.{OfficeOf, vacant, IsTurnAt}
 use Rattle.desk_office.proofs.OneTenant.{answered_ends, one_tenant}
+
+-- the asks are kept by each call
+kept : (begun : HallOf) (from : OfficeOf) (made : List (Call × OfficeReply)) (to : OfficeOf) → Leads (Called (IsTurnAt begun)) from made to → Leads (Called KeepsAsks) (asks_of from.seat) made (asks_of to.seat)
+kept begun from [] to h = ap (λ (o : OfficeOf). asks_of o.seat) h
+kept begun from (made ∷ more) to h = (asks_of h.0.seat, h.1.1, kept begun h.0 more to h.2)
 
 module _ {O : Type 0} (seen : O → OfficeOf) (begun : HallOf) (does : O → Call → OfficeReply → O → Type 0) (turns : (from : O) (call : Call) (reply : OfficeReply) (to : O) → does from call reply to → IsTurnAt begun (seen from) call reply (seen to)) where
   led : (from : O) (made : List (Call × OfficeReply)) (to : O) → Leads (Called does) from made to → Leads (Called (IsTurnAt begun)) (seen from) made (seen to)
@@ -24,10 +34,12 @@ module _ {O : Type 0} (seen : O → OfficeOf) (begun : HallOf) (does : O → Cal
       (seen o).seat ≡ None → (seen o).knew ≡ None → known ≡ (seen o').knew → Session gives takes does s k o s' k' o' r → SeenSession begun gives takes s k s' k' r known
   seen_session gives takes s s' k k' o o' r known no_seat none_left is x =
       let new : seen o ≡ vacant = λ i. record { seat = no_seat i; knew = none_left i } in
-      let made = subst (λ (z : OfficeOf). Leads (Called (IsTurnAt begun)) z (calls_for x.answered x.replies) (seen o')) new (led o (calls_for x.answered x.replies) o' x.made) in
+      let calls = calls_for x.answered x.replies in
+      let made = subst (λ (z : OfficeOf). Leads (Called (IsTurnAt begun)) z calls (seen o')) new (led o calls o' x.made) in
+      let asks = kept begun vacant calls (seen o') made in
       record {
-        office = seen o';
-        knew = sym is;
-        session = record { blocks = x.blocks; last = x.last; answered = x.answered; replies = x.replies; pieces = x.pieces; reads = x.reads; ends = x.ends; lines = x.lines; made = made; writes = x.writes; written = x.written };
-        tenant = subst (λ (k : Option (Known (StepOf LeafAnswer))). IsTenantOf begun (calls_for x.answered x.replies) k) (sym is) (one_tenant begun x.answered x.replies vacant (seen o') (answered_ends r x.answered (bytes_due (talk_result r) (concat x.blocks)) x.lines) refl refl made);
+        asks = asks_of (seen o').seat;
+        session = record { blocks = x.blocks; last = x.last; answered = x.answered; replies = x.replies; pieces = x.pieces; reads = x.reads; ends = x.ends; lines = x.lines; made = asks; writes = x.writes; written = x.written };
+        dones = each_done x.answered x.replies (all_true [] calls (asks_of (seen o').seat) asks);
+        tenant = subst (λ (k : Option (Known (StepOf LeafAnswer))). IsTenantOf begun calls k) (sym is) (one_tenant begun x.answered x.replies vacant (seen o') (answered_ends r x.answered (bytes_due (talk_result r) (concat x.blocks)) x.lines) refl refl made);
       }

@@ -1,5 +1,5 @@
 -- What a call of the office is, by what the desk's call has done.
-use Rattle.std.proofs.Common.{◌≡◌, ◌≢◌, ℕ, ◌+◌, List, [], ◌∷◌, ◌++◌, map, length, Bool, true, false, Option, Some, None, Result, Ok, Err, refl, sym, ap, subst, ◌∙◌, inl, inr, arith}
+use Rattle.std.proofs.Common.{◌≡◌, ◌≢◌, ℕ, ◌+◌, ◌≤◌, List, [], ◌∷◌, ◌++◌, map, length, Bool, true, false, Option, Some, None, Result, Ok, Err, refl, sym, ap, subst, ◌∙◌, inl, inr, arith}
 use Rattle.std.specs.Prelude.{◌==◌, Contains, IfErr, MatchResult, option_map, option_and_then, sum_by}
 use Rattle.std.proofs.lemmas.Bool.Decides.{nat_tests}
 use Rattle.std.proofs.lemmas.List.{length-append, length-map, map-append}
@@ -13,6 +13,7 @@ use Rattle.sched_rules.specs.declared.refusal.Refusal.{Refusal}
 use Rattle.sched_rules.specs.declared.refusal.Refusal.TheVariants.{NoJob, NoJobsLeft, OldTenant}
 use Rattle.sched_rules.specs.Refusals.{refusal_number}
 use Rattle.sched_rules.specs.Trees.{Tenant, left, job_at}
+use Rattle.sched_rules.specs.Cores.{tenant_in}
 use Rattle.sched_rules.specs.Views.{left_in_core, live_of}
 use Rattle.sched_rules.specs.declared.step.StepOf.{StepOf}
 use Rattle.sched_rules.specs.declared.step.StepOf.TheVariants.{AdmitMore, Submit, Cancel as CancelStep, Leave as LeaveStep}
@@ -30,7 +31,8 @@ use Rattle.session.specs.declared.standings.Standing.{Standing}
 use Rattle.session.specs.Asks.{Asked, KeepsAsks}
 use Rattle.session.specs.Calls.{Call, Hello, Reserve, Ask, Get, Wait, Cancel, AskQuota, AskLive, Leave, OfficeReply, Welcome, Reserved, Job, Told, Ended, Rest, Alive, Gone, Refused, reply_of}
 use Rattle.desk_office.specs.Offices.{ask_of, asks_of, told_answer}
-use Rattle.desk_office.specs.Moments.{OfficeOf, live_in, with_seat, IsHello, IsJobTold, IsStepBy, IsTurnAt, IsTurnOf}
+use Rattle.desk_office.specs.Answers.{live_in}
+use Rattle.desk_office.specs.Moments.{OfficeOf, with_seat, IsHello, IsJobTold, IsStepBy, IsTurnAt, IsTurnOf}
 use Rattle.desk_office.proofs.SeatLemmas.{cancels, job_kept, refused_by, reserves}
 
 -- a call of an office whose seat is this one, and then that one
@@ -40,7 +42,7 @@ turn begun from call reply before after is one keeps =
     subst (λ o. IsTurnOf begun o call reply from (with_seat after from) × KeepsAsks (asks_of o) call reply (map ask_of after.asked)) (sym is) (one, keeps)
 
 -- a call of an office without a tenant that changes nothing
-pub no_turn : (begun : HallOf) (from : OfficeOf) (call : Call) (reply : OfficeReply) → from.seat ≡ None → IsHello call reply from from → KeepsAsks [] call reply [] → IsTurnAt begun from call reply from
+pub no_turn : (begun : HallOf) (from : OfficeOf) (call : Call) (reply : OfficeReply) → from.seat ≡ None → IsHello begun call reply from from → KeepsAsks [] call reply [] → IsTurnAt begun from call reply from
 no_turn begun from call reply is one keeps =
     subst (λ o. IsTurnOf begun o call reply from from × KeepsAsks (asks_of o) call reply (asks_of o)) (sym is) (one, keeps)
 
@@ -56,25 +58,25 @@ reserve_step begun before after quota (Err refusal) share told =
     record { words = no_words; board = tt; step = AdmitMore before.tenant quota; asks = refl; came = inr (inl (record { refusal = refusal; saw = told.0; right = told.1; seat = share; said = refl })) }
 
 -- the seat asks
-ask_step : (begun : HallOf) (before after : SeatOf) (words : Board) (depth : ℕ) (side : Side) (answer : Result ℕ Refusal) → IsAsked (record { board = words; depth = depth }) before answer after →
+ask_step : (begun : HallOf) (before after : SeatOf) (words : Board) (depth : ℕ) (side : Side) (answer : Result ℕ Refusal) → depth ≤ 12 → IsAsked (record { board = words; depth = depth }) before answer after →
     (length before.asked ≡ 256 → after ≡ before) →
     (length before.asked ≢ 256 → IsToldOf begun before.known (Submit before.tenant (root_words words.own words.opp depth) frame_size) answer after.known) →
     IsStepBy begun before (Ask depth (cells words) side) (reply_of Job answer) after
-ask_step begun before after words depth side (Ok job) asked full told =
+ask_step begun before after words depth side (Ok job) shallow asked full told =
     let asking : SeatAsked = record { board = words; depth = depth } in
     let counted : job ≡ length before.asked + 1 = asked.1 ∙ ap (λ (s : SeatOf). length s.asked) asked.0 ∙ length-append before.asked (asking ∷ []) in
-    record { words = words; board = refl; step = Submit before.tenant (root_words words.own words.opp depth) frame_size; asks = refl; came = inl (record { took = told asked.2; seat = asked.0; said = ap Job counted }) }
-ask_step begun before after words depth side (Err refusal) asked full told = by_test (length before.asked == 256) refl
+    record { words = words; board = (refl, shallow); step = Submit before.tenant (root_words words.own words.opp depth) frame_size; asks = refl; came = inl (record { took = told asked.2; seat = asked.0; said = ap Job counted }) }
+ask_step begun before after words depth side (Err refusal) shallow asked full told = by_test (length before.asked == 256) refl
   where
     by_test : (b : Bool) → (length before.asked == 256) ≡ b → IsStepBy begun before (Ask depth (cells words) side) (Refused (refusal_number refusal)) after
     by_test true e =
         let is : length before.asked ≡ 256 = grind (arith, nat_tests, e) in
         let why : refusal ≡ NoJobsLeft = asked.1 is in
-        record { words = words; board = refl; step = Submit before.tenant (root_words words.own words.opp depth) frame_size; asks = refl; came = inr (inr (full is, (is, ap (λ r. Refused (refusal_number r)) why))) }
+        record { words = words; board = (refl, shallow); step = Submit before.tenant (root_words words.own words.opp depth) frame_size; asks = refl; came = inr (inr (full is, (is, ap (λ r. Refused (refusal_number r)) why))) }
     by_test false e =
         let other : length before.asked ≢ 256 = λ is. absurd (grind (arith, nat_tests, e, is)) in
         let kept = told other in
-        record { words = words; board = refl; step = Submit before.tenant (root_words words.own words.opp depth) frame_size; asks = refl; came = inr (inl (record { refusal = refusal; saw = kept.0; right = kept.1; seat = asked.0; said = refl })) }
+        record { words = words; board = (refl, shallow); step = Submit before.tenant (root_words words.own words.opp depth) frame_size; asks = refl; came = inr (inl (record { refusal = refusal; saw = kept.0; right = kept.1; seat = asked.0; said = refl })) }
 
 -- the seat cancels
 cancel_step : (begun : HallOf) (before after : SeatOf) (job : ℕ) (answer : Result (Unit {0}) Refusal) → MatchResult answer (λ _. after ≡ stepped after.known before) (λ _. after ≡ seeing after.known before) →
@@ -147,12 +149,12 @@ pub reserve_turn : (begun : HallOf) (from : OfficeOf) (before after : SeatOf) (q
 reserve_turn begun from before after quota answer is share told refused =
     turn begun from (Reserve quota) (reply_of (λ _. Reserved quota) answer) before after is (after, refl, reserve_step begun before after quota answer share told) (reserves before after quota answer share refused)
 
-pub ask_turn : (begun : HallOf) (from : OfficeOf) (before after : SeatOf) (words : Board) (depth : ℕ) (side : Side) (answer : Result ℕ Refusal) → from.seat ≡ Some before → IsAsked (record { board = words; depth = depth }) before answer after →
+pub ask_turn : (begun : HallOf) (from : OfficeOf) (before after : SeatOf) (words : Board) (depth : ℕ) (side : Side) (answer : Result ℕ Refusal) → from.seat ≡ Some before → depth ≤ 12 → IsAsked (record { board = words; depth = depth }) before answer after →
     (length before.asked ≡ 256 → after ≡ before) →
     (length before.asked ≢ 256 → IsToldOf begun before.known (Submit before.tenant (root_words words.own words.opp depth) frame_size) answer after.known) → IfErr answer (Contains ask_refusals) →
     IsTurnAt begun from (Ask depth (cells words) side) (reply_of Job answer) (with_seat after from)
-ask_turn begun from before after words depth side answer is asked full told refused =
-    turn begun from (Ask depth (cells words) side) (reply_of Job answer) before after is (after, refl, ask_step begun before after words depth side answer asked full told) (asks_kept before after words depth side answer asked refused)
+ask_turn begun from before after words depth side answer is shallow asked full told refused =
+    turn begun from (Ask depth (cells words) side) (reply_of Job answer) before after is (after, refl, ask_step begun before after words depth side answer shallow asked full told) (asks_kept before after words depth side answer asked refused)
 
 pub cancel_turn : (begun : HallOf) (from : OfficeOf) (before after : SeatOf) (job : ℕ) (answer : Result (Unit {0}) Refusal) → from.seat ≡ Some before →
     MatchResult answer (λ _. after ≡ stepped after.known before) (λ _. after ≡ seeing after.known before) → (seat_asked_at before.asked job ≡ None → (answer ≡ Err NoJob) × (after ≡ before)) →
@@ -198,10 +200,10 @@ leave_turn begun from before now is told true_to =
     subst (λ o. IsTurnOf begun o Leave Gone from (record { seat = None; knew = Some now }) × KeepsAsks (asks_of o) Leave Gone []) (sym is) ((now, refl, told, true_to, refl), (refl, tt, refl, refl))
 
 -- HELLO: a new seat, a refusal, and one where a tenant is there
-pub hello_turn : (begun : HallOf) (from : OfficeOf) (quota : Quota) (seat : SeatOf) → from.seat ≡ None → IsAdmitted quota seat → seat.asked ≡ [] → IsTurnAt begun from (Hello quota) (Welcome quota) (with_seat seat from)
-hello_turn begun from quota seat is admitted asked =
+pub hello_turn : (begun : HallOf) (from : OfficeOf) (quota : Quota) (seat : SeatOf) → from.seat ≡ None → IsAdmitted quota seat → tenant_in begun.shared.tenants seat.tenant ≡ None → seat.asked ≡ [] → IsTurnAt begun from (Hello quota) (Welcome quota) (with_seat seat from)
+hello_turn begun from quota seat is admitted new asked =
     subst (λ o. IsTurnOf begun o (Hello quota) (Welcome quota) from (with_seat seat from) × KeepsAsks (asks_of o) (Hello quota) (Welcome quota) (map ask_of seat.asked)) (sym is)
-    (inl (seat, refl, admitted, asked, refl), (ap (map ask_of) asked, tt, tt, refl))
+    (inl (seat, refl, admitted, new, asked, refl), (ap (map ask_of) asked, tt, tt, refl))
 
 pub hello_refused : (begun : HallOf) (from : OfficeOf) (quota : Quota) (refusal : Refusal) → from.seat ≡ None → Contains admit_refusals refusal → IsTurnAt begun from (Hello quota) (Refused (refusal_number refusal)) from
 hello_refused begun from quota refusal is listed =
@@ -210,7 +212,7 @@ hello_refused begun from quota refusal is listed =
 pub hello_again : (begun : HallOf) (from : OfficeOf) (quota : Quota) (before : SeatOf) → from.seat ≡ Some before → IsTurnAt begun from (Hello quota) (Refused 18) from
 hello_again begun from quota before is =
     subst (λ o. IsTurnOf begun o (Hello quota) (Refused 18) from from × KeepsAsks (asks_of o) (Hello quota) (Refused 18) (asks_of o)) (sym is)
-    ((refl, 18, refl), (refl, tt, refused_by admit_refusals OldTenant (1, omega arith, refl), tt))
+    ((refl, refl), (refl, tt, refused_by admit_refusals OldTenant (1, omega arith, refl), tt))
 
 -- the calls where no tenant is there
 pub leave_none : (begun : HallOf) (from : OfficeOf) → from.seat ≡ None → IsTurnAt begun from Leave Gone from

@@ -1,3 +1,4 @@
 pub mod Offices
+pub mod Answers
 pub mod Moments
 pub mod Rows

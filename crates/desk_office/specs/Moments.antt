@@ -1,19 +1,16 @@
--- Meaning: what each call of an office does to what its seat knows of the desk's history, and what the reply is by the history
--- that the seat has then seen.
-use Rattle.std.specs.Prelude.{◌≡◌, ◌⊎◌, ℕ, ◌+◌, Bool, true, false, List, [], ◌∷◌, ◌++◌, length, sum_by, Option, Some, None, option_map, option_and_then, Result, Err}
-use mathlib.Core.List.{IsPrefix}
-use Rattle.tenant_quota.specs.Quota.{Quota}
-use Rattle.line_io.specs.Streams.{ReadAnswer, WriteAnswer}
+-- Representation: what each call of an office does to what its seat knows of the desk's history, and what the reply is by the
+-- history that the seat has then seen.
+use Rattle.std.specs.Prelude.{◌≡◌, ◌⊎◌, ℕ, ◌+◌, List, [], ◌∷◌, ◌++◌, length, Option, Some, None, option_map, option_and_then, Result, Err}
 use Rattle.othello_board.specs.declared.boards.Board.{Board}
-use Rattle.othello_board.specs.Words.{cells}
 use Rattle.sched_rules.specs.declared.refusal.Refusal.{Refusal}
+use Rattle.sched_rules.specs.declared.refusal.Refusal.TheVariants.{OldTenant}
 use Rattle.sched_rules.specs.Refusals.{refusal_number}
 use Rattle.sched_rules.specs.declared.step.StepOf.{StepOf}
-use Rattle.sched_rules.specs.declared.step.StepOf.TheVariants.{Admit, AdmitMore, Submit, Cancel as CancelStep, Leave as LeaveStep}
+use Rattle.sched_rules.specs.declared.step.StepOf.TheVariants.{Leave as LeaveStep}
 use Rattle.sched_rules.specs.Trees.{Tenant, left, job_at}
+use Rattle.sched_rules.specs.Cores.{tenant_in}
 use Rattle.sched_rules.specs.Headline.{IsAnswerTo}
 use Rattle.desk.specs.Traces.{Known}
-use Rattle.desk.specs.hall.jamboree_rules.Places.{root_words, frame_size}
 use Rattle.desk.specs.hall.jamboree_rules.Procedure.{jamboree}
 use Rattle.desk.specs.hall.jamboree_rules.declared.leaf.LeafAnswer.{LeafAnswer}
 use Rattle.desk.specs.hall.Halls.{HallOf}
@@ -23,13 +20,10 @@ use Rattle.desk_rules.specs.declared.asked.SeatAsked.{SeatAsked}
 use Rattle.desk_rules.specs.Asked.{found_or_no_tenant, seat_asked_at, IsShown, IsToldBy}
 use Rattle.desk.specs.Seats.{SeatOf, seeing}
 use Rattle.desk.specs.Histories.{core_at, tenant_at, IsAdmitted, IsLook, IsTrueTo, Saw, Took}
-use Rattle.session.specs.declared.faults.End.{End}
-use Rattle.session.specs.declared.faults.SessionFault.{SessionFault}
-use Rattle.session.specs.declared.standings.Live.{Live}
 use Rattle.session.specs.Asks.{KeepsAsks}
 use Rattle.session.specs.Calls.{Call, Hello, Reserve, Ask, Get, Wait, Cancel, AskQuota, AskLive, Leave, OfficeReply, Welcome, Reserved, Job, Told, Ended, Rest, Alive, Gone, Refused, reply_of}
-use Rattle.session.specs.Sessions.{Session, calls_for}
 use Rattle.desk_office.specs.Offices.{asks_of, told_answer}
+use Rattle.desk_office.specs.Answers.{live_in, step_for, IsBoardIn}
 
 -- what contracts see of an office: its seat while a tenant is there, and what the seat knew when the tenant left
 pub record OfficeOf : Type 0 where
@@ -43,20 +37,6 @@ vacant = record { seat = None; knew = None }
 -- the office with this seat
 abbrev pub with_seat : SeatOf → OfficeOf → OfficeOf
 with_seat seat office = record { seat = Some seat; knew = office.knew }
-
--- the step that a call asks of the desk for its tenant, None where it only looks; these are the words of an Ask's board
-abbrev pub step_for : ℕ → Board → Call → Option (StepOf LeafAnswer)
-step_for number words (Hello quota) = Some (Admit number quota)
-step_for number words (Reserve quota) = Some (AdmitMore number quota)
-step_for number words (Ask depth board side) = Some (Submit number (root_words words.own words.opp depth) frame_size)
-step_for number words (Cancel job) = Some (CancelStep number job)
-step_for number words Leave = Some (LeaveStep number)
-step_for number words _ = None
-
--- these are the words of the board that a call asks for, if it is an Ask
-abbrev pub IsBoardIn : Board → Call → Type 0
-IsBoardIn words (Ask depth board side) = board ≡ cells words
-IsBoardIn words _ = Unit {0}
 
 -- the reply to a call whose step was taken, where its tenant had asked for so many jobs
 abbrev pub taken_reply : ℕ → Call → OfficeReply
@@ -84,10 +64,6 @@ IsJobTold asked tenant job reply = (answer : Result Outcome Refusal) × (told : 
     × IsShown (seat_asked_at asked job) answer
     × IsOutcomeIn (option_and_then (λ its. job_at its.jobs job) tenant) told
     × IsToldBy (seat_asked_at asked job) told answer
-
--- what LIVE says of a tenant: how many frames it has, and how many words these have together
-abbrev pub live_in : Tenant → Live
-live_in its = record { frames = length its.frames; words = sum_by (λ frame. length frame.value) its.frames }
 
 -- the reply to a call that only looks, by what its tenant has come to, and what the tenant asked for
 abbrev pub IsReplyOf : List SeatAsked → Option Tenant → Call → OfficeReply → Type 0
@@ -126,11 +102,11 @@ pub record IsLookBy (begun : HallOf) (before : SeatOf) (call : Call) (reply : Of
   pub said : IsReplyOf now.asked (tenant_at begun now.known.seen now.tenant) call reply
 
 -- HELLO: there is a new tenant with its seat, or a refusal
-abbrev pub IsHello : Call → OfficeReply → OfficeOf → OfficeOf → Type 0
-IsHello (Hello quota) reply from to =
-    ((seat : SeatOf) × (to ≡ with_seat seat from) × IsAdmitted quota seat × (seat.asked ≡ []) × (reply ≡ Welcome quota))
+abbrev pub IsHello : HallOf → Call → OfficeReply → OfficeOf → OfficeOf → Type 0
+IsHello begun (Hello quota) reply from to =
+    ((seat : SeatOf) × (to ≡ with_seat seat from) × IsAdmitted quota seat × (tenant_in begun.shared.tenants seat.tenant ≡ None) × (seat.asked ≡ []) × (reply ≡ Welcome quota))
     ⊎ ((to ≡ from) × (number : ℕ) × (reply ≡ Refused number))
-IsHello call reply from to = to ≡ from
+IsHello begun call reply from to = to ≡ from
 
 -- the tenant leaves: its Leave is the end of the history that its seat knew then, all steps of that were taken, and its seat
 -- steps of the tenant are just the seat's own
@@ -140,8 +116,8 @@ IsGone begun before reply to = (now : Known (StepOf LeafAnswer))
 
 -- one call of an office with this seat, at a desk that was made with this hall
 abbrev pub IsTurnOf : HallOf → Option SeatOf → Call → OfficeReply → OfficeOf → OfficeOf → Type 0
-IsTurnOf begun None call reply from to = IsHello call reply from to
-IsTurnOf begun (Some before) (Hello quota) reply from to = (to ≡ from) × (number : ℕ) × (reply ≡ Refused number)
+IsTurnOf begun None call reply from to = IsHello begun call reply from to
+IsTurnOf begun (Some before) (Hello quota) reply from to = (to ≡ from) × (reply ≡ Refused (refusal_number OldTenant))
 IsTurnOf begun (Some before) (Reserve quota) reply from to = (now : SeatOf) × (to ≡ with_seat now from) × IsStepBy begun before (Reserve quota) reply now
 IsTurnOf begun (Some before) (Ask depth board side) reply from to = (now : SeatOf) × (to ≡ with_seat now from) × IsStepBy begun before (Ask depth board side) reply now
 IsTurnOf begun (Some before) (Cancel job) reply from to = (now : SeatOf) × (to ≡ with_seat now from) × IsStepBy begun before (Cancel job) reply now
@@ -151,83 +127,3 @@ IsTurnOf begun (Some before) call reply from to = (now : SeatOf) × (to ≡ with
 -- one call of an office at a desk that was made with this hall: the asks of its tenant are kept, and the history has it
 abbrev pub IsTurnAt : HallOf → OfficeOf → Call → OfficeReply → OfficeOf → Type 0
 IsTurnAt begun from call reply to = IsTurnOf begun from.seat call reply from to × KeepsAsks (asks_of from.seat) call reply (asks_of to.seat)
-
--- whether a reply says that a step of the tenant was taken
-abbrev pub is_taken : OfficeReply → Bool
-is_taken (Welcome quota) = true
-is_taken (Reserved quota) = true
-is_taken (Job number) = true
-is_taken (Ended job) = true
-is_taken Gone = true
-is_taken _ = false
-
--- these steps begin with the one that this call asked for, if it was taken, and the others are these
-abbrev pub BeginsWith : Bool → ℕ → Call → (List (StepOf LeafAnswer) → Type 0) → List (StepOf LeafAnswer) → Type 0
-BeginsWith true number call others steps =
-    (words : Board) × (step : StepOf LeafAnswer) × (later : List (StepOf LeafAnswer)) × IsBoardIn words call × (step_for number words call ≡ Some step) × (steps ≡ step ∷ later) × others later
-BeginsWith false number call others steps = others steps
-
--- these steps of a tenant are just those that these calls asked for and that were taken, in order
-abbrev pub AreStepsOf : ℕ → List (Call × OfficeReply) → List (StepOf LeafAnswer) → Type 0
-AreStepsOf number [] steps = steps ≡ []
-AreStepsOf number (made ∷ more) steps = BeginsWith (is_taken made.1) number made.0 (λ later. AreStepsOf number more later) steps
-
--- whether a call is none by which the tenant leaves
-abbrev pub is_stay : Call → Bool
-is_stay Leave = false
-is_stay _ = true
-
--- none of these calls is one by which the tenant leaves
-abbrev pub AllStay : List (Call × OfficeReply) → Type 0
-AllStay [] = Unit {0}
-AllStay (made ∷ more) = (is_stay made.0 ≡ true) × AllStay more
-
--- a tenant was there with this seat, these calls were made for it, and it left: the history that its seat then knew goes on from
--- what the seat had seen and ends with the Leave. Each step of it was taken. The tenant's seat steps in it are the seat's own, and
--- those since then are just what these calls asked for
-pub record IsTenancy (begun : HallOf) (first : SeatOf) (calls : List (Call × OfficeReply)) (to : OfficeOf) : Type 0 where
-  pub known : Known (StepOf LeafAnswer)
-  pub knew : to.knew ≡ Some known
-  pub goes_on : IsPrefix first.known.seen known.seen
-  pub true_to : IsTrueTo begun first.tenant known
-  pub steps : List (StepOf LeafAnswer)
-  pub mine : known.mine ≡ first.known.mine ++ (steps ++ LeaveStep first.tenant ∷ [])
-  pub asked : AreStepsOf first.tenant calls steps
-
--- whether a reply says that there is a new tenant
-abbrev pub is_welcome : OfficeReply → Bool
-is_welcome (Welcome quota) = true
-is_welcome _ = false
-
--- no tenant came by these calls
-abbrev pub NobodyCame : List (Call × OfficeReply) → Type 0
-NobodyCame [] = Unit {0}
-NobodyCame (made ∷ more) = (is_welcome made.1 ≡ false) × NobodyCame more
-
--- by these calls one tenant came, and it left by the last of them; and what its seat knew then: each step of the history was taken,
--- and the tenant's seat steps in it are its Admit, just what the calls between asked for and was taken, in order, and its Leave
-pub record IsOneTenancy (begun : HallOf) (calls : List (Call × OfficeReply)) (known : Known (StepOf LeafAnswer)) : Type 0 where
-  pub early : List (Call × OfficeReply)
-  pub quota : Quota
-  pub later : List (Call × OfficeReply)
-  pub are : calls ≡ early ++ (Hello quota, Welcome quota) ∷ (later ++ (Leave, Gone) ∷ [])
-  pub nobody : NobodyCame early
-  pub stay : AllStay later
-  pub number : ℕ
-  pub true_to : IsTrueTo begun number known
-  pub steps : List (StepOf LeafAnswer)
-  pub mine : known.mine ≡ Admit number quota ∷ (steps ++ LeaveStep number ∷ [])
-  pub asked : AreStepsOf number later steps
-
--- a session's one tenant, by the session's calls and what its seat knew when it left; None where nobody came
-abbrev pub IsTenantOf : HallOf → List (Call × OfficeReply) → Option (Known (StepOf LeafAnswer)) → Type 0
-IsTenantOf begun calls None = NobodyCame calls
-IsTenantOf begun calls (Some known) = IsOneTenancy begun calls known
-
--- a session whose calls are made of an office at a desk that was made with this hall, and what the tenant's seat knew when it
--- left, if one came: it had one tenant at most
-pub record SeenSession {S K : Type 0} (begun : HallOf) (gives : S → ReadAnswer → S → Type 0) (takes : K → WriteAnswer → K → Type 0) (source : S) (sink : K) (source' : S) (sink' : K) (r : Result End SessionFault) (known : Option (Known (StepOf LeafAnswer))) : Type 0 where
-  pub office : OfficeOf
-  pub knew : office.knew ≡ known
-  pub session : Session gives takes (IsTurnAt begun) source sink vacant source' sink' office r
-  pub tenant : IsTenantOf begun (calls_for session.answered session.replies) known

@@ -9,7 +9,9 @@
 //!
 //! So [`serve_desk`] can promise it of the lines themselves (`TrueSession`): each `DONE k value move` bears the minimax
 //! value and the best choice of the position and the depth of the k-th `ASK` line that was answered by `JOB`, and each
-//! `TABLE k` with entries their table.
+//! `TABLE k` with entries their table. [`serve_desk_seen`] says of each answer what it is by the desk's history
+//! (`specs/Answers.antt`): a function, `reply_to`, of the request and of what the tenant's own part of the history had made
+//! of it at a moment. `specs/Moments.antt` says of each call what it does to what the seat knows; no page rests on it.
 //!
 //! Why it is so:
 //!
@@ -24,13 +26,11 @@
 //! ```
 #![tactic(auto)]
 
-mod laws;
 mod office;
 mod outcomes;
 pub mod rows;
 mod serving;
 
-pub use laws::own_steps_are_what_was_asked;
 pub use office::DeskOffice;
 pub use outcomes::told_answer;
 pub use serving::{serve_desk, serve_desk_seen};

@@ -1,12 +1,12 @@
 //! Sessions at a desk.
 ghost use Rattle.std.specs.Prelude.{◌≡◌};
 ghost use Rattle.session.specs.DoneLines.{TrueSession};
-ghost use Rattle.desk_office.specs.Moments.{SeenSession};
+ghost use Rattle.desk_office.specs.Answers.{SeenSession};
 
 use crate::office::DeskOffice;
 use desk::{Desk, DeskLedger, Jamboree, Step, Trace};
 use line_io::{Sink, Source};
-use session::{End, SessionFault, each_done_line_is_true, serve_lines};
+use session::{End, SessionFault, serve_lines};
 use std::alloc::Allocator;
 use std::sync::Wait;
 
@@ -28,9 +28,10 @@ pub fn serve_desk<S: Source, K: Sink, L: DeskLedger, R: Wait, A: Allocator + Clo
 }
 
 /// As `serve_desk`, and gives back what the tenant's seat knew of the desk's history when it left; `None` where no tenant
-/// came. Each call that a line made is one of an office at this desk (`IsTurnAt`): a step that was taken is the last of the
-/// history that the seat has then seen, and a refusal is the one that the core at its end gives; a DONE, TABLE, PENDING, SPENT,
-/// CANCELLED, QUOTA or LIVE line says what the tenant's own part of that history gives. What the seat has seen only grows.
+/// came. Each answer to the tenant is a function of its request and of what the tenant's own part of that history had made of
+/// it at a moment (`reply_to`); only a raise of the reservation may also be refused for want of room or memory. The moments
+/// come one after another, and the tenant's steps that workers didn't make are just those that its lines asked for and that
+/// were taken, each at its moment.
 pub fn serve_desk_seen<S: Source, K: Sink, L: DeskLedger, R: Wait, A: Allocator + Clone>(
     rt: &R,
     source: &mut S,
@@ -38,12 +39,10 @@ pub fn serve_desk_seen<S: Source, K: Sink, L: DeskLedger, R: Wait, A: Allocator 
     desk: &Desk<L, A>,
 ) -> (Result<End, SessionFault>, Option<Trace<Step<Jamboree>, L>>)
     requires { L.all ≡ L.parts }
-    ensures lines { TrueSession S.gives K.takes source.old sink.old source.new sink.new result.0 }
-    ensures history { SeenSession L.begun S.gives K.takes source.old sink.old source.new sink.new result.0 result.1 }
+    ensures { SeenSession L.begun S.gives K.takes source.old sink.old source.new sink.new result.0 result.1 }
 {
     let mut office = DeskOffice::new(rt, desk);
     let result = serve_lines(rt, source, sink, &mut office);
     let knew = office.close();
-    each_done_line_is_true::<S, K, DeskOffice<'_, L, R, A>>();
     (result, knew)
 }

@@ -24,8 +24,7 @@ ghost use Rattle.sched_rules.specs.Headline.{IsHeadline, own_answers};
 ghost use Rattle.jamboree_core.specs.Replies.{AreReplies, AreSearches};
 ghost use Rattle.jamboree_core.specs.NewRuns.{submitted_by, IsHeadlineFromNew};
 ghost use Rattle.hall.specs.Journals.{journal_in};
-ghost use Rattle.session.specs.DoneLines.{TrueSession};
-ghost use Rattle.desk_office.specs.Moments.{SeenSession};
+ghost use Rattle.desk_office.specs.Answers.{SeenSession};
 ghost use Rattle.solve_engine.specs.Solving.{SolvedRun};
 ghost use Rattle.promises.specs.Tenants.{own_steps, AreAdmissionsTaken, AreRefusedForThese};
 ghost use Rattle.promises.specs.Replies.{IsValueOfSubmit, IsEntryOfSubmit};
@@ -201,10 +200,10 @@ pub fn entry_in<A: Allocator>(hall: &Hall<A>, tenant: u64, job: u64, number: usi
 /// Serves one session of one tenant at a desk, and gives back what the tenant's seat knew of the desk's history when it
 /// left; `None` where no tenant came. What was written is the answers to the lines that were read, in order. A line
 /// `JOB` has the next number, and `DONE k` and `TABLE k` the minimax value, the best choice and the table of what the
-/// k-th `ASK` line that got a `JOB` asked for (`lines`). Each call that a line made is one of an office at this desk
-/// (`IsTurnAt`): a step that was taken is the last of the history that the seat has then seen, and a refusal is the one
-/// that the core at its end gives; a DONE, TABLE, PENDING, SPENT, CANCELLED, QUOTA or LIVE line says what the tenant's
-/// own part of that history gives. What the seat has seen only grows (`history`).
+/// k-th `ASK` line that got a `JOB` asked for (`dones`). Each answer to the tenant is a function of its request and of
+/// what the tenant's own part of the desk's history had made of it at a moment (`reply_to`); only a raise of the
+/// reservation may also be refused for want of room or memory. The moments come one after another, and the tenant's steps
+/// that workers didn't make are just those that its lines asked for and that were taken, each at its moment (`tenant`).
 pub fn serve<S: Source, K: Sink, L: DeskLedger, R: Wait, A: Allocator + Clone>(
     rt: &R,
     source: &mut S,
@@ -212,8 +211,7 @@ pub fn serve<S: Source, K: Sink, L: DeskLedger, R: Wait, A: Allocator + Clone>(
     desk: &Desk<L, A>,
 ) -> (Result<End, SessionFault>, Option<Trace<Step<Jamboree>, L>>)
     requires { L.all ≡ L.parts }
-    ensures lines { TrueSession S.gives K.takes source.old sink.old source.new sink.new result.0 }
-    ensures history { SeenSession L.begun S.gives K.takes source.old sink.old source.new sink.new result.0 result.1 }
+    ensures { SeenSession L.begun S.gives K.takes source.old sink.old source.new sink.new result.0 result.1 }
 {
     serve_desk_seen(rt, source, sink, desk)
 }

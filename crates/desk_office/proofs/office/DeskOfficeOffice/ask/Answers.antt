@@ -7,7 +7,7 @@ returns-in-Some g c =
     let from : OfficeOf = record { seat = c.args.self.now.seat; knew = c.args.self.now.knew } in
     let asked = c.args.question.now in
     let told = c.ask.ensures in
-    ask_turn g.L.DeskLedger.begun from c.in-Some.seat c.ask.new.seat asked.position.board asked.depth asked.position.side c.ask.result c.in-Some.is told.asked told.full told.told told.refused
+    ask_turn g.L.DeskLedger.begun from c.in-Some.seat c.ask.new.seat asked.position.board asked.depth asked.position.side c.ask.result c.in-Some.is asked.shallow told.asked told.full told.told told.refused
 
 pub returns-in-None : goal.returns-in-None
 returns-in-None g c =
