@@ -94,7 +94,7 @@ fn play_on<L: DeskLedger + Send + Sync, S: Scenario, G: Gate + Sync, R: Threads 
     table: &Table<'_, S, G>,
 ) -> Option<Played>
     requires name { blank.name ≡ L.name }
-    requires parts { (blank.parts ≡ L.parts) × (L.all ≡ L.parts) × (L.all ≡ 13835058055282163712) }
+    requires parts { (blank.parts ≡ L.parts) × (L.all ≡ L.parts) × (L.all ≡ PARTS) }
     requires history { opened ≡ L.table }
     requires begun { hall ≡ L.begun }
 {

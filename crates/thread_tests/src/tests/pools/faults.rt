@@ -74,7 +74,7 @@ fn found_at<L: DeskLedger + Send + Sync, R: Threads + Wait + Sync>(
     works: bool,
 ) -> Option<Found>
     requires name { blank.name ≡ L.name }
-    requires parts { (blank.parts ≡ L.parts) × (L.all ≡ L.parts) × (L.all ≡ 13835058055282163712) }
+    requires parts { (blank.parts ≡ L.parts) × (L.all ≡ L.parts) × (L.all ≡ PARTS) }
     requires history { opened ≡ L.table }
     requires begun { hall ≡ L.begun }
 {

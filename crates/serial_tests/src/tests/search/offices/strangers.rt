@@ -77,7 +77,7 @@ fn is_new_desk_as_it_says<L: DeskLedger, R: Wait>(
     reserve: Reserve,
 ) -> bool
     requires name { blank.name ≡ L.name }
-    requires parts { (blank.parts ≡ L.parts) × (L.all ≡ L.parts) × (L.all ≡ 13835058055282163712) }
+    requires parts { (blank.parts ≡ L.parts) × (L.all ≡ L.parts) × (L.all ≡ PARTS) }
     requires history { opened ≡ L.table }
     requires begun { hall ≡ L.begun }
 {
