@@ -37,13 +37,7 @@ enum Trial {
 }
 
 /// Tries something at a new desk of this hall.
-fn try_at<L, R>(
-    rt: &R,
-    hall: Hall,
-    blank: Blank,
-    opened: Opened<Step<Jamboree>>,
-    trial: Trial,
-)
+fn try_at<L, R>(rt: &R, hall: Hall, blank: Blank, opened: Opened<Step<Jamboree>>, trial: Trial)
 where
     L: DeskLedger + Send + Sync,
     R: Wait + Abort + Threads + Clock + CpuClock + Sync,

@@ -122,7 +122,10 @@ fn is_run(after: &After<Jamboree, Global>) -> bool {
 /// Whether both laws run the seven steps.
 fn are_run(alloc: Global) -> bool {
     let steps = seven_steps();
-    match (ran(alloc, steps.as_slice()), ran_twice(alloc, steps.as_slice())) {
+    match (
+        ran(alloc, steps.as_slice()),
+        ran_twice(alloc, steps.as_slice()),
+    ) {
         (Some(after), Some((one, other))) => is_run(&after) && is_run(&one) && is_run(&other),
         _ => false,
     }

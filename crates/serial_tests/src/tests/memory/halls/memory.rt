@@ -72,7 +72,10 @@ fn laws_tell<A: Allocator>(rt: &impl Abort, hall: &Hall<A>) {
         choice: Some(Choice::Square(19)),
     };
     holds(rt, told(hall, 2) == Some(best) && told(hall, 1) == None);
-    holds(rt, matches!(first_entry(hall, 2), Some(entry) if entry.score == -4));
+    holds(
+        rt,
+        matches!(first_entry(hall, 2), Some(entry) if entry.score == -4),
+    );
 }
 
 /// One job is done, by a root that is stolen and children that are taken, computed and taken in; another is
