@@ -32,6 +32,6 @@ pub use runs::{
     nine_by_its_own_steps, nine_is_undisturbed, refusals, seven_alone, seven_in_both,
     table_of_nine, three_answers, words_of_seven,
 };
-pub use seen::{hello_and_bye, quota_after_hello, three_calls_of_a_tenant};
+pub use seen::{a_spent_ask, hello_and_bye, quota_after_hello};
 pub use sessions::third_answer;
 pub use solving::three_lines;

@@ -1,34 +1,37 @@
 //! What a session's lines say of the server's history.
-ghost use Rattle.std.specs.Prelude.{◌≡◌, ◌∷◌, ◌++◌, [], ℕ, List, false, Some, option_map, codes};
-ghost use mathlib.Core.List.{IsPrefix};
+ghost use Rattle.std.specs.Prelude.{◌≡◌, ◌⊎◌, ◌∷◌, ◌++◌, ◌+◌, [], ℕ, List, length, false, Option, Some, None, option_map};
 ghost use Rattle.std.specs.List.{concat};
 ghost use Rattle.line_io.specs.Leads.{Leads};
-ghost use Rattle.line_io.specs.Lines.{LineText, Whole};
+ghost use Rattle.line_io.specs.Lines.{LineText};
 ghost use Rattle.line_io.specs.Runs.{write_result};
 ghost use Rattle.line_io.specs.Writes.{writes_of};
+ghost use Rattle.tenant_quota.specs.Quota.{Quota};
 ghost use Rattle.tenant_quota.specs.declared.account.Left.{Left as LeftOf};
 ghost use Rattle.othello_board.specs.declared.boards.Board.{Board};
 ghost use Rattle.othello_board.specs.declared.cells.Cell.{Cell};
 ghost use Rattle.othello_board.specs.Words.{cells};
 ghost use Rattle.position_text.specs.declared.positions.Side.{Side};
-ghost use Rattle.sched_rules.specs.declared.step.StepOf.TheVariants.{Admit, Submit, Leave as LeaveStep};
-ghost use Rattle.sched_rules.specs.Trees.{left as left_of};
+ghost use Rattle.sched_rules.specs.declared.job.Job.TheVariants.{Spent as SpentJob};
+ghost use Rattle.sched_rules.specs.declared.refusal.Refusal.{Refusal};
+ghost use Rattle.sched_rules.specs.declared.refusal.Refusal.TheVariants.{Full};
+ghost use Rattle.sched_rules.specs.Refusals.{refusal_number};
+ghost use Rattle.sched_rules.specs.declared.step.StepOf.TheVariants.{Admit, AdmitMore, Submit, Leave as LeaveStep};
+ghost use Rattle.sched_rules.specs.Trees.{Tenant, left as left_of, job_at};
+ghost use Rattle.sched_rules.specs.Lone.{lone_refusal};
 ghost use Rattle.sched_rules.specs.Runs.{alone, only};
+ghost use Rattle.sched_rules.specs.Cores.{shared_refusal, shared_run};
 ghost use Rattle.jamboree_rules.specs.Procedure.{jamboree};
 ghost use Rattle.jamboree_rules.specs.Places.{root_words, frame_size};
 ghost use Rattle.desk.specs.Traces.{Known};
-ghost use Rattle.hall.specs.Halls.{HallOf};
-ghost use Rattle.desk.specs.Seats.{SeatOf};
 ghost use Rattle.desk.specs.Histories.{seat_steps, steps_of, AreTaken};
-ghost use Rattle.session.specs.Calls.{Ask, AskQuota, Cancel, Leave, OfficeReply, Welcome, Job, Rest, Gone, Refused};
+ghost use Rattle.session.specs.declared.standings.Standing.TheVariants.{Spent};
+ghost use Rattle.session.specs.Calls.{Hello, Reserve, Ask, Wait as WaitFor, AskQuota, Leave, OfficeReply, Welcome, Job, Told, Rest, Gone, Refused};
 ghost use Rattle.session.specs.DoneLines.{EachDoneIsTrue};
 ghost use Rattle.session.specs.Turns.{turns};
-ghost use Rattle.session.specs.Sessions.{talk_result, texts_for, Called, IsWrittenOf};
-ghost use Rattle.desk_office.specs.Moments.{OfficeOf, IsTurnAt};
+ghost use Rattle.session.specs.Sessions.{calls_for, talk_result, texts_for, IsWrittenOf};
 ghost use Rattle.promises.specs.Replies.{SearchStep};
 
 use desk::{Desk, DeskLedger, Trace};
-use desk_office::own_steps_are_what_was_asked;
 use hall::{Jamboree, Step};
 use line_io::{Sink, Source};
 use promises::serve;
@@ -36,10 +39,11 @@ use session::{End, SessionFault};
 use std::alloc::Allocator;
 use std::sync::Wait;
 
-/// Serves one session. Where its lines were `HELLO 4 8` and `QUOTA`, and the second answer has three numbers, these are what its own
-/// part of a history leaves to its tenant: a history of steps that were all taken, in which the tenant's one seat step is the
-/// Admit. Whatever its lines were, each JOB, DONE and TABLE line is true by the lines before it.
-/// Uses `promises::serve` (`lines`, `history`).
+/// Serves one session. What was written is the texts of its replies, and each JOB, DONE and TABLE line is true by the lines before
+/// it. Where the calls that its lines made were HELLO and QUOTA, and then its tenant left, what was told is what the tenant's own
+/// steps up to a moment left to it; the history up to there ends with its Admit, then steps of others and of workers; and all steps
+/// of the history were taken.
+/// Uses `promises::serve`.
 pub fn quota_after_hello<S, K, L, R, A>(
     rt: &R,
     source: &mut S,
@@ -53,22 +57,23 @@ where
     R: Wait,
     A: Allocator + Clone,
     requires { L.all ≡ L.parts }
-    ensures dones { (lines : List LineText) × (replies : List OfficeReply) × EachDoneIsTrue [] lines (turns false lines replies) }
-    ensures quota { (lines : List LineText) × (replies : List OfficeReply) × (pieces : List (List ℕ))
+    ensures { (lines : List LineText) × (replies : List OfficeReply) × (pieces : List (List ℕ))
         × Leads K.takes sink.old (writes_of pieces (write_result (talk_result result.0))) sink.new
         × IsWrittenOf (write_result (talk_result result.0)) (concat pieces) (texts_for lines replies)
-        × ((left : LeftOf) → lines ≡ Whole (codes "HELLO 4 8") ∷ Whole (codes "QUOTA") ∷ [] → replies ≡ Welcome (record { segments = 4; nodes = 8 }) ∷ Rest left ∷ [] →
-        (number : ℕ) × (seen : List (ℕ × SearchStep))
-        × (Some left ≡ option_map left_of (alone (jamboree L.begun.grain) (only number (steps_of seen))))
-        × AreTaken (jamboree L.begun.grain) L.begun.shared (steps_of seen)
-        × (seat_steps number (steps_of seen) ≡ Admit number (record { segments = 4; nodes = 8 }) ∷ [])) }
+        × EachDoneIsTrue [] lines (turns false lines replies)
+        × ((quota : Quota) (left : LeftOf) (known : Known SearchStep) → calls_for lines replies ≡ (Hello quota, Welcome quota) ∷ (AskQuota, Rest left) ∷ (Leave, Gone) ∷ [] → result.1 ≡ Some known →
+        (number : ℕ) × (before between later : List (ℕ × SearchStep))
+        × (known.seen ≡ ((before ++ (known.maker, Admit number quota) ∷ []) ++ between) ++ later)
+        × (only number (steps_of before) ≡ []) × (seat_steps number (steps_of between) ≡ [])
+        × (Some left ≡ option_map left_of (alone (jamboree L.begun.grain) (only number (steps_of ((before ++ (known.maker, Admit number quota) ∷ []) ++ between)))))
+        × AreTaken (jamboree L.begun.grain) L.begun.shared (steps_of known.seen)) }
 {
     serve(rt, source, sink, desk)
 }
 
-/// Serves one session. Where its lines were `HELLO 4 8` and `BYE`, and a tenant came, the tenant's seat steps in the history that its
-/// seat knew when it left are its Admit and its Leave.
-/// Uses `promises::serve` (`history`).
+/// Serves one session. Where the calls that its lines made were HELLO alone, and then its tenant left, the tenant's seat steps in the
+/// history are its Admit and its Leave, which is the end of it.
+/// Uses `promises::serve`.
 pub fn hello_and_bye<S, K, L, R, A>(
     rt: &R,
     source: &mut S,
@@ -82,25 +87,44 @@ where
     R: Wait,
     A: Allocator + Clone,
     requires { L.all ≡ L.parts }
-    ensures { (lines : List LineText) × (replies : List OfficeReply) × ((known : Known SearchStep) →
-        lines ≡ Whole (codes "HELLO 4 8") ∷ Whole (codes "BYE") ∷ [] → replies ≡ Welcome (record { segments = 4; nodes = 8 }) ∷ [] → result.1 ≡ Some known →
-        (number : ℕ) × (known.mine ≡ Admit number (record { segments = 4; nodes = 8 }) ∷ LeaveStep number ∷ [])
+    ensures { (lines : List LineText) × (replies : List OfficeReply) × ((quota : Quota) (known : Known SearchStep) →
+        calls_for lines replies ≡ (Hello quota, Welcome quota) ∷ (Leave, Gone) ∷ [] → result.1 ≡ Some known →
+        (number : ℕ) × (before between : List (ℕ × SearchStep))
+        × (known.seen ≡ ((before ++ (known.maker, Admit number quota) ∷ []) ++ between) ++ (known.maker, LeaveStep number) ∷ [])
+        × (seat_steps number (steps_of between) ≡ [])
         × (seat_steps number (steps_of known.seen) ≡ known.mine)) }
 {
     serve(rt, source, sink, desk)
 }
 
-/// A tenant's calls were an Ask to depth 3 that got a number, an AskQuota, and a Cancel that was refused, and then it left: the seat
-/// steps of the tenant in the history that its seat knew last are those before, the Submit of just that board, and the Leave.
-/// Uses `desk_office::own_steps_are_what_was_asked`.
-pub fn three_calls_of_a_tenant()
-    ensures { (begun : HallOf) (first : SeatOf) (from to : OfficeOf) (board : List Cell) (side : Side) (number : ℕ) (left : LeftOf) → from.seat ≡ Some first →
-        Leads (Called (IsTurnAt begun)) from ((Ask 3 board side, Job number) ∷ (AskQuota, Rest left) ∷ (Cancel 7, Refused 17) ∷ (Leave, Gone) ∷ []) to →
-        (known : Known SearchStep) × (words : Board) × (to.knew ≡ Some known) × (board ≡ cells words)
-        × (known.mine ≡ first.known.mine ++ (Submit first.tenant (root_words words.own words.opp 3) frame_size ∷ LeaveStep first.tenant ∷ []))
-        × IsPrefix first.known.seen known.seen
-        × AreTaken (jamboree begun.grain) begun.shared (steps_of known.seen)
-        × (seat_steps first.tenant (steps_of known.seen) ≡ known.mine) }
+/// Serves one session. Where the calls that its lines made were HELLO, an ASK to depth 3 that got a number, a WAIT for job 1 that was
+/// spent, and a raise that was refused by 14: the ASK's Submit is in the history, of just that board, after the moment at which its
+/// number was that of the tenant's next job; at a later moment the tenant's job 1 was spent; and at a still later one the tenant alone
+/// would refuse the raise by that number, or the totals don't allow it.
+/// Uses `promises::serve`.
+pub fn a_spent_ask<S, K, L, R, A>(
+    rt: &R,
+    source: &mut S,
+    sink: &mut K,
+    desk: &Desk<L, A>,
+) -> (Result<End, SessionFault>, Option<Trace<Step<Jamboree>, L>>)
+where
+    S: Source,
+    K: Sink,
+    L: DeskLedger,
+    R: Wait,
+    A: Allocator + Clone,
+    requires { L.all ≡ L.parts }
+    ensures { (lines : List LineText) × (replies : List OfficeReply) × ((quota more : Quota) (board : List Cell) (side : Side) (job : ℕ) (known : Known SearchStep) →
+        calls_for lines replies ≡ (Hello quota, Welcome quota) ∷ (Ask 3 board side, Job job) ∷ (WaitFor 1, Told 1 Spent) ∷ (Reserve more, Refused 14) ∷ (Leave, Gone) ∷ [] → result.1 ≡ Some known →
+        (number : ℕ) × (first second third later : List (ℕ × SearchStep)) × (words : Board)
+        × (board ≡ cells words)
+        × (known.seen ≡ (((first ++ (known.maker, Submit number (root_words words.own words.opp 3) frame_size) ∷ []) ++ second) ++ third) ++ later)
+        × (seat_steps number (steps_of (second ++ third)) ≡ [])
+        × ((its : Tenant) → alone (jamboree L.begun.grain) (only number (steps_of first)) ≡ Some its → job ≡ length its.jobs + 1)
+        × ((its : Tenant) → alone (jamboree L.begun.grain) (only number (steps_of ((first ++ (known.maker, Submit number (root_words words.own words.opp 3) frame_size) ∷ []) ++ second))) ≡ Some its → job_at its.jobs 1 ≡ Some SpentJob)
+        × (((refusal : Refusal) × (lone_refusal (jamboree L.begun.grain) (alone (jamboree L.begun.grain) (only number (steps_of (((first ++ (known.maker, Submit number (root_words words.own words.opp 3) frame_size) ∷ []) ++ second) ++ third)))) (AdmitMore number more) ≡ Some refusal) × (refusal_number refusal ≡ 14))
+        ⊎ (shared_refusal (jamboree L.begun.grain) (shared_run (jamboree L.begun.grain) L.begun.shared (steps_of (((first ++ (known.maker, Submit number (root_words words.own words.opp 3) frame_size) ∷ []) ++ second) ++ third))) (AdmitMore number more) ≡ Some Full))) }
 {
-    own_steps_are_what_was_asked()
+    serve(rt, source, sink, desk)
 }

@@ -1,8 +1,8 @@
-use Rattle.promise_uses.proofs.Turned.{quota-seen}
+use Rattle.promise_uses.proofs.Turned.{quota-left}
 use Rattle.promise_uses.proofs.seen.quota_after_hello.Goals as goal
 
-pub returns-clause-dones : goal.returns-clause-dones
-returns-clause-dones g c = let served = c.serve.ensures.lines in (served.session.answered, served.session.replies, served.dones)
-
-pub returns-clause-quota : goal.returns-clause-quota
-returns-clause-quota g c = quota-seen g.L.DeskLedger.begun _ _ _ _ _ _ _ _ c.serve.ensures.history
+pub returns : goal.returns
+returns g c =
+    let seen = c.serve.ensures in
+    let session = seen.session in
+    (session.answered, session.replies, session.pieces, session.writes, session.written, seen.dones, λ quota left known are knows. quota-left g.L.DeskLedger.begun quota left _ _ known seen.tenant are knows)
