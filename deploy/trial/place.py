@@ -90,6 +90,7 @@ class Site:
         moved = [("127.0.0.1:4720", f"127.0.0.1:{self.inner}"), ("127.0.0.1:4719", f"127.0.0.1:{self.health}"), ("/run/othello-site/control", self.control)]
         moved += [('# plain = "127.0.0.1:4711"', f'plain = "127.0.0.1:{self.plain}"')]
         self.file.write_text(replaced((TOP / "deploy/site.toml").read_text(), [*moved, *(terms or [])]) + more)
+        self.contexts: dict[str, ssl.SSLContext] = {}
         self.process: subprocess.Popen[Any] | None = None
         self.proxy: subprocess.Popen[Any] | None = None
 
@@ -137,15 +138,18 @@ class Site:
                     process.wait()
         self.folder.cleanup()
 
-    @property
-    def context(self) -> ssl.SSLContext | None:
-        return ssl.create_default_context(cafile=self.made["authority"]) if self.made else None
+    def context(self, certificate: str = "") -> ssl.SSLContext | None:
+        """What a client needs for TLS, perhaps with a certificate: made once, as reading an authority takes some milliseconds."""
+        if self.made and certificate not in self.contexts:
+            context = ssl.create_default_context(cafile=self.made["authority"])
+            if certificate:
+                context.load_cert_chain(self.made[certificate], self.made[certificate] + ".key")
+            self.contexts[certificate] = context
+        return self.contexts.get(certificate)
 
     def opened(self, address: str, *reserve: int, certificate: str = "", **more: Any) -> From:
         """A session from an address."""
-        context = self.context
-        if context and certificate:
-            context.load_cert_chain(self.made[certificate], self.made[certificate] + ".key")  # type: ignore[index]
+        context = self.context(certificate)
         return From(address, "localhost" if context else "127.0.0.1", self.port, *reserve, **({"tls": context} if context else {}), **more)
 
     def told(self, address: str, *reserve: int, **more: Any) -> tuple[From | None, int]:

@@ -31,6 +31,14 @@ def test_stats_and_ends(wanted: list[Answer]) -> None:
                 with pytest.raises(OSError):
                     session.quota()
         assert site.ask("END CUSTOMER nobody") != ["OK 1"] and site.ask("SOMETHING")[0].startswith("ERR")
+        rows = [line for line in site.ask("STATS") if f" address={address_of(1)} " in line]
+        number = rows[0].split()[0].removeprefix("session=")
+        for line in (f"END SESSION 0 {number}", f"END SESSION 2 {number}", "END SESSION 1 999", f"END SESSION {number}", f"END SESSION 1 {number} 1"):
+            assert site.ask(line) != ["OK 1"] and sessions[1].is_answered(1, wanted), line
+        assert site.ask(f"END SESSION 1 {number}") == ["OK 1"]
+        until(lambda: sum(has[0] for has in site.has().values()) == 2, 5, "it has ended")
+        with pytest.raises(OSError):
+            sessions[1].quota()
 
 
 def test_an_end_wakes_a_wait() -> None:

@@ -45,7 +45,7 @@ impl<R: Clock + Wait> Caller<'_, R> {
         self.talk.welcome();
         let kept = match Arc::try_clone(&self.stream) {
             Ok(stream) => {
-                let mut register = self.shared.lock.lock(self.rt);
+                let mut register = self.shared.register(self.rt);
                 register.counts.welcomed = register.counts.welcomed.saturating_add(1);
                 register.counts.hello.note(took);
                 register.link(self.hall, number, self.address, stream)
@@ -61,7 +61,7 @@ impl<R: Clock + Wait> Caller<'_, R> {
     fn refuse(&mut self, cause: Cause) {
         let place = place_of(cause);
         {
-            let mut register = self.shared.lock.lock(self.rt);
+            let mut register = self.shared.register(self.rt);
             register.counts.refuse(place);
         }
         log_refusal(
@@ -79,7 +79,7 @@ impl<R: Clock + Wait> Caller<'_, R> {
         let Some((number, _)) = self.session else {
             return;
         };
-        let mut register = self.shared.lock.lock(self.rt);
+        let mut register = self.shared.register(self.rt);
         register.set_waiting(self.hall, number, waits);
         if waits {
             self.asked = now;
@@ -90,7 +90,7 @@ impl<R: Clock + Wait> Caller<'_, R> {
 
     /// The connection has ended.
     pub(crate) fn leave(&self) {
-        let mut register = self.shared.lock.lock(self.rt);
+        let mut register = self.shared.register(self.rt);
         register.counts.lines = register.counts.lines.saturating_add(self.talk.lines.get());
         register.depart(self.account);
     }
@@ -102,13 +102,13 @@ impl<R: Clock + Wait> House for Caller<'_, R> {
     }
 
     fn guest_idle(&self) -> u64 {
-        let register = self.shared.lock.lock(self.rt);
+        let register = self.shared.register(self.rt);
         u64::from(register.config.limits.guest).saturating_mul(1_000)
     }
 
     fn meet(&mut self, token: Option<&[u8]>) -> Met {
         self.asked = self.shared.micros(self.rt);
-        let mut register = self.shared.lock.lock(self.rt);
+        let mut register = self.shared.register(self.rt);
         let who = match token {
             None => Some(self.own),
             Some(token) => register.config.directory.keys.by_token(token),
@@ -127,7 +127,7 @@ impl<R: Clock + Wait> House for Caller<'_, R> {
 
     fn pay(&mut self, who: Who) -> bool {
         let now = self.shared.micros(self.rt);
-        let mut register = self.shared.lock.lock(self.rt);
+        let mut register = self.shared.register(self.rt);
         let rate = register.config.directory.terms(who).rate;
         register.rates.pay(who, rate, now)
     }
@@ -136,17 +136,17 @@ impl<R: Clock + Wait> House for Caller<'_, R> {
         match note {
             Note::Begins(number, who) => self.begin(number, who),
             Note::Ended(number) => {
-                let mut register = self.shared.lock.lock(self.rt);
+                let mut register = self.shared.register(self.rt);
                 self.told = register.unlink(self.hall, number);
             }
             Note::Waits(waits) => self.wait(waits),
             Note::Value => {
-                let mut register = self.shared.lock.lock(self.rt);
+                let mut register = self.shared.register(self.rt);
                 register.counts.values = register.counts.values.saturating_add(1);
             }
             Note::Refused(cause) => self.refuse(cause),
             Note::Tells(number) => {
-                let mut register = self.shared.lock.lock(self.rt);
+                let mut register = self.shared.register(self.rt);
                 register.shut(self.hall, number, Told::ForAnother);
             }
         }

@@ -48,7 +48,7 @@ fn identified<R: Wait>(rt: &R, shared: &Shared, port: Port, bytes: &[u8], peer: 
             certificate,
             used,
         } => {
-            let register = shared.lock.lock(rt);
+            let register = shared.register(rt);
             let who = register
                 .config
                 .directory
@@ -95,7 +95,7 @@ fn greet<R: Clock + Wait>(
 /// Counts a connection that is refused, and says it.
 fn refuse<R: Clock + Wait>(rt: &R, alloc: Global, shared: &Shared, address: Address, place: usize) {
     {
-        let mut register = shared.lock.lock(rt);
+        let mut register = shared.register(rt);
         register.counts.refuse(place);
     }
     log_refusal(
@@ -109,7 +109,7 @@ fn refuse<R: Clock + Wait>(rt: &R, alloc: Global, shared: &Shared, address: Addr
 
 /// How long connections may be silent, and take for a byte.
 fn times_of<R: Wait>(rt: &R, shared: &Shared) -> (Times, Duration) {
-    let register = shared.lock.lock(rt);
+    let register = shared.register(rt);
     let limits = register.config.limits;
     let times = Times {
         welcome: millis(limits.welcome),
@@ -184,7 +184,7 @@ fn receive<R: Clock + Wait>(
     known: Known,
 ) {
     let (arrival, hall) = {
-        let mut register = shared.lock.lock(rt);
+        let mut register = shared.register(rt);
         (register.arrive(known.who), register.hall_of(known.who))
     };
     let account = match arrival {
@@ -279,7 +279,7 @@ fn tell_end<R: Clock + Wait>(
     let lines = caller.talk.lines.get();
     let hall = caller.hall.saturating_add(1);
     let name = {
-        let register = shared.lock.lock(rt);
+        let register = shared.register(rt);
         register.config.directory.name_of(alloc, who)
     };
     let Ok(name) = name else {

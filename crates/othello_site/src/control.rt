@@ -36,7 +36,7 @@ fn reloaded<R: Paths + AllocGlobal + Clock + Wait>(
     let alloc = rt.alloc();
     let answer = reload(rt, shared, ends);
     {
-        let mut register = shared.lock.lock(rt);
+        let mut register = shared.register(rt);
         if answer.is_ok() {
             register.counts.reloads = register.counts.reloads.saturating_add(1);
         } else {
@@ -65,7 +65,7 @@ fn drain<R: AllocGlobal + Clock + Wait>(
     let until = shared
         .now(rt)
         .saturating_add(u64::from(seconds).saturating_mul(1_000));
-    shared.lock.lock(rt).draining = Some(until);
+    shared.register(rt).draining = Some(until);
     String::from_str(rt.alloc(), "OK\n")
 }
 
@@ -84,7 +84,7 @@ fn address_in(text: &[u8]) -> Option<Address> {
 fn part_of<R: Wait>(rt: &R, shared: &Shared, whose: Whose<'_>) -> Option<Part> {
     match whose {
         Whose::Customer(name) => {
-            let register = shared.lock.lock(rt);
+            let register = shared.register(rt);
             for (number, terms) in register.config.directory.customers.iter().enumerate() {
                 if terms.name.as_bytes() == name {
                     let number = u32::try_from(number).unwrap_or(u32::MAX);
@@ -115,10 +115,10 @@ fn end<R: AllocGlobal + Wait>(
     whose: Whose<'_>,
 ) -> Result<String, AllocError> {
     let many = match whose {
+        Whose::Session(0, _) => 0,
         Whose::Session(hall, number) => {
-            let hall = (hall as usize).saturating_sub(1);
             let whom = Whom::One(u64::from(number));
-            tell(rt, shared, hall, whom, Told::ByOperator)
+            tell(rt, shared, hall as usize - 1, whom, Told::ByOperator)
         }
         whose => {
             let Some(part) = part_of(rt, shared, whose) else {
@@ -128,7 +128,7 @@ fn end<R: AllocGlobal + Wait>(
         }
     };
     {
-        let mut register = shared.lock.lock(rt);
+        let mut register = shared.register(rt);
         register.counts.ended = register.counts.ended.saturating_add(1);
     }
     let _ = shut_told(rt, shared);

@@ -27,7 +27,7 @@ where
     R: Threads + Wait + Clock + Sync,
 {
     {
-        let mut register = shared.lock.lock(rt);
+        let mut register = shared.register(rt);
         if !register.come() {
             register.counts.refuse(FULL);
             return;
@@ -37,10 +37,10 @@ where
         .stack_size(STACK)
         .spawn_scoped(scope, move || {
             let _ = serve_client(rt, alloc, shared, stream, port);
-            shared.lock.lock(rt).go();
+            shared.register(rt).go();
         });
     if started.is_err() {
-        shared.lock.lock(rt).go();
+        shared.register(rt).go();
     }
 }
 

@@ -71,7 +71,7 @@ pub(crate) fn reload<R: Paths + AllocGlobal + Clock + Wait>(
         Ok(text) => text,
         Err(error) => return Err(Unread::Unread(error)),
     };
-    let now = Arc::try_clone(&shared.lock.lock(rt).config)?;
+    let now = Arc::try_clone(&shared.register(rt).config)?;
     let config = match read_config_again(rt.alloc(), text.as_str(), &now) {
         Ok(config) => config,
         Err(fault) => return Err(Unread::Wrong(fault)),
@@ -126,7 +126,7 @@ fn go_by<R: AllocGlobal + Wait>(rt: &R, shared: &Shared, config: Config) -> Resu
     }
     match Arc::new(rt.alloc(), config) {
         Ok(config) => {
-            shared.lock.lock(rt).config = config;
+            shared.register(rt).config = config;
             Ok(())
         }
         Err(_) => Err(Unread::Memory),
@@ -160,7 +160,7 @@ fn over_text<R: AllocGlobal + Wait>(
     for found in overruns.as_slice() {
         if let Some(overrun) = found {
             let name = {
-                let config = Arc::try_clone(&shared.lock.lock(rt).config)?;
+                let config = Arc::try_clone(&shared.register(rt).config)?;
                 config.directory.name_of(alloc, overrun.who)?
             };
             let has = amount_text(alloc, overrun.has)?;

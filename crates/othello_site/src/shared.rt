@@ -4,7 +4,8 @@ use crate::logging::Log;
 use crate::register::Register;
 use site_desk::SiteDesk;
 use std::alloc::Global;
-use std::sync::{Arc, Mutex};
+use std::sync::atomic::AtomicU64;
+use std::sync::{Arc, Mutex, MutexGuard, Wait};
 use std::time::{Clock, Duration, Instant};
 
 /// What all threads share.
@@ -14,7 +15,7 @@ pub(crate) struct Shared {
     pub(crate) desks: Vec<SiteDesk>,
     /// The depth of the leaves that workers compute.
     pub(crate) grain: u8,
-    /// What connections share beside the desks.
+    /// What connections share beside the desks; taken by [`Shared::register`] alone.
     pub(crate) lock: Mutex<Register>,
     /// The log.
     pub(crate) log: Log,
@@ -26,7 +27,24 @@ pub(crate) struct Shared {
     pub(crate) ending: Arc<Ending, Global>,
 }
 
+/// Microseconds between two tries to take what connections share.
+const A_NAP: u64 = 50;
+
 impl Shared {
+    /// What connections share, for this thread alone. It tries again and again, and naps in between. It never sleeps on the lock: a
+    /// thread that does is handed it, and until that thread runs nobody else can take it. Where all processors are busy that takes
+    /// milliseconds, and each connection takes it some ten times.
+    pub(crate) fn register<R: Wait>(&self, rt: &R) -> MutexGuard<'_, Register> {
+        for _ in rt.forever() {
+            if let Some(register) = self.lock.try_lock() {
+                return register;
+            }
+            let word = AtomicU64::new(0);
+            word.park_timeout(rt, 0, Duration::from_micros(A_NAP));
+        }
+        unreachable!()
+    }
+
     /// How long ago the site began.
     fn age(&self, clock: &impl Clock) -> Duration {
         match (self.start, Instant::now(clock)) {

@@ -53,7 +53,7 @@ pub(crate) fn stats_of<R: AllocGlobal + Clock + Wait>(
 ) -> Result<String, AllocError> {
     let mut out = String::new(rt.alloc());
     let (all, extra) = {
-        let register = shared.lock.lock(rt);
+        let register = shared.register(rt);
         (register.all, register.extra)
     };
     writeln!(out, "connections={all} heard={extra}")?;
@@ -84,7 +84,7 @@ fn push_hall<R: AllocGlobal + Clock + Wait>(
     let Some(desk) = shared.desks.get(hall) else {
         return Ok(());
     };
-    let config = Arc::try_clone(&shared.lock.lock(rt).config)?;
+    let config = Arc::try_clone(&shared.register(rt).config)?;
     let number = hall.saturating_add(1);
     let (may, has) = desk.part(rt, Part::All);
     write!(out, "hall={number} ")?;
@@ -104,7 +104,7 @@ fn push_hall<R: AllocGlobal + Clock + Wait>(
             write!(out, "customer=\"{name}\" hall={number} ")?;
             push_amounts(out, may, has)?;
         }
-        let address = shared.lock.lock(rt).address_of(hall, present.session);
+        let address = shared.register(rt).address_of(hall, present.session);
         let address = match address {
             Some(address) => address_text(rt.alloc(), address)?,
             None => String::from_str(rt.alloc(), "-")?,
@@ -177,7 +177,7 @@ pub(crate) fn metrics_of<R: AllocGlobal + Clock + Wait>(
 ) -> Result<String, AllocError> {
     let mut out = String::new(rt.alloc());
     let (counts, connections) = {
-        let register = shared.lock.lock(rt);
+        let register = shared.register(rt);
         (register.counts, register.all)
     };
     push_head(&mut out, "build_info", "The version that runs.", "gauge")?;

@@ -25,11 +25,11 @@ pub(crate) fn watch_all<R: Clock + Wait>(rt: &R, shared: &Shared) {
 /// Ends the sessions whose client is gone while they wait for a job.
 fn end_gone<R: Clock + Wait>(rt: &R, shared: &Shared) {
     let now = shared.now(rt);
-    let many = shared.lock.lock(rt).links.len();
+    let many = shared.register(rt).links.len();
     for place in 0..many {
-        let gone = shared.lock.lock(rt).look(place, now);
+        let gone = shared.register(rt).look(place, now);
         if let Some((hall, session)) = gone {
-            let mut register = shared.lock.lock(rt);
+            let mut register = shared.register(rt);
             register.counts.gone = register.counts.gone.saturating_add(1);
             drop(register);
             let _ = tell(rt, shared, hall, Whom::One(session), Told::Gone);
@@ -69,7 +69,7 @@ pub(crate) fn shut_told<R: Wait>(rt: &R, shared: &Shared) -> u64 {
         for present in roll.as_slice() {
             if let Some(why) = present.told {
                 many = many.saturating_add(1);
-                shared.lock.lock(rt).shut(hall, present.session, why);
+                shared.register(rt).shut(hall, present.session, why);
             }
         }
     }
@@ -78,7 +78,7 @@ pub(crate) fn shut_told<R: Wait>(rt: &R, shared: &Shared) -> u64 {
 
 /// Whether all have left, where nobody else may come. Those who stay longer than they may are told to end.
 fn is_drained<R: Clock + Wait>(rt: &R, shared: &Shared) -> bool {
-    let draining = shared.lock.lock(rt).draining;
+    let draining = shared.register(rt).draining;
     let Some(until) = draining else {
         return false;
     };

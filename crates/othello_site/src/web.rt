@@ -45,7 +45,7 @@ fn answer<R: AllocGlobal + Clock + Wait>(
 ) -> Result<String, AllocError> {
     match asked {
         Asked::Health => {
-            let is_draining = shared.lock.lock(rt).draining.is_some();
+            let is_draining = shared.register(rt).draining.is_some();
             String::from_str(
                 rt.alloc(),
                 if is_draining {
