@@ -3,14 +3,15 @@ use Rattle.std.proofs.Common.{◌≡◌, ◌≢◌, ◌⊎◌, ℕ, ℤ, ◌≤�
 use Rattle.othello_eval.specs.declared.bound.BoundKind.{BoundKind}
 use Rattle.othello_eval.specs.declared.bound.BoundKind.TheVariants.{Low, High, Exact}
 use Rattle.othello_eval.specs.Tables.{Says}
-use Rattle.std.specs.Prelude.{IfOk, IfErr, OnOk, IfSome, MatchResult, ◌++◌, ◌∷◌, []}
+use Rattle.std.specs.Prelude.{IfOk, IfErr, OnOk, IfSome, MatchResult, ◌++◌, ◌+◌, ◌∷◌, [], length}
 use Rattle.sched_rules.specs.Headline.{IsAnswerTo}
 use Rattle.desk.specs.Traces.{own, Known}
 use Rattle.hall.specs.Halls.{HallOf}
-use Rattle.desk.specs.Seats.{SeatOf, stepped, seeing}
+use Rattle.desk_rules.specs.declared.asked.SeatAsked.{SeatAsked}
+use Rattle.desk.specs.Seats.{SeatOf, stepped, seeing, IsAsked}
 use Rattle.desk.specs.Histories.{core_at, IsToldOf, Saw}
 use Rattle.sched_rules.specs.declared.refusal.Refusal.{Refusal}
-use Rattle.sched_rules.specs.declared.refusal.Refusal.TheVariants.{Busy}
+use Rattle.sched_rules.specs.declared.refusal.Refusal.TheVariants.{Busy, NoJobsLeft}
 use Rattle.sched_rules.specs.declared.step.DidOf.{DidOf}
 use Rattle.sched_rules.specs.declared.step.StepOf.TheVariants.{Steal, Spend}
 use Rattle.sched_rules.specs.Trees.{Tenant, is_busy_in}
@@ -82,10 +83,32 @@ refused-of begun before now step (Ok value) told = tt
 refused-of begun before now step (Err refusal) told = told.1
 
 -- a call that changed the share and what is known of a seat, and nothing else of it
+pub share-of : (before after : SeatOf) (r : Result (Unit {0}) Refusal) → MatchResult r (λ value. after ≡ stepped after.known before) (λ refusal. after ≡ seeing after.known before) →
+    MatchResult r (λ value. after.share ≡ before.share + 1) (λ refusal. after.share ≡ before.share)
+share-of before after (Ok value) is = ap (λ (s : SeatOf). s.share) is
+share-of before after (Err refusal) is = ap (λ (s : SeatOf). s.share) is
+
 pub kept-of : {X : Type 0} (before after : SeatOf) (r : Result X Refusal) → MatchResult r (λ value. after ≡ stepped after.known before) (λ refusal. after ≡ seeing after.known before) → before.tenant ≡ 9 →
     (after.asked ≡ before.asked) × (after.tenant ≡ 9)
 kept-of before after (Ok value) is nine = (ap (λ (s : SeatOf). s.asked) is, ap (λ (s : SeatOf). s.tenant) is ∙ nine)
 kept-of before after (Err refusal) is nine = (ap (λ (s : SeatOf). s.asked) is, ap (λ (s : SeatOf). s.tenant) is ∙ nine)
+
+-- a seat after an ask
+pub list-of : (asked : SeatAsked) (before after : SeatOf) (r : Result ℕ Refusal) → IsAsked asked before r after → MatchResult r (λ job. after.asked ≡ before.asked ++ asked ∷ []) (λ refusal. after.asked ≡ before.asked)
+list-of asked before after (Ok job) is = ap (λ (s : SeatOf). s.asked) is.0
+list-of asked before after (Err refusal) is = ap (λ (s : SeatOf). s.asked) is.0
+
+pub asked-share : (asked : SeatAsked) (before after : SeatOf) (r : Result ℕ Refusal) → IsAsked asked before r after → MatchResult r (λ job. after.share ≡ before.share + 1) (λ refusal. after.share ≡ before.share)
+asked-share asked before after (Ok job) is = ap (λ (s : SeatOf). s.share) is.0
+asked-share asked before after (Err refusal) is = ap (λ (s : SeatOf). s.share) is.0
+
+pub asked-tenant : (asked : SeatAsked) (before after : SeatOf) (r : Result ℕ Refusal) → IsAsked asked before r after → after.tenant ≡ before.tenant
+asked-tenant asked before after (Ok job) is = ap (λ (s : SeatOf). s.tenant) is.0
+asked-tenant asked before after (Err refusal) is = ap (λ (s : SeatOf). s.tenant) is.0
+
+pub no-more : (asked : SeatAsked) (before after : SeatOf) (r : Result ℕ Refusal) → IsAsked asked before r after → length before.asked ≡ 256 → r ≡ Err NoJobsLeft
+no-more asked before after (Ok job) is full = absurd (is.2 full)
+no-more asked before after (Err refusal) is full = ap (λ (f : Refusal). Err f) (is.1 full)
 
 -- a maker's steps in what it has seen, by what it knew before
 pub seen-by : (before now : Known SearchStep) → Saw before now → own before.maker now.seen ≡ before.mine

@@ -1,5 +1,5 @@
 //! What a seat of tenant 9 knows after its calls at a desk.
-ghost use Rattle.std.specs.Prelude.{◌≡◌, ◌≢◌, ◌++◌, ◌∷◌, [], ℕ, List, length, Option, Some, None, Err, IfOk, OnOk, IfErr, Contains};
+ghost use Rattle.std.specs.Prelude.{◌≡◌, ◌≢◌, ◌++◌, ◌+◌, ◌∷◌, [], ℕ, List, length, Option, Some, None, Err, IfOk, OnOk, IfErr, MatchResult, Contains};
 ghost use Rattle.sched_rules.specs.declared.refusal.Refusal.TheVariants.{Full, Lower, NoJob, NoJobsLeft, NoNodes, NoSegments, NoTenant, OldTenant, OutOfMemory};
 ghost use Rattle.sched_rules.specs.declared.step.StepOf.TheVariants.{Admit, AdmitMore, Submit, Cancel, Leave};
 ghost use Rattle.sched_rules.specs.Runs.{alone, only};
@@ -61,11 +61,15 @@ pub fn nine_asks<L: DeskLedger, A: Allocator + Clone, R: Wait>(
     ensures refused { IfErr result (λ refusal. IsAnswerTo (jamboree L.begun.grain) (core_at L.begun seat.new.known.seen)
         (Submit 9 (root_words position.now.board.own position.now.board.opp 3) frame_size) (Err refusal)) }
     ensures listed { IfErr result (Contains (NoTenant ∷ NoJobsLeft ∷ NoNodes ∷ NoSegments ∷ [])) }
+    ensures list { MatchResult result (λ job. seat.new.asked ≡ seat.old.asked ++ record { board = position.now.board; depth = 3 } ∷ []) (λ refusal. seat.new.asked ≡ seat.old.asked) }
+    ensures share { MatchResult result (λ job. seat.new.share ≡ seat.old.share + 1) (λ refusal. seat.new.share ≡ seat.old.share) }
+    ensures kept { seat.new.tenant ≡ 9 }
 {
     desk.ask(rt, seat, position, 3)
 }
 
-/// Tenant 9 has had its 256 jobs, and asks once more: nothing changes. Uses `desk::Desk::ask` (`full`).
+/// Tenant 9 has had its 256 jobs, and asks once more: it is refused with NoJobsLeft, and nothing changes.
+/// Uses `desk::Desk::ask` (`asked`, `full`).
 pub fn nine_asks_in_vain<L: DeskLedger, A: Allocator + Clone, R: Wait>(
     rt: &R,
     desk: &Desk<L, A>,
@@ -73,6 +77,7 @@ pub fn nine_asks_in_vain<L: DeskLedger, A: Allocator + Clone, R: Wait>(
     position: &Position,
 ) -> Result<u64, Refusal>
     requires { length seat.old.asked ≡ 256 }
+    ensures refused { result ≡ Err NoJobsLeft }
     ensures unchanged { seat.new ≡ seat.old }
 {
     desk.ask(rt, seat, position, 12)
@@ -94,6 +99,7 @@ pub fn nine_reserves<L: DeskLedger, A: Allocator + Clone, R: Wait>(
         × (seat.new.known.maker ≡ seat.old.known.maker)) }
     ensures refused { IfErr result (λ refusal. IsAnswerTo (jamboree L.begun.grain) (core_at L.begun seat.new.known.seen) (AdmitMore 9 reserve) (Err refusal)) }
     ensures kept { (seat.new.asked ≡ seat.old.asked) × (seat.new.tenant ≡ 9) }
+    ensures share { MatchResult result (λ _. seat.new.share ≡ seat.old.share + 1) (λ _. seat.new.share ≡ seat.old.share) }
     ensures listed { IfErr result (Contains (NoTenant ∷ Lower ∷ Full ∷ OutOfMemory ∷ [])) }
 {
     desk.reserve(rt, seat, reserve)
@@ -115,6 +121,7 @@ pub fn nine_cancels<L: DeskLedger, A: Allocator + Clone, R: Wait>(
         × (seat.new.known.maker ≡ seat.old.known.maker)) }
     ensures refused { seat_asked_at seat.old.asked 3 ≢ None → IfErr result (λ refusal. IsAnswerTo (jamboree L.begun.grain) (core_at L.begun seat.new.known.seen) (Cancel 9 3) (Err refusal)) }
     ensures kept { (seat.new.asked ≡ seat.old.asked) × (seat.new.tenant ≡ 9) }
+    ensures share { MatchResult result (λ _. seat.new.share ≡ seat.old.share + 1) (λ _. seat.new.share ≡ seat.old.share) }
     ensures listed { IfErr result (Contains (NoTenant ∷ NoJob ∷ [])) }
 {
     desk.cancel(rt, seat, 3)

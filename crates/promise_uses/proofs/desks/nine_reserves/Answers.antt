@@ -1,7 +1,7 @@
 use Rattle.std.proofs.Common.{ℕ}
 use Rattle.sched_rules.specs.declared.step.StepOf.TheVariants.{AdmitMore}
 use Rattle.promises.specs.Replies.{SearchStep}
-use Rattle.promise_uses.proofs.Parts.{told-nine, taken-of, refused-of, kept-of}
+use Rattle.promise_uses.proofs.Parts.{told-nine, taken-of, refused-of, kept-of, share-of}
 use Rattle.promise_uses.proofs.desks.nine_reserves.Goals as goal
 
 pub returns-clause-taken : goal.returns-clause-taken
@@ -16,3 +16,6 @@ returns-clause-refused g c =
 
 pub returns-clause-kept : goal.returns-clause-kept
 returns-clause-kept g c = kept-of c.args.seat.now c.reserve.new.seat c.reserve.result c.reserve.ensures.share c.requires.nine
+
+pub returns-clause-share : goal.returns-clause-share
+returns-clause-share g c = share-of c.args.seat.now c.reserve.new.seat c.reserve.result c.reserve.ensures.share

@@ -1,0 +1,5 @@
+use Rattle.promise_uses.proofs.Parts.{no-more}
+use Rattle.promise_uses.proofs.desks.nine_asks_in_vain.Goals as goal
+
+pub returns-clause-refused : goal.returns-clause-refused
+returns-clause-refused g c = no-more _ c.args.seat.now c.ask.new.seat c.ask.result c.ask.ensures.asked c.requires
