@@ -164,7 +164,7 @@ def by_test(folder, edit, where, word):
             pathlib.Path(room, "crates", folder.name, path).write_text(text)
         asked = ["--data", f"{word}={room}/crates/{where}/data/{word}"] if where == "transcripts" else ["--test", "--", word]
         ran = subprocess.run(["rt", "try", "--steps", "1", "--seconds", "120", *asked], cwd=f"{room}/crates/{where}", stdin=subprocess.DEVNULL, capture_output=True, text=True, check=False)
-        return f"test {word} of {where}" if ran.returncode in (1, 4, 6) and word in ran.stdout + ran.stderr else None
+        return f"test {word} of {where}" if ran.returncode in (1, 4, 6, 101) and word in ran.stdout + ran.stderr else None
 
 
 def main():
