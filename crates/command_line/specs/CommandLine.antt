@@ -109,7 +109,7 @@ abbrev pub options_asked : List Text → Option Options
 options_asked words = asked_of (subcommand_of program words)
 
 -- each option is within its limits
-abbrev pub IsWithinLimits : Options → Type 0
-IsWithinLimits (Solve grain visited) = grain ≤ 6
-IsWithinLimits (Serve sessions port workers segments nodes grain) = (1 ≤ sessions) × (sessions ≤ 1000) × (port ≤ 65535) × (1 ≤ workers) × (workers ≤ 32)
+abbrev pub AreWithinLimits : Options → Type 0
+AreWithinLimits (Solve grain visited) = grain ≤ 6
+AreWithinLimits (Serve sessions port workers segments nodes grain) = (1 ≤ sessions) × (sessions ≤ 1000) × (port ≤ 65535) × (1 ≤ workers) × (workers ≤ 32)
     × (1 ≤ segments) × (segments ≤ 65536) × (1 ≤ nodes) × (nodes ≤ 4194304) × (grain ≤ 6)

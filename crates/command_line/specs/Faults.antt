@@ -34,6 +34,6 @@ status_of_kind DisplayVersion = 0
 status_of_kind _ = 2
 
 -- the exit status for a fault of the words: 1 for want of memory, else that of the error's kind
-abbrev pub status_of : WordsFault → ℕ
-status_of OutOfMemory = 1
-status_of (Refused error) = status_of_kind (kind_of error)
+abbrev pub exit_status : WordsFault → ℕ
+exit_status OutOfMemory = 1
+exit_status (Refused error) = status_of_kind (kind_of error)

@@ -1,6 +1,6 @@
 //! Why the words of the command line are not followed.
 ghost use Rattle.std.specs.Prelude.{◌≡◌};
-ghost use Rattle.command_line.specs.Faults.{status_of};
+ghost use Rattle.command_line.specs.Faults.{exit_status};
 
 use thiserror::Error;
 
@@ -18,7 +18,7 @@ pub enum WordsFault {
 impl WordsFault {
     /// The exit status: 1 for want of memory, 0 where help or the version is asked for, and else 2.
     pub fn status(&self) -> u8
-        ensures { result ≡ status_of self.now }
+        ensures { result ≡ exit_status self.now }
     {
         match self {
             WordsFault::OutOfMemory => 1,

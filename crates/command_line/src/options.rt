@@ -2,7 +2,7 @@
 ghost use Rattle.std.specs.Prelude.{◌≡◌, [], map, IfErr, IfOk, None, OnErr, OnOk, Some};
 ghost use Rattle.clap.specs.Words.{fault_of, found_of, kind_of, rows_of, subcommand_rows_of};
 ghost use Rattle.clap.specs.declared.error.kind.ErrorKind.TheVariants.{ValueValidation};
-ghost use Rattle.command_line.specs.CommandLine.{IsWithinLimits, asked_of, command_asked, options_asked, program, serve_asked, solve_asked};
+ghost use Rattle.command_line.specs.CommandLine.{AreWithinLimits, asked_of, command_asked, options_asked, program, serve_asked, solve_asked};
 ghost use Rattle.command_line.specs.Faults.{IsOutside, IsRefusal};
 
 use crate::commands::{command_of, flag_in, othello_command};
@@ -48,7 +48,7 @@ impl Options {
     /// of 1 to 8 digits within the limits of its option.
     pub fn read<S: AsStr>(alloc: Global, words: &[S]) -> Result<Options, WordsFault>
         ensures read { IfOk result (λ options. options_asked (map S.text words.now) ≡ Some options) }
-        ensures within { IfOk result IsWithinLimits }
+        ensures within { IfOk result AreWithinLimits }
         ensures faultless { OnOk result (fault_of program (map S.text words.now) ≡ []) }
         ensures refused { IfErr result (IsRefusal (map S.text words.now)) }
     {
@@ -71,7 +71,7 @@ impl Options {
 /// limits.
 fn options_of(matches: &ArgMatches<'_>) -> Result<Options, Missing>
     ensures asked { IfOk result (λ options. asked_of (subcommand_rows_of matches.now) ≡ Some options) }
-    ensures within { IfOk result IsWithinLimits }
+    ensures within { IfOk result AreWithinLimits }
     ensures none { OnErr result (asked_of (subcommand_rows_of matches.now) ≡ None) }
 {
     match matches.subcommand() {
@@ -84,7 +84,7 @@ fn options_of(matches: &ArgMatches<'_>) -> Result<Options, Missing>
 /// limits.
 fn options_given(name: &str, given: &ArgMatches<'_>) -> Result<Options, Missing>
     ensures asked { IfOk result (λ options. command_asked (name.now, rows_of (found_of given.now)) ≡ Some options) }
-    ensures within { IfOk result IsWithinLimits }
+    ensures within { IfOk result AreWithinLimits }
     ensures none { OnErr result (command_asked (name.now, rows_of (found_of given.now)) ≡ None) }
 {
     if name == "solve" {
@@ -99,7 +99,7 @@ fn options_given(name: &str, given: &ArgMatches<'_>) -> Result<Options, Missing>
 /// The options of `solve`.
 fn solve_of(given: &ArgMatches<'_>) -> Result<Options, Missing>
     ensures asked { IfOk result (λ options. solve_asked (rows_of (found_of given.now)) ≡ Some options) }
-    ensures within { IfOk result IsWithinLimits }
+    ensures within { IfOk result AreWithinLimits }
     ensures none { OnErr result (solve_asked (rows_of (found_of given.now)) ≡ None) }
 {
     let grain = GRAIN.value_in(given)?;
@@ -112,7 +112,7 @@ fn solve_of(given: &ArgMatches<'_>) -> Result<Options, Missing>
 /// The options of `serve`.
 fn serve_of(given: &ArgMatches<'_>) -> Result<Options, Missing>
     ensures asked { IfOk result (λ options. serve_asked (rows_of (found_of given.now)) ≡ Some options) }
-    ensures within { IfOk result IsWithinLimits }
+    ensures within { IfOk result AreWithinLimits }
     ensures none { OnErr result (serve_asked (rows_of (found_of given.now)) ≡ None) }
 {
     let sessions = SESSIONS.value_in(given)?;

@@ -9,7 +9,7 @@ use Rattle.command_line.specs.declared.options.Options.{Options}
 use Rattle.command_line.specs.declared.options.Options.TheVariants.{Serve, Solve}
 use Rattle.command_line.specs.declared.faults.WordsFault.{WordsFault}
 use Rattle.command_line.specs.CommandLine.{options_asked, program}
-use Rattle.command_line.specs.Faults.{IsRefusalOf, status_of}
+use Rattle.command_line.specs.Faults.{IsRefusalOf, exit_status}
 
 -- what the words of a command line are read as, by the faults that are found in them and what they ask for: that,
 -- where they have no fault; or they are refused, for a fault that they have or for want of memory
@@ -38,4 +38,4 @@ module _ {S K : Type 0} (gives : S → ReadAnswer → S → Type 0) (takes : K �
   abbrev pub IsSolvedAsAsked : Result Options WordsFault → ℕ → Type 0
   IsSolvedAsAsked (Ok (Solve grain visited)) status = (r : Result (Unit {0}) LineFault) × IsAnsweredRun visited r × (status ≡ status_of_run r)
   IsSolvedAsAsked (Ok (Serve sessions port workers segments nodes grain)) status = ⊥
-  IsSolvedAsAsked (Err fault) status = (source' ≡ source) × (status ≡ status_of fault)
+  IsSolvedAsAsked (Err fault) status = (source' ≡ source) × (status ≡ exit_status fault)

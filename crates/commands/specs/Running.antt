@@ -12,11 +12,11 @@ use Rattle.commands.specs.Answering.{IsSolvedAsAsked}
 use Rattle.commands.specs.declared.service.Service.{Service}
 
 -- what a server runs with: each amount as the options say it; None exactly where they ask for no server
-abbrev pub IsAskedBy : Options → Option Service → Type 0
-IsAskedBy (Solve grain visited) None = Unit {0}
-IsAskedBy (Solve grain visited) (Some asked) = ⊥
-IsAskedBy (Serve sessions port workers segments nodes grain) None = ⊥
-IsAskedBy (Serve sessions port workers segments nodes grain) (Some asked) =
+abbrev pub IsServiceOf : Options → Option Service → Type 0
+IsServiceOf (Solve grain visited) None = Unit {0}
+IsServiceOf (Solve grain visited) (Some asked) = ⊥
+IsServiceOf (Serve sessions port workers segments nodes grain) None = ⊥
+IsServiceOf (Serve sessions port workers segments nodes grain) (Some asked) =
     (asked.sessions ≡ sessions) × (asked.port ≡ port) × (asked.workers ≡ workers) × (asked.config.segments ≡ segments) × (asked.config.nodes ≡ nodes) × (asked.grain ≡ grain)
 
 -- what the output is told when a server listens: `listening`, its address, and an LF (10)

@@ -1,6 +1,6 @@
 //! What a program says of itself, and of words that it can't follow.
 ghost use Rattle.std.specs.Prelude.{◌≡◌};
-ghost use Rattle.command_line.specs.Faults.{status_of};
+ghost use Rattle.command_line.specs.Faults.{exit_status};
 
 use command_line::WordsFault;
 use line_io::{Sink, write_text};
@@ -10,7 +10,7 @@ use std::fmt::{self, Display, Write as _};
 /// version that they ask for. Returns the exit status: 2 for a refusal, 1 for want of memory, 0 for help and version,
 /// whether the text could be written or not.
 pub fn refuse<K: Sink, E: Sink>(fault: &WordsFault, sink: &mut K, errors: &mut E) -> u8
-    ensures { result ≡ status_of fault.now }
+    ensures { result ≡ exit_status fault.now }
 {
     match fault {
         WordsFault::OutOfMemory => say(errors, fault),

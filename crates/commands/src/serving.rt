@@ -66,14 +66,14 @@ impl From<ServeFault> for Unserved {
 }
 
 impl Service {
-    ghost use Rattle.command_line.specs.CommandLine.{IsWithinLimits};
-    ghost use Rattle.commands.specs.Running.{IsAskedBy};
+    ghost use Rattle.command_line.specs.CommandLine.{AreWithinLimits};
+    ghost use Rattle.commands.specs.Running.{IsServiceOf};
 
     /// The server that these options ask for, with each amount as it was read; `None` exactly where they ask for
     /// `solve`.
     pub fn of(options: Options) -> Option<Service>
-        requires { IsWithinLimits options }
-        ensures { IsAskedBy options result }
+        requires { AreWithinLimits options }
+        ensures { IsServiceOf options result }
     {
         match options {
             Options::Solve { .. } => None,

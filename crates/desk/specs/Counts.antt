@@ -60,6 +60,6 @@ has_news kept = kept.closed || not (ready_count kept.hall.shared.tenants == 0)
 
 -- the frame that a worker is given after it has waited, with its home: None exactly where the desk is closed or no
 -- frame is ready, else one that is ready
-abbrev pub IsNext : LockedHallOf → Option (FrameId × ℕ) → Type 0
-IsNext kept None = (not kept.closed && not (ready_count kept.hall.shared.tenants == 0)) ≡ false
-IsNext kept (Some ready) = (kept.closed ≡ false) × IsReadyAt (named kept.hall.shared ready.0) ready.1
+abbrev pub IsNextReady : LockedHallOf → Option (FrameId × ℕ) → Type 0
+IsNextReady kept None = (not kept.closed && not (ready_count kept.hall.shared.tenants == 0)) ≡ false
+IsNextReady kept (Some ready) = (kept.closed ≡ false) × IsReadyAt (named kept.hall.shared ready.0) ready.1

@@ -32,8 +32,8 @@ abbrev pub core_at : HallOf → List (ℕ × StepOf LeafAnswer) → CoreState
 core_at begun history = shared_run (jamboree begun.grain) begun.shared (steps_of history)
 
 -- what its own steps in a history make of a tenant that wasn't there before, as if no other tenant were there
-abbrev pub tenant_at : HallOf → List (ℕ × StepOf LeafAnswer) → ℕ → Option Tenant
-tenant_at begun history number = alone (jamboree begun.grain) (only number (steps_of history))
+abbrev pub lone_tenant : HallOf → List (ℕ × StepOf LeafAnswer) → ℕ → Option Tenant
+lone_tenant begun history number = alone (jamboree begun.grain) (only number (steps_of history))
 
 -- each of these steps is taken by the core to which the ones before it lead
 abbrev pub AreTaken : {I A : Type 0} → Functions I A → CoreState → List (StepOf A) → Type 0
@@ -81,7 +81,7 @@ IsToldOf begun before step (Err refusal) now = Saw before now × IsAnswerTo (jam
 
 -- a new seat: the history that it has seen ends with its tenant's Admit, no step before that is of this tenant or by this
 -- maker, and the Admit is all that its maker made
-pub record IsAdmitted (reserve : Quota) (seat : SeatOf) : Type 0 where
+pub record IsSeated (reserve : Quota) (seat : SeatOf) : Type 0 where
   pub before : List (ℕ × StepOf LeafAnswer)
   pub seen : seat.known.seen ≡ before ++ (seat.known.maker, Admit seat.tenant reserve) ∷ []
   pub unused : only seat.tenant (steps_of before) ≡ []
@@ -101,7 +101,7 @@ pub record IsLook (begun : HallOf) (before now : SeatOf) : Type 0 where
   pub saw : Saw before.known now.known
   pub legal : AreTaken (jamboree begun.grain) begun.shared (steps_of now.known.seen)
   pub mine : seat_steps now.tenant (steps_of now.known.seen) ≡ now.known.mine
-  pub alone : tenant_in (core_at begun now.known.seen).tenants now.tenant ≡ tenant_at begun now.known.seen now.tenant
+  pub alone : tenant_in (core_at begun now.known.seen).tenants now.tenant ≡ lone_tenant begun now.known.seen now.tenant
 
 -- a seat's answer about a job at the end of the history that the seat has seen: what the tenant's job has come to
 -- there, as a seat is told it

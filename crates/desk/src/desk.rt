@@ -10,7 +10,7 @@ ghost use Rattle.sched_rules.specs.Cores.{tenant_in};
 ghost use Rattle.sched_rules.specs.Views.{left_in_core, live_of};
 ghost use Rattle.desk_rules.specs.Asked.{found_or_no_tenant, ask_refusals, cancel_refusals, seat_asked_at, IsShown};
 ghost use Rattle.desk.specs.Seats.{admit_refusals, reserve_refusals, seeing, stepped, IsAsked};
-ghost use Rattle.desk.specs.Histories.{core_at, steps_of, AreTaken, IsAdmitted, IsLook, IsShownAt, IsToldOf, IsTrueTo, Saw, Took};
+ghost use Rattle.desk.specs.Histories.{core_at, steps_of, AreTaken, IsSeated, IsLook, IsShownAt, IsToldOf, IsTrueTo, Saw, Took};
 
 use crate::desk_guard::DeskGuard;
 use crate::history::{Opened, Trace};
@@ -92,7 +92,7 @@ impl<L: DeskLedger, A: Allocator + Clone> Desk<L, A> {
     /// admission was a step. The hall that the desk was made with had no such tenant. The only refusals are `Full`, `OutOfMemory`, and `OldTenant` after 2^62 tenants.
     pub fn admit<R: Wait>(&self, rt: &R, reserve: Reserve) -> Result<Seat<L>, Refusal>
         ensures seat { IfOk result (λ seat. (seat.share ≡ 1) × (seat.asked ≡ [])) }
-        ensures admitted { IfOk result (IsAdmitted reserve) }
+        ensures admitted { IfOk result (IsSeated reserve) }
         ensures new { IfOk result (λ seat. tenant_in L.begun.shared.tenants seat.tenant ≡ None) }
         ensures refused { IfErr result (Contains admit_refusals) }
     {

@@ -20,8 +20,8 @@ ghost use Rattle.desk.specs.Traces.{own};
 ghost use Rattle.sched_rules.specs.Runs.{tenant_of};
 ghost use Rattle.desk.specs.Seats.{admit_refusals, reserve_refusals, seeing, stepped, IsAsked};
 ghost use Rattle.desk_rules.specs.Asked.{ask_refusals, cancel_refusals, seat_asked_at, IsShown, IsToldBy, found_or_no_tenant};
-ghost use Rattle.desk.specs.Histories.{core_at, steps_of, is_admit, is_leave, is_seat_step, with_taken, AreSeats, AreTaken, HasNoLeave, IsAdmitted, IsLook, IsShownAt, IsToldOf, IsTrueTo, Saw, Took};
-ghost use Rattle.desk.specs.Counts.{IsOffered, IsLeft, IsAsOpen, IsNext, with_kept, waits_on, has_news};
+ghost use Rattle.desk.specs.Histories.{core_at, steps_of, is_admit, is_leave, is_seat_step, with_taken, AreSeats, AreTaken, HasNoLeave, IsSeated, IsLook, IsShownAt, IsToldOf, IsTrueTo, Saw, Took};
+ghost use Rattle.desk.specs.Counts.{IsOffered, IsLeft, IsAsOpen, IsNextReady, with_kept, waits_on, has_news};
 
 use crate::history::{History, Opened, Trace};
 use crate::seat::Seat;
@@ -177,7 +177,7 @@ impl<L: DeskLedger, A: Allocator + Clone> LockedHall<L, A> {
     /// `OutOfMemory`.
     pub(crate) fn admit(&mut self, reserve: Reserve) -> Result<Seat<L>, Refusal>
         ensures seat { IfOk result (λ seat. (seat.tenant ≡ self.old.hall.shared.newest + 1) × (seat.share ≡ 1) × (seat.asked ≡ [])) }
-        ensures admitted { IfOk result (IsAdmitted reserve) }
+        ensures admitted { IfOk result (IsSeated reserve) }
         ensures new { IfOk result (λ seat. tenant_in L.begun.shared.tenants seat.tenant ≡ None) }
         ensures step { MatchResult result
             (λ _. (did : DidOf LeafOf) × IsOffered self.old.hall (Admit (self.old.hall.shared.newest + 1) reserve) (Ok did) self.new.hall)
@@ -382,7 +382,7 @@ impl<L: DeskLedger, A: Allocator + Clone> LockedHall<L, A> {
     /// A frame that is ready, with its home; `None` where no frame is ready or the desk is closed. The frame isn't
     /// taken: it stays ready until a worker's step takes it.
     pub(crate) fn next_ready(&self) -> Option<(FrameId, u8)>
-        ensures { IsNext self.now result }
+        ensures { IsNextReady self.now result }
     {
         if self.closed {
             None

@@ -31,7 +31,7 @@ use Rattle.desk.specs.jamboree_core.declared.outcomes.Outcome.TheVariants.{Done}
 use Rattle.desk.specs.jamboree_core.Outcomes.{IsOutcomeIn, IsOutcomeOf, IsReplyOf}
 use Rattle.desk_rules.specs.declared.asked.SeatAsked.{SeatAsked}
 use Rattle.desk_rules.specs.Asked.{found_or_no_tenant, seat_asked_at, IsShown, IsShownOf, IsToldBy, Shows}
-use Rattle.desk.specs.Histories.{core_at, is_admit, tenant_at}
+use Rattle.desk.specs.Histories.{core_at, is_admit, lone_tenant}
 use Rattle.session.specs.declared.standings.Analysis.{Analysis}
 use Rattle.session.specs.declared.standings.Standing.TheVariants.{Done as done}
 use Rattle.session.specs.Calls.{Reserve, Ask, Cancel, OfficeReply, Reserved, Job, Told, Ended, Rest, Alive, Refused, reply_of}
@@ -100,8 +100,8 @@ job-told number (Some job) (Some a) (Some told) (Err refusal) same shown is by =
 job-told number (Some job) (Some a) (Some told) (Ok outcome) same shown is by = outcome-told a number job told outcome same is by
 
 -- what is told of a job at a moment
-pub told-at : (begun : HallOf) (number : ℕ) (history : History) (asked : List SeatAsked) (job : ℕ) (reply : OfficeReply) → IsAtMoment begun number history (map root_of asked) → IsJobTold asked (tenant_at begun history number) job reply →
-    reply ≡ job_reply job (option_and_then (λ its. job_at its.jobs job) (tenant_at begun history number))
+pub told-at : (begun : HallOf) (number : ℕ) (history : History) (asked : List SeatAsked) (job : ℕ) (reply : OfficeReply) → IsAtMoment begun number history (map root_of asked) → IsJobTold asked (lone_tenant begun history number) job reply →
+    reply ≡ job_reply job (option_and_then (λ its. job_at its.jobs job) (lone_tenant begun history number))
 told-at begun number history asked job reply m t =
     let P : Option Tenant → Type 0 = λ o. IsJobTold asked o job reply → reply ≡ job_reply job (option_and_then (λ its. job_at its.jobs job) o) in
     let of : P (Some m.tenant) = λ t. t.2 ∙ job-told job (job_at m.tenant.jobs job) (seat_asked_at asked job) t.1 t.0 (matches asked m.tenant.jobs job m.jobs) t.3 t.4 t.5 in
@@ -137,14 +137,14 @@ same-search rules its number a b c d depth =
     same-tests {X = Outcome Leaf} (submit_tests its (root_words a b depth) frame_size) (submitted its number (root_words a b depth) frame_size) (submitted its number (root_words c d depth) frame_size)
 
 pub reserve-taken : (begun : HallOf) (number : ℕ) (history : History) (origins : List (List ℕ)) (quota : Quota) → IsAtMoment begun number history origins → shared_refusal (jamboree begun.grain) (core_at begun history) (AdmitMore number quota) ≡ None →
-    reply_to begun.grain number (tenant_at begun history number) (Reserve quota) ≡ Reserved quota
+    reply_to begun.grain number (lone_tenant begun history number) (Reserve quota) ≡ Reserved quota
 reserve-taken begun number history origins quota m none =
     let rules = jamboree begun.grain in
     let alone = granted rules (core_at begun history) (AdmitMore number quota) refl none in
     ap (λ (o : Option Tenant). unless_refused (lone_refusal {A = LeafAnswer} rules o (AdmitMore number quota)) (Reserved quota)) (m.alone ∙ sym m.core) ∙ ap (λ (r : Option Refusal). unless_refused r (Reserved quota)) alone
 
 pub cancel-taken : (begun : HallOf) (number : ℕ) (history : History) (origins : List (List ℕ)) (job : ℕ) → IsAtMoment begun number history origins → shared_refusal (jamboree begun.grain) (core_at begun history) (CancelStep number job) ≡ None →
-    reply_to begun.grain number (tenant_at begun history number) (Cancel job) ≡ Ended job
+    reply_to begun.grain number (lone_tenant begun history number) (Cancel job) ≡ Ended job
 cancel-taken begun number history origins job m none =
     let rules = jamboree begun.grain in
     let alone = granted rules (core_at begun history) (CancelStep number job) refl none in
@@ -153,7 +153,7 @@ cancel-taken begun number history origins job m none =
 -- what an Ask is answered by a tenant that is there
 asked-by : (begun : HallOf) (number : ℕ) (history : History) (origins : List (List ℕ)) (depth own opp : ℕ) (board : List Cell) (side : Side) (r : Option Refusal) (m : IsAtMoment begun number history origins) →
     lone_refusal (jamboree begun.grain) (Some m.tenant) (Submit number (root_words own opp depth) frame_size) ≡ r →
-    reply_to begun.grain number (tenant_at begun history number) (Ask depth board side) ≡ unless_refused r (Job (length m.tenant.jobs + 1))
+    reply_to begun.grain number (lone_tenant begun history number) (Ask depth board side) ≡ unless_refused r (Job (length m.tenant.jobs + 1))
 asked-by begun number history origins depth own opp board side r m is =
     let rules = jamboree begun.grain in
     ap (λ (o : Option Tenant). reply_to begun.grain number o (Ask depth board side)) m.alone
@@ -161,7 +161,7 @@ asked-by begun number history origins depth own opp board side r m is =
 
 pub ask-taken : (begun : HallOf) (number : ℕ) (history : History) (asked : List SeatAsked) (depth own opp : ℕ) (board : List Cell) (side : Side) → IsAtMoment begun number history (map root_of asked) →
     shared_refusal (jamboree begun.grain) (core_at begun history) (Submit number (root_words own opp depth) frame_size) ≡ None →
-    reply_to begun.grain number (tenant_at begun history number) (Ask depth board side) ≡ Job (length asked + 1)
+    reply_to begun.grain number (lone_tenant begun history number) (Ask depth board side) ≡ Job (length asked + 1)
 ask-taken begun number history asked depth own opp board side m none =
     let rules = jamboree begun.grain in
     let step : Step = Submit number (root_words own opp depth) frame_size in

@@ -22,7 +22,7 @@ use Rattle.desk.specs.hall.jamboree_rules.declared.leaf.LeafAnswer.{LeafAnswer}
 use Rattle.desk.specs.hall.jamboree_rules.Procedure.{jamboree}
 use Rattle.desk.specs.hall.Halls.{HallOf}
 use Rattle.desk.specs.Traces.{own}
-use Rattle.desk.specs.Histories.{core_at, is_admit, is_leave, is_seat_step, seat_steps, steps_of, tenant_at, AllOwn, AreTaken, IsThere}
+use Rattle.desk.specs.Histories.{core_at, is_admit, is_leave, is_seat_step, seat_steps, steps_of, lone_tenant, AllOwn, AreTaken, IsThere}
 use Rattle.desk.proofs.Staying.{lone_keeps}
 use Rattle.desk_office.specs.Answers.{History}
 
@@ -283,7 +283,7 @@ who-is (Some tenant) h = (tenant, refl)
 -- a tenant is there at a moment, in the core as if it were alone, and its jobs are what these words asked for
 pub record IsAtMoment (begun : HallOf) (number : ℕ) (history : History) (origins : List (List ℕ)) : Type 0 where
   pub tenant : Tenant
-  pub alone : tenant_at begun history number ≡ Some tenant
+  pub alone : lone_tenant begun history number ≡ Some tenant
   pub core : tenant_in (core_at begun history).tenants number ≡ Some tenant
   pub jobs : AreReplies origins tenant.jobs
 

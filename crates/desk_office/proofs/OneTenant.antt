@@ -12,7 +12,7 @@ use Rattle.desk.specs.Traces.{Known}
 use Rattle.desk.specs.hall.jamboree_rules.declared.leaf.LeafAnswer.{LeafAnswer}
 use Rattle.desk.specs.hall.Halls.{HallOf}
 use Rattle.desk.specs.Seats.{SeatOf}
-use Rattle.desk.specs.Histories.{IsAdmitted}
+use Rattle.desk.specs.Histories.{IsSeated}
 use Rattle.session.specs.declared.faults.End.{End}
 use Rattle.session.specs.declared.faults.SessionFault.{SessionFault}
 use Rattle.session.specs.declared.faults.SessionFault.TheVariants.{Read, Write}
@@ -238,7 +238,7 @@ module _ (begun : HallOf) where
       )
 
   -- a HELLO that brought a tenant
-  one_welcome : (quota : Quota) (reply : OfficeReply) (from next to : OfficeOf) (seat : SeatOf) (calls : List (Call × OfficeReply)) → reply ≡ Welcome quota → next.seat ≡ Some seat → IsAdmitted quota seat → tenant_in begun.shared.tenants seat.tenant ≡ None → seat.asked ≡ [] → AreSeated calls → Led next calls to → Comes from ((Hello quota, reply) ∷ calls) to
+  one_welcome : (quota : Quota) (reply : OfficeReply) (from next to : OfficeOf) (seat : SeatOf) (calls : List (Call × OfficeReply)) → reply ≡ Welcome quota → next.seat ≡ Some seat → IsSeated quota seat → tenant_in begun.shared.tenants seat.tenant ≡ None → seat.asked ≡ [] → AreSeated calls → Led next calls to → Comes from ((Hello quota, reply) ∷ calls) to
   one_welcome quota reply from next to seat calls said here admitted new none seated h =
       let t = tenancy begun quota seat seated.0 next to admitted new none here seated.1 (subst (λ (l : List (Call × OfficeReply)). Led next l to) seated.2 h) in
       inr (

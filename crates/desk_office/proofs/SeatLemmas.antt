@@ -16,7 +16,7 @@ use Rattle.sched_rules.specs.declared.refusal.Refusal.TheVariants.{NoJob}
 use Rattle.sched_rules.specs.Refusals.{refusal_number}
 use Rattle.tenant_quota.specs.Quota.{Quota}
 use Rattle.session.specs.Calls.{Call, Get, Wait, Cancel, Reserve, Reserved, Ended, Told as ToldOf, Refused, reply_of}
-use Rattle.session.specs.Asks.{Asked, asked_at, asks_after, IsAnalysisOf, IsOfficeReplyTo, IsToldOf, KeepsAsks, SaysTrue, ShowsFound}
+use Rattle.session.specs.Asks.{Asked, asked_at, asks_after, IsAnalysisOf, IsOfficeReplyTo, IsJobReply, KeepsAsks, SaysTrue, ShowsFound}
 use Rattle.session.specs.declared.standings.Standing.{Standing}
 use Rattle.desk_rules.specs.declared.asked.SeatAsked.{SeatAsked}
 use Rattle.desk.specs.Seats.{SeatOf, reserve_refusals, seeing, stepped}
@@ -49,7 +49,7 @@ shown_found asks job Spent h = tt
 shown_found asks job Cancelled h = tt
 
 -- how a job stands is told where something was asked under its number, and else refused
-pub told_of : (job : ℕ) (o : Option SeatAsked) (answer : Result Outcome Refusal) → IsShown o answer → IsToldOf job (option_map ask_of o) (reply_of (ToldOf job) (told_answer answer))
+pub told_of : (job : ℕ) (o : Option SeatAsked) (answer : Result Outcome Refusal) → IsShown o answer → IsJobReply job (option_map ask_of o) (reply_of (ToldOf job) (told_answer answer))
 told_of job None (Ok outcome) h = absurd (cc h)
 told_of job None (Err refusal) h = let is : refusal ≡ NoJob = cc h in ap (λ r. Refused (refusal_number r)) is
 told_of job (Some asked) (Ok outcome) h = (standing_of outcome, refl)
@@ -73,14 +73,14 @@ told_to call job (Err refusal) named = tt
 -- what a seat tells of a job, once it has looked
 pub job_kept : (call : Call) (before seat : SeatOf) (job : ℕ) (answer : Result Outcome Refusal) → seat ≡ seeing seat.known before → IsShown (seat_asked_at seat.asked job) answer → (call ≡ Get job) ⊎ (call ≡ Wait job) →
     (map ask_of seat.asked ≡ asks_after (map ask_of before.asked) call (reply_of (ToldOf job) (told_answer answer))) × SaysTrue (map ask_of before.asked) (reply_of (ToldOf job) (told_answer answer))
-    × IsToldOf job (asked_at (map ask_of before.asked) job) (reply_of (ToldOf job) (told_answer answer)) × IsOfficeReplyTo call (reply_of (ToldOf job) (told_answer answer))
+    × IsJobReply job (asked_at (map ask_of before.asked) job) (reply_of (ToldOf job) (told_answer answer)) × IsOfficeReplyTo call (reply_of (ToldOf job) (told_answer answer))
 job_kept call before seat job answer kept shown named =
     let same : map ask_of seat.asked ≡ map ask_of before.asked = ap (λ s. map ask_of s.asked) kept in
-    let tells : IsToldOf job (asked_at (map ask_of seat.asked) job) (reply_of (ToldOf job) (told_answer answer)) =
-    subst (λ o. IsToldOf job o (reply_of (ToldOf job) (told_answer answer))) (sym (asked_at-map seat.asked job)) (told_of job (seat_asked_at seat.asked job) answer shown) in (
+    let tells : IsJobReply job (asked_at (map ask_of seat.asked) job) (reply_of (ToldOf job) (told_answer answer)) =
+    subst (λ o. IsJobReply job o (reply_of (ToldOf job) (told_answer answer))) (sym (asked_at-map seat.asked job)) (told_of job (seat_asked_at seat.asked job) answer shown) in (
       same ∙ same_asks (map ask_of before.asked) call job (told_answer answer),
       subst (λ asks. SaysTrue asks (reply_of (ToldOf job) (told_answer answer))) same (says seat.asked job answer shown),
-      subst (λ asks. IsToldOf job (asked_at asks job) (reply_of (ToldOf job) (told_answer answer))) same tells,
+      subst (λ asks. IsJobReply job (asked_at asks job) (reply_of (ToldOf job) (told_answer answer))) same tells,
       told_to call job (told_answer answer) named,
     )
 

@@ -27,12 +27,12 @@ use Rattle.desk.specs.hall.jamboree_rules.Procedure.{jamboree}
 use Rattle.desk.specs.hall.Halls.{HallOf}
 use Rattle.desk.specs.Seats.{SeatOf, seeing}
 use Rattle.desk_rules.specs.Asked.{found_or_no_tenant}
-use Rattle.desk.specs.Histories.{core_at, seat_steps, steps_of, tenant_at, AllOwn, AreTaken, IsAdmitted, IsTrueTo, Saw, Took}
+use Rattle.desk.specs.Histories.{core_at, seat_steps, steps_of, lone_tenant, AllOwn, AreTaken, IsSeated, IsTrueTo, Saw, Took}
 use Rattle.session.specs.Calls.{Call, Hello, Reserve, Ask, Get, Wait, Cancel, AskQuota, AskLive, Leave, OfficeReply, Told, Rest, Alive, Gone, Refused, reply_of}
 use Rattle.session.specs.Sessions.{Called}
 use Rattle.desk_office.specs.Offices.{told_answer}
 use Rattle.desk_office.specs.Answers.{History, live_in, is_stay, is_taken, reply_to, step_for, Adds, AllStay, AreAnswered, IsBoardIn, IsReplyAt}
-use Rattle.desk_office.specs.Moments.{OfficeOf, asked_after, taken_reply, with_seat, IsGone, IsLookBy, IsRefused, IsRefusedAtOnce, IsReplyOf, IsStepBy, IsTaken, IsTurnAt, IsTurnOf}
+use Rattle.desk_office.specs.Moments.{OfficeOf, asked_after, taken_reply, with_seat, IsTenantGone, IsLookBy, IsStepRefused, IsRefusedAtOnce, IsLookReply, IsStepBy, IsStepTaken, IsTurnAt, IsTurnOf}
 use Rattle.desk_office.proofs.Histories.{adds-none, all-mine, all-own, moment, own-more, seat-more, steps-more, AllGo, Goes, IsAtMoment, Step}
 use Rattle.desk_office.proofs.Answered.{ask-at-once, ask-refused, ask-taken, cancel-at-once, cancel-refused, cancel-taken, live-at, reserve-refused, reserve-taken, rest-at, root_of, told-at}
 
@@ -103,10 +103,10 @@ record Part (begun : HallOf) (next : OfficeOf) (first : SeatOf) (call : Call) (r
 
 -- its step was taken
 by-taken : (begun : HallOf) (from next : OfficeOf) (first : SeatOf) (words : Board) (step : Step) (call : Call) (reply : OfficeReply) (now : SeatOf) → SeatHolds first → next ≡ with_seat now from → IsBoardIn words call →
-    step_for first.tenant words call ≡ Some step → IsTaken first words step call reply now → is_taken (taken_reply (length first.asked) call) ≡ true → Goes step → IsSearch step →
+    step_for first.tenant words call ≡ Some step → IsStepTaken first words step call reply now → is_taken (taken_reply (length first.asked) call) ≡ true → Goes step → IsSearch step →
     map root_of (asked_after first.asked words call) ≡ map root_of first.asked ++ submits step →
     ((h : History) → IsAtMoment begun first.tenant h (map root_of first.asked) → shared_refusal (jamboree begun.grain) (core_at begun h) step ≡ None →
-    reply_to begun.grain first.tenant (tenant_at begun h first.tenant) call ≡ taken_reply (length first.asked) call) →
+    reply_to begun.grain first.tenant (lone_tenant begun h first.tenant) call ≡ taken_reply (length first.asked) call) →
     Part begun next first call reply
 by-taken begun from next first words step call reply now is to board asks t takes goes search asked grant =
     let k = t.took in
@@ -154,14 +154,14 @@ by-step : (begun : HallOf) (from next : OfficeOf) (first now : SeatOf) (call : C
     is_taken (taken_reply (length first.asked) call) ≡ true → (IsRefusedAtOnce first.asked call reply → is_taken reply ≡ false) →
     ((words : Board) (step : Step) → IsBoardIn words call → step_for first.tenant words call ≡ Some step → Goes step × IsSearch step × (map root_of (asked_after first.asked words call) ≡ map root_of first.asked ++ submits step)) →
     ((words : Board) (step : Step) (h : History) → step_for first.tenant words call ≡ Some step → IsAtMoment begun first.tenant h (map root_of first.asked) → shared_refusal (jamboree begun.grain) (core_at begun h) step ≡ None →
-    reply_to begun.grain first.tenant (tenant_at begun h first.tenant) call ≡ taken_reply (length first.asked) call) →
+    reply_to begun.grain first.tenant (lone_tenant begun h first.tenant) call ≡ taken_reply (length first.asked) call) →
     ((words : Board) (step : Step) (h : History) (refusal : Refusal) → step_for first.tenant words call ≡ Some step → IsAtMoment begun first.tenant h (map root_of first.asked) →
     IsAnswerTo (jamboree begun.grain) (core_at begun h) step (Err refusal) → IsReplyAt begun first.tenant h call (Refused (refusal_number refusal))) →
     ((h : History) → IsAtMoment begun first.tenant h (map root_of first.asked) → IsRefusedAtOnce first.asked call reply → IsReplyAt begun first.tenant h call reply) →
     Part begun next first call reply
 by-step begun from next first now call reply is to b takes at_once of grant refuse refuse_at_once = by b.came
   where
-    by : IsTaken first b.words b.step call reply now ⊎ (IsRefused begun first b.step reply now ⊎ ((now ≡ first) × IsRefusedAtOnce first.asked call reply)) → Part begun next first call reply
+    by : IsStepTaken first b.words b.step call reply now ⊎ (IsStepRefused begun first b.step reply now ⊎ ((now ≡ first) × IsRefusedAtOnce first.asked call reply)) → Part begun next first call reply
     by (inl t) =
         let it = of b.words b.step b.board b.asks in
         by-taken begun from next first b.words b.step call reply now is to b.board b.asks t takes it.0 it.1 it.2 (λ h m none. grant b.words b.step h b.asks m none)
@@ -173,10 +173,10 @@ by-step begun from next first now call reply is to b takes at_once of grant refu
 
 -- a call that looks
 by-look : (begun : HallOf) (from next : OfficeOf) (first now : SeatOf) (call : Call) (reply : OfficeReply) → SeatHolds first → is_taken reply ≡ false → next ≡ with_seat now from → IsLookBy begun first call reply now →
-    (IsAtMoment begun first.tenant now.known.seen (map root_of first.asked) → IsReplyOf first.asked (tenant_at begun now.known.seen first.tenant) call reply → IsReplyAt begun first.tenant now.known.seen call reply) →
+    (IsAtMoment begun first.tenant now.known.seen (map root_of first.asked) → IsLookReply first.asked (lone_tenant begun now.known.seen first.tenant) call reply → IsReplyAt begun first.tenant now.known.seen call reply) →
     Part begun next first call reply
 by-look begun from next first now call reply is untaken to l answer =
-    by-seeing begun from next first now call reply is to untaken l.look.kept l.look.saw (λ m. answer m (subst (λ (s : SeatOf). IsReplyOf s.asked (tenant_at begun now.known.seen s.tenant) call reply) l.look.kept l.said))
+    by-seeing begun from next first now call reply is to untaken l.look.kept l.look.saw (λ m. answer m (subst (λ (s : SeatOf). IsLookReply s.asked (lone_tenant begun now.known.seen s.tenant) call reply) l.look.kept l.said))
 
 -- what is told is no step
 told_is_none : {X : Type 0} (said : X → OfficeReply) (answer : Result X Refusal) → ((x : X) → is_taken (said x) ≡ false) → is_taken (reply_of said answer) ≡ false
@@ -241,11 +241,11 @@ part begun from next first (Get job) reply here stays is t =
 part begun from next first (Wait job) reply here stays is t =
     let said = t.2.said in by-look begun from next first t.0 (Wait job) reply is (ap is_taken said.2 ∙ told_is_none (Told job) (told_answer said.0) (λ x. refl)) t.1 t.2 (λ m told. inl (told-at begun first.tenant t.0.known.seen first.asked job reply m told))
 part begun from next first AskQuota reply here stays is t =
-    by-look begun from next first t.0 AskQuota reply is (ap is_taken t.2.said ∙ told_is_none Rest (found_or_no_tenant (option_map left (tenant_at begun t.0.known.seen t.0.tenant))) (λ x. refl)) t.1 t.2
-    (λ m told. inl (told ∙ rest-at (tenant_at begun t.0.known.seen first.tenant)))
+    by-look begun from next first t.0 AskQuota reply is (ap is_taken t.2.said ∙ told_is_none Rest (found_or_no_tenant (option_map left (lone_tenant begun t.0.known.seen t.0.tenant))) (λ x. refl)) t.1 t.2
+    (λ m told. inl (told ∙ rest-at (lone_tenant begun t.0.known.seen first.tenant)))
 part begun from next first AskLive reply here stays is t =
-    by-look begun from next first t.0 AskLive reply is (ap is_taken t.2.said ∙ told_is_none Alive (found_or_no_tenant (option_map live_in (tenant_at begun t.0.known.seen t.0.tenant))) (λ x. refl)) t.1 t.2
-    (λ m told. inl (told ∙ live-at (tenant_at begun t.0.known.seen first.tenant)))
+    by-look begun from next first t.0 AskLive reply is (ap is_taken t.2.said ∙ told_is_none Alive (found_or_no_tenant (option_map live_in (lone_tenant begun t.0.known.seen t.0.tenant))) (λ x. refl)) t.1 t.2
+    (λ m told. inl (told ∙ live-at (lone_tenant begun t.0.known.seen first.tenant)))
 
 -- ---- all calls
 
@@ -260,7 +260,7 @@ record Ending (begun : HallOf) (first : SeatOf) (to : OfficeOf) : Type 0 where
 
 gone-as : (begun : HallOf) (first : SeatOf) (from next to : OfficeOf) → from.seat ≡ Some first → IsTurnAt begun from Leave Gone next → next ≡ to → (now : Known Step) × (to.knew ≡ Some now) × Took first.known (LeaveStep first.tenant) now × IsTrueTo begun first.tenant now
 gone-as begun first from next to here turn end =
-    let gone : IsGone begun first Gone next = subst (λ (o : Option SeatOf). IsTurnOf begun o Leave Gone from next) here turn.0 in
+    let gone : IsTenantGone begun first Gone next = subst (λ (o : Option SeatOf). IsTurnOf begun o Leave Gone from next) here turn.0 in
     (gone.0, sym (ap (λ (o : OfficeOf). o.knew) end) ∙ ap (λ (o : OfficeOf). o.knew) gone.1, gone.2, gone.3)
 
 part-on : (begun : HallOf) (next : OfficeOf) (first : SeatOf) (call : Call) (reply : OfficeReply) (p : Part begun next first call reply) → IsPrefix first.known.seen p.now.known.seen
@@ -373,7 +373,7 @@ pub record Tenancy (begun : HallOf) (number : ℕ) (quota : Quota) (calls : List
   pub unused : only number (steps_of before) ≡ []
   pub answered : AreAnswered begun number known.maker (before ++ (known.maker, Admit number quota) ∷ []) calls known.seen
 
-pub tenancy : (begun : HallOf) (quota : Quota) (seat : SeatOf) (calls : List (Call × OfficeReply)) (from to : OfficeOf) → IsAdmitted quota seat → tenant_in begun.shared.tenants seat.tenant ≡ None → seat.asked ≡ [] → from.seat ≡ Some seat → AllStay calls →
+pub tenancy : (begun : HallOf) (quota : Quota) (seat : SeatOf) (calls : List (Call × OfficeReply)) (from to : OfficeOf) → IsSeated quota seat → tenant_in begun.shared.tenants seat.tenant ≡ None → seat.asked ≡ [] → from.seat ≡ Some seat → AllStay calls →
     Leads (Called (IsTurnAt begun)) from (calls ++ (Leave, Gone) ∷ []) to → Tenancy begun seat.tenant quota calls to
 tenancy begun quota seat calls from to a new none here stay h =
     let t = seat.tenant in

@@ -26,7 +26,7 @@ use Rattle.desk.specs.jamboree_core.Outcomes.{IsOutcomeIn}
 use Rattle.desk_rules.specs.declared.asked.SeatAsked.{SeatAsked}
 use Rattle.desk_rules.specs.Asked.{found_or_no_tenant, ask_refusals, cancel_refusals, seat_asked_at, IsShown}
 use Rattle.desk.specs.Seats.{SeatOf, admit_refusals, reserve_refusals, seeing, stepped, IsAsked}
-use Rattle.desk.specs.Histories.{core_at, tenant_at, IsAdmitted, IsLook, IsShownAt, IsToldOf, IsTrueTo, Took}
+use Rattle.desk.specs.Histories.{core_at, lone_tenant, IsSeated, IsLook, IsShownAt, IsToldOf, IsTrueTo, Took}
 use Rattle.session.specs.declared.standings.Standing.{Standing}
 use Rattle.session.specs.Asks.{Asked, KeepsAsks}
 use Rattle.session.specs.Calls.{Call, Hello, Reserve, Ask, Get, Wait, Cancel, AskQuota, AskLive, Leave, OfficeReply, Welcome, Reserved, Job, Told, Ended, Rest, Alive, Gone, Refused, reply_of}
@@ -98,13 +98,13 @@ cancel_step begun before after job answer share none told = by_found (seat_asked
 
 -- how a job is told
 job_look : (begun : HallOf) (before now : SeatOf) (job : ℕ) (answer : Result Outcome Refusal) → IsLook begun before now → IsShown (seat_asked_at now.asked job) answer → IsShownAt begun now job answer →
-    IsJobTold now.asked (tenant_at begun now.known.seen now.tenant) job (reply_of (Told job) (told_answer answer))
+    IsJobTold now.asked (lone_tenant begun now.known.seen now.tenant) job (reply_of (Told job) (told_answer answer))
 job_look begun before now job answer look shown at =
     (answer, at.0, refl, shown, subst (λ (t : Option Tenant). IsOutcomeIn (option_and_then (λ its. job_at its.jobs job) t) at.0) look.alone at.1, at.2)
 
 -- what is left
 rest_look : (begun : HallOf) (before now : SeatOf) (answer : Result Left Refusal) → IsLook begun before now → answer ≡ found_or_no_tenant (left_in_core (core_at begun now.known.seen) now.tenant) →
-    reply_of Rest answer ≡ reply_of Rest (found_or_no_tenant (option_map left (tenant_at begun now.known.seen now.tenant)))
+    reply_of Rest answer ≡ reply_of Rest (found_or_no_tenant (option_map left (lone_tenant begun now.known.seen now.tenant)))
 rest_look begun before now answer look is = ap (reply_of Rest) (is ∙ ap (λ (t : Option Tenant). found_or_no_tenant (option_map left t)) look.alone)
 
 live_said : (found : Option Tenant) (answer : Result (ℕ × ℕ) Refusal) → answer ≡ found_or_no_tenant (option_map (λ tenant. (length tenant.frames, sum_by (λ frame. length frame.value) tenant.frames)) found) →
@@ -116,9 +116,9 @@ live_said (Some tenant) answer is = ap (reply_of (λ its. Alive (record { frames
 -- what is there
 live_look : (begun : HallOf) (before now : SeatOf) (answer : Result (ℕ × ℕ) Refusal) → IsLook begun before now → answer ≡ found_or_no_tenant (live_of (core_at begun now.known.seen) now.tenant) →
     reply_of (λ its. Alive (record { frames = its.0; words = its.1 })) answer
-    ≡ reply_of Alive (found_or_no_tenant (option_map live_in (tenant_at begun now.known.seen now.tenant)))
+    ≡ reply_of Alive (found_or_no_tenant (option_map live_in (lone_tenant begun now.known.seen now.tenant)))
 live_look begun before now answer look is =
-    live_said (tenant_at begun now.known.seen now.tenant) answer
+    live_said (lone_tenant begun now.known.seen now.tenant) answer
     (is ∙ ap (λ (t : Option Tenant). found_or_no_tenant (option_map (λ tenant. (length tenant.frames, sum_by (λ frame. length frame.value) tenant.frames)) t)) look.alone)
 
 -- the refusals of an ask, and what it does to what was asked
@@ -200,7 +200,7 @@ leave_turn begun from before now is told true_to =
     subst (λ o. IsTurnOf begun o Leave Gone from (record { seat = None; knew = Some now }) × KeepsAsks (asks_of o) Leave Gone []) (sym is) ((now, refl, told, true_to, refl), (refl, tt, refl, refl))
 
 -- HELLO: a new seat, a refusal, and one where a tenant is there
-pub hello_turn : (begun : HallOf) (from : OfficeOf) (quota : Quota) (seat : SeatOf) → from.seat ≡ None → IsAdmitted quota seat → tenant_in begun.shared.tenants seat.tenant ≡ None → seat.asked ≡ [] → IsTurnAt begun from (Hello quota) (Welcome quota) (with_seat seat from)
+pub hello_turn : (begun : HallOf) (from : OfficeOf) (quota : Quota) (seat : SeatOf) → from.seat ≡ None → IsSeated quota seat → tenant_in begun.shared.tenants seat.tenant ≡ None → seat.asked ≡ [] → IsTurnAt begun from (Hello quota) (Welcome quota) (with_seat seat from)
 hello_turn begun from quota seat is admitted new asked =
     subst (λ o. IsTurnOf begun o (Hello quota) (Welcome quota) from (with_seat seat from) × KeepsAsks (asks_of o) (Hello quota) (Welcome quota) (map ask_of seat.asked)) (sym is)
     (inl (seat, refl, admitted, new, asked, refl), (ap (map ask_of) asked, tt, tt, refl))

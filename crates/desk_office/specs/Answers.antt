@@ -25,7 +25,7 @@ use Rattle.desk.specs.hall.jamboree_rules.Places.{frame_of, root_words, frame_si
 use Rattle.desk.specs.hall.jamboree_rules.Procedure.{jamboree}
 use Rattle.desk.specs.hall.jamboree_rules.declared.leaf.LeafAnswer.{LeafAnswer}
 use Rattle.desk.specs.hall.Halls.{HallOf}
-use Rattle.desk.specs.Histories.{core_at, seat_steps, steps_of, tenant_at, IsTrueTo}
+use Rattle.desk.specs.Histories.{core_at, seat_steps, steps_of, lone_tenant, IsTrueTo}
 use Rattle.session.specs.declared.faults.End.{End}
 use Rattle.session.specs.declared.faults.SessionFault.{SessionFault}
 use Rattle.session.specs.declared.standings.Analysis.{Analysis}
@@ -99,7 +99,7 @@ IsRefusedForRoom grain core number _ reply = ⊥
 -- the answer to a call of a tenant at the end of this history: that of its own part of the history, or a raise has no room
 abbrev pub IsReplyAt : HallOf → ℕ → History → Call → OfficeReply → Type 0
 IsReplyAt begun number history call reply =
-    (reply ≡ reply_to begun.grain number (tenant_at begun history number) call) ⊎ IsRefusedForRoom begun.grain (core_at begun history) number call reply
+    (reply ≡ reply_to begun.grain number (lone_tenant begun history number) call) ⊎ IsRefusedForRoom begun.grain (core_at begun history) number call reply
 
 -- ---- the answers to all calls
 

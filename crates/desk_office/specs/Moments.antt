@@ -19,7 +19,7 @@ use Rattle.desk.specs.jamboree_core.Outcomes.{IsOutcomeIn}
 use Rattle.desk_rules.specs.declared.asked.SeatAsked.{SeatAsked}
 use Rattle.desk_rules.specs.Asked.{found_or_no_tenant, seat_asked_at, IsShown, IsToldBy}
 use Rattle.desk.specs.Seats.{SeatOf, seeing}
-use Rattle.desk.specs.Histories.{core_at, tenant_at, IsAdmitted, IsLook, IsTrueTo, Saw, Took}
+use Rattle.desk.specs.Histories.{core_at, lone_tenant, IsSeated, IsLook, IsTrueTo, Saw, Took}
 use Rattle.session.specs.Asks.{KeepsAsks}
 use Rattle.session.specs.Calls.{Call, Hello, Reserve, Ask, Get, Wait, Cancel, AskQuota, AskLive, Leave, OfficeReply, Welcome, Reserved, Job, Told, Ended, Rest, Alive, Gone, Refused, reply_of}
 use Rattle.desk_office.specs.Offices.{asks_of, told_answer}
@@ -66,21 +66,21 @@ IsJobTold asked tenant job reply = (answer : Result Outcome Refusal) × (told : 
     × IsToldBy (seat_asked_at asked job) told answer
 
 -- the reply to a call that only looks, by what its tenant has come to, and what the tenant asked for
-abbrev pub IsReplyOf : List SeatAsked → Option Tenant → Call → OfficeReply → Type 0
-IsReplyOf asked tenant (Get job) reply = IsJobTold asked tenant job reply
-IsReplyOf asked tenant (Wait job) reply = IsJobTold asked tenant job reply
-IsReplyOf asked tenant AskQuota reply = reply ≡ reply_of Rest (found_or_no_tenant (option_map left tenant))
-IsReplyOf asked tenant AskLive reply = reply ≡ reply_of Alive (found_or_no_tenant (option_map live_in tenant))
-IsReplyOf asked tenant _ reply = ⊥
+abbrev pub IsLookReply : List SeatAsked → Option Tenant → Call → OfficeReply → Type 0
+IsLookReply asked tenant (Get job) reply = IsJobTold asked tenant job reply
+IsLookReply asked tenant (Wait job) reply = IsJobTold asked tenant job reply
+IsLookReply asked tenant AskQuota reply = reply ≡ reply_of Rest (found_or_no_tenant (option_map left tenant))
+IsLookReply asked tenant AskLive reply = reply ≡ reply_of Alive (found_or_no_tenant (option_map live_in tenant))
+IsLookReply asked tenant _ reply = ⊥
 
 -- a seat's step was taken: the history that it has then seen ends with it
-pub record IsTaken (before : SeatOf) (words : Board) (step : StepOf LeafAnswer) (call : Call) (reply : OfficeReply) (now : SeatOf) : Type 0 where
+pub record IsStepTaken (before : SeatOf) (words : Board) (step : StepOf LeafAnswer) (call : Call) (reply : OfficeReply) (now : SeatOf) : Type 0 where
   pub took : Took before.known step now.known
   pub seat : now ≡ record { tenant = before.tenant; share = before.share + 1; asked = asked_after before.asked words call; known = now.known }
   pub said : reply ≡ taken_reply (length before.asked) call
 
 -- a seat's step was refused, as the core at the end of the history that it has then seen refuses it
-pub record IsRefused (begun : HallOf) (before : SeatOf) (step : StepOf LeafAnswer) (reply : OfficeReply) (now : SeatOf) : Type 0 where
+pub record IsStepRefused (begun : HallOf) (before : SeatOf) (step : StepOf LeafAnswer) (reply : OfficeReply) (now : SeatOf) : Type 0 where
   pub refusal : Refusal
   pub saw : Saw before.known now.known
   pub right : IsAnswerTo (jamboree begun.grain) (core_at begun now.known.seen) step (Err refusal)
@@ -93,25 +93,25 @@ pub record IsStepBy (begun : HallOf) (before : SeatOf) (call : Call) (reply : Of
   pub board : IsBoardIn words call
   pub step : StepOf LeafAnswer
   pub asks : step_for before.tenant words call ≡ Some step
-  pub came : IsTaken before words step call reply now ⊎ (IsRefused begun before step reply now ⊎ ((now ≡ before) × IsRefusedAtOnce before.asked call reply))
+  pub came : IsStepTaken before words step call reply now ⊎ (IsStepRefused begun before step reply now ⊎ ((now ≡ before) × IsRefusedAtOnce before.asked call reply))
 
 -- a call that looks: the seat has then seen the history go on (IsLook), and the reply is what the tenant's own part of that
 -- history gives
 pub record IsLookBy (begun : HallOf) (before : SeatOf) (call : Call) (reply : OfficeReply) (now : SeatOf) : Type 0 where
   pub look : IsLook begun before now
-  pub said : IsReplyOf now.asked (tenant_at begun now.known.seen now.tenant) call reply
+  pub said : IsLookReply now.asked (lone_tenant begun now.known.seen now.tenant) call reply
 
 -- HELLO: there is a new tenant with its seat, or a refusal
 abbrev pub IsHello : HallOf → Call → OfficeReply → OfficeOf → OfficeOf → Type 0
 IsHello begun (Hello quota) reply from to =
-    ((seat : SeatOf) × (to ≡ with_seat seat from) × IsAdmitted quota seat × (tenant_in begun.shared.tenants seat.tenant ≡ None) × (seat.asked ≡ []) × (reply ≡ Welcome quota))
+    ((seat : SeatOf) × (to ≡ with_seat seat from) × IsSeated quota seat × (tenant_in begun.shared.tenants seat.tenant ≡ None) × (seat.asked ≡ []) × (reply ≡ Welcome quota))
     ⊎ ((to ≡ from) × (number : ℕ) × (reply ≡ Refused number))
 IsHello begun call reply from to = to ≡ from
 
 -- the tenant leaves: its Leave is the end of the history that its seat knew then, all steps of that were taken, and its seat
 -- steps of the tenant are just the seat's own
-abbrev pub IsGone : HallOf → SeatOf → OfficeReply → OfficeOf → Type 0
-IsGone begun before reply to = (now : Known (StepOf LeafAnswer))
+abbrev pub IsTenantGone : HallOf → SeatOf → OfficeReply → OfficeOf → Type 0
+IsTenantGone begun before reply to = (now : Known (StepOf LeafAnswer))
     × (to ≡ record { seat = None; knew = Some now }) × Took before.known (LeaveStep before.tenant) now × IsTrueTo begun before.tenant now × (reply ≡ Gone)
 
 -- one call of an office with this seat, at a desk that was made with this hall
@@ -121,7 +121,7 @@ IsTurnOf begun (Some before) (Hello quota) reply from to = (to ≡ from) × (rep
 IsTurnOf begun (Some before) (Reserve quota) reply from to = (now : SeatOf) × (to ≡ with_seat now from) × IsStepBy begun before (Reserve quota) reply now
 IsTurnOf begun (Some before) (Ask depth board side) reply from to = (now : SeatOf) × (to ≡ with_seat now from) × IsStepBy begun before (Ask depth board side) reply now
 IsTurnOf begun (Some before) (Cancel job) reply from to = (now : SeatOf) × (to ≡ with_seat now from) × IsStepBy begun before (Cancel job) reply now
-IsTurnOf begun (Some before) Leave reply from to = IsGone begun before reply to
+IsTurnOf begun (Some before) Leave reply from to = IsTenantGone begun before reply to
 IsTurnOf begun (Some before) call reply from to = (now : SeatOf) × (to ≡ with_seat now from) × IsLookBy begun before call reply now
 
 -- one call of an office at a desk that was made with this hall: the asks of its tenant are kept, and the history has it

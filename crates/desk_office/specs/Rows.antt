@@ -6,7 +6,7 @@ use Rattle.sched_rules.specs.Trees.{Tenant}
 use Rattle.desk.specs.hall.jamboree_rules.Places.{root_words, frame_size}
 use Rattle.desk.specs.hall.jamboree_rules.declared.leaf.LeafAnswer.{LeafAnswer}
 use Rattle.desk.specs.hall.Halls.{HallOf, empty_hall}
-use Rattle.desk.specs.Histories.{tenant_at}
+use Rattle.desk.specs.Histories.{lone_tenant}
 
 -- the search of the opening to depth 0 by this tenant: the mover's discs are on 28 and 35
 abbrev pub opening_of : ℕ → StepOf LeafAnswer
@@ -21,9 +21,9 @@ abbrev pub after_ask : List (ℕ × StepOf LeafAnswer)
 after_ask = after_hello ++ (0, opening_of 1) ∷ []
 
 -- the hall that the desk was made with: nobody was there
-abbrev pub nobody : HallOf
-nobody = empty_hall 2 (record { segments = 8; nodes = 16 })
+abbrev pub hall_of_nobody : HallOf
+hall_of_nobody = empty_hall 2 (record { segments = 8; nodes = 16 })
 
 -- what a tenant has come to at the end of a history
-abbrev pub told : List (ℕ × StepOf LeafAnswer) → ℕ → Option Tenant
-told history number = tenant_at nobody history number
+abbrev pub tenant_told : List (ℕ × StepOf LeafAnswer) → ℕ → Option Tenant
+tenant_told history number = lone_tenant hall_of_nobody history number

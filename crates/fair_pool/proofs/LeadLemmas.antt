@@ -5,16 +5,16 @@ use Rattle.std.proofs.lemmas.Bool.{eqb-false, eqb-true}
 use Rattle.std.proofs.lemmas.List.{get_or-set_same}
 use Rattle.std.proofs.lemmas.List.Sums.{sum_by-cons}
 use Rattle.fair_pool.specs.declared.account.Account.{Account}
-use Rattle.fair_pool.specs.Accounts.{nobody, is_active, is_rival, is_before, capped_sum, with_more, woken_from, rested}
-use Rattle.fair_pool.specs.Lines.{LineOf, IsNext, account_at, floor_of, charged}
-use Rattle.fair_pool.specs.Waits.{Event, Comes, Wakes, Rests, Serves, Picks, after, place_in, IsFair, Waits, picks_in, arrivals_in, is_member, IsLed}
+use Rattle.fair_pool.specs.Accounts.{free_account, is_active, is_rival, is_before, capped_sum, account_charged, woken_from, rested}
+use Rattle.fair_pool.specs.Lines.{LineOf, IsNextAccount, account_at, floor_of, charged}
+use Rattle.fair_pool.specs.Waits.{LineEvent, Comes, Wakes, Rests, Serves, Picks, line_after, place_in, IsFair, Waits, picks_in, arrivals_in, is_member, IsLed}
 use Rattle.fair_pool.proofs.WaitLemmas.{one, sum-set, sum-one, other-at, any-at, floor-least, picks-cons}
 
 -- how often another may still be picked before
 abbrev weight : ℕ → ℕ → Account → Account → ℕ
 weight group low account y = cond (is_member group y) ((account.served + 1) - cond (nat_lt y.served low) low y.served) 0
 
-weight-none : (group low : ℕ) (account : Account) → weight group low account nobody ≡ 0
+weight-none : (group low : ℕ) (account : Account) → weight group low account free_account ≡ 0
 weight-none group low account = refl
 
 weight-rested : (group low : ℕ) (account y : Account) → weight group low account (rested y) ≡ weight group low account y
@@ -29,14 +29,14 @@ weight-most group lead account y = elim (is_member group y) as (λ b. cond b ((a
   most true is = omega arith
   most false is = grind arith
 
-weight-more : (group low amount : ℕ) (account y : Account) → account.served < 18446744073709551615 → weight group low account (with_more amount y) ≤ weight group low account y
+weight-more : (group low amount : ℕ) (account y : Account) → account.served < 18446744073709551615 → weight group low account (account_charged amount y) ≤ weight group low account y
 weight-more group low amount account y few = grind arith
 
 weight-woken : (group low floor turn : ℕ) (account y : Account) → weight group low account (woken_from floor turn y) ≤ weight group low account y
 weight-woken group low floor turn account y = grind arith
 
 weight-picked : (group low amount : ℕ) (account y : Account) → account.served < 18446744073709551615 → 0 < amount → is_member group y ≡ true → y.served ≤ account.served → low ≤ y.served →
-    weight group low account (with_more amount y) + 1 ≤ weight group low account y
+    weight group low account (account_charged amount y) + 1 ≤ weight group low account y
 weight-picked group low amount account y few some member less least = grind arith
 
 count-cons : (p : Account → Bool) (x : Account) (xs : List Account) → count_by p (x ∷ xs) ≡ one (p x) + count_by p xs
@@ -47,7 +47,7 @@ sum-most : (w : Account → ℕ) (p : Account → Bool) (much : ℕ) (xs : List 
 sum-most w p much [] most = omega arith
 sum-most w p much (x ∷ xs) most = omega (arith, sum_by-cons w x xs, ap (λ (n : ℕ). much * n) (count-cons p x xs), most x, sum-most w p much xs most)
 
-sum-most-but : (w : Account → ℕ) (p : Account → Bool) (much less : ℕ) (xs : List Account) (place : ℕ) → ((y : Account) → w y ≤ much * one (p y)) → p nobody ≡ false →
+sum-most-but : (w : Account → ℕ) (p : Account → Bool) (much less : ℕ) (xs : List Account) (place : ℕ) → ((y : Account) → w y ≤ much * one (p y)) → p free_account ≡ false →
     w (account_at xs place) + less ≤ much * one (p (account_at xs place)) → sum_by w xs + less ≤ much * count_by p xs
 sum-most-but w p much less [] place most none own =
     let is-none : less ≤ much * 0 = omega (arith, own, ap (λ (b : Bool). much * one b) none) in omega (arith, is-none)
@@ -72,8 +72,8 @@ rests-led group lead account y active = grind arith
 rests-named : (y : Account) → is_active (rested y) ≡ true → (rested y).name ≢ 0
 rests-named y active = grind arith
 
-more-led : (group lead : ℕ) (account y : Account) (amount : ℕ) → account.served < 18446744073709551615 → (is_rival group y ≡ true → account.served ≤ y.served + lead) → is_rival group (with_more amount y) ≡ true →
-    account.served ≤ (with_more amount y).served + lead
+more-led : (group lead : ℕ) (account y : Account) (amount : ℕ) → account.served < 18446744073709551615 → (is_rival group y ≡ true → account.served ≤ y.served + lead) → is_rival group (account_charged amount y) ≡ true →
+    account.served ≤ (account_charged amount y).served + lead
 more-led group lead account y amount few least active = grind arith
 
 woken-led : (group lead floor turn : ℕ) (account y : Account) → (y.group ≡ group → account.served ≤ floor + lead) → is_rival group (woken_from floor turn y) ≡ true → account.served ≤ (woken_from floor turn y).served + lead
@@ -85,7 +85,7 @@ own-floor group place lead line account y is same =
     rw same (omega (arith, least))
 
 -- what happens to others leaves the lead
-led-after : (group place lead : ℕ) (line : LineOf) (account : Account) (event : Event) → IsLed group place lead line account → IsFair group line event → place_in event ≢ place → IsLed group place lead (after line event) account
+led-after : (group place lead : ℕ) (line : LineOf) (account : Account) (event : LineEvent) → IsLed group place lead line account → IsFair group line event → place_in event ≢ place → IsLed group place lead (line_after line event) account
 led-after group place lead line account (Comes other y) is fair differs =
     led-set group place lead other line account (rested y) line.turn is differs (rests-led group lead account y) (rests-named y)
 led-after group place lead line account (Wakes other) is fair differs =
@@ -99,10 +99,10 @@ led-after group place lead line account (Wakes other) is fair differs =
 led-after group place lead line account (Rests other) is fair differs =
     led-set group place lead other line account (rested (account_at line.accounts other)) line.turn is differs (rests-led group lead account (account_at line.accounts other)) (rests-named (account_at line.accounts other))
 led-after group place lead line account (Serves other amount) is fair differs =
-    led-set group place lead other line account (with_more amount (account_at line.accounts other)) line.turn is differs
+    led-set group place lead other line account (account_charged amount (account_at line.accounts other)) line.turn is differs
     (more-led group lead account (account_at line.accounts other) amount is.served (is.led other)) (is.named other)
 led-after group place lead line account (Picks other amount) is fair differs =
-    led-set group place lead other line account (with_more amount (account_at line.accounts other)) line.turn is differs
+    led-set group place lead other line account (account_charged amount (account_at line.accounts other)) line.turn is differs
     (more-led group lead account (account_at line.accounts other) amount is.served (is.led other)) (is.named other)
 
 named-member : (group : ℕ) (y : Account) → is_rival group y ≡ true → y.name ≢ 0 → is_member group y ≡ true
@@ -115,8 +115,8 @@ not-before : (a b : Account) → is_before a b ≡ false → b.served ≤ a.serv
 not-before a b is = grind arith
 
 -- the weights after an event, with a pick's one and what an arrival adds
-weights-after : (group place lead : ℕ) (line : LineOf) (account : Account) (event : Event) → IsLed group place lead line account → IsFair group line event →
-    sum_by (weight group (account.served - lead) account) (after line event).accounts + picks_in (event ∷ [])
+weights-after : (group place lead : ℕ) (line : LineOf) (account : Account) (event : LineEvent) → IsLed group place lead line account → IsFair group line event →
+    sum_by (weight group (account.served - lead) account) (line_after line event).accounts + picks_in (event ∷ [])
     ≤ sum_by (weight group (account.served - lead) account) line.accounts + (lead + 1) * arrivals_in group (event ∷ [])
 weights-after group place lead line account (Comes other y) is fair =
     sum-set (weight group (account.served - lead) account) line.accounts other (rested y) 0 ((lead + 1) * (one (is_member group y) + 0)) (weight-none group (account.served - lead) account)
@@ -133,16 +133,16 @@ weights-after group place lead line account (Rests other) is fair =
     sum-set (weight group (account.served - lead) account) line.accounts other (rested (account_at line.accounts other)) 0 ((lead + 1) * 0) (weight-none group (account.served - lead) account)
     (omega (arith, weight-rested group (account.served - lead) account (account_at line.accounts other)))
 weights-after group place lead line account (Serves other amount) is fair =
-    sum-set (weight group (account.served - lead) account) line.accounts other (with_more amount (account_at line.accounts other)) 0 ((lead + 1) * 0) (weight-none group (account.served - lead) account)
+    sum-set (weight group (account.served - lead) account) line.accounts other (account_charged amount (account_at line.accounts other)) 0 ((lead + 1) * 0) (weight-none group (account.served - lead) account)
     (omega (arith, weight-more group (account.served - lead) amount account (account_at line.accounts other) is.served))
 weights-after group place lead line account (Picks other amount) is fair =
     let y : Account = account_at line.accounts other in
     let low : account.served ≤ y.served + lead = is.led other fair.0.is_one in
     let before : is_before account y ≡ false = subst (λ (a : Account). is_before a y ≡ false) is.here (fair.0.none_before place (ap (is_rival group) is.here ∙ is.active)) in
-    sum-set (weight group (account.served - lead) account) line.accounts other (with_more amount y) 1 ((lead + 1) * 0) (weight-none group (account.served - lead) account)
+    sum-set (weight group (account.served - lead) account) line.accounts other (account_charged amount y) 1 ((lead + 1) * 0) (weight-none group (account.served - lead) account)
     (omega (arith, weight-picked group (account.served - lead) amount account y is.served fair.1 (named-member group y fair.0.is_one (is.named other (rival-active group y fair.0.is_one))) (not-before account y before) (omega (arith, low))))
 
-arrivals-cons : (group : ℕ) (event : Event) (events : List Event) → arrivals_in group (event ∷ events) ≡ arrivals_in group (event ∷ []) + arrivals_in group events
+arrivals-cons : (group : ℕ) (event : LineEvent) (events : List LineEvent) → arrivals_in group (event ∷ events) ≡ arrivals_in group (event ∷ []) + arrivals_in group events
 arrivals-cons group (Comes place account) events = omega arith
 arrivals-cons group (Wakes place) events = omega arith
 arrivals-cons group (Rests place) events = omega arith
@@ -156,7 +156,7 @@ own-member : (group place lead : ℕ) (line : LineOf) (account : Account) → Is
 own-member group place lead line account is =
     named-member group account is.active (subst (λ (a : Account). a.name ≢ 0) is.here (is.named place (ap is_active is.here ∙ rival-active group account is.active)))
 
-weighed-picks : (group place lead : ℕ) (line : LineOf) (account : Account) (events : List Event) → IsLed group place lead line account → Waits group place line events →
+weighed-picks : (group place lead : ℕ) (line : LineOf) (account : Account) (events : List LineEvent) → IsLed group place lead line account → Waits group place line events →
     picks_in events + 1 ≤ sum_by (weight group (account.served - lead) account) line.accounts + (lead + 1) * arrivals_in group events
 weighed-picks group place lead line account [] is waits =
     omega (
@@ -171,11 +171,11 @@ weighed-picks group place lead line account (event ∷ events) is waits =
       picks-cons event events,
       ap (λ (n : ℕ). (lead + 1) * n) (arrivals-cons group event events),
       weights-after group place lead line account event is waits.1,
-      weighed-picks group place lead (after line event) account events (led-after group place lead line account event is waits.1 waits.0) waits.2,
+      weighed-picks group place lead (line_after line event) account events (led-after group place lead line account event is waits.1 waits.0) waits.2,
     )
 
 -- so the picks are at most so many for each other
-pub led-picks : (group place lead others : ℕ) (line : LineOf) (account : Account) (events : List Event) → IsLed group place lead line account → Waits group place line events →
+pub led-picks : (group place lead others : ℕ) (line : LineOf) (account : Account) (events : List LineEvent) → IsLed group place lead line account → Waits group place line events →
     count_by (is_member group) line.accounts + arrivals_in group events ≡ others + 1 → picks_in events ≤ (lead + 1) * others
 led-picks group place lead others line account events is waits count =
     let own : weight group (account.served - lead) account (account_at line.accounts place) ≡ 1 = ap (weight group (account.served - lead) account) is.here ∙ weight-own group lead account (own-member group place lead line account is) in
@@ -191,19 +191,19 @@ within-length group [] place rival = absurd (never place rival) where
 within-length group (x ∷ xs) zero rival = omega arith
 within-length group (x ∷ xs) (suc place) rival = omega (arith, within-length group xs place rival)
 
-more-most : (y : Account) (amount : ℕ) → (with_more amount y).served ≤ y.served + amount
+more-most : (y : Account) (amount : ℕ) → (account_charged amount y).served ≤ y.served + amount
 more-most y amount = grind arith
 
 -- after a pick the lead is what it cost
-pub lead-after : (group place amount most : ℕ) (line : LineOf) → IsNext group line.accounts place → amount ≤ most → (other : ℕ) → is_rival group (account_at line.accounts other) ≡ true →
+pub lead-after : (group place amount most : ℕ) (line : LineOf) → IsNextAccount group line.accounts place → amount ≤ most → (other : ℕ) → is_rival group (account_at line.accounts other) ≡ true →
     (account_at (charged place amount line).accounts place).served ≤ (account_at (charged place amount line).accounts other).served + most
 lead-after group place amount most line next few other rival =
     let y : Account = account_at line.accounts place in
-    let own : account_at (set line.accounts place (with_more amount y)) place ≡ with_more amount y = get_or-set_same line.accounts place (with_more amount y) nobody (within-length group line.accounts place next.is_one) in
-    let cost : (with_more amount y).served ≤ y.served + amount = more-most y amount in
+    let own : account_at (set line.accounts place (account_charged amount y)) place ≡ account_charged amount y = get_or-set_same line.accounts place (account_charged amount y) free_account (within-length group line.accounts place next.is_one) in
+    let cost : (account_charged amount y).served ≤ y.served + amount = more-most y amount in
     let least : y.served ≤ (account_at line.accounts other).served = not-before (account_at line.accounts other) y (next.none_before other rival) in
-    let here : (account_at (set line.accounts place (with_more amount y)) place).served ≤ y.served + amount = omega (arith, ap (λ (a : Account). a.served) own, cost) in
-    elim (nat_eq other place) as (λ b. nat_eq other place ≡ b → (account_at (set line.accounts place (with_more amount y)) place).served ≤ (account_at (set line.accounts place (with_more amount y)) other).served + most) [
-      | true ↦ λ same. (let is : other ≡ place = eqb-true other place same in omega (arith, ap (λ (k : ℕ). (account_at (set line.accounts place (with_more amount y)) k).served) is))
-      | false ↦ λ differs. (let stays = other-at line.accounts other place (with_more amount y) (λ same. eqb-false other place differs (sym same)) in omega (arith, here, least, few, ap (λ (a : Account). a.served) stays))
+    let here : (account_at (set line.accounts place (account_charged amount y)) place).served ≤ y.served + amount = omega (arith, ap (λ (a : Account). a.served) own, cost) in
+    elim (nat_eq other place) as (λ b. nat_eq other place ≡ b → (account_at (set line.accounts place (account_charged amount y)) place).served ≤ (account_at (set line.accounts place (account_charged amount y)) other).served + most) [
+      | true ↦ λ same. (let is : other ≡ place = eqb-true other place same in omega (arith, ap (λ (k : ℕ). (account_at (set line.accounts place (account_charged amount y)) k).served) is))
+      | false ↦ λ differs. (let stays = other-at line.accounts other place (account_charged amount y) (λ same. eqb-false other place differs (sym same)) in omega (arith, here, least, few, ap (λ (a : Account). a.served) stays))
     ] refl

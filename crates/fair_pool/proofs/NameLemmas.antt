@@ -5,7 +5,7 @@ use Rattle.std.proofs.lemmas.List.{map-set}
 use Rattle.std.proofs.Math.Seq.{map-set_same}
 use Rattle.std.proofs.Math.ListN.{get_or-map}
 use Rattle.fair_pool.specs.declared.account.Account.{Account}
-use Rattle.fair_pool.specs.Accounts.{nobody}
+use Rattle.fair_pool.specs.Accounts.{free_account}
 use Rattle.fair_pool.specs.Lines.{account_at, account_names, named_from, place_named, place_among_from, place_among}
 
 -- who stands first among the names stands first among the accounts
@@ -18,7 +18,7 @@ place_alike name accounts = named_alike 0 name accounts
 
 -- the name at a place is its account's
 pub name_alike : (accounts : List Account) (place : ℕ) → slice_index_or (account_names accounts) place 0 ≡ (account_at accounts place).name
-name_alike accounts place = get_or-map (λ (a : Account). a.name) accounts place nobody
+name_alike accounts place = get_or-map (λ (a : Account). a.name) accounts place free_account
 
 -- a name is written where an account comes, or is there already
 pub names_put : (accounts : List Account) (names : List ℕ) (place : ℕ) (account : Account) → names ≡ account_names accounts → slice_set names place account.name ≡ account_names (slice_set accounts place account)

@@ -5,23 +5,23 @@ use Rattle.sched_rules.specs.Cores.{CoreState}
 use Rattle.sched_rules.specs.Views.{newest_ready_in}
 use Rattle.fair_pool.specs.Accounts.{is_active}
 use Rattle.fair_pool.specs.Lines.{has_rival, woken, rested_at}
-use Rattle.fair_pool.specs.Shares.{SharesOf, tenant_at, network_at, customer_at, rested_unless, seen}
+use Rattle.fair_pool.specs.Shares.{SharesOf, tenant_in_place, network_at, customer_at, rested_unless, tenant_seen}
 use Rattle.fair_pool.specs.Picks.{seen_up_to}
 
 pub seen_none : (core : CoreState) (shares : SharesOf) → seen_up_to core 0 shares ≡ shares
 unfolding seen_up_to
 seen_none core shares = refl
 
-seen_next : (core : CoreState) (place : ℕ) (shares : SharesOf) → seen_up_to core (suc place) shares ≡ seen place (is_some (newest_ready_in core (tenant_at (seen_up_to core place shares) place).name)) (seen_up_to core place shares)
+seen_next : (core : CoreState) (place : ℕ) (shares : SharesOf) → seen_up_to core (suc place) shares ≡ tenant_seen place (is_some (newest_ready_in core (tenant_in_place (seen_up_to core place shares) place).name)) (seen_up_to core place shares)
 unfolding seen_up_to
 seen_next core place shares = refl
 
-pub seen_more : (core : CoreState) (place : ℕ) (shares : SharesOf) → seen_up_to core (place + 1) shares ≡ seen place (is_some (newest_ready_in core (tenant_at (seen_up_to core place shares) place).name)) (seen_up_to core place shares)
+pub seen_more : (core : CoreState) (place : ℕ) (shares : SharesOf) → seen_up_to core (place + 1) shares ≡ tenant_seen place (is_some (newest_ready_in core (tenant_in_place (seen_up_to core place shares) place).name)) (seen_up_to core place shares)
 seen_more core place shares = ap (λ (n : ℕ). seen_up_to core n shares) (add-one place) ∙ seen_next core place shares
 
 -- nothing is seen of a free place, whatever the hall has
-pub seen_nobody : (place : ℕ) (ready : Bool) (shares : SharesOf) → (tenant_at shares place).name ≡ 0 → seen place ready shares ≡ shares
-seen_nobody place true shares free = ap (λ (name : ℕ). if (name == 0) || is_active (tenant_at shares place) then shares else record shares {
+pub seen_nobody : (place : ℕ) (ready : Bool) (shares : SharesOf) → (tenant_in_place shares place).name ≡ 0 → tenant_seen place ready shares ≡ shares
+seen_nobody place true shares free = ap (λ (name : ℕ). if (name == 0) || is_active (tenant_in_place shares place) then shares else record shares {
   customers = if has_rival (customer_at shares place) shares.networks.accounts then shares.customers else woken (customer_at shares place) shares.customers;
   networks = if has_rival (network_at shares place) shares.tenants.accounts then shares.networks else woken (network_at shares place) shares.networks;
   tenants = woken place shares.tenants;

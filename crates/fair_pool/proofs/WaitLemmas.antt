@@ -4,15 +4,15 @@ use Rattle.std.specs.Prelude.{sum_by}
 use Rattle.std.proofs.lemmas.List.{get_or-set_other}
 use Rattle.std.proofs.lemmas.List.Sums.{sum_by-cons}
 use Rattle.fair_pool.specs.declared.account.Account.{Account}
-use Rattle.fair_pool.specs.Accounts.{nobody, is_active, is_rival, is_before, capped_sum, with_more, woken_from, rested}
+use Rattle.fair_pool.specs.Accounts.{free_account, is_active, is_rival, is_before, capped_sum, account_charged, woken_from, rested}
 use Rattle.fair_pool.specs.Lines.{LineOf, account_at, lesser, least_from, floor_of}
-use Rattle.fair_pool.specs.Waits.{Event, Comes, Wakes, Rests, Serves, Picks, after, place_in, IsFair, Waits, picks_in, tasks_in, IsEach, is_ahead, IsLeast}
+use Rattle.fair_pool.specs.Waits.{LineEvent, Comes, Wakes, Rests, Serves, Picks, line_after, place_in, IsFair, Waits, picks_in, tasks_in, IsEach, is_ahead, IsLeast}
 
 abbrev pub one : Bool → ℕ
 one b = cond b 1 0
 
 -- the tasks between two picks
-pub few-tasks : (many since : ℕ) (events : List Event) → IsEach many since events → since < many → tasks_in events + since < many * (picks_in events + 1)
+pub few-tasks : (many since : ℕ) (events : List LineEvent) → IsEach many since events → since < many → tasks_in events + since < many * (picks_in events + 1)
 few-tasks many since [] each less = omega arith
 few-tasks many since (Comes place account ∷ events) each less = few-tasks many since events each less
 few-tasks many since (Wakes place ∷ events) each less = few-tasks many since events each less
@@ -21,14 +21,14 @@ few-tasks many since (Serves place amount ∷ events) each less = omega (arith, 
 few-tasks many since (Picks place amount ∷ events) each less = omega (arith, few-tasks many 0 events each (omega arith))
 
 -- one more is before
-charged-behind : (a b : Account) (amount : ℕ) → 0 < amount → a.served < 18446744073709551615 → a.served ≤ b.served → is_before a (with_more amount b) ≡ true
+charged-behind : (a b : Account) (amount : ℕ) → 0 < amount → a.served < 18446744073709551615 → a.served ≤ b.served → is_before a (account_charged amount b) ≡ true
 charged-behind a b amount some few least = grind arith
 
 pub not-before : (a b : Account) → is_before a b ≡ false → b.served ≤ a.served
 not-before a b is = grind arith
 
 -- a sum over the accounts after one has changed
-pub sum-set : (w : Account → ℕ) (xs : List Account) (place : ℕ) (y : Account) (k e : ℕ) → w nobody ≡ 0 → w y + k ≤ w (account_at xs place) + e → sum_by w (set xs place y) + k ≤ sum_by w xs + e
+pub sum-set : (w : Account → ℕ) (xs : List Account) (place : ℕ) (y : Account) (k e : ℕ) → w free_account ≡ 0 → w y + k ≤ w (account_at xs place) + e → sum_by w (set xs place y) + k ≤ sum_by w xs + e
 sum-set w [] place y k e none less =
     let same : sum_by w (set [] place y) ≡ 0 = refl in
     let zero-at : w (account_at [] place) ≡ 0 = none in omega arith
@@ -40,7 +40,7 @@ sum-set w (x ∷ xs) (suc place) y k e none less =
 
 -- what one account has at its place after another has changed
 pub other-at : (xs : List Account) (place other : ℕ) (y : Account) → other ≢ place → account_at (set xs other y) place ≡ account_at xs place
-other-at xs place other y differs = get_or-set_other xs other place y nobody (λ same. differs (sym same))
+other-at xs place other y differs = get_or-set_other xs other place y free_account (λ same. differs (sym same))
 
 -- the account at any place after one has changed is one of before, or the changed one
 pub any-at : (P : Account → Type 0) (xs : List Account) (place : ℕ) (y : Account) → ((other : ℕ) → P (account_at xs other)) → P y → (other : ℕ) → P (account_at (set xs place y) other)
@@ -107,20 +107,20 @@ itself-ahead : (group : ℕ) (account : Account) → is_rival group account ≡ 
 itself-ahead group account active = grind (arith, never-itself account)
 
 -- who counts is counted
-pub sum-one : (w : Account → ℕ) (xs : List Account) (place : ℕ) → w nobody ≡ 0 → w (account_at xs place) ≤ sum_by w xs
+pub sum-one : (w : Account → ℕ) (xs : List Account) (place : ℕ) → w free_account ≡ 0 → w (account_at xs place) ≤ sum_by w xs
 sum-one w [] place none = let zero-there : w (account_at [] place) ≡ 0 = ap w (never place) ∙ none in omega arith where
-  never : (place : ℕ) → account_at [] place ≡ nobody
+  never : (place : ℕ) → account_at [] place ≡ free_account
   never place = grind arith
 sum-one w (x ∷ xs) zero none = omega (arith, sum_by-cons w x xs)
 sum-one w (x ∷ xs) (suc place) none = omega (arith, sum_by-cons w x xs, sum-one w xs place none)
 
 -- after a task of somebody served at least as much: it isn't ahead where it wasn't
-task-ahead : (group : ℕ) (account y : Account) (amount : ℕ) → account.served < 18446744073709551615 → (is_rival group y ≡ true → account.served ≤ y.served) → one (is_ahead group account (with_more amount y)) ≤ one (is_ahead group account y)
+task-ahead : (group : ℕ) (account y : Account) (amount : ℕ) → account.served < 18446744073709551615 → (is_rival group y ≡ true → account.served ≤ y.served) → one (is_ahead group account (account_charged amount y)) ≤ one (is_ahead group account y)
 task-ahead group account y amount few least = grind arith
 
 -- after a pick: it isn't ahead any more
 pick-ahead : (group : ℕ) (account y : Account) (amount : ℕ) → account.served < 18446744073709551615 → 0 < amount → is_rival group y ≡ true → account.served ≤ y.served → is_before account y ≡ false →
-    one (is_ahead group account (with_more amount y)) + 1 ≤ one (is_ahead group account y)
+    one (is_ahead group account (account_charged amount y)) + 1 ≤ one (is_ahead group account y)
 pick-ahead group account y amount few some active least before = grind (arith, charged-behind account y amount some few least)
 
 -- one that becomes active isn't ahead
@@ -149,8 +149,8 @@ capped-turn turn most = grind arith
 rests-no : (group : ℕ) (account y : Account) → is_rival group (rested y) ≡ true → account.served ≤ (rested y).served
 rests-no group account y active = grind arith
 
-more-least : (group : ℕ) (account y : Account) (amount : ℕ) → account.served < 18446744073709551615 → (is_rival group y ≡ true → account.served ≤ y.served) → is_rival group (with_more amount y) ≡ true →
-    account.served ≤ (with_more amount y).served
+more-least : (group : ℕ) (account y : Account) (amount : ℕ) → account.served < 18446744073709551615 → (is_rival group y ≡ true → account.served ≤ y.served) → is_rival group (account_charged amount y) ≡ true →
+    account.served ≤ (account_charged amount y).served
 more-least group account y amount few least active = grind arith
 
 woken-least : (group floor turn : ℕ) (account y : Account) → (y.group ≡ group → account.served ≤ floor) → is_rival group (woken_from floor turn y) ≡ true → account.served ≤ (woken_from floor turn y).served
@@ -161,11 +161,11 @@ own-floor : (group place : ℕ) (line : LineOf) (account y : Account) → IsLeas
 own-floor group place line account y is same =
     rw same (floor-least group account.served line.accounts place (ap (is_rival group) is.here ∙ is.active) is.least)
 
-none-ahead : (group : ℕ) (account : Account) → ahead_one group account nobody ≡ 0
+none-ahead : (group : ℕ) (account : Account) → ahead_one group account free_account ≡ 0
 none-ahead group account = refl
 
 -- what happens to others leaves the least the least
-least-after : (group place : ℕ) (line : LineOf) (account : Account) (event : Event) → IsLeast group place line account → place_in event ≢ place → IsLeast group place (after line event) account
+least-after : (group place : ℕ) (line : LineOf) (account : Account) (event : LineEvent) → IsLeast group place line account → place_in event ≢ place → IsLeast group place (line_after line event) account
 least-after group place line account (Comes other y) is differs =
     least-set group place other line account (rested y) line.turn is differs (rests-no group account y) (omega arith) is.turns
 least-after group place line account (Wakes other) is differs =
@@ -179,15 +179,15 @@ least-after group place line account (Wakes other) is differs =
 least-after group place line account (Rests other) is differs =
     least-set group place other line account (rested (account_at line.accounts other)) line.turn is differs (rests-no group account (account_at line.accounts other)) (omega arith) is.turns
 least-after group place line account (Serves other amount) is differs =
-    least-set group place other line account (with_more amount (account_at line.accounts other)) line.turn is differs
+    least-set group place other line account (account_charged amount (account_at line.accounts other)) line.turn is differs
     (more-least group account (account_at line.accounts other) amount is.served (is.least other)) (omega arith) is.turns
 least-after group place line account (Picks other amount) is differs =
-    least-set group place other line account (with_more amount (account_at line.accounts other)) line.turn is differs
+    least-set group place other line account (account_charged amount (account_at line.accounts other)) line.turn is differs
     (more-least group account (account_at line.accounts other) amount is.served (is.least other)) (omega arith) is.turns
 
 -- so many are ahead, and a pick is one less
-ahead-after : (group place : ℕ) (line : LineOf) (account : Account) (event : Event) → IsLeast group place line account → IsFair group line event →
-    sum_by (ahead_one group account) (after line event).accounts + picks_in (event ∷ []) ≤ sum_by (ahead_one group account) line.accounts + 0
+ahead-after : (group place : ℕ) (line : LineOf) (account : Account) (event : LineEvent) → IsLeast group place line account → IsFair group line event →
+    sum_by (ahead_one group account) (line_after line event).accounts + picks_in (event ∷ []) ≤ sum_by (ahead_one group account) line.accounts + 0
 ahead-after group place line account (Comes other y) is fair =
     sum-set (ahead_one group account) line.accounts other (rested y) 0 0 (none-ahead group account) (omega (arith, ap one (out-of group account (rested y) refl)))
 ahead-after group place line account (Wakes other) is fair =
@@ -201,17 +201,17 @@ ahead-after group place line account (Wakes other) is fair =
 ahead-after group place line account (Rests other) is fair =
     sum-set (ahead_one group account) line.accounts other (rested (account_at line.accounts other)) 0 0 (none-ahead group account) (omega (arith, ap one (out-of group account (rested (account_at line.accounts other)) refl)))
 ahead-after group place line account (Serves other amount) is fair =
-    sum-set (ahead_one group account) line.accounts other (with_more amount (account_at line.accounts other)) 0 0 (none-ahead group account)
+    sum-set (ahead_one group account) line.accounts other (account_charged amount (account_at line.accounts other)) 0 0 (none-ahead group account)
     (omega (arith, task-ahead group account (account_at line.accounts other) amount is.served (is.least other)))
 ahead-after group place line account (Picks other amount) is fair =
-    sum-set (ahead_one group account) line.accounts other (with_more amount (account_at line.accounts other)) 1 0 (none-ahead group account)
+    sum-set (ahead_one group account) line.accounts other (account_charged amount (account_at line.accounts other)) 1 0 (none-ahead group account)
     (omega (
       arith,
       pick-ahead group account (account_at line.accounts other) amount is.served fair.1 fair.0.is_one (is.least other fair.0.is_one)
           (subst (λ (a : Account). is_before a (account_at line.accounts other) ≡ false) is.here (fair.0.none_before place (ap (is_rival group) is.here ∙ is.active))),
     ))
 
-pub picks-cons : (event : Event) (events : List Event) → picks_in (event ∷ events) ≡ picks_in (event ∷ []) + picks_in events
+pub picks-cons : (event : LineEvent) (events : List LineEvent) → picks_in (event ∷ events) ≡ picks_in (event ∷ []) + picks_in events
 picks-cons (Comes place account) events = omega arith
 picks-cons (Wakes place) events = omega arith
 picks-cons (Rests place) events = omega arith
@@ -219,9 +219,9 @@ picks-cons (Serves place amount) events = omega arith
 picks-cons (Picks place amount) events = omega arith
 
 -- so the picks are fewer than those ahead, itself among them
-pub few-picks : (group place : ℕ) (line : LineOf) (account : Account) (events : List Event) → IsLeast group place line account → Waits group place line events →
+pub few-picks : (group place : ℕ) (line : LineOf) (account : Account) (events : List LineEvent) → IsLeast group place line account → Waits group place line events →
     picks_in events < sum_by (ahead_one group account) line.accounts
 few-picks group place line account [] is waits =
     omega (arith, sum-one (ahead_one group account) line.accounts place (none-ahead group account), ap (ahead_one group account) is.here, ap one (itself-ahead group account is.active))
 few-picks group place line account (event ∷ events) is waits =
-    omega (arith, picks-cons event events, ahead-after group place line account event is waits.1, few-picks group place (after line event) account events (least-after group place line account event is waits.0) waits.2)
+    omega (arith, picks-cons event events, ahead-after group place line account event is waits.1, few-picks group place (line_after line event) account events (least-after group place line account event is waits.0) waits.2)

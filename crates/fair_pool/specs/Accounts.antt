@@ -3,8 +3,8 @@ use Rattle.std.specs.Prelude.{ℕ, ◌+◌, ◌-◌, ◌==◌, nat_lt, Bool, ◌
 use Rattle.fair_pool.specs.declared.account.Account.{Account}
 
 -- the account of a free place
-abbrev pub nobody : Account
-nobody = record { name = 0; group = 0; served = 0; since = 0 }
+abbrev pub free_account : Account
+free_account = record { name = 0; group = 0; served = 0; since = 0 }
 
 -- whether it is active: it has something to be served with
 abbrev pub is_active : Account → Bool
@@ -23,8 +23,8 @@ abbrev pub capped_sum : ℕ → ℕ → ℕ
 capped_sum a b = if nat_lt (18446744073709551615 - a) b then 18446744073709551615 else a + b
 
 -- after it was served so much more
-abbrev pub with_more : ℕ → Account → Account
-with_more amount account = record account { served = capped_sum account.served amount }
+abbrev pub account_charged : ℕ → Account → Account
+account_charged amount account = record account { served = capped_sum account.served amount }
 
 -- active since this turn, served as much as it was, or as this floor where that is more
 abbrev pub woken_from : ℕ → ℕ → Account → Account

@@ -1,7 +1,7 @@
 -- Meaning: a line of accounts, and who comes next in a group.
 use Rattle.std.specs.Prelude.{ℕ, ◌+◌, ◌≡◌, ◌==◌, ◌<◌, nat_lt, Bool, true, false, ◌&&◌, ◌||◌, List, [], ◌∷◌, Option, Some, None, unwrap_or, if◌then◌else◌, map, replicate, slice_index_or, slice_set}
 use Rattle.fair_pool.specs.declared.account.Account.{Account}
-use Rattle.fair_pool.specs.Accounts.{nobody, is_active, is_rival, is_before, capped_sum, with_more, woken_from, rested}
+use Rattle.fair_pool.specs.Accounts.{free_account, is_active, is_rival, is_before, capped_sum, account_charged, woken_from, rested}
 
 -- the accounts by their places, and the turn at which the next one becomes active
 pub record LineOf : Type 0 where
@@ -10,11 +10,11 @@ pub record LineOf : Type 0 where
 
 -- 64 free places
 abbrev pub empty_line : LineOf
-empty_line = record { accounts = replicate 64 nobody; turn = 1 }
+empty_line = record { accounts = replicate 64 free_account; turn = 1 }
 
 -- the account at a place
 abbrev pub account_at : List Account → ℕ → Account
-account_at accounts place = slice_index_or accounts place nobody
+account_at accounts place = slice_index_or accounts place free_account
 
 -- whether some account of the group is active
 abbrev pub has_rival : ℕ → List Account → Bool
@@ -22,7 +22,7 @@ has_rival group [] = false
 has_rival group (account ∷ accounts) = is_rival group account || has_rival group accounts
 
 -- at this place is who comes next in the group: it is active there, and nobody active there comes before it
-pub record IsNext (group : ℕ) (accounts : List Account) (place : ℕ) : Type 0 where
+pub record IsNextAccount (group : ℕ) (accounts : List Account) (place : ℕ) : Type 0 where
   pub is_one : is_rival group (account_at accounts place) ≡ true
   pub none_before : (other : ℕ) → is_rival group (account_at accounts other) ≡ true → is_before (account_at accounts other) (account_at accounts place) ≡ false
 
@@ -65,7 +65,7 @@ rested_at place line = record line { accounts = slice_set line.accounts place (r
 
 -- the line after the account at a place was served so much more
 abbrev pub charged : ℕ → ℕ → LineOf → LineOf
-charged place amount line = record line { accounts = slice_set line.accounts place (with_more amount (account_at line.accounts place)) }
+charged place amount line = record line { accounts = slice_set line.accounts place (account_charged amount (account_at line.accounts place)) }
 
 -- the line with another account at a place
 abbrev pub put_at : ℕ → Account → LineOf → LineOf
@@ -78,8 +78,8 @@ place_from first group name (account ∷ accounts) =
     if (account.name == name) && (account.group == group) then Some first else place_from (first + 1) group name accounts
 
 -- the first place whose account has this name in this group
-abbrev pub place_of : ℕ → ℕ → List Account → Option ℕ
-place_of group name accounts = place_from 0 group name accounts
+abbrev pub account_place : ℕ → ℕ → List Account → Option ℕ
+account_place group name accounts = place_from 0 group name accounts
 
 -- whether somebody is in the group: of the places that aren't free one is of it
 abbrev pub has_member : ℕ → List Account → Bool
@@ -109,13 +109,13 @@ abbrev pub place_among : ℕ → List ℕ → Option ℕ
 place_among name names = place_among_from 0 name names
 
 -- the first of two, if it is there
-abbrev pub first_of : Option ℕ → Option ℕ → Option ℕ
-first_of None second = second
-first_of (Some first) second = Some first
+abbrev pub first_place : Option ℕ → Option ℕ → Option ℕ
+first_place None second = second
+first_place (Some first) second = Some first
 
 -- the place at which somebody of this name in this group is, or else begins: the first free one; None where none is free
 abbrev pub joined_place : ℕ → ℕ → LineOf → Option ℕ
-joined_place group name line = first_of (place_of group name line.accounts) (place_of 0 0 line.accounts)
+joined_place group name line = first_place (account_place group name line.accounts) (account_place 0 0 line.accounts)
 
 -- the line with an account at a place, where there is one
 abbrev pub put_where : Option ℕ → Account → LineOf → LineOf
@@ -125,7 +125,7 @@ put_where (Some place) account line = put_at place account line
 -- the line after somebody came: whoever isn't there yet begins at the first free place, with so much served
 abbrev pub joined_by : Option ℕ → Account → LineOf → LineOf
 joined_by (Some place) account line = line
-joined_by None account line = put_where (place_of 0 0 line.accounts) account line
+joined_by None account line = put_where (account_place 0 0 line.accounts) account line
 
 abbrev pub joined : ℕ → ℕ → ℕ → LineOf → LineOf
-joined group name served line = joined_by (place_of group name line.accounts) (record { name = name; group = group; served = served; since = 0 }) line
+joined group name served line = joined_by (account_place group name line.accounts) (record { name = name; group = group; served = served; since = 0 }) line

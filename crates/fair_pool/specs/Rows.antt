@@ -2,7 +2,7 @@
 use Rattle.std.specs.Prelude.{ℕ, true, List, [], ◌∷◌}
 use Rattle.fair_pool.specs.declared.account.Account.{Account}
 use Rattle.fair_pool.specs.Lines.{LineOf}
-use Rattle.fair_pool.specs.Shares.{SharesOf, new_shares, entered, seen, served_all}
+use Rattle.fair_pool.specs.Shares.{SharesOf, new_shares, tenant_entered, tenant_seen, served_all}
 
 abbrev pub account : ℕ → ℕ → ℕ → ℕ → Account
 account name group served since = record { name = name; group = group; served = served; since = since }
@@ -19,7 +19,7 @@ counts (account ∷ accounts) = account.served ∷ counts accounts
 
 -- customer 0 has two tenants in a network and customer 1 one; all have something to be done
 abbrev pub three : SharesOf
-three = seen 2 true (seen 1 true (seen 0 true (entered 9 1 700 (entered 8 0 500 (entered 7 0 500 (new_shares 2))))))
+three = tenant_seen 2 true (tenant_seen 1 true (tenant_seen 0 true (tenant_entered 9 1 700 (tenant_entered 8 0 500 (tenant_entered 7 0 500 (new_shares 2))))))
 
 -- the first tenant was served 100, the third 30
 abbrev pub served : SharesOf

@@ -1,8 +1,8 @@
 -- Meaning: who shares a pool: customers, the networks of each, and the tenants of each network.
 use Rattle.std.specs.Prelude.{ℕ, ◌+◌, ◌-◌, ◌≡◌, ◌==◌, Bool, false, ◌||◌, ◌⊎◌, List, Option, Some, None, if◌then◌else◌, replicate, slice_index, slice_set}
 use Rattle.fair_pool.specs.declared.account.Account.{Account}
-use Rattle.fair_pool.specs.Accounts.{nobody, is_active, is_rival, capped_sum}
-use Rattle.fair_pool.specs.Lines.{LineOf, IsNext, empty_line, account_at, has_rival, has_member, woken, rested_at, charged, put_at, joined, joined_place}
+use Rattle.fair_pool.specs.Accounts.{free_account, is_active, is_rival, capped_sum}
+use Rattle.fair_pool.specs.Lines.{LineOf, IsNextAccount, empty_line, account_at, has_rival, has_member, woken, rested_at, charged, put_at, joined, joined_place}
 
 -- three lines: of customers, who are all in group 0; of networks, each in the group of its customer's place; of tenants, each in the group of
 -- its network's place. And what each customer was served that isn't there, by its number
@@ -17,11 +17,11 @@ abbrev pub new_shares : ℕ → SharesOf
 new_shares many = record { customers = empty_line; networks = empty_line; tenants = empty_line; kept = replicate many 0 }
 
 -- the tenant at a place, the place of its network, and that of its customer
-abbrev pub tenant_at : SharesOf → ℕ → Account
-tenant_at shares place = account_at shares.tenants.accounts place
+abbrev pub tenant_in_place : SharesOf → ℕ → Account
+tenant_in_place shares place = account_at shares.tenants.accounts place
 
 abbrev pub network_at : SharesOf → ℕ → ℕ
-network_at shares place = (tenant_at shares place).group
+network_at shares place = (tenant_in_place shares place).group
 
 abbrev pub customer_at : SharesOf → ℕ → ℕ
 customer_at shares place = (account_at shares.networks.accounts (network_at shares place)).group
@@ -29,9 +29,9 @@ customer_at shares place = (account_at shares.networks.accounts (network_at shar
 -- a fair pick: a tenant with a ready frame of a customer that none with a ready frame was served less than; and of its customer's networks
 -- and of its network's tenants likewise. Of those that were served as much it is who has been ready longest
 pub record IsPick (shares : SharesOf) (place : ℕ) : Type 0 where
-  pub customer : IsNext 0 shares.customers.accounts (customer_at shares place)
-  pub network : IsNext (customer_at shares place) shares.networks.accounts (network_at shares place)
-  pub tenant : IsNext (network_at shares place) shares.tenants.accounts place
+  pub customer : IsNextAccount 0 shares.customers.accounts (customer_at shares place)
+  pub network : IsNextAccount (customer_at shares place) shares.networks.accounts (network_at shares place)
+  pub tenant : IsNextAccount (network_at shares place) shares.tenants.accounts place
 
 -- nobody of a group is active
 abbrev pub HasNone : ℕ → List Account → Type 0
@@ -41,14 +41,14 @@ HasNone group accounts = (place : ℕ) → is_rival group (account_at accounts p
 abbrev pub IsNobody : SharesOf → Type 0
 IsNobody shares =
     HasNone 0 shares.customers.accounts
-    ⊎ ((customer : ℕ) × IsNext 0 shares.customers.accounts customer
+    ⊎ ((customer : ℕ) × IsNextAccount 0 shares.customers.accounts customer
     × (HasNone customer shares.networks.accounts
-    ⊎ ((network : ℕ) × IsNext customer shares.networks.accounts network × HasNone network shares.tenants.accounts)))
+    ⊎ ((network : ℕ) × IsNextAccount customer shares.networks.accounts network × HasNone network shares.tenants.accounts)))
 
 -- after a tenant has a ready frame, which had none: it becomes active, and with it its network and its customer, where they weren't
 abbrev pub woken_all : ℕ → SharesOf → SharesOf
 woken_all place shares =
-    if ((tenant_at shares place).name == 0) || is_active (tenant_at shares place) then shares else record shares {
+    if ((tenant_in_place shares place).name == 0) || is_active (tenant_in_place shares place) then shares else record shares {
       customers = if has_rival (customer_at shares place) shares.networks.accounts then shares.customers else woken (customer_at shares place) shares.customers;
       networks = if has_rival (network_at shares place) shares.tenants.accounts then shares.networks else woken (network_at shares place) shares.networks;
       tenants = woken place shares.tenants;
@@ -63,20 +63,20 @@ abbrev pub rested_all : ℕ → SharesOf → SharesOf
 rested_all place shares =
     let tenants = rested_at place shares.tenants in
     let networks = rested_unless (network_at shares place) tenants.accounts shares.networks in
-    if (tenant_at shares place).name == 0 then shares else record shares {
+    if (tenant_in_place shares place).name == 0 then shares else record shares {
       customers = rested_unless (customer_at shares place) networks.accounts shares.customers;
       networks = networks;
       tenants = tenants;
     }
 
 -- after it was seen whether the tenant at a place has a ready frame
-abbrev pub seen : ℕ → Bool → SharesOf → SharesOf
-seen place is_ready shares = if is_ready then woken_all place shares else rested_all place shares
+abbrev pub tenant_seen : ℕ → Bool → SharesOf → SharesOf
+tenant_seen place is_ready shares = if is_ready then woken_all place shares else rested_all place shares
 
 -- after the tenant at a place was served so much more, and with it its network and its customer
 abbrev pub served_all : ℕ → ℕ → SharesOf → SharesOf
 served_all place amount shares =
-    if (tenant_at shares place).name == 0 then shares else record shares {
+    if (tenant_in_place shares place).name == 0 then shares else record shares {
       customers = charged (customer_at shares place) amount shares.customers;
       networks = charged (network_at shares place) amount shares.networks;
       tenants = charged place amount shares.tenants;
@@ -106,8 +106,8 @@ abbrev pub entered_place : ℕ → ℕ → ℕ → SharesOf → Option ℕ
 entered_place tenant customer network shares = place_in (network_place customer network shares) tenant shares.tenants
 
 -- after a tenant came: its customer begins with what it was served before, its network and itself with nothing, where they aren't there yet
-abbrev pub entered : ℕ → ℕ → ℕ → SharesOf → SharesOf
-entered tenant customer network shares =
+abbrev pub tenant_entered : ℕ → ℕ → ℕ → SharesOf → SharesOf
+tenant_entered tenant customer network shares =
     tenant_joined (network_place customer network shares) tenant
     (network_joined (customer_place customer shares) network
     (record shares { customers = joined 0 (customer + 1) (slice_index shares.kept customer) shares.customers }))
@@ -117,7 +117,7 @@ abbrev pub customer_freed : ℕ → SharesOf → SharesOf
 customer_freed place shares =
     let account = account_at shares.customers.accounts place in
     if has_member place shares.networks.accounts then shares else record shares {
-      customers = put_at place nobody shares.customers;
+      customers = put_at place free_account shares.customers;
       kept = slice_set shares.kept (account.name - 1) account.served;
     }
 
@@ -125,11 +125,11 @@ customer_freed place shares =
 abbrev pub network_freed : ℕ → ℕ → SharesOf → SharesOf
 network_freed network customer shares =
     if has_member network shares.tenants.accounts then shares else
-    customer_freed customer (record shares { networks = put_at network nobody shares.networks })
+    customer_freed customer (record shares { networks = put_at network free_account shares.networks })
 
 -- after the tenant at a place has left, and with it its network and its customer, where nobody else of them is there
 abbrev pub left_all : ℕ → SharesOf → SharesOf
 left_all place shares =
     let rested = rested_all place shares in
-    if (tenant_at shares place).name == 0 then shares else
-    network_freed (network_at shares place) (customer_at shares place) (record rested { tenants = put_at place nobody rested.tenants })
+    if (tenant_in_place shares place).name == 0 then shares else
+    network_freed (network_at shares place) (customer_at shares place) (record rested { tenants = put_at place free_account rested.tenants })

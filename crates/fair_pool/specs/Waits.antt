@@ -2,27 +2,27 @@
 use Rattle.std.specs.Prelude.{ℕ, ◌+◌, ◌≡◌, ◌≢◌, ◌==◌, ◌<◌, ◌≤◌, Bool, true, false, ◌&&◌, not, List, [], ◌∷◌, if◌then◌else◌}
 use Rattle.fair_pool.specs.declared.account.Account.{Account}
 use Rattle.fair_pool.specs.Accounts.{is_active, is_rival, is_before, rested}
-use Rattle.fair_pool.specs.Lines.{LineOf, IsNext, account_at, woken, rested_at, charged, put_at}
+use Rattle.fair_pool.specs.Lines.{LineOf, IsNextAccount, account_at, woken, rested_at, charged, put_at}
 
 -- what happens to a line: another account comes to a place, which isn't active yet (a free place's where somebody goes); the account at a
 -- place becomes active, or isn't any more; somebody's task is done, which costs so much; or the task of one that was picked
-pub data Event : Type 0 where
-  Comes : ℕ → Account → Event
-  Wakes : ℕ → Event
-  Rests : ℕ → Event
-  Serves : ℕ → ℕ → Event
-  Picks : ℕ → ℕ → Event
+pub data LineEvent : Type 0 where
+  Comes : ℕ → Account → LineEvent
+  Wakes : ℕ → LineEvent
+  Rests : ℕ → LineEvent
+  Serves : ℕ → ℕ → LineEvent
+  Picks : ℕ → ℕ → LineEvent
 
 -- the line after it
-abbrev pub after : LineOf → Event → LineOf
-after line (Comes place account) = put_at place (rested account) line
-after line (Wakes place) = woken place line
-after line (Rests place) = rested_at place line
-after line (Serves place amount) = charged place amount line
-after line (Picks place amount) = charged place amount line
+abbrev pub line_after : LineOf → LineEvent → LineOf
+line_after line (Comes place account) = put_at place (rested account) line
+line_after line (Wakes place) = woken place line
+line_after line (Rests place) = rested_at place line
+line_after line (Serves place amount) = charged place amount line
+line_after line (Picks place amount) = charged place amount line
 
 -- the place that it happens to
-abbrev pub place_in : Event → ℕ
+abbrev pub place_in : LineEvent → ℕ
 place_in (Comes place account) = place
 place_in (Wakes place) = place
 place_in (Rests place) = place
@@ -30,21 +30,21 @@ place_in (Serves place amount) = place
 place_in (Picks place amount) = place
 
 -- only somebody becomes active; and a pick is of who comes next in the group, and costs something
-abbrev pub IsFair : ℕ → LineOf → Event → Type 0
+abbrev pub IsFair : ℕ → LineOf → LineEvent → Type 0
 IsFair group line (Comes place account) = Unit {0}
 IsFair group line (Wakes place) = (account_at line.accounts place).name ≢ 0
 IsFair group line (Rests place) = Unit {0}
 IsFair group line (Serves place amount) = Unit {0}
-IsFair group line (Picks place amount) = IsNext group line.accounts place × (0 < amount)
+IsFair group line (Picks place amount) = IsNextAccount group line.accounts place × (0 < amount)
 
 -- all this happens while whoever is at the place waits: none of it happens to that one, so it stays active if it is and gets no task, by a
 -- pick or otherwise; and each pick is fair
-abbrev pub Waits : ℕ → ℕ → LineOf → List Event → Type 0
+abbrev pub Waits : ℕ → ℕ → LineOf → List LineEvent → Type 0
 Waits group place line [] = Unit {0}
-Waits group place line (event ∷ events) = (place_in event ≢ place) × IsFair group line event × Waits group place (after line event) events
+Waits group place line (event ∷ events) = (place_in event ≢ place) × IsFair group line event × Waits group place (line_after line event) events
 
 -- how many picks there are
-abbrev pub picks_in : List Event → ℕ
+abbrev pub picks_in : List LineEvent → ℕ
 picks_in [] = 0
 picks_in (Comes place account ∷ events) = picks_in events
 picks_in (Wakes place ∷ events) = picks_in events
@@ -53,7 +53,7 @@ picks_in (Serves place amount ∷ events) = picks_in events
 picks_in (Picks place amount ∷ events) = picks_in events + 1
 
 -- how many tasks there are, picks among them
-abbrev pub tasks_in : List Event → ℕ
+abbrev pub tasks_in : List LineEvent → ℕ
 tasks_in [] = 0
 tasks_in (Comes place account ∷ events) = tasks_in events
 tasks_in (Wakes place ∷ events) = tasks_in events
@@ -62,7 +62,7 @@ tasks_in (Serves place amount ∷ events) = tasks_in events + 1
 tasks_in (Picks place amount ∷ events) = tasks_in events + 1
 
 -- of so many tasks in a row one at least is a pick, where there were some tasks since the last pick already
-abbrev pub IsEach : ℕ → ℕ → List Event → Type 0
+abbrev pub IsEach : ℕ → ℕ → List LineEvent → Type 0
 IsEach many since [] = Unit {0}
 IsEach many since (Comes place account ∷ events) = IsEach many since events
 IsEach many since (Wakes place ∷ events) = IsEach many since events
@@ -89,7 +89,7 @@ abbrev pub is_member : ℕ → Account → Bool
 is_member group account = (if account.name == 0 then false else true) && (account.group == group)
 
 -- how many come to the group
-abbrev pub arrivals_in : ℕ → List Event → ℕ
+abbrev pub arrivals_in : ℕ → List LineEvent → ℕ
 arrivals_in group [] = 0
 arrivals_in group (Comes place account ∷ events) = (if is_member group account then 1 else 0) + arrivals_in group events
 arrivals_in group (Wakes place ∷ events) = arrivals_in group events

@@ -16,15 +16,15 @@ use Rattle.pool_rules.specs.Turns.{turn_after}
 use Rattle.fair_pool.specs.Rhythms.{is_due, since_after}
 
 -- a worker's seats after a turn: the turn's task, if it made one, is the newest of its own deque or was refused, and else nothing has changed
-abbrev pub IsPushedOf : Option Task → WorkerSeats → WorkerSeats → Type 0
-IsPushedOf None before after = after ≡ before
-IsPushedOf (Some task) before after = (after ≡ record before { own = with_pushed task before.own }) ⊎ (after ≡ before)
+abbrev pub IsPushedOrDropped : Option Task → WorkerSeats → WorkerSeats → Type 0
+IsPushedOrDropped None before after = after ≡ before
+IsPushedOrDropped (Some task) before after = (after ≡ record before { own = with_pushed task before.own }) ⊎ (after ≡ before)
 
 -- a turn of a worker: by some answer of the hall it holds what the table says next, and just the task that the table says is pushed
-pub record IsTurn (worker : ℕ) (held next : Holding) (seats pushed : WorkerSeats) : Type 0 where
+pub record IsFairTurn (worker : ℕ) (held next : Holding) (seats pushed : WorkerSeats) : Type 0 where
   pub answer : Result (DidOf Leaf) Refusal
   pub holds : next ≡ (turn_after worker held answer).holding
-  pub task : IsPushedOf (turn_after worker held answer).task seats pushed
+  pub task : IsPushedOrDropped (turn_after worker held answer).task seats pushed
 
 -- the next task is a pick, after which the worker has begun no other
 pub record IsPicked (fair : Task → Type 0) (next : Holding) (before after : WorkerSeats) (since : ℕ) : Type 0 where
@@ -43,12 +43,12 @@ pub record IsOwn (next : Holding) (before after : WorkerSeats) (since_before sin
 
 -- what a worker that has the hall locked holds next: what it held; or, where it held no frame, a pick where one is due, or the newest task
 -- of its own deque
-abbrev pub GoesOn : (Task → Type 0) → Holding → Holding → WorkerSeats → WorkerSeats → ℕ → ℕ → Type 0
-GoesOn fair held next before after since_before since =
+abbrev pub GoesOnHere : (Task → Type 0) → Holding → Holding → WorkerSeats → WorkerSeats → ℕ → ℕ → Type 0
+GoesOnHere fair held next before after since_before since =
     ((next ≡ held) × (after ≡ before) × (since ≡ since_before))
     ⊎ ((held ≡ Nothing) × (is_due since_before ≡ true) × IsPicked fair next before after since)
     ⊎ ((held ≡ Nothing) × IsOwn next before after since_before since)
 
 -- a worker holds an answer to this frame, which it brings to the hall next, and which was computed from just this leaf
-abbrev pub BringsAnswerTo : FrameId → Leaf → Holding → Type 0
-BringsAnswerTo frame leaf holds = (answer : LeafAnswer) × (leaf_of_answer answer ≡ leaf) × (holds ≡ Next (Bring frame answer))
+abbrev pub BringsCostedTo : FrameId → Leaf → Holding → Type 0
+BringsCostedTo frame leaf holds = (answer : LeafAnswer) × (leaf_of_answer answer ≡ leaf) × (holds ≡ Next (Bring frame answer))

@@ -1,5 +1,5 @@
 ghost use Rattle.std.specs.Prelude.{◌≡◌, ◌+◌};
-ghost use Rattle.fair_pool.specs.Accounts.{nobody, is_active, is_rival, is_before, capped_sum, with_more, woken_from, rested};
+ghost use Rattle.fair_pool.specs.Accounts.{free_account, is_active, is_rival, is_before, capped_sum, account_charged, woken_from, rested};
 
 /// What is kept of one that shares with others: of a tenant, of a network, or of a customer.
 #[derive(Clone, Copy, Debug)]
@@ -17,7 +17,7 @@ pub struct Account {
 impl Account {
     /// A free place's.
     pub(crate) fn nobody() -> Account
-        ensures { result ≡ nobody }
+        ensures { result ≡ free_account }
     {
         Account {
             name: 0,
@@ -50,7 +50,7 @@ impl Account {
 
     /// After it was served so much more.
     pub(crate) fn with_more(self, amount: u64) -> Account
-        ensures { result ≡ with_more amount self }
+        ensures { result ≡ account_charged amount self }
     {
         Account {
             served: capped_sum(self.served, amount),

@@ -2,7 +2,7 @@ ghost use Rattle.std.specs.Prelude.{◌≡◌, IfNone, IfSome, Some};
 ghost use Rattle.task_deques.specs.Seats.{with_taken};
 ghost use Rattle.task_deques.specs.Deals.{posts, worker_seats, IsTaken};
 ghost use Rattle.fair_pool.specs.Rhythms.{since_after};
-ghost use Rattle.fair_pool.specs.Works.{IsPushedOf};
+ghost use Rattle.fair_pool.specs.Works.{IsPushedOrDropped};
 
 use crate::rhythm::Rhythm;
 use sched_rules::Worker;
@@ -36,7 +36,7 @@ impl Hands {
     /// Pushes a task on the worker's own deque. Where the deque is full (1,024 tasks) the task is dropped: its frame stays ready in the
     /// hall, where picks find it.
     pub(crate) fn push(&mut self, task: Task)
-        ensures pushed { IsPushedOf (Some task) (worker_seats self.old.ends) (worker_seats self.new.ends) }
+        ensures pushed { IsPushedOrDropped (Some task) (worker_seats self.old.ends) (worker_seats self.new.ends) }
         ensures posts { posts self.new.ends ≡ posts self.old.ends }
         ensures since { self.new.rhythm ≡ self.old.rhythm }
     {

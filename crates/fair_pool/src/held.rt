@@ -3,7 +3,7 @@ ghost use Rattle.std.specs.Prelude.{◌≡◌, true, Some, IfSome};
 ghost use Rattle.hall.specs.Journals.{is_worker_step};
 ghost use Rattle.pool_rules.specs.Turns.{offered};
 ghost use Rattle.task_deques.specs.Deals.{posts, worker_seats};
-ghost use Rattle.fair_pool.specs.Works.{IsTurn, GoesOn};
+ghost use Rattle.fair_pool.specs.Works.{IsFairTurn, GoesOnHere};
 
 use crate::hands::Hands;
 use hall::{Jamboree, Step, StepAnswer};
@@ -81,7 +81,7 @@ fn turned<H: HeldHall>(
     step: &Step<Jamboree>,
 ) -> Holding
     requires { Some step.now ≡ offered worker holding }
-    ensures turn { IsTurn worker holding result (worker_seats hands.old.ends) (worker_seats hands.new.ends) }
+    ensures turn { IsFairTurn worker holding result (worker_seats hands.old.ends) (worker_seats hands.new.ends) }
     ensures posts { posts hands.new.ends ≡ posts hands.old.ends }
 {
     let answer = held.offer(step);
@@ -95,7 +95,7 @@ fn turned<H: HeldHall>(
 /// What a worker that has the hall locked holds next: where it is without a frame, a pick where one is due, else the newest task of its
 /// own deque, if there is one.
 fn gone_on<H: HeldHall>(held: &mut H, hands: &mut Hands, holding: Holding) -> Holding
-    ensures next { GoesOn (H.is_fair held.new) holding result (worker_seats hands.old.ends) (worker_seats hands.new.ends) hands.old.rhythm.since hands.new.rhythm.since }
+    ensures next { GoesOnHere (H.is_fair held.new) holding result (worker_seats hands.old.ends) (worker_seats hands.new.ends) hands.old.rhythm.since hands.new.rhythm.since }
     ensures posts { posts hands.new.ends ≡ posts hands.old.ends }
 {
     match holding {
@@ -107,7 +107,7 @@ fn gone_on<H: HeldHall>(held: &mut H, hands: &mut Hands, holding: Holding) -> Ho
 /// What a worker without a frame that has the hall locked holds next: a pick where one is due, else the newest task of its own deque, if
 /// there is one.
 fn next_here<H: HeldHall>(held: &mut H, hands: &mut Hands) -> Holding
-    ensures next { GoesOn (H.is_fair held.new) Holding.Nothing result (worker_seats hands.old.ends) (worker_seats hands.new.ends) hands.old.rhythm.since hands.new.rhythm.since }
+    ensures next { GoesOnHere (H.is_fair held.new) Holding.Nothing result (worker_seats hands.old.ends) (worker_seats hands.new.ends) hands.old.rhythm.since hands.new.rhythm.since }
     ensures posts { posts hands.new.ends ≡ posts hands.old.ends }
 {
     if hands.rhythm.is_due() {

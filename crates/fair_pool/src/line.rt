@@ -2,7 +2,7 @@
 ghost use Rattle.std.specs.Prelude.{◌≡◌, ℕ, ◌+◌, ◌<◌, List, IfOk, IfNone, IfSome, false};
 ghost use Rattle.fair_pool.specs.declared.account.Account.{Account};
 ghost use Rattle.fair_pool.specs.Accounts.{is_rival};
-ghost use Rattle.fair_pool.specs.Lines.{empty_line, account_at, has_rival, IsNext, IsBestBelow, lesser, least_served, woken, rested_at, charged, put_at, place_of, place_named, place_among, joined_place, joined, has_member};
+ghost use Rattle.fair_pool.specs.Lines.{empty_line, account_at, has_rival, IsNextAccount, IsBestBelow, lesser, least_served, woken, rested_at, charged, put_at, account_place, place_named, place_among, joined_place, joined, has_member};
 
 use crate::account::{Account, capped_sum};
 use std::alloc::{AllocError, Global};
@@ -75,7 +75,7 @@ impl Line {
 
     /// Who comes next in a group; None where nobody is active there.
     pub(crate) fn next(&self, group: usize) -> Option<usize>
-        ensures next { IfSome result (IsNext group self.now.accounts) }
+        ensures next { IfSome result (IsNextAccount group self.now.accounts) }
         ensures none { IfNone result ((other : ℕ) → is_rival group (account_at self.now.accounts other) ≡ false) }
     {
         next_in(&self.accounts, group)
@@ -97,7 +97,7 @@ impl Line {
 
     /// The first place whose account has this name in this group.
     pub(crate) fn place_of(&self, group: usize, name: u64) -> Option<usize>
-        ensures { result ≡ place_of group name self.now.accounts }
+        ensures { result ≡ account_place group name self.now.accounts }
     {
         place_of(&self.accounts, group, name)
     }
@@ -172,7 +172,7 @@ impl Line {
 
 /// The place of who comes next in a group; None where nobody is active there.
 fn next_in(accounts: &[Account], group: usize) -> Option<usize>
-    ensures next { IfSome result (IsNext group accounts.now) }
+    ensures next { IfSome result (IsNextAccount group accounts.now) }
     ensures none { IfNone result ((other : ℕ) → is_rival group (account_at accounts.now other) ≡ false) }
 {
     let mut best = None;
@@ -258,7 +258,7 @@ fn least_served(accounts: &[Account], group: usize) -> Option<u64>
 
 /// The first place whose account has this name in this group.
 fn place_of(accounts: &[Account], group: usize, name: u64) -> Option<usize>
-    ensures { result ≡ place_of group name accounts.now }
+    ensures { result ≡ account_place group name accounts.now }
 {
     for (place, account) in accounts.iter().enumerate() {
         if account.name == name && account.group == group {

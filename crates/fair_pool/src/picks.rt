@@ -1,7 +1,7 @@
 //! Which frame of a hall comes next, by who was served least.
 ghost use Rattle.std.specs.Prelude.{◌≡◌, IfSome, IfNone, is_some};
 ghost use Rattle.sched_rules.specs.Views.{newest_ready_in};
-ghost use Rattle.fair_pool.specs.Shares.{seen, tenant_at};
+ghost use Rattle.fair_pool.specs.Shares.{tenant_seen, tenant_in_place};
 ghost use Rattle.fair_pool.specs.Picks.{charged_to, seen_all, IsFairTask, IsNoTask};
 
 use crate::shares::FairShare;
@@ -25,7 +25,7 @@ fn see_all<A: Allocator>(hall: &Hall<A>, shares: &mut FairShare)
 /// Sees whether the tenant at a place has a ready frame. Nobody is looked for where the place is free.
 #[tactic(auto, using(crate::proofs::PickLemmas::seen_nobody))]
 fn see_one<A: Allocator>(hall: &Hall<A>, shares: &mut FairShare, place: usize)
-    ensures { shares.new ≡ seen place (is_some (newest_ready_in hall.now.shared (tenant_at shares.old place).name)) shares.old }
+    ensures { shares.new ≡ tenant_seen place (is_some (newest_ready_in hall.now.shared (tenant_in_place shares.old place).name)) shares.old }
 {
     let name = shares.tenant_at(place);
     if name != 0 {

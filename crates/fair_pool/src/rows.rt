@@ -4,7 +4,7 @@ ghost use Rattle.fair_pool.specs.Rhythms.{is_due, since_after};
 ghost use Rattle.fair_pool.specs.Accounts.{is_before, capped_sum};
 ghost use Rattle.fair_pool.specs.Lines.{account_at, least_served, floor_of, has_rival, woken, rested_at, charged};
 ghost use Rattle.fair_pool.specs.Waits.{is_ahead, Comes, Wakes, Rests, Serves, Picks, picks_in, tasks_in};
-ghost use Rattle.fair_pool.specs.Shares.{new_shares, entered, entered_place, customer_at, network_at, seen, left_all};
+ghost use Rattle.fair_pool.specs.Shares.{new_shares, tenant_entered, entered_place, customer_at, network_at, tenant_seen, left_all};
 ghost use Rattle.fair_pool.specs.Rows.{account, four, three, served};
 
 /// Seven tasks of the deques are begun, and the 8th is a pick. Where it finds none it stays due.
@@ -45,7 +45,7 @@ pub fn a_count_stays_at_the_greatest()
 
 /// Two tenants of one network have a place each of a network and a customer that they share.
 pub fn places()
-    ensures tenants { entered_place 9 1 700 (entered 8 0 500 (entered 7 0 500 (new_shares 2))) ≡ Some 2 }
+    ensures tenants { entered_place 9 1 700 (tenant_entered 8 0 500 (tenant_entered 7 0 500 (new_shares 2))) ≡ Some 2 }
     ensures network { network_at three 1 ≡ 0 }
     ensures customer { customer_at three 1 ≡ 0 }
     ensures other_network { network_at three 2 ≡ 1 }
@@ -62,12 +62,12 @@ pub fn what_is_charged()
 /// A customer is active while one of its tenants is, and its count is kept when the last has left; then it begins there again, a
 /// network anew.
 pub fn a_count_outlives_its_tenants()
-    ensures one_rests { has_rival 0 (seen 0 false served).networks.accounts ≡ true }
-    ensures both_rest { has_rival 0 (seen 1 false (seen 0 false served)).networks.accounts ≡ false }
+    ensures one_rests { has_rival 0 (tenant_seen 0 false served).networks.accounts ≡ true }
+    ensures both_rest { has_rival 0 (tenant_seen 1 false (tenant_seen 0 false served)).networks.accounts ≡ false }
     ensures one_left { (left_all 0 served).kept ≡ 0 ∷ 0 ∷ [] }
     ensures both_left { (left_all 1 (left_all 0 served)).kept ≡ 100 ∷ 0 ∷ [] }
-    ensures again { account_at (entered 12 0 500 (left_all 1 (left_all 0 served))).customers.accounts 0 ≡ account 1 0 100 0 }
-    ensures anew { account_at (entered 12 0 500 (left_all 1 (left_all 0 served))).networks.accounts 0 ≡ account 501 0 0 0 }
+    ensures again { account_at (tenant_entered 12 0 500 (left_all 1 (left_all 0 served))).customers.accounts 0 ≡ account 1 0 100 0 }
+    ensures anew { account_at (tenant_entered 12 0 500 (left_all 1 (left_all 0 served))).networks.accounts 0 ≡ account 501 0 0 0 }
 {}
 
 /// Of the four those that don't come after the first in its group: itself, and the one that has been active for longer.

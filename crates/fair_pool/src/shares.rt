@@ -25,9 +25,9 @@
 //! shares.charge(place, 1_000);                                  // and that was done
 //! ```
 ghost use Rattle.std.specs.Prelude.{◌≡◌, ◌+◌, ◌-◌, ◌<◌, ◌^◌, Some, None, false, IfOk, IfSome, IfNone};
-ghost use Rattle.fair_pool.specs.Accounts.{nobody};
+ghost use Rattle.fair_pool.specs.Accounts.{free_account};
 ghost use Rattle.fair_pool.specs.Lines.{account_at, place_named};
-ghost use Rattle.fair_pool.specs.Shares.{new_shares, tenant_at, IsPick, IsNobody, woken_all, rested_all, seen, served_all, entered, entered_place, customer_freed, network_freed, left_all};
+ghost use Rattle.fair_pool.specs.Shares.{new_shares, tenant_in_place, IsPick, IsNobody, woken_all, rested_all, tenant_seen, served_all, tenant_entered, entered_place, customer_freed, network_freed, left_all};
 
 use crate::account::{Account, capped_sum};
 use crate::line::Line;
@@ -75,7 +75,7 @@ impl FairShare {
     /// A customer begins with what it was served before; one whose number is beyond those it was made for begins with nothing each time.
     pub fn enter(&mut self, tenant: u64, customer: u32, network: u64) -> Option<usize>
         ensures place { result ≡ entered_place tenant customer network self.old }
-        ensures shares { self.new ≡ entered tenant customer network self.old }
+        ensures shares { self.new ≡ tenant_entered tenant customer network self.old }
     {
         let number = customer as usize;
         let served = if number < self.kept.len() {
@@ -105,7 +105,7 @@ impl FairShare {
 
     /// It is seen whether the tenant at a place has a ready frame.
     pub fn see(&mut self, place: usize, is_ready: bool)
-        ensures { self.new ≡ seen place is_ready self.old }
+        ensures { self.new ≡ tenant_seen place is_ready self.old }
     {
         if is_ready {
             self.wake(place);
@@ -148,7 +148,7 @@ impl FairShare {
 
     /// The tenant at a place; 0 where it is free.
     pub fn tenant_at(&self, place: usize) -> u64
-        ensures { result ≡ (tenant_at self.now place).name }
+        ensures { result ≡ (tenant_in_place self.now place).name }
     {
         self.tenants.name_at(place)
     }

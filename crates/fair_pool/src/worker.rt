@@ -1,7 +1,7 @@
 //! One worker.
 ghost use Rattle.std.specs.Prelude.{◌≡◌};
 ghost use Rattle.task_deques.specs.Deals.{posts};
-ghost use Rattle.fair_pool.specs.Works.{BringsAnswerTo};
+ghost use Rattle.fair_pool.specs.Works.{BringsCostedTo};
 
 use crate::hands::Hands;
 use frame_tree::FrameId;
@@ -118,7 +118,7 @@ fn work_off<S: Site, R: Wait>(
 /// the power of its depth, as an answer doesn't tell how many positions its search entered. This function is handed neither a means to
 /// wait nor anything that has a lock, so it can't take one.
 fn computed(frame: FrameId, leaf: Leaf) -> (Holding, u64)
-    ensures { BringsAnswerTo frame leaf result.0 }
+    ensures { BringsCostedTo frame leaf result.0 }
 {
     let cost = 1 << (2 * leaf.depth);
     let answer = LeafAnswer::compute(leaf);

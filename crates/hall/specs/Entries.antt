@@ -11,8 +11,8 @@ use Rattle.hall.specs.declared.entry.LongEntry.{LongEntry}
 use Rattle.hall.specs.declared.entry.LongEntry.TheVariants.{Admitted, Raised, Asked, Answered, Cancelled}
 
 -- the name of the tenant's frame with this serial
-abbrev pub named : ℕ → ℕ → FrameId
-named number serial = record { tenant = number; serial = serial }
+abbrev pub frame_name : ℕ → ℕ → FrameId
+frame_name number serial = record { tenant = number; serial = serial }
 
 -- whether an entry marks a step that is kept in a long entry
 abbrev pub is_long : JournalEntry → Bool
@@ -35,12 +35,12 @@ long_steps (step ∷ steps) = (if is_long_step step then 1 else 0) + long_steps 
 
 -- the tenant's step that a short entry stands for, alone in a list; none where the entry marks a long one
 abbrev pub short_steps : ℕ → JournalEntry → List (StepOf LeafAnswer)
-short_steps number (Taken worker serial) = Take worker (named number serial) ∷ []
-short_steps number (Stolen worker from serial) = Steal worker from (named number serial) ∷ []
-short_steps number (Advanced worker serial) = Advance worker (named number serial) ∷ []
-short_steps number (TakenIn worker serial) = Inlet worker (named number serial) ∷ []
-short_steps number (Finished worker serial) = Finish worker (named number serial) ∷ []
-short_steps number (Spent serial) = Spend (named number serial) ∷ []
+short_steps number (Taken worker serial) = Take worker (frame_name number serial) ∷ []
+short_steps number (Stolen worker from serial) = Steal worker from (frame_name number serial) ∷ []
+short_steps number (Advanced worker serial) = Advance worker (frame_name number serial) ∷ []
+short_steps number (TakenIn worker serial) = Inlet worker (frame_name number serial) ∷ []
+short_steps number (Finished worker serial) = Finish worker (frame_name number serial) ∷ []
+short_steps number (Spent serial) = Spend (frame_name number serial) ∷ []
 short_steps number Long = []
 
 -- the tenant's step that a long entry stands for
@@ -48,7 +48,7 @@ abbrev pub long_step : ℕ → LongEntry → StepOf LeafAnswer
 long_step number (Admitted reserve) = Admit number reserve
 long_step number (Raised reserve) = AdmitMore number reserve
 long_step number (Asked depth own opp) = Submit number (root_words own opp depth) frame_size
-long_step number (Answered worker serial answer) = Answer worker (named number serial) answer
+long_step number (Answered worker serial answer) = Answer worker (frame_name number serial) answer
 long_step number (Cancelled job) = Cancel number job
 
 -- the tenant's steps that these entries and long entries stand for, in order: each short entry its own, and each

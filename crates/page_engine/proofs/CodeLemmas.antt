@@ -13,7 +13,7 @@ use Rattle.othello_moves.specs.declared.choices.Choice.{Choice}
 use Rattle.othello_moves.proofs.Inner.{bit_of}
 use Rattle.othello_moves.proofs.LeadLemmas.{word_of_passing}
 use Rattle.page_engine.specs.leaf_search.othello_eval.Values.{IsWithin}
-use Rattle.page_engine.specs.Codes.{choice_code, with_code, own_word, opp_word}
+use Rattle.page_engine.specs.Codes.{choice_code, with_code, own_bits, opp_bits}
 
 -- the choice that has a code is one of those that were looked at
 pub coded_contained : (code : ℕ) (cs : List Choice) (c : Choice) → with_code code cs ≡ Some c → Contains cs c
@@ -38,12 +38,12 @@ opp_by : (a b : ℕ) → a < 2 → b < 2 → min a b ≡ 0 → b ≡ bit_of (is_
 opp_by a b p q h = grind (arith, bit_cases)
 
 -- the words of a board are those of its cells
-pub own_word-cells : (b : Board) → b.own < 2 ^ 64 → b.own ≡ own_word (cells b)
+pub own_word-cells : (b : Board) → b.own < 2 ^ 64 → b.own ≡ own_bits (cells b)
 own_word-cells b fits =
     word_of_passing b.own (λ s. is_own_cell (cell_at (cells b) s)) fits
     (λ t below. own_by (bit_at b.own t) (bit_at b.opp t) (bit_at-lt b.own t) (bit_at-lt b.opp t) ∙ ap (λ c. bit_of (is_own_cell c)) (sym (cell_at-cells_of b.own b.opp t below)))
 
-pub opp_word-cells : (b : Board) → b.opp < 2 ^ 64 → bit_and b.own b.opp ≡ 0 → b.opp ≡ opp_word (cells b)
+pub opp_word-cells : (b : Board) → b.opp < 2 ^ 64 → bit_and b.own b.opp ≡ 0 → b.opp ≡ opp_bits (cells b)
 opp_word-cells b fits disjoint =
     word_of_passing b.opp (λ s. is_opp_cell (cell_at (cells b) s)) fits
     (λ t below. opp_by (bit_at b.own t) (bit_at b.opp t) (bit_at-lt b.own t) (bit_at-lt b.opp t) (apart b.own b.opp t disjoint) ∙ ap (λ c. bit_of (is_opp_cell c)) (sym (cell_at-cells_of b.own b.opp t below)))

@@ -48,8 +48,8 @@ abbrev pub no_analysis : ℤ
 no_analysis = neg_ℤ (pos (2 ^ 63))
 
 -- the squares of the mover's discs as the bits of a word, and those of the opponent's
-abbrev pub own_word : List Cell → ℕ
-own_word board = bits_of (filter (λ s. is_own_cell (cell_at board s)) squares)
+abbrev pub own_bits : List Cell → ℕ
+own_bits board = bits_of (filter (λ s. is_own_cell (cell_at board s)) squares)
 
-abbrev pub opp_word : List Cell → ℕ
-opp_word board = bits_of (filter (λ s. is_opp_cell (cell_at board s)) squares)
+abbrev pub opp_bits : List Cell → ℕ
+opp_bits board = bits_of (filter (λ s. is_opp_cell (cell_at board s)) squares)

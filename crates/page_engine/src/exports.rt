@@ -6,7 +6,7 @@ ghost use Rattle.othello_board.specs.Rules.{squares, is_legal};
 ghost use Rattle.othello_moves.specs.Choices.{choices};
 ghost use Rattle.page_engine.specs.leaf_search.othello_eval.Values.{IsWithin};
 ghost use Rattle.page_engine.specs.leaf_search.othello_eval.Minimax.{minimax, best_choice, choice_value};
-ghost use Rattle.page_engine.specs.Codes.{after_code, analysis_code, choice_of_code, no_analysis, no_value, opp_word, own_word, turn_code};
+ghost use Rattle.page_engine.specs.Codes.{after_code, analysis_code, choice_of_code, no_analysis, no_value, opp_bits, own_bits, turn_code};
 
 use super::choosing::{board_after, worth};
 use super::codes::{choice_of, code_of_best};
@@ -68,7 +68,7 @@ pub extern "C" fn is_choice(own: u64, opp: u64, choice: u32) -> bool
 /// has this code (`is_choice`).
 #[unsafe(no_mangle)]
 pub extern "C" fn own_after(own: u64, opp: u64, choice: u32) -> u64
-    ensures value { bit_and own opp ≡ 0 → result ≡ option_map_or own_word (after_code (cells_of own opp) choice) 0 }
+    ensures value { bit_and own opp ≡ 0 → result ≡ option_map_or own_bits (after_code (cells_of own opp) choice) 0 }
     ensures no_board { bit_and own opp ≢ 0 → result ≡ 0 }
 {
     match Board::new(own, opp) {
@@ -84,7 +84,7 @@ pub extern "C" fn own_after(own: u64, opp: u64, choice: u32) -> u64
 /// code (`is_choice`).
 #[unsafe(no_mangle)]
 pub extern "C" fn opp_after(own: u64, opp: u64, choice: u32) -> u64
-    ensures value { bit_and own opp ≡ 0 → result ≡ option_map_or opp_word (after_code (cells_of own opp) choice) 0 }
+    ensures value { bit_and own opp ≡ 0 → result ≡ option_map_or opp_bits (after_code (cells_of own opp) choice) 0 }
     ensures no_board { bit_and own opp ≢ 0 → result ≡ 0 }
 {
     match Board::new(own, opp) {

@@ -8,9 +8,9 @@ ghost use Rattle.site_book.specs.declared.refusal.Refusal.{Refusal};
 ghost use Rattle.site_book.specs.declared.who.Who.TheVariants.{Named, V4, V6};
 ghost use Rattle.site_book.specs.Names.{same_who, is_guest, network_of};
 ghost use Rattle.site_book.specs.Plans.{PlanOf, budget_of, sums_fit};
-ghost use Rattle.site_book.specs.Grants.{used, grant_of, without};
-ghost use Rattle.site_book.specs.Books.{BookOf, Event, Opens, new_book, why_over, why_no_raise, why_not_replan};
-ghost use Rattle.site_book.specs.Events.{run, answers, only_events, answers_of, grants_of, still_open, names_of};
+ghost use Rattle.site_book.specs.Grants.{used, grant_of, grants_without};
+ghost use Rattle.site_book.specs.Books.{BookOf, BookEvent, Opens, new_book, why_over, why_no_raise, why_not_replan};
+ghost use Rattle.site_book.specs.Events.{book_after_events, answers, only_events, answers_of, grants_of, still_open, names_granted};
 
 use site_book::laws::{
     a_plan_comes_in, a_refusal_is_ones_own, all_comes_back, no_customer_is_disturbed,
@@ -33,7 +33,7 @@ pub fn a_customer_at_its_limits()
         why_over plan (Named number) ask grants ≡ None }
     ensures raised { (number session : ℕ) (plan : PlanOf) (ask : Quota) (grants : List Held) (held : Held) → grant_of (Named number) session grants ≡ Some held →
         why_no_raise plan (Named number) session ask grants (grant_of (Named number) session grants) ≡ None →
-        ask.nodes + (used (Own (Named number)) (without (Named number) session grants)).nodes ≤ (budget_of plan (Named number)).nodes }
+        ask.nodes + (used (Own (Named number)) (grants_without (Named number) session grants)).nodes ≤ (budget_of plan (Named number)).nodes }
 {
     a_refusal_is_ones_own()
 }
@@ -49,7 +49,7 @@ pub fn a_guest_at_its_limits()
         ask.nodes + (used Guests grants).nodes ≤ plan.guests.nodes }
     ensures raised { (address session : ℕ) (plan : PlanOf) (ask : Quota) (grants : List Held) (held : Held) → grant_of (V4 address) session grants ≡ Some held →
         why_no_raise plan (V4 address) session ask grants (grant_of (V4 address) session grants) ≡ None →
-        ask.segments + (used Guests (without (V4 address) session grants)).segments ≤ plan.guests.segments }
+        ask.segments + (used Guests (grants_without (V4 address) session grants)).segments ≤ plan.guests.segments }
 {
     a_refusal_is_ones_own()
 }
@@ -58,15 +58,15 @@ pub fn a_guest_at_its_limits()
 /// more segments than theirs, and all no more nodes than the hall, which has what it had; and there are 64 sessions at most. Uses
 /// `site_book::nobody_is_over_budget` (`within`, `totals`, `few`).
 pub fn within_all_budgets()
-    ensures named { (number : ℕ) (plan : PlanOf) (events : List Event) → sums_fit plan ≡ true →
-        (used (Own (Named number)) (run (new_book plan) events).grants).sessions ≤ (budget_of (run (new_book plan) events).plan (Named number)).sessions }
-    ensures guest { (network : ℕ) (plan : PlanOf) (events : List Event) → sums_fit plan ≡ true →
-        (used (Own (V6 network)) (run (new_book plan) events).grants).nodes ≤ (run (new_book plan) events).plan.guest.nodes }
-    ensures guests { (plan : PlanOf) (events : List Event) → sums_fit plan ≡ true →
-        (used Guests (run (new_book plan) events).grants).segments ≤ (run (new_book plan) events).plan.guests.segments }
-    ensures all { (plan : PlanOf) (events : List Event) → sums_fit plan ≡ true →
-        (used All (run (new_book plan) events).grants).nodes ≤ plan.totals.nodes }
-    ensures few { (plan : PlanOf) (events : List Event) → sums_fit plan ≡ true → length (run (new_book plan) events).grants ≤ 64 }
+    ensures named { (number : ℕ) (plan : PlanOf) (events : List BookEvent) → sums_fit plan ≡ true →
+        (used (Own (Named number)) (book_after_events (new_book plan) events).grants).sessions ≤ (budget_of (book_after_events (new_book plan) events).plan (Named number)).sessions }
+    ensures guest { (network : ℕ) (plan : PlanOf) (events : List BookEvent) → sums_fit plan ≡ true →
+        (used (Own (V6 network)) (book_after_events (new_book plan) events).grants).nodes ≤ (book_after_events (new_book plan) events).plan.guest.nodes }
+    ensures guests { (plan : PlanOf) (events : List BookEvent) → sums_fit plan ≡ true →
+        (used Guests (book_after_events (new_book plan) events).grants).segments ≤ (book_after_events (new_book plan) events).plan.guests.segments }
+    ensures all { (plan : PlanOf) (events : List BookEvent) → sums_fit plan ≡ true →
+        (used All (book_after_events (new_book plan) events).grants).nodes ≤ plan.totals.nodes }
+    ensures few { (plan : PlanOf) (events : List BookEvent) → sums_fit plan ≡ true → length (book_after_events (new_book plan) events).grants ≤ 64 }
 {
     nobody_is_over_budget()
 }
@@ -74,15 +74,15 @@ pub fn within_all_budgets()
 /// After any events, a session that isn't refused to a customer, and one of a guest's that asks for more, have room in the hall. Uses
 /// `site_book::the_hall_has_room` (`opens`, `raises`).
 pub fn room_for_all()
-    ensures opens { (number : ℕ) (plan : PlanOf) (events : List Event) (ask : Quota) → sums_fit plan ≡ true →
-        why_over (run (new_book plan) events).plan (Named number) ask (run (new_book plan) events).grants ≡ None →
-        ask.segments + (used All (run (new_book plan) events).grants).segments ≤ plan.totals.segments }
-    ensures guest { (address : ℕ) (plan : PlanOf) (events : List Event) (ask : Quota) → sums_fit plan ≡ true →
-        why_over (run (new_book plan) events).plan (V4 address) ask (run (new_book plan) events).grants ≡ None →
-        1 + (used All (run (new_book plan) events).grants).sessions ≤ plan.totals.sessions }
-    ensures raises { (number session : ℕ) (plan : PlanOf) (events : List Event) (ask : Quota) → sums_fit plan ≡ true →
-        why_no_raise (run (new_book plan) events).plan (Named number) session ask (run (new_book plan) events).grants (grant_of (Named number) session (run (new_book plan) events).grants) ≡ None →
-        ask.nodes + (used All (without (Named number) session (run (new_book plan) events).grants)).nodes ≤ plan.totals.nodes }
+    ensures opens { (number : ℕ) (plan : PlanOf) (events : List BookEvent) (ask : Quota) → sums_fit plan ≡ true →
+        why_over (book_after_events (new_book plan) events).plan (Named number) ask (book_after_events (new_book plan) events).grants ≡ None →
+        ask.segments + (used All (book_after_events (new_book plan) events).grants).segments ≤ plan.totals.segments }
+    ensures guest { (address : ℕ) (plan : PlanOf) (events : List BookEvent) (ask : Quota) → sums_fit plan ≡ true →
+        why_over (book_after_events (new_book plan) events).plan (V4 address) ask (book_after_events (new_book plan) events).grants ≡ None →
+        1 + (used All (book_after_events (new_book plan) events).grants).sessions ≤ plan.totals.sessions }
+    ensures raises { (number session : ℕ) (plan : PlanOf) (events : List BookEvent) (ask : Quota) → sums_fit plan ≡ true →
+        why_no_raise (book_after_events (new_book plan) events).plan (Named number) session ask (book_after_events (new_book plan) events).grants (grant_of (Named number) session (book_after_events (new_book plan) events).grants) ≡ None →
+        ask.nodes + (used All (grants_without (Named number) session (book_after_events (new_book plan) events).grants)).nodes ≤ plan.totals.nodes }
 {
     the_hall_has_room()
 }
@@ -103,21 +103,21 @@ pub fn plans_that_come_in()
 /// A customer is told the same, and has the same, whatever other customers and the guests do; and a guest of IPv4 or IPv6 what all guests'
 /// own events give. Uses `site_book::no_customer_is_disturbed` (`told`, `grants`, `guests_told`, `guests_grants`).
 pub fn a_customer_and_the_guests()
-    ensures told { (number : ℕ) (plan : PlanOf) (one other : List Event) →
+    ensures told { (number : ℕ) (plan : PlanOf) (one other : List BookEvent) →
         only_events (same_who (Named number)) (new_book plan) one ≡ only_events (same_who (Named number)) (new_book plan) other →
         answers_of (same_who (Named number)) (new_book plan) one ≡ answers_of (same_who (Named number)) (new_book plan) other }
-    ensures grants { (number : ℕ) (plan : PlanOf) (one other : List Event) →
+    ensures grants { (number : ℕ) (plan : PlanOf) (one other : List BookEvent) →
         only_events (same_who (Named number)) (new_book plan) one ≡ only_events (same_who (Named number)) (new_book plan) other →
-        grants_of (same_who (Named number)) (run (new_book plan) one).grants ≡ grants_of (same_who (Named number)) (run (new_book plan) other).grants }
-    ensures network { (network : ℕ) (plan : PlanOf) (one other : List Event) →
+        grants_of (same_who (Named number)) (book_after_events (new_book plan) one).grants ≡ grants_of (same_who (Named number)) (book_after_events (new_book plan) other).grants }
+    ensures network { (network : ℕ) (plan : PlanOf) (one other : List BookEvent) →
         only_events is_guest (new_book plan) one ≡ only_events is_guest (new_book plan) other →
         answers_of (same_who (V6 network)) (new_book plan) one ≡ answers_of (same_who (V6 network)) (new_book plan) other }
-    ensures address { (address : ℕ) (plan : PlanOf) (one other : List Event) →
+    ensures address { (address : ℕ) (plan : PlanOf) (one other : List BookEvent) →
         only_events is_guest (new_book plan) one ≡ only_events is_guest (new_book plan) other →
         answers_of (same_who (V4 address)) (new_book plan) one ≡ answers_of (same_who (V4 address)) (new_book plan) other }
-    ensures guests { (plan : PlanOf) (one other : List Event) →
+    ensures guests { (plan : PlanOf) (one other : List BookEvent) →
         only_events is_guest (new_book plan) one ≡ only_events is_guest (new_book plan) other →
-        grants_of is_guest (run (new_book plan) one).grants ≡ grants_of is_guest (run (new_book plan) other).grants }
+        grants_of is_guest (book_after_events (new_book plan) one).grants ≡ grants_of is_guest (book_after_events (new_book plan) other).grants }
 {
     no_customer_is_disturbed()
 }
@@ -125,12 +125,12 @@ pub fn a_customer_and_the_guests()
 /// The grants that are out are the sessions that are open by the answers alone; where those are none, no customer and no guest has anything.
 /// Uses `site_book::all_comes_back` (`out`, `none`).
 pub fn nobody_is_left()
-    ensures out { (plan : PlanOf) (events : List Event) →
-        names_of (run (new_book plan) events).grants ≡ still_open [] events (answers (new_book plan) events) }
-    ensures named { (number : ℕ) (plan : PlanOf) (events : List Event) → still_open [] events (answers (new_book plan) events) ≡ [] →
-        (used (Own (Named number)) (run (new_book plan) events).grants).nodes ≡ 0 }
-    ensures guest { (address : ℕ) (plan : PlanOf) (events : List Event) → still_open [] events (answers (new_book plan) events) ≡ [] →
-        (used (Own (V4 address)) (run (new_book plan) events).grants).sessions ≡ 0 }
+    ensures out { (plan : PlanOf) (events : List BookEvent) →
+        names_granted (book_after_events (new_book plan) events).grants ≡ still_open [] events (answers (new_book plan) events) }
+    ensures named { (number : ℕ) (plan : PlanOf) (events : List BookEvent) → still_open [] events (answers (new_book plan) events) ≡ [] →
+        (used (Own (Named number)) (book_after_events (new_book plan) events).grants).nodes ≡ 0 }
+    ensures guest { (address : ℕ) (plan : PlanOf) (events : List BookEvent) → still_open [] events (answers (new_book plan) events) ≡ [] →
+        (used (Own (V4 address)) (book_after_events (new_book plan) events).grants).sessions ≡ 0 }
 {
     all_comes_back()
 }

@@ -9,7 +9,7 @@ use Rattle.session.specs.Forms.{Form, HelloOf, form_of}
 use Rattle.session.specs.Requests.{Request, Fault, Makes, Tabulates, Ends, request, form_request, quota_of, quota_request}
 use Rattle.session.specs.Turns.{Faulted, Closed, turns, turn_text, reply_text, table_text, calls_in, leaving, next_reply, later_replies, seated_after}
 use Rattle.session.specs.Sessions.{calls_for}
-use Rattle.session.specs.Asks.{Asked, asked_at, with_ask, asks_after, SaysTrue, ShowsFound, AllTrue}
+use Rattle.session.specs.Asks.{Asked, asked_at, with_call, asks_after, SaysTrue, ShowsFound, AllTrue}
 use Rattle.session.proofs.Served.{next_turns}
 use Rattle.session.specs.DoneLines.{with_request, asks_of_lines, StandingHolds, ReplyHolds, TableHolds, TableReplyHolds, EachDoneIsTrue}
 
@@ -20,17 +20,17 @@ abbrev EmptyWithout : Bool → List Asked → Type 0
 EmptyWithout true asks = Unit {0}
 EmptyWithout false asks = asks ≡ []
 
-hello_same : (quota : Option Quota) (asks : List Asked) (call : Call) → quota_request Hello quota ≡ Makes call → asks ≡ with_ask asks call
+hello_same : (quota : Option Quota) (asks : List Asked) (call : Call) → quota_request Hello quota ≡ Makes call → asks ≡ with_call asks call
 hello_same None asks call h = cc h
 hello_same (Some quota) asks call h = ap (with_request asks) h
 
 -- a call that is made without a tenant asks for no position, nor does its line where a tenant is there
-early_same : (form : Option Form) (asks : List Asked) (call : Call) → form_request false form ≡ Makes call → (asks ≡ with_ask asks call) × (with_request asks (form_request true form) ≡ asks)
+early_same : (form : Option Form) (asks : List Asked) (call : Call) → form_request false form ≡ Makes call → (asks ≡ with_call asks call) × (with_request asks (form_request true form) ≡ asks)
 early_same (Some (HelloOf segments nodes)) asks call h = (hello_same (quota_of segments nodes) asks call h, refl)
 early_same _ asks call h = cc h
 
 -- what a line asks for that makes a call
-asks_seated : (seated : Bool) (line : LineText) (asks : List Asked) (call : Call) → request seated line ≡ Makes call → with_ask asks call ≡ with_request asks (request true line)
+asks_seated : (seated : Bool) (line : LineText) (asks : List Asked) (call : Call) → request seated line ≡ Makes call → with_call asks call ≡ with_request asks (request true line)
 asks_seated true line asks call h = ap (with_request asks) (sym h)
 asks_seated false TooLong asks call h = cc h
 asks_seated false (Whole bytes) asks call h = let same = early_same (form_of bytes) asks call h in sym same.0 ∙ sym same.1
@@ -49,7 +49,7 @@ table_same true line asks job h = ap (with_request asks) (sym h)
 table_same false TooLong asks job h = refl
 table_same false (Whole bytes) asks job h = absurd (no_early_table (form_of bytes) job h)
 
-still_empty : (seated : Bool) (line : LineText) (asks : List Asked) (call : Call) → request seated line ≡ Makes call → EmptyWithout seated asks → EmptyWithout seated (with_ask asks call)
+still_empty : (seated : Bool) (line : LineText) (asks : List Asked) (call : Call) → request seated line ≡ Makes call → EmptyWithout seated asks → EmptyWithout seated (with_call asks call)
 still_empty true line asks call h empty = tt
 still_empty false TooLong asks call h empty = cc h
 still_empty false (Whole bytes) asks call h empty = sym (early_same (form_of bytes) asks call h).0 ∙ empty
@@ -83,12 +83,12 @@ table_told_same before line job Pending = refl
 table_told_same before line job _ = refl
 
 -- one more ask
-job_known : (before : List (LineText × List ℕ)) (asks : List Asked) (line : LineText) (call : Call) (number : ℕ) (seated : Bool) → with_ask asks call ≡ with_request asks (request true line) → (EmptyWithout seated asks → EmptyWithout seated (with_ask asks call)) → Known seated before asks
-    → Known seated ((line, reply_text (Job number)) ∷ before) (with_ask asks call)
+job_known : (before : List (LineText × List ℕ)) (asks : List Asked) (line : LineText) (call : Call) (number : ℕ) (seated : Bool) → with_call asks call ≡ with_request asks (request true line) → (EmptyWithout seated asks → EmptyWithout seated (with_call asks call)) → Known seated before asks
+    → Known seated ((line, reply_text (Job number)) ∷ before) (with_call asks call)
 job_known before asks line call number seated same empty known = (same ∙ ap (λ a. with_request a (request true line)) known.0, empty known.1)
 
 -- a reply, told without its table or with it
-next_known : (before : List (LineText × List ℕ)) (asks : List Asked) (line : LineText) (call : Call) (reply : OfficeReply) (seated : Bool) → with_ask asks call ≡ with_request asks (request true line) → (EmptyWithout seated asks → EmptyWithout seated (with_ask asks call)) → Known seated before asks
+next_known : (before : List (LineText × List ℕ)) (asks : List Asked) (line : LineText) (call : Call) (reply : OfficeReply) (seated : Bool) → with_call asks call ≡ with_request asks (request true line) → (EmptyWithout seated asks → EmptyWithout seated (with_call asks call)) → Known seated before asks
     → Known (seated_after seated reply) ((line, reply_text reply) ∷ before) (asks_after asks call reply) × Known (seated_after seated reply) ((line, table_text reply) ∷ before) (asks_after asks call reply)
 next_known before asks line call (Welcome quota) seated same empty known = ((refl, tt), (refl, tt))
 next_known before asks line call (Job number) seated same empty known = let next = job_known before asks line call number seated same empty known in (next, next)

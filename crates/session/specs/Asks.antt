@@ -15,15 +15,15 @@ pub record Asked : Type 0 where
   pub depth : ℕ
 
 -- these asks, and what this call asks for after them if it is an Ask
-abbrev pub with_ask : List Asked → Call → List Asked
-with_ask asks (Ask depth board side) = asks ++ record { board = board; depth = depth } ∷ []
-with_ask asks _ = asks
+abbrev pub with_call : List Asked → Call → List Asked
+with_call asks (Ask depth board side) = asks ++ record { board = board; depth = depth } ∷ []
+with_call asks _ = asks
 
 -- a tenant's asks that were answered by JOB, after one more call and its reply: a new tenant has none, and there are
 -- none after it has left
 abbrev pub asks_after : List Asked → Call → OfficeReply → List Asked
 asks_after asks call (Welcome quota) = []
-asks_after asks call (Job number) = with_ask asks call
+asks_after asks call (Job number) = with_call asks call
 asks_after asks call Gone = []
 asks_after asks call _ = asks
 
@@ -54,9 +54,9 @@ SaysTrue asks _ = Unit {0}
 
 -- the reply to GET or WAIT, by what was asked as this job: how the job stands, or the refusal 17 exactly where nothing
 -- was asked
-abbrev pub IsToldOf : ℕ → Option Asked → OfficeReply → Type 0
-IsToldOf job None reply = reply ≡ Refused 17
-IsToldOf job (Some asked) reply = (standing : Standing) × (reply ≡ Told job standing)
+abbrev pub IsJobReply : ℕ → Option Asked → OfficeReply → Type 0
+IsJobReply job None reply = reply ≡ Refused 17
+IsJobReply job (Some asked) reply = (standing : Standing) × (reply ≡ Told job standing)
 
 -- if the reply is a refusal, it has one of these numbers
 abbrev pub RefusedBy : List ℕ → OfficeReply → Type 0
@@ -70,8 +70,8 @@ abbrev pub IsRefusedWhere : List Asked → Call → OfficeReply → Type 0
 IsRefusedWhere asks (Hello quota) reply = RefusedBy (14 ∷ 18 ∷ 19 ∷ []) reply
 IsRefusedWhere asks (Reserve quota) reply = RefusedBy (1 ∷ 20 ∷ 14 ∷ 19 ∷ []) reply
 IsRefusedWhere asks (Ask depth board side) reply = RefusedBy (1 ∷ 13 ∷ 11 ∷ 10 ∷ []) reply × (length asks ≡ 256 → reply ≡ Refused 13)
-IsRefusedWhere asks (Get job) reply = IsToldOf job (asked_at asks job) reply
-IsRefusedWhere asks (Wait job) reply = IsToldOf job (asked_at asks job) reply
+IsRefusedWhere asks (Get job) reply = IsJobReply job (asked_at asks job) reply
+IsRefusedWhere asks (Wait job) reply = IsJobReply job (asked_at asks job) reply
 IsRefusedWhere asks (Cancel job) reply = RefusedBy (1 ∷ 17 ∷ []) reply × (asked_at asks job ≡ None → reply ≡ Refused 17)
 IsRefusedWhere asks AskQuota reply = RefusedBy (1 ∷ []) reply
 IsRefusedWhere asks AskLive reply = RefusedBy (1 ∷ []) reply

@@ -10,7 +10,7 @@ use Rattle.session.specs.declared.faults.SessionFault.{SessionFault}
 use Rattle.session.specs.declared.standings.Analysis.{Analysis}
 use Rattle.session.specs.declared.standings.Standing.{Standing}
 use Rattle.session.specs.declared.standings.Standing.TheVariants.{Done}
-use Rattle.session.specs.Asks.{Asked, asked_at, with_ask, KeepsAsks}
+use Rattle.session.specs.Asks.{Asked, asked_at, with_call, KeepsAsks}
 use Rattle.session.specs.Calls.{OfficeReply, Job, Told}
 use Rattle.session.specs.Requests.{Request, Makes, request}
 use Rattle.session.specs.Turns.{LineTurn, Made, Tabulated, turns, turn_text}
@@ -18,7 +18,7 @@ use Rattle.session.specs.Sessions.{Session}
 
 -- these asks, and what this request asks for after them if it is an ask
 abbrev pub with_request : List Asked → Request → List Asked
-with_request asks (Makes call) = with_ask asks call
+with_request asks (Makes call) = with_call asks call
 with_request asks _ = asks
 
 -- a tenant's asks so far, after one more line and its answer: they begin at WELCOME and end at BYE, and an ASK line

@@ -24,14 +24,14 @@ ask_request (Ok asked) = Makes (Ask asked.depth asked.board asked.side)
 ask_request (Err fault) = Fault fault
 
 -- whether a reservation is within the limits: 1 to 4,096 segments and 1 to 65,536 nodes
-abbrev pub is_within : ℕ → ℕ → Bool
-is_within segments nodes = nat_le 1 segments && nat_le segments 4096 && nat_le 1 nodes && nat_le nodes 65536
+abbrev pub is_within_limits : ℕ → ℕ → Bool
+is_within_limits segments nodes = nat_le 1 segments && nat_le segments 4096 && nat_le 1 nodes && nat_le nodes 65536
 
 -- what is reserved; None unless both amounts are numbers within the limits
 abbrev pub quota_of : Option ℕ → Option ℕ → Option Quota
 quota_of None nodes = None
 quota_of (Some segments) None = None
-quota_of (Some segments) (Some nodes) = if is_within segments nodes then Some (record { segments = segments; nodes = nodes }) else None
+quota_of (Some segments) (Some nodes) = if is_within_limits segments nodes then Some (record { segments = segments; nodes = nodes }) else None
 
 -- this call with a reservation; where there is none, fault 23: an amount is no number or outside the limits
 abbrev pub quota_request : (Quota → Call) → Option Quota → Request

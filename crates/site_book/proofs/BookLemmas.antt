@@ -11,9 +11,9 @@ use Rattle.site_book.specs.declared.held.Part.TheVariants.{All}
 use Rattle.site_book.specs.declared.refusal.Refusal.{Refusal}
 use Rattle.site_book.specs.declared.refusal.Refusal.TheVariants.{Gone, Lower}
 use Rattle.site_book.specs.declared.who.Who.{Who}
-use Rattle.site_book.specs.Amounts.{nothing, of_one, plus, minus, IsWithin}
+use Rattle.site_book.specs.Amounts.{nothing, of_one, plus, minus, IsAmountWithin}
 use Rattle.site_book.specs.Plans.{PlanOf}
-use Rattle.site_book.specs.Grants.{is_in, used, place_of, grant_of, without, with_ask, is_lower}
+use Rattle.site_book.specs.Grants.{is_in, used, grant_place, grant_of, grants_without, grants_raised, is_no_raise}
 use Rattle.site_book.specs.Books.{BookOf, why_over, why_no_raise, why_not_replan}
 use Rattle.site_book.specs.Keeping.{IsKept}
 use Rattle.site_book.proofs.GrantLemmas.{place-is, place-none, without-none, used-removed}
@@ -22,46 +22,46 @@ use Rattle.site_book.proofs.RunLemmas.{room-open, room-raise}
 use Rattle.site_book.proofs.Totals.{few-sessions}
 
 -- a session that is there has its place
-pub place-there : (who : Who) (session : ℕ) (gs : List Held) → (grant_of who session gs ≡ None → ⊥) → place_of who session gs < length gs
-place-there who session gs some = elim (cases_lt (place_of who session gs) (length gs)) [ inl less ↦ less | inr past ↦ absurd (some (place-none who session gs past)) ]
+pub place-there : (who : Who) (session : ℕ) (gs : List Held) → (grant_of who session gs ≡ None → ⊥) → grant_place who session gs < length gs
+place-there who session gs some = elim (cases_lt (grant_place who session gs) (length gs)) [ inl less ↦ less | inr past ↦ absurd (some (place-none who session gs past)) ]
 
 -- what stands at the place that was found
-pub found-held : (gs read : List Held) (who : Who) (session i : ℕ) (held : Held) → read ≡ gs → i ≡ place_of who session read → i < length gs → held ≡ get_or gs i held → grant_of who session gs ≡ Some held
+pub found-held : (gs read : List Held) (who : Who) (session i : ℕ) (held : Held) → read ≡ gs → i ≡ grant_place who session read → i < length gs → held ≡ get_or gs i held → grant_of who session gs ≡ Some held
 found-held gs read who session i held same is less at =
-    let place : i ≡ place_of who session gs = is ∙ ap (place_of who session) same in
-    let there : place_of who session gs < length gs = subst (λ k. k < length gs) place less in
+    let place : i ≡ grant_place who session gs = is ∙ ap (grant_place who session) same in
+    let there : grant_place who session gs < length gs = subst (λ k. k < length gs) place less in
     (place-is who session gs there).found held (subst (λ k. held ≡ get_or gs k held) place at)
 
 -- a removal there
-pub removed-list : (gs read : List Held) (who : Who) (session i : ℕ) → read ≡ gs → i ≡ place_of who session read → i < length gs → remove gs i ≡ without who session gs
+pub removed-list : (gs read : List Held) (who : Who) (session i : ℕ) → read ≡ gs → i ≡ grant_place who session read → i < length gs → remove gs i ≡ grants_without who session gs
 removed-list gs read who session i same is less =
-    let place : i ≡ place_of who session gs = is ∙ ap (place_of who session) same in
-    let there : place_of who session gs < length gs = subst (λ k. k < length gs) place less in
+    let place : i ≡ grant_place who session gs = is ∙ ap (grant_place who session) same in
+    let there : grant_place who session gs < length gs = subst (λ k. k < length gs) place less in
     ap (remove gs) place ∙ (place-is who session gs there).removed
 
 -- where there is none
-pub kept-list : (gs read : List Held) (who : Who) (session i : ℕ) → read ≡ gs → i ≡ place_of who session read → length gs ≤ i → gs ≡ without who session gs
+pub kept-list : (gs read : List Held) (who : Who) (session i : ℕ) → read ≡ gs → i ≡ grant_place who session read → length gs ≤ i → gs ≡ grants_without who session gs
 kept-list gs read who session i same is past =
-    let place : i ≡ place_of who session gs = is ∙ ap (place_of who session) same in
+    let place : i ≡ grant_place who session gs = is ∙ ap (grant_place who session) same in
     sym (without-none who session gs (subst (λ k. length gs ≤ k) place past))
 
 -- a write there
-pub raised-list : (gs read : List Held) (who : Who) (session i : ℕ) (held : Held) (ask : Quota) → read ≡ gs → i ≡ place_of who session read → i < length gs → held ≡ get_or gs i held → set gs i (record held { ask = ask }) ≡ with_ask who session ask gs
+pub raised-list : (gs read : List Held) (who : Who) (session i : ℕ) (held : Held) (ask : Quota) → read ≡ gs → i ≡ grant_place who session read → i < length gs → held ≡ get_or gs i held → set gs i (record held { ask = ask }) ≡ grants_raised who session ask gs
 raised-list gs read who session i held ask same is less at =
-    let place : i ≡ place_of who session gs = is ∙ ap (place_of who session) same in
-    let there : place_of who session gs < length gs = subst (λ k. k < length gs) place less in
-    let here : held ≡ get_or gs (place_of who session gs) held = subst (λ k. held ≡ get_or gs k held) place at in
+    let place : i ≡ grant_place who session gs = is ∙ ap (grant_place who session) same in
+    let there : grant_place who session gs < length gs = subst (λ k. k < length gs) place less in
+    let here : held ≡ get_or gs (grant_place who session gs) held = subst (λ k. held ≡ get_or gs k held) place at in
     ap (λ k. set gs k (record held { ask = ask })) place ∙ (place-is who session gs there).written held ask here
 
-pub length-with_ask : (who : Who) (session : ℕ) (ask : Quota) (gs : List Held) → length (with_ask who session ask gs) ≡ length gs
+pub length-with_ask : (who : Who) (session : ℕ) (ask : Quota) (gs : List Held) → length (grants_raised who session ask gs) ≡ length gs
 length-with_ask who session ask [] = refl
 length-with_ask who session ask (g ∷ gs) = grind (arith, length-with_ask who session ask gs)
 
 -- the grant at a place is in the part, and the rest is what is left without it
-pub own-within : (part : Part) (gs : List Held) (i : ℕ) (held : Held) (one u : Amount) → i < length gs → held ≡ get_or gs i held → is_in part held.who ≡ true → u ≡ used part gs → one ≡ plus (of_one held.ask) nothing → IsWithin one u
+pub own-within : (part : Part) (gs : List Held) (i : ℕ) (held : Held) (one u : Amount) → i < length gs → held ≡ get_or gs i held → is_in part held.who ≡ true → u ≡ used part gs → one ≡ plus (of_one held.ask) nothing → IsAmountWithin one u
 own-within part gs i held one u less at own is only =
     let all : used part gs ≡ plus (of_one held.ask) (used part (remove gs i)) = used-removed (is_in part) gs i held less at ∙ ap (λ b. cond b (plus (of_one held.ask) (used part (remove gs i))) (used part (remove gs i))) own in
-    subst (λ (a : Amount). IsWithin a u) (sym only) (subst (λ (a : Amount). IsWithin (plus (of_one held.ask) nothing) a) (sym (is ∙ all)) (record { sessions = omega arith; segments = omega arith; nodes = omega arith }))
+    subst (λ (a : Amount). IsAmountWithin a u) (sym only) (subst (λ (a : Amount). IsAmountWithin (plus (of_one held.ask) nothing) a) (sym (is ∙ all)) (record { sessions = omega arith; segments = omega arith; nodes = omega arith }))
 
 less_one : (a b : ℕ) → a + b - (a + 0) ≡ b
 less_one a b = omega arith
@@ -85,7 +85,7 @@ pub opened : (plan : PlanOf) (gs : List Held) (book : BookOf) (who : Who) (sessi
 opened plan gs book who session ask view kept none =
     kept-open plan gs who session ask kept (subst (λ (b : BookOf). why_over b.plan who ask b.grants ≡ None) (sym view) none)
 
-pub raised : (plan : PlanOf) (gs : List Held) (book : BookOf) (who : Who) (session : ℕ) (ask : Quota) → viewed plan gs ≡ book → IsKept plan gs → why_no_raise book.plan who session ask book.grants (grant_of who session book.grants) ≡ None → IsKept plan (with_ask who session ask gs)
+pub raised : (plan : PlanOf) (gs : List Held) (book : BookOf) (who : Who) (session : ℕ) (ask : Quota) → viewed plan gs ≡ book → IsKept plan gs → why_no_raise book.plan who session ask book.grants (grant_of who session book.grants) ≡ None → IsKept plan (grants_raised who session ask gs)
 raised plan gs book who session ask view kept none =
     kept-raise plan gs who session ask (grant_of who session gs) kept refl (subst (λ (b : BookOf). why_no_raise b.plan who session ask b.grants (grant_of who session b.grants) ≡ None) (sym view) none)
 
@@ -99,24 +99,24 @@ pushed_is r u l more es is pushed = pushed ∙ ap (λ x. if is_ok x then more el
 -- why a session isn't raised, by the tests in their order
 
 abbrev raise_by : PlanOf → Who → ℕ → Quota → List Held → Bool → Option Refusal
-raise_by plan who session ask gs lower = cond lower (Some Lower) (why_over plan who ask (without who session gs))
+raise_by plan who session ask gs lower = cond lower (Some Lower) (why_over plan who ask (grants_without who session gs))
 
-pub raise-is : (plan : PlanOf) (who : Who) (session : ℕ) (ask : Quota) (gs : List Held) (held : Held) (lower : Bool) → grant_of who session gs ≡ Some held → is_lower held.ask ask ≡ lower → raise_by plan who session ask gs lower ≡ why_no_raise plan who session ask gs (grant_of who session gs)
+pub raise-is : (plan : PlanOf) (who : Who) (session : ℕ) (ask : Quota) (gs : List Held) (held : Held) (lower : Bool) → grant_of who session gs ≡ Some held → is_no_raise held.ask ask ≡ lower → raise_by plan who session ask gs lower ≡ why_no_raise plan who session ask gs (grant_of who session gs)
 raise-is plan who session ask gs held lower is low = sym (ap (why_no_raise plan who session ask gs) is ∙ ap (raise_by plan who session ask gs) low)
 
-pub gone-why : (plan : PlanOf) (who : Who) (session i : ℕ) (ask : Quota) (gs : List Held) → i ≡ place_of who session gs → length gs ≤ i → Some Gone ≡ why_no_raise plan who session ask gs (grant_of who session gs)
+pub gone-why : (plan : PlanOf) (who : Who) (session i : ℕ) (ask : Quota) (gs : List Held) → i ≡ grant_place who session gs → length gs ≤ i → Some Gone ≡ why_no_raise plan who session ask gs (grant_of who session gs)
 gone-why plan who session i ask gs place past = sym (ap (why_no_raise plan who session ask gs) (place-none who session gs (subst (λ k. length gs ≤ k) place past)))
 
 -- the hall has room for what isn't refused
 
-pub opens-room : (plan : PlanOf) (gs : List Held) (book : BookOf) (who : Who) (ask : Quota) (why : Option Refusal) → viewed plan gs ≡ book → IsKept plan gs → why ≡ why_over book.plan who ask book.grants → IfNone why (IsWithin (plus (of_one ask) (used All book.grants)) book.plan.totals)
+pub opens-room : (plan : PlanOf) (gs : List Held) (book : BookOf) (who : Who) (ask : Quota) (why : Option Refusal) → viewed plan gs ≡ book → IsKept plan gs → why ≡ why_over book.plan who ask book.grants → IfNone why (IsAmountWithin (plus (of_one ask) (used All book.grants)) book.plan.totals)
 opens-room plan gs book who ask None view kept is =
-    subst (λ (b : BookOf). IsWithin (plus (of_one ask) (used All b.grants)) b.plan.totals) view (room-open plan gs who ask kept (subst (λ (b : BookOf). why_over b.plan who ask b.grants ≡ None) (sym view) (sym is)))
+    subst (λ (b : BookOf). IsAmountWithin (plus (of_one ask) (used All b.grants)) b.plan.totals) view (room-open plan gs who ask kept (subst (λ (b : BookOf). why_over b.plan who ask b.grants ≡ None) (sym view) (sym is)))
 opens-room plan gs book who ask (Some refusal) view kept is = tt
 
-pub raises-room : (plan : PlanOf) (gs : List Held) (book : BookOf) (who : Who) (session : ℕ) (ask : Quota) (why : Option Refusal) → viewed plan gs ≡ book → IsKept plan gs → why ≡ why_no_raise book.plan who session ask book.grants (grant_of who session book.grants) → IfNone why (IsWithin (plus (of_one ask) (used All (without who session book.grants))) book.plan.totals)
+pub raises-room : (plan : PlanOf) (gs : List Held) (book : BookOf) (who : Who) (session : ℕ) (ask : Quota) (why : Option Refusal) → viewed plan gs ≡ book → IsKept plan gs → why ≡ why_no_raise book.plan who session ask book.grants (grant_of who session book.grants) → IfNone why (IsAmountWithin (plus (of_one ask) (used All (grants_without who session book.grants))) book.plan.totals)
 raises-room plan gs book who session ask None view kept is =
-    subst (λ (b : BookOf). IsWithin (plus (of_one ask) (used All (without who session b.grants))) b.plan.totals) view (room-raise plan gs who session ask (grant_of who session gs) kept refl (subst (λ (b : BookOf). why_no_raise b.plan who session ask b.grants (grant_of who session b.grants) ≡ None) (sym view) (sym is)))
+    subst (λ (b : BookOf). IsAmountWithin (plus (of_one ask) (used All (grants_without who session b.grants))) b.plan.totals) view (room-raise plan gs who session ask (grant_of who session gs) kept refl (subst (λ (b : BookOf). why_no_raise b.plan who session ask b.grants (grant_of who session b.grants) ≡ None) (sym view) (sym is)))
 raises-room plan gs book who session ask (Some refusal) view kept is = tt
 
 pub few-seats : (plan : PlanOf) (gs : List Held) (book : BookOf) → viewed plan gs ≡ book → IsKept plan gs → book.plan.totals.sessions ≤ 64

@@ -12,11 +12,11 @@ use Rattle.site_book.specs.declared.refusal.Refusal.TheVariants.{OverBudget, Ove
 use Rattle.site_book.specs.declared.who.Who.{Who}
 use Rattle.site_book.specs.declared.who.Who.TheVariants.{Named, V4, V6}
 use Rattle.site_book.specs.Names.{same_who, is_guest, network_of}
-use Rattle.site_book.specs.Amounts.{of_one, plus, is_within, is_same}
+use Rattle.site_book.specs.Amounts.{of_one, plus, is_amount_within, is_same}
 use Rattle.site_book.specs.Plans.{PlanOf, limit_of, sums_fit}
-use Rattle.site_book.specs.Grants.{is_in, used, grant_of, without, is_lower}
-use Rattle.site_book.specs.Books.{BookOf, Event, Opens, Raises, Closes, Replans, first_of, why_over, why_no_raise, part_over, are_within, why_not_replan, answer_to, taken, after_answer, after}
-use Rattle.site_book.specs.Events.{run, is_of, is_kept, only_events, answers_of, grants_of}
+use Rattle.site_book.specs.Grants.{is_in, used, grant_of, grants_without, is_no_raise}
+use Rattle.site_book.specs.Books.{BookOf, BookEvent, Opens, Raises, Closes, Replans, first_refusal, why_over, why_no_raise, part_over, are_within, why_not_replan, answer_of_book, taken, book_after_answer, book_after}
+use Rattle.site_book.specs.Events.{book_after_events, is_of, is_event_kept, only_events, answers_of, grants_of}
 use Rattle.site_book.proofs.NameLemmas.{same-is}
 use Rattle.site_book.proofs.BudgetLemmas.{IsPart}
 use Rattle.site_book.proofs.Keepings.{comes-in}
@@ -38,16 +38,16 @@ part-theirs is_one part who gs test whole is own = elim (cases_Bool (is_in part 
 
 over-theirs : (is_one : Who → Bool) (plan : PlanOf) (who : Who) (ask : Quota) (gs : List Held) → IsWhole is_one → is_one who ≡ true → why_over plan who ask (grants_of is_one gs) ≡ why_over plan who ask gs
 over-theirs is_one plan who ask gs whole own =
-    let one = part-theirs is_one (Own who) who gs (λ a. not (is_within (plus (of_one ask) a) (limit_of plan (Own who)))) whole tt own in
-    let two = part-theirs is_one (Network (network_of who)) who gs (λ a. not (is_within (plus (of_one ask) a) (limit_of plan (Network (network_of who))))) whole tt own in
-    let three = part-theirs is_one Guests who gs (λ a. not (is_within (plus (of_one ask) a) (limit_of plan Guests))) whole tt own in
-    λ i. first_of ((one i, OverBudget) ∷ (two i, OverNetwork) ∷ (three i, OverGuests) ∷ [])
+    let one = part-theirs is_one (Own who) who gs (λ a. not (is_amount_within (plus (of_one ask) a) (limit_of plan (Own who)))) whole tt own in
+    let two = part-theirs is_one (Network (network_of who)) who gs (λ a. not (is_amount_within (plus (of_one ask) a) (limit_of plan (Network (network_of who))))) whole tt own in
+    let three = part-theirs is_one Guests who gs (λ a. not (is_amount_within (plus (of_one ask) a) (limit_of plan Guests))) whole tt own in
+    λ i. first_refusal ((one i, OverBudget) ∷ (two i, OverNetwork) ∷ (three i, OverGuests) ∷ [])
 
 part_over-theirs : (is_one : Who → Bool) (plan : PlanOf) (who : Who) (gs : List Held) → IsWhole is_one → is_one who ≡ true → part_over plan (grants_of is_one gs) who ≡ part_over plan gs who
 part_over-theirs is_one plan who gs whole own =
-    let one = part-theirs is_one (Own who) who gs (λ a. not (is_within a (limit_of plan (Own who)))) whole tt own in
-    let two = part-theirs is_one (Network (network_of who)) who gs (λ a. not (is_within a (limit_of plan (Network (network_of who))))) whole tt own in
-    let three = part-theirs is_one Guests who gs (λ a. not (is_within a (limit_of plan Guests))) whole tt own in
+    let one = part-theirs is_one (Own who) who gs (λ a. not (is_amount_within a (limit_of plan (Own who)))) whole tt own in
+    let two = part-theirs is_one (Network (network_of who)) who gs (λ a. not (is_amount_within a (limit_of plan (Network (network_of who))))) whole tt own in
+    let three = part-theirs is_one Guests who gs (λ a. not (is_amount_within a (limit_of plan Guests))) whole tt own in
     λ i. cond (one i) (Some (Own who)) (cond (two i) (Some (Network (network_of who))) (cond (three i) (Some Guests) None))
 
 within-theirs : (is_one : Who → Bool) (plan : PlanOf) (all gs : List Held) → IsWhole is_one → are_within plan all gs ≡ true → are_within plan (grants_of is_one all) (grants_of is_one gs) ≡ true
@@ -63,9 +63,9 @@ within-theirs is_one plan all (g ∷ gs) whole within =
 raise-theirs : (is_one : Who → Bool) (plan : PlanOf) (who : Who) (session : ℕ) (ask : Quota) (gs : List Held) (found : Option Held) → IsWhole is_one → is_one who ≡ true → why_no_raise plan who session ask (grants_of is_one gs) found ≡ why_no_raise plan who session ask gs found
 raise-theirs is_one plan who session ask gs None whole own = refl
 raise-theirs is_one plan who session ask gs (Some held) whole own =
-    ap (λ (o : Option Refusal). cond (is_lower held.ask ask) (Some Lower) o) (ap (why_over plan who ask) (sym (without-theirs is_one who session gs own)) ∙ over-theirs is_one plan who ask (without who session gs) whole own)
+    ap (λ (o : Option Refusal). cond (is_no_raise held.ask ask) (Some Lower) o) (ap (why_over plan who ask) (sym (without-theirs is_one who session gs own)) ∙ over-theirs is_one plan who ask (grants_without who session gs) whole own)
 
-pub answer-theirs : (is_one : Who → Bool) (book : BookOf) (event : Event) → IsWhole is_one → is_of is_one event ≡ true → answer_to (their_book is_one book) event ≡ answer_to book event
+pub answer-theirs : (is_one : Who → Bool) (book : BookOf) (event : BookEvent) → IsWhole is_one → is_of is_one event ≡ true → answer_of_book (their_book is_one book) event ≡ answer_of_book book event
 answer-theirs is_one book (Opens who session ask) whole own = over-theirs is_one book.plan who ask book.grants whole own
 answer-theirs is_one book (Raises who session ask) whole own =
     ap (why_no_raise book.plan who session ask (grants_of is_one book.grants)) (grant-theirs is_one who session book.grants own) ∙ raise-theirs is_one book.plan who session ask book.grants (grant_of who session book.grants) whole own
@@ -78,22 +78,22 @@ replan-theirs is_one book plan whole none =
     let rest = within-theirs is_one plan book.grants book.grants whole is.within in
     replan-none (is_same plan.totals book.plan.totals && sums_fit plan) (are_within plan book.grants book.grants) (are_within plan (grants_of is_one book.grants) (grants_of is_one book.grants)) none rest
   where
-    replan-none : (s t u : Bool) → first_of ((not s, Unfit) ∷ (not t, Beyond) ∷ []) ≡ None → u ≡ true → first_of ((not s, Unfit) ∷ (not u, Beyond) ∷ []) ≡ None
+    replan-none : (s t u : Bool) → first_refusal ((not s, Unfit) ∷ (not t, Beyond) ∷ []) ≡ None → u ≡ true → first_refusal ((not s, Unfit) ∷ (not u, Beyond) ∷ []) ≡ None
     replan-none s t u none rest = grind arith
 
 -- an event that stays
 
-taken-theirs : (is_one : Who → Bool) (book : BookOf) (event : Event) → is_kept is_one event None ≡ true → taken (their_book is_one book) event ≡ their_book is_one (taken book event)
+taken-theirs : (is_one : Who → Bool) (book : BookOf) (event : BookEvent) → is_event_kept is_one event None ≡ true → taken (their_book is_one book) event ≡ their_book is_one (taken book event)
 taken-theirs is_one book (Opens who session ask) own = λ i. record { plan = book.plan; grants = sym (push-theirs is_one book.grants (record { who = who; session = session; ask = ask }) own) i }
 taken-theirs is_one book (Raises who session ask) own = λ i. record { plan = book.plan; grants = sym (with_ask-theirs is_one who session ask book.grants own) i }
 taken-theirs is_one book (Closes who session) own = λ i. record { plan = book.plan; grants = sym (without-theirs is_one who session book.grants own) i }
 taken-theirs is_one book (Replans plan) own = refl
 
-kept-answer : (is_one : Who → Bool) (book : BookOf) (event : Event) (answer : Option Refusal) → answer_to book event ≡ answer → is_kept is_one event answer ≡ true → answer_to (their_book is_one book) event ≡ answer → after (their_book is_one book) event ≡ their_book is_one (after_answer book event answer)
-kept-answer is_one book event None is kept same = ap (after_answer (their_book is_one book) event) same ∙ taken-theirs is_one book event kept
-kept-answer is_one book event (Some refusal) is kept same = ap (after_answer (their_book is_one book) event) same
+kept-answer : (is_one : Who → Bool) (book : BookOf) (event : BookEvent) (answer : Option Refusal) → answer_of_book book event ≡ answer → is_event_kept is_one event answer ≡ true → answer_of_book (their_book is_one book) event ≡ answer → book_after (their_book is_one book) event ≡ their_book is_one (book_after_answer book event answer)
+kept-answer is_one book event None is kept same = ap (book_after_answer (their_book is_one book) event) same ∙ taken-theirs is_one book event kept
+kept-answer is_one book event (Some refusal) is kept same = ap (book_after_answer (their_book is_one book) event) same
 
-same-answer : (is_one : Who → Bool) (book : BookOf) (event : Event) → IsWhole is_one → is_kept is_one event (answer_to book event) ≡ true → answer_to (their_book is_one book) event ≡ answer_to book event
+same-answer : (is_one : Who → Bool) (book : BookOf) (event : BookEvent) → IsWhole is_one → is_event_kept is_one event (answer_of_book book event) ≡ true → answer_of_book (their_book is_one book) event ≡ answer_of_book book event
 same-answer is_one book (Opens who session ask) whole kept = answer-theirs is_one book (Opens who session ask) whole kept
 same-answer is_one book (Raises who session ask) whole kept = answer-theirs is_one book (Raises who session ask) whole kept
 same-answer is_one book (Closes who session) whole kept = refl
@@ -103,12 +103,12 @@ same-answer is_one book (Replans plan) whole kept = let none : why_not_replan bo
     none-is None kept = refl
     none-is (Some refusal) kept = absurd cc
 
-after-kept : (is_one : Who → Bool) (book : BookOf) (event : Event) → IsWhole is_one → is_kept is_one event (answer_to book event) ≡ true → after (their_book is_one book) event ≡ their_book is_one (after book event)
-after-kept is_one book event whole kept = kept-answer is_one book event (answer_to book event) refl kept (same-answer is_one book event whole kept)
+after-kept : (is_one : Who → Bool) (book : BookOf) (event : BookEvent) → IsWhole is_one → is_event_kept is_one event (answer_of_book book event) ≡ true → book_after (their_book is_one book) event ≡ their_book is_one (book_after book event)
+after-kept is_one book event whole kept = kept-answer is_one book event (answer_of_book book event) refl kept (same-answer is_one book event whole kept)
 
 -- one that doesn't
 
-other-answer : (is_one : Who → Bool) (book : BookOf) (event : Event) (answer : Option Refusal) → is_kept is_one event answer ≡ false → their_book is_one (after_answer book event answer) ≡ their_book is_one book
+other-answer : (is_one : Who → Bool) (book : BookOf) (event : BookEvent) (answer : Option Refusal) → is_event_kept is_one event answer ≡ false → their_book is_one (book_after_answer book event answer) ≡ their_book is_one book
 other-answer is_one book (Opens who session ask) None other = λ i. record { plan = book.plan; grants = push-others is_one book.grants (record { who = who; session = session; ask = ask }) other i }
 other-answer is_one book (Raises who session ask) None other = λ i. record { plan = book.plan; grants = with_ask-others is_one who session ask book.grants other i }
 other-answer is_one book (Closes who session) None other = λ i. record { plan = book.plan; grants = without-others is_one who session book.grants other i }
@@ -117,33 +117,33 @@ other-answer is_one book event (Some refusal) other = refl
 
 -- lists of events
 
-pub run-theirs : (is_one : Who → Bool) (book : BookOf) (events : List Event) → IsWhole is_one → run (their_book is_one book) (only_events is_one book events) ≡ their_book is_one (run book events)
+pub run-theirs : (is_one : Who → Bool) (book : BookOf) (events : List BookEvent) → IsWhole is_one → book_after_events (their_book is_one book) (only_events is_one book events) ≡ their_book is_one (book_after_events book events)
 run-theirs is_one book [] whole = refl
-run-theirs is_one book (event ∷ events) whole = elim (cases_Bool (is_kept is_one event (answer_to book event))) [
+run-theirs is_one book (event ∷ events) whole = elim (cases_Bool (is_event_kept is_one event (answer_of_book book event))) [
   | inl kept ↦ (let step = after-kept is_one book event whole kept in
-      rw kept (ap (λ (b : BookOf). run b (only_events is_one (after book event) events)) step ∙ run-theirs is_one (after book event) events whole))
-  | inr other ↦ (let step = other-answer is_one book event (answer_to book event) other in
-      rw other (ap (λ (b : BookOf). run b (only_events is_one (after book event) events)) (sym step) ∙ run-theirs is_one (after book event) events whole))
+      rw kept (ap (λ (b : BookOf). book_after_events b (only_events is_one (book_after book event) events)) step ∙ run-theirs is_one (book_after book event) events whole))
+  | inr other ↦ (let step = other-answer is_one book event (answer_of_book book event) other in
+      rw other (ap (λ (b : BookOf). book_after_events b (only_events is_one (book_after book event) events)) (sym step) ∙ run-theirs is_one (book_after book event) events whole))
 ]
 
-of-many : (few many : Who → Bool) (event : Event) → ((w : Who) → few w ≡ true → many w ≡ true) → is_of few event ≡ true → is_of many event ≡ true
+of-many : (few many : Who → Bool) (event : BookEvent) → ((w : Who) → few w ≡ true → many w ≡ true) → is_of few event ≡ true → is_of many event ≡ true
 of-many few many event among own = grind arith
 
-of-kept : (few many : Who → Bool) (event : Event) (answer : Option Refusal) → ((w : Who) → few w ≡ true → many w ≡ true) → is_kept many event answer ≡ false → is_of few event ≡ false
+of-kept : (few many : Who → Bool) (event : BookEvent) (answer : Option Refusal) → ((w : Who) → few w ≡ true → many w ≡ true) → is_event_kept many event answer ≡ false → is_of few event ≡ false
 of-kept few many event answer among other = grind arith
 
-pub told-theirs : (few many : Who → Bool) (book : BookOf) (events : List Event) → ((w : Who) → few w ≡ true → many w ≡ true) → IsWhole many → answers_of few book events ≡ answers_of few (their_book many book) (only_events many book events)
+pub told-theirs : (few many : Who → Bool) (book : BookOf) (events : List BookEvent) → ((w : Who) → few w ≡ true → many w ≡ true) → IsWhole many → answers_of few book events ≡ answers_of few (their_book many book) (only_events many book events)
 told-theirs few many book [] among whole = refl
-told-theirs few many book (event ∷ events) among whole = elim (cases_Bool (is_kept many event (answer_to book event))) [
+told-theirs few many book (event ∷ events) among whole = elim (cases_Bool (is_event_kept many event (answer_of_book book event))) [
   | inl kept ↦ (let step = after-kept many book event whole kept in
-      let rest : answers_of few (after book event) events ≡ answers_of few (after (their_book many book) event) (only_events many (after book event) events) = told-theirs few many (after book event) events among whole ∙ ap (λ (b : BookOf). answers_of few b (only_events many (after book event) events)) (sym step) in
+      let rest : answers_of few (book_after book event) events ≡ answers_of few (book_after (their_book many book) event) (only_events many (book_after book event) events) = told-theirs few many (book_after book event) events among whole ∙ ap (λ (b : BookOf). answers_of few b (only_events many (book_after book event) events)) (sym step) in
       rw kept (elim (cases_Bool (is_of few event)) [
         | inl own ↦ (let same = answer-theirs many book event whole (of-many few many event among own) in rw own (λ i. sym same i ∷ rest i))
         | inr not_own ↦ rw not_own rest
       ]))
-  | inr other ↦ (let step = other-answer many book event (answer_to book event) other in
-      let rest : answers_of few (after book event) events ≡ answers_of few (their_book many book) (only_events many (after book event) events) = told-theirs few many (after book event) events among whole ∙ ap (λ (b : BookOf). answers_of few b (only_events many (after book event) events)) step in
-      rw (other, of-kept few many event (answer_to book event) among other) rest)
+  | inr other ↦ (let step = other-answer many book event (answer_of_book book event) other in
+      let rest : answers_of few (book_after book event) events ≡ answers_of few (their_book many book) (only_events many (book_after book event) events) = told-theirs few many (book_after book event) events among whole ∙ ap (λ (b : BookOf). answers_of few b (only_events many (book_after book event) events)) step in
+      rw (other, of-kept few many event (answer_of_book book event) among other) rest)
 ]
 
 -- a named customer, and all guests

@@ -11,10 +11,10 @@ use Rattle.site_book.specs.declared.refusal.Refusal.{Refusal}
 use Rattle.site_book.specs.declared.refusal.Refusal.TheVariants.{Unfit, Beyond}
 use Rattle.site_book.specs.declared.who.Who.{Who}
 use Rattle.site_book.specs.Names.{same_who, is_guest, network_of}
-use Rattle.site_book.specs.Amounts.{nothing, is_within, is_same, IsWithin}
+use Rattle.site_book.specs.Amounts.{nothing, is_amount_within, is_same, IsAmountWithin}
 use Rattle.site_book.specs.Plans.{PlanOf, limit_of, sums_fit}
-use Rattle.site_book.specs.Grants.{is_in, used, grant_of, without, with_ask}
-use Rattle.site_book.specs.Books.{BookOf, Event, Opens, Raises, Closes, Replans, why_over, why_no_raise, is_over, part_over, are_within, why_not_replan, answer_to, taken, after_answer, after}
+use Rattle.site_book.specs.Grants.{is_in, used, grant_of, grants_without, grants_raised}
+use Rattle.site_book.specs.Books.{BookOf, BookEvent, Opens, Raises, Closes, Replans, why_over, why_no_raise, is_over, part_over, are_within, why_not_replan, answer_of_book, taken, book_after_answer, book_after}
 use Rattle.site_book.specs.Allowed.{HasBudgetFor}
 use Rattle.site_book.specs.Keeping.{IsKept}
 use Rattle.site_book.proofs.AmountLemmas.{within-test, test-within, within_trans, within_nothing, same-is_same, same-self}
@@ -23,10 +23,10 @@ use Rattle.site_book.proofs.GrantLemmas.{within-push, used-without_le, used-with
 use Rattle.site_book.proofs.BudgetLemmas.{IsPart, none-first, not-beyond, in-network, allowed, passes, grow-from}
 use Rattle.site_book.proofs.Totals.{all-within, few-sessions}
 
-pub kept-of : (plan : PlanOf) (gs : List Held) → sums_fit plan ≡ true → ((part : Part) → IsPart part → IsWithin (used part gs) (limit_of plan part)) → IsKept plan gs
+pub kept-of : (plan : PlanOf) (gs : List Held) → sums_fit plan ≡ true → ((part : Part) → IsPart part → IsAmountWithin (used part gs) (limit_of plan part)) → IsKept plan gs
 kept-of plan gs fit parts = record { fit = fit; within = λ part. each part }
   where
-    each : (part : Part) → IsWithin (used part gs) (limit_of plan part)
+    each : (part : Part) → IsAmountWithin (used part gs) (limit_of plan part)
     each (Own who) = parts (Own who) tt
     each (Network who) = parts (Network who) tt
     each Guests = parts Guests tt
@@ -45,45 +45,45 @@ kept-open plan gs who session ask kept none =
     kept-of plan (gs ++ record { who = who; session = session; ask = ask } ∷ []) kept.fit
     (λ part is. within-push part gs (record { who = who; session = session; ask = ask }) (limit_of plan part) (kept.within part) (λ own. passes plan who ask gs has part is own))
 
-pub kept-grow : (plan : PlanOf) (gs : List Held) (who : Who) (session : ℕ) (ask : Quota) (held : Held) → IsKept plan gs → grant_of who session gs ≡ Some held → HasBudgetFor plan who ask (without who session gs) → IsKept plan (with_ask who session ask gs)
+pub kept-grow : (plan : PlanOf) (gs : List Held) (who : Who) (session : ℕ) (ask : Quota) (held : Held) → IsKept plan gs → grant_of who session gs ≡ Some held → HasBudgetFor plan who ask (grants_without who session gs) → IsKept plan (grants_raised who session ask gs)
 kept-grow plan gs who session ask held kept is has =
     let same : who ≡ held.who = same-is who held.who (and_parts (same_who who held.who) _ (found-own who session gs held is)).0 in
-    kept-of plan (with_ask who session ask gs) kept.fit (λ part is_part. elim (cases_Bool (is_in part held.who)) [
-      | inl aye ↦ subst (λ (a : Amount). IsWithin a (limit_of plan part)) (sym (used-with_ask (is_in part) who session ask gs held is aye)) (passes plan who ask (without who session gs) has part is_part (ap (is_in part) same ∙ aye))
-      | inr nay ↦ subst (λ (a : Amount). IsWithin a (limit_of plan part)) (sym (used-with_ask_other (is_in part) who session ask gs held is nay)) (kept.within part)
+    kept-of plan (grants_raised who session ask gs) kept.fit (λ part is_part. elim (cases_Bool (is_in part held.who)) [
+      | inl aye ↦ subst (λ (a : Amount). IsAmountWithin a (limit_of plan part)) (sym (used-with_ask (is_in part) who session ask gs held is aye)) (passes plan who ask (grants_without who session gs) has part is_part (ap (is_in part) same ∙ aye))
+      | inr nay ↦ subst (λ (a : Amount). IsAmountWithin a (limit_of plan part)) (sym (used-with_ask_other (is_in part) who session ask gs held is nay)) (kept.within part)
     ])
 
-pub kept-raise : (plan : PlanOf) (gs : List Held) (who : Who) (session : ℕ) (ask : Quota) (found : Option Held) → IsKept plan gs → grant_of who session gs ≡ found → why_no_raise plan who session ask gs found ≡ None → IsKept plan (with_ask who session ask gs)
+pub kept-raise : (plan : PlanOf) (gs : List Held) (who : Who) (session : ℕ) (ask : Quota) (found : Option Held) → IsKept plan gs → grant_of who session gs ≡ found → why_no_raise plan who session ask gs found ≡ None → IsKept plan (grants_raised who session ask gs)
 kept-raise plan gs who session ask None kept is none = absurd cc
 kept-raise plan gs who session ask (Some held) kept is none = kept-grow plan gs who session ask held kept is (grow-from plan who session ask gs held none).left
 
-pub kept-close : (plan : PlanOf) (gs : List Held) (who : Who) (session : ℕ) → IsKept plan gs → IsKept plan (without who session gs)
+pub kept-close : (plan : PlanOf) (gs : List Held) (who : Who) (session : ℕ) → IsKept plan gs → IsKept plan (grants_without who session gs)
 kept-close plan gs who session kept =
-    kept-of plan (without who session gs) kept.fit (λ part is. within_trans _ _ _ (used-without_le (is_in part) who session gs) (kept.within part))
+    kept-of plan (grants_without who session gs) kept.fit (λ part is. within_trans _ _ _ (used-without_le (is_in part) who session gs) (kept.within part))
 
 -- another plan
 
 -- no part of which the customer is one has more than it may have
-pub none-over : (plan : PlanOf) (gs : List Held) (who : Who) → is_none (part_over plan gs who) ≡ true → (part : Part) → IsPart part → is_in part who ≡ true → IsWithin (used part gs) (limit_of plan part)
+pub none-over : (plan : PlanOf) (gs : List Held) (who : Who) → is_none (part_over plan gs who) ≡ true → (part : Part) → IsPart part → is_in part who ≡ true → IsAmountWithin (used part gs) (limit_of plan part)
 none-over plan gs who none part is own =
     let own_not : is_over plan (Own who) who gs ≡ false = grind arith in
     let network_not : is_over plan (Network (network_of who)) who gs ≡ false = grind arith in
     let guests_not : is_over plan Guests who gs ≡ false = grind arith in
     each own_not network_not guests_not part is own
   where
-    within-over : (part : Part) → is_over plan part who gs ≡ false → is_in part who ≡ true → IsWithin (used part gs) (limit_of plan part)
-    within-over part nay own = within-test (used part gs) (limit_of plan part) (not-beyond (is_in part who) (is_within (used part gs) (limit_of plan part)) nay own)
+    within-over : (part : Part) → is_over plan part who gs ≡ false → is_in part who ≡ true → IsAmountWithin (used part gs) (limit_of plan part)
+    within-over part nay own = within-test (used part gs) (limit_of plan part) (not-beyond (is_in part who) (is_amount_within (used part gs) (limit_of plan part)) nay own)
 
-    each : is_over plan (Own who) who gs ≡ false → is_over plan (Network (network_of who)) who gs ≡ false → is_over plan Guests who gs ≡ false → (part : Part) → IsPart part → is_in part who ≡ true → IsWithin (used part gs) (limit_of plan part)
-    each own_not network_not guests_not (Own w) is own = subst (λ x. IsWithin (used (Own x) gs) (limit_of plan (Own x))) (sym (same-is w who own)) (within-over (Own who) own_not (in-own who))
+    each : is_over plan (Own who) who gs ≡ false → is_over plan (Network (network_of who)) who gs ≡ false → is_over plan Guests who gs ≡ false → (part : Part) → IsPart part → is_in part who ≡ true → IsAmountWithin (used part gs) (limit_of plan part)
+    each own_not network_not guests_not (Own w) is own = subst (λ x. IsAmountWithin (used (Own x) gs) (limit_of plan (Own x))) (sym (same-is w who own)) (within-over (Own who) own_not (in-own who))
     each own_not network_not guests_not (Network w) is own =
         let both = and_parts (is_guest who) (same_who w (network_of who)) own in
-        subst (λ x. IsWithin (used (Network x) gs) plan.network) (sym (same-is w (network_of who) both.1)) (within-over (Network (network_of who)) network_not (in-network who both.0))
+        subst (λ x. IsAmountWithin (used (Network x) gs) plan.network) (sym (same-is w (network_of who) both.1)) (within-over (Network (network_of who)) network_not (in-network who both.0))
     each own_not network_not guests_not Guests is own = within-over Guests guests_not own
     each own_not network_not guests_not All is own = absurd is
 
 -- of some of the grants: one of them is of the part, which is within the plan then, or none is
-some-within : (plan : PlanOf) (all gs : List Held) (part : Part) → IsPart part → are_within plan all gs ≡ true → IsWithin (used part all) (limit_of plan part) ⊎ (used part gs ≡ nothing)
+some-within : (plan : PlanOf) (all gs : List Held) (part : Part) → IsPart part → are_within plan all gs ≡ true → IsAmountWithin (used part all) (limit_of plan part) ⊎ (used part gs ≡ nothing)
 some-within plan all [] part is within = inr refl
 some-within plan all (g ∷ gs) part is within =
     let both = and_parts (is_none (part_over plan all g.who)) (are_within plan all gs) within in
@@ -92,10 +92,10 @@ some-within plan all (g ∷ gs) part is within =
       | inr nay ↦ elim (some-within plan all gs part is both.1) [ inl now ↦ inl now | inr none ↦ inr (rw nay none) ]
     ]
 
-pub within-plan : (plan : PlanOf) (gs : List Held) → are_within plan gs gs ≡ true → (part : Part) → IsPart part → IsWithin (used part gs) (limit_of plan part)
+pub within-plan : (plan : PlanOf) (gs : List Held) → are_within plan gs gs ≡ true → (part : Part) → IsPart part → IsAmountWithin (used part gs) (limit_of plan part)
 within-plan plan gs within part is = elim (some-within plan gs gs part is within) [
   | inl now ↦ now
-  | inr none ↦ subst (λ (a : Amount). IsWithin a (limit_of plan part)) (sym none) (within_nothing (limit_of plan part))
+  | inr none ↦ subst (λ (a : Amount). IsAmountWithin a (limit_of plan part)) (sym none) (within_nothing (limit_of plan part))
 ]
 
 -- what a plan that comes in has passed
@@ -116,33 +116,33 @@ kept-replan book plan none = let is = comes-in book plan none in kept-of plan bo
 
 -- whatever happens
 
-kept-taken : (book : BookOf) (event : Event) → answer_to book event ≡ None → IsKept book.plan book.grants → IsKept (taken book event).plan (taken book event).grants
+kept-taken : (book : BookOf) (event : BookEvent) → answer_of_book book event ≡ None → IsKept book.plan book.grants → IsKept (taken book event).plan (taken book event).grants
 kept-taken book (Opens who session ask) none kept = kept-open book.plan book.grants who session ask kept none
 kept-taken book (Raises who session ask) none kept = kept-raise book.plan book.grants who session ask (grant_of who session book.grants) kept refl none
 kept-taken book (Closes who session) none kept = kept-close book.plan book.grants who session kept
 kept-taken book (Replans plan) none kept = kept-replan book plan none
 
-kept-answer : (book : BookOf) (event : Event) (answer : Option Refusal) → answer_to book event ≡ answer → IsKept book.plan book.grants → IsKept (after_answer book event answer).plan (after_answer book event answer).grants
+kept-answer : (book : BookOf) (event : BookEvent) (answer : Option Refusal) → answer_of_book book event ≡ answer → IsKept book.plan book.grants → IsKept (book_after_answer book event answer).plan (book_after_answer book event answer).grants
 kept-answer book event None is kept = kept-taken book event is kept
 kept-answer book event (Some refusal) is kept = kept
 
-pub kept-after : (book : BookOf) (event : Event) → IsKept book.plan book.grants → IsKept (after book event).plan (after book event).grants
-kept-after book event kept = kept-answer book event (answer_to book event) refl kept
+pub kept-after : (book : BookOf) (event : BookEvent) → IsKept book.plan book.grants → IsKept (book_after book event).plan (book_after book event).grants
+kept-after book event kept = kept-answer book event (answer_of_book book event) refl kept
 
 -- what is within a plan lets it in
 
-not_over : (plan : PlanOf) (gs : List Held) (part : Part) (who : Who) → IsWithin (used part gs) (limit_of plan part) → is_over plan part who gs ≡ false
+not_over : (plan : PlanOf) (gs : List Held) (part : Part) (who : Who) → IsAmountWithin (used part gs) (limit_of plan part) → is_over plan part who gs ≡ false
 not_over plan gs part who within = rw (test-within (used part gs) (limit_of plan part) within) (and_right (is_in part who) false refl)
 
-none-part : (plan : PlanOf) (gs : List Held) (who : Who) → ((part : Part) → IsWithin (used part gs) (limit_of plan part)) → is_none (part_over plan gs who) ≡ true
+none-part : (plan : PlanOf) (gs : List Held) (who : Who) → ((part : Part) → IsAmountWithin (used part gs) (limit_of plan part)) → is_none (part_over plan gs who) ≡ true
 none-part plan gs who within =
     rw (not_over plan gs (Own who) who (within (Own who)), not_over plan gs (Network (network_of who)) who (within (Network (network_of who))), not_over plan gs Guests who (within Guests)) refl
 
-are-within : (plan : PlanOf) (all gs : List Held) → ((part : Part) → IsWithin (used part all) (limit_of plan part)) → are_within plan all gs ≡ true
+are-within : (plan : PlanOf) (all gs : List Held) → ((part : Part) → IsAmountWithin (used part all) (limit_of plan part)) → are_within plan all gs ≡ true
 are-within plan all [] within = refl
 are-within plan all (g ∷ gs) within = and_from (is_none (part_over plan all g.who)) (are_within plan all gs) (none-part plan all g.who within) (are-within plan all gs within)
 
-pub let-in : (book : BookOf) (plan : PlanOf) → plan.totals ≡ book.plan.totals → sums_fit plan ≡ true → ((part : Part) → IsWithin (used part book.grants) (limit_of plan part)) → why_not_replan book plan ≡ None
+pub let-in : (book : BookOf) (plan : PlanOf) → plan.totals ≡ book.plan.totals → sums_fit plan ≡ true → ((part : Part) → IsAmountWithin (used part book.grants) (limit_of plan part)) → why_not_replan book plan ≡ None
 let-in book plan totals fit within =
     let same : is_same plan.totals book.plan.totals ≡ true = ap (is_same plan.totals) (sym totals) ∙ same-self plan.totals in
     rw (same, fit, are-within plan book.grants book.grants within) refl

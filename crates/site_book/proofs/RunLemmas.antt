@@ -6,59 +6,59 @@ use Rattle.site_book.specs.declared.held.Held.{Held}
 use Rattle.site_book.specs.declared.held.Part.TheVariants.{All}
 use Rattle.site_book.specs.declared.refusal.Refusal.{Refusal}
 use Rattle.site_book.specs.declared.who.Who.{Who}
-use Rattle.site_book.specs.Amounts.{of_one, plus, IsWithin}
+use Rattle.site_book.specs.Amounts.{of_one, plus, IsAmountWithin}
 use Rattle.site_book.specs.Plans.{PlanOf}
-use Rattle.site_book.specs.Grants.{used, grant_of, without, with_ask}
-use Rattle.site_book.specs.Books.{BookOf, Event, Opens, Raises, Closes, Replans, why_over, why_no_raise, answer_to, after_answer, after}
-use Rattle.site_book.specs.Events.{run, answers, Name, names_without, open_after, still_open, names_of}
+use Rattle.site_book.specs.Grants.{used, grant_of, grants_without, grants_raised}
+use Rattle.site_book.specs.Books.{BookOf, BookEvent, Opens, Raises, Closes, Replans, why_over, why_no_raise, answer_of_book, book_after_answer, book_after}
+use Rattle.site_book.specs.Events.{book_after_events, answers, Name, names_without, open_after, still_open, names_granted}
 use Rattle.site_book.specs.Keeping.{IsKept}
 use Rattle.site_book.proofs.GrantLemmas.{used-push, used-with_ask}
 use Rattle.site_book.proofs.BudgetLemmas.{grow-from}
 use Rattle.site_book.proofs.Keepings.{comes-in, kept-after, kept-open, kept-grow}
 
-pub kept-run : (book : BookOf) (events : List Event) → IsKept book.plan book.grants → IsKept (run book events).plan (run book events).grants
+pub kept-run : (book : BookOf) (events : List BookEvent) → IsKept book.plan book.grants → IsKept (book_after_events book events).plan (book_after_events book events).grants
 kept-run book [] kept = kept
-kept-run book (event ∷ events) kept = kept-run (after book event) events (kept-after book event kept)
+kept-run book (event ∷ events) kept = kept-run (book_after book event) events (kept-after book event kept)
 
 -- the totals stay
 
-totals-answer : (book : BookOf) (event : Event) (answer : Option Refusal) → answer_to book event ≡ answer → (after_answer book event answer).plan.totals ≡ book.plan.totals
+totals-answer : (book : BookOf) (event : BookEvent) (answer : Option Refusal) → answer_of_book book event ≡ answer → (book_after_answer book event answer).plan.totals ≡ book.plan.totals
 totals-answer book (Opens who session ask) None is = refl
 totals-answer book (Raises who session ask) None is = refl
 totals-answer book (Closes who session) None is = refl
 totals-answer book (Replans plan) None is = (comes-in book plan is).totals
 totals-answer book event (Some refusal) is = refl
 
-pub totals-run : (book : BookOf) (events : List Event) → (run book events).plan.totals ≡ book.plan.totals
+pub totals-run : (book : BookOf) (events : List BookEvent) → (book_after_events book events).plan.totals ≡ book.plan.totals
 totals-run book [] = refl
-totals-run book (event ∷ events) = totals-run (after book event) events ∙ totals-answer book event (answer_to book event) refl
+totals-run book (event ∷ events) = totals-run (book_after book event) events ∙ totals-answer book event (answer_of_book book event) refl
 
 -- the hall has room for what the book grants
 
-pub room-open : (plan : PlanOf) (gs : List Held) (who : Who) (ask : Quota) → IsKept plan gs → why_over plan who ask gs ≡ None → IsWithin (plus (of_one ask) (used All gs)) plan.totals
+pub room-open : (plan : PlanOf) (gs : List Held) (who : Who) (ask : Quota) → IsKept plan gs → why_over plan who ask gs ≡ None → IsAmountWithin (plus (of_one ask) (used All gs)) plan.totals
 room-open plan gs who ask kept none =
-    subst (λ (a : Amount). IsWithin a plan.totals) (used-push (λ w. true) gs (record { who = who; session = 0; ask = ask })) ((kept-open plan gs who 0 ask kept none).within All)
+    subst (λ (a : Amount). IsAmountWithin a plan.totals) (used-push (λ w. true) gs (record { who = who; session = 0; ask = ask })) ((kept-open plan gs who 0 ask kept none).within All)
 
-pub room-raise : (plan : PlanOf) (gs : List Held) (who : Who) (session : ℕ) (ask : Quota) (found : Option Held) → IsKept plan gs → grant_of who session gs ≡ found → why_no_raise plan who session ask gs found ≡ None → IsWithin (plus (of_one ask) (used All (without who session gs))) plan.totals
+pub room-raise : (plan : PlanOf) (gs : List Held) (who : Who) (session : ℕ) (ask : Quota) (found : Option Held) → IsKept plan gs → grant_of who session gs ≡ found → why_no_raise plan who session ask gs found ≡ None → IsAmountWithin (plus (of_one ask) (used All (grants_without who session gs))) plan.totals
 room-raise plan gs who session ask None kept is none = absurd cc
 room-raise plan gs who session ask (Some held) kept is none =
-    subst (λ (a : Amount). IsWithin a plan.totals) (used-with_ask (λ w. true) who session ask gs held is refl) ((kept-grow plan gs who session ask held kept is (grow-from plan who session ask gs held none).left).within All)
+    subst (λ (a : Amount). IsAmountWithin a plan.totals) (used-with_ask (λ w. true) who session ask gs held is refl) ((kept-grow plan gs who session ask held kept is (grow-from plan who session ask gs held none).left).within All)
 
 -- sessions that are open
 
-names-push : (g : Held) (gs : List Held) → names_of (gs ++ g ∷ []) ≡ names_of gs ++ (g.who, g.session) ∷ []
+names-push : (g : Held) (gs : List Held) → names_granted (gs ++ g ∷ []) ≡ names_granted gs ++ (g.who, g.session) ∷ []
 names-push g [] = refl
 names-push g (h ∷ gs) = ap (λ (x : List Name). (h.who, h.session) ∷ x) (names-push g gs)
 
-names-without : (who : Who) (session : ℕ) (gs : List Held) → names_of (without who session gs) ≡ names_without who session (names_of gs)
+names-without : (who : Who) (session : ℕ) (gs : List Held) → names_granted (grants_without who session gs) ≡ names_without who session (names_granted gs)
 names-without who session [] = refl
 names-without who session (g ∷ gs) = grind (arith, names-without who session gs)
 
-names-with_ask : (who : Who) (session : ℕ) (ask : Quota) (gs : List Held) → names_of (with_ask who session ask gs) ≡ names_of gs
+names-with_ask : (who : Who) (session : ℕ) (ask : Quota) (gs : List Held) → names_granted (grants_raised who session ask gs) ≡ names_granted gs
 names-with_ask who session ask [] = refl
 names-with_ask who session ask (g ∷ gs) = grind (arith, names-with_ask who session ask gs)
 
-names-answer : (book : BookOf) (event : Event) (answer : Option Refusal) → answer_to book event ≡ answer → names_of (after_answer book event answer).grants ≡ open_after (names_of book.grants) event answer
+names-answer : (book : BookOf) (event : BookEvent) (answer : Option Refusal) → answer_of_book book event ≡ answer → names_granted (book_after_answer book event answer).grants ≡ open_after (names_granted book.grants) event answer
 names-answer book (Opens who session ask) None is = names-push (record { who = who; session = session; ask = ask }) book.grants
 names-answer book (Raises who session ask) None is = names-with_ask who session ask book.grants
 names-answer book (Closes who session) None is = names-without who session book.grants
@@ -68,11 +68,11 @@ names-answer book (Raises who session ask) (Some refusal) is = refl
 names-answer book (Closes who session) (Some refusal) is = absurd cc
 names-answer book (Replans plan) (Some refusal) is = refl
 
-pub names-run : (book : BookOf) (events : List Event) → names_of (run book events).grants ≡ still_open (names_of book.grants) events (answers book events)
+pub names-run : (book : BookOf) (events : List BookEvent) → names_granted (book_after_events book events).grants ≡ still_open (names_granted book.grants) events (answers book events)
 names-run book [] = refl
 names-run book (event ∷ events) =
-    names-run (after book event) events ∙ ap (λ (x : List Name). still_open x events (answers (after book event) events)) (names-answer book event (answer_to book event) refl)
+    names-run (book_after book event) events ∙ ap (λ (x : List Name). still_open x events (answers (book_after book event) events)) (names-answer book event (answer_of_book book event) refl)
 
-pub no-names : (gs : List Held) → names_of gs ≡ [] → gs ≡ []
+pub no-names : (gs : List Held) → names_granted gs ≡ [] → gs ≡ []
 no-names [] none = refl
 no-names (g ∷ gs) none = absurd cc

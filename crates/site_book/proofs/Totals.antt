@@ -8,7 +8,7 @@ use Rattle.site_book.specs.declared.held.Part.TheVariants.{Own, Guests, All}
 use Rattle.site_book.specs.declared.who.Who.{Who}
 use Rattle.site_book.specs.declared.who.Who.TheVariants.{Named, V4, V6}
 use Rattle.site_book.specs.Names.{same_who, is_guest}
-use Rattle.site_book.specs.Amounts.{nothing, of_one, plus, sum_of, is_within, IsWithin}
+use Rattle.site_book.specs.Amounts.{nothing, of_one, plus, sum_of, is_amount_within, IsAmountWithin}
 use Rattle.site_book.specs.Plans.{PlanOf, limit_of, sums_fit}
 use Rattle.site_book.specs.Grants.{is_in, used_by, used}
 use Rattle.site_book.proofs.AmountLemmas.{within-test, within_trans, within_same, within-more, within-both, plus_swap}
@@ -52,16 +52,16 @@ from-guests k (V4 address) out = refl
 from-guests k (V6 network) out = refl
 
 -- who has nothing isn't there
-out-first : (part : Part) (g : Held) (gs : List Held) → IsWithin (used part (g ∷ gs)) nothing → is_in part g.who ≡ false
+out-first : (part : Part) (g : Held) (gs : List Held) → IsAmountWithin (used part (g ∷ gs)) nothing → is_in part g.who ≡ false
 out-first part g gs none = elim (cases_Bool (is_in part g.who)) [
-  | inl aye ↦ (let one : used part (g ∷ gs) ≡ plus (of_one g.ask) (used part gs) = rw aye refl in let p : IsWithin (plus (of_one g.ask) (used part gs)) nothing = subst (λ (a : Amount). IsWithin a nothing) one none in absurd (omega (arith, p.sessions)))
+  | inl aye ↦ (let one : used part (g ∷ gs) ≡ plus (of_one g.ask) (used part gs) = rw aye refl in let p : IsAmountWithin (plus (of_one g.ask) (used part gs)) nothing = subst (λ (a : Amount). IsAmountWithin a nothing) one none in absurd (omega (arith, p.sessions)))
   | inr nay ↦ nay
 ]
 
-used-tail : (part : Part) (g : Held) (gs : List Held) → IsWithin (used part gs) (used part (g ∷ gs))
-used-tail part g gs = elim (is_in part g.who) as (λ b. IsWithin (used part gs) (cond b (plus (of_one g.ask) (used part gs)) (used part gs))) [ true ↦ within-more (of_one g.ask) (used part gs) | false ↦ within_same (used part gs) ]
+used-tail : (part : Part) (g : Held) (gs : List Held) → IsAmountWithin (used part gs) (used part (g ∷ gs))
+used-tail part g gs = elim (is_in part g.who) as (λ b. IsAmountWithin (used part gs) (cond b (plus (of_one g.ask) (used part gs)) (used part gs))) [ true ↦ within-more (of_one g.ask) (used part gs) | false ↦ within_same (used part gs) ]
 
-none-named : (k : ℕ) (gs : List Held) → ((n : ℕ) → IsWithin (used (Own (Named (k + n))) gs) nothing) → used_by (from_place k) gs ≡ used Guests gs
+none-named : (k : ℕ) (gs : List Held) → ((n : ℕ) → IsAmountWithin (used (Own (Named (k + n))) gs) nothing) → used_by (from_place k) gs ≡ used Guests gs
 none-named k [] none = refl
 none-named k (g ∷ gs) none =
     let first = from-guests k g.who (λ n. out-first (Own (Named (k + n))) g gs (none n)) in
@@ -71,22 +71,22 @@ none-named k (g ∷ gs) none =
 next : (k n : ℕ) → k + suc n ≡ suc k + n
 next k n = omega arith
 
-bound : (customers : List Amount) (k : ℕ) (gs : List Held) (guests : Amount) → IsWithin (used Guests gs) guests → ((n : ℕ) → IsWithin (used (Own (Named (k + n))) gs) (get_or customers n nothing)) → IsWithin (used_by (from_place k) gs) (plus guests (sum_of customers))
+bound : (customers : List Amount) (k : ℕ) (gs : List Held) (guests : Amount) → IsAmountWithin (used Guests gs) guests → ((n : ℕ) → IsAmountWithin (used (Own (Named (k + n))) gs) (get_or customers n nothing)) → IsAmountWithin (used_by (from_place k) gs) (plus guests (sum_of customers))
 bound [] k gs guests few own =
-    let none : (n : ℕ) → IsWithin (used (Own (Named (k + n))) gs) nothing = own in
-    subst (λ (a : Amount). IsWithin a (plus guests nothing)) (sym (none-named k gs none)) (record { sessions = omega (arith, few.sessions); segments = omega (arith, few.segments); nodes = omega (arith, few.nodes) })
+    let none : (n : ℕ) → IsAmountWithin (used (Own (Named (k + n))) gs) nothing = own in
+    subst (λ (a : Amount). IsAmountWithin a (plus guests nothing)) (sym (none-named k gs none)) (record { sessions = omega (arith, few.sessions); segments = omega (arith, few.segments); nodes = omega (arith, few.nodes) })
 bound (c ∷ cs) k gs guests few own =
-    let first : IsWithin (used (Own (Named k)) gs) c = subst (λ n. IsWithin (used (Own (Named n)) gs) c) (add-zero k) (own 0) in
-    let rest = bound cs (suc k) gs guests few (λ n. subst (λ m. IsWithin (used (Own (Named m)) gs) (get_or cs n nothing)) (next k n) (own (suc n))) in
+    let first : IsAmountWithin (used (Own (Named k)) gs) c = subst (λ n. IsAmountWithin (used (Own (Named n)) gs) c) (add-zero k) (own 0) in
+    let rest = bound cs (suc k) gs guests few (λ n. subst (λ m. IsAmountWithin (used (Own (Named m)) gs) (get_or cs n nothing)) (next k n) (own (suc n))) in
     let both = within-both (used (Own (Named k)) gs) c (used_by (from_place (suc k)) gs) (plus guests (sum_of cs)) first rest in
     let split = used-split (from_place k) (is_in (Own (Named k))) (from_place (suc k)) gs (from-split k) (from-apart k) in
-    subst (λ (a : Amount). IsWithin (used_by (from_place k) gs) a) (plus_swap c guests (sum_of cs)) (subst (λ (a : Amount). IsWithin a (plus c (plus guests (sum_of cs)))) (sym split) both)
+    subst (λ (a : Amount). IsAmountWithin (used_by (from_place k) gs) a) (plus_swap c guests (sum_of cs)) (subst (λ (a : Amount). IsAmountWithin a (plus c (plus guests (sum_of cs)))) (sym split) both)
 
-pub all-within : (plan : PlanOf) (gs : List Held) → sums_fit plan ≡ true → ((part : Part) → IsPart part → IsWithin (used part gs) (limit_of plan part)) → IsWithin (used All gs) plan.totals
+pub all-within : (plan : PlanOf) (gs : List Held) → sums_fit plan ≡ true → ((part : Part) → IsPart part → IsAmountWithin (used part gs) (limit_of plan part)) → IsAmountWithin (used All gs) plan.totals
 all-within plan gs fit parts =
-    let sums = within-test (plus plan.guests (sum_of plan.customers)) plan.totals (and_parts (leb plan.totals.sessions 64) (is_within (plus plan.guests (sum_of plan.customers)) plan.totals) fit).1 in
-    let all = bound plan.customers 0 gs plan.guests (parts Guests tt) (λ n. subst (λ m. IsWithin (used (Own (Named m)) gs) (get_or plan.customers n nothing)) (sym (zero-add n)) (parts (Own (Named n)) tt)) in
-    within_trans _ _ _ (subst (λ (a : Amount). IsWithin a (plus plan.guests (sum_of plan.customers))) (sym (used-alike (is_in All) (from_place 0) gs from-all)) all) sums
+    let sums = within-test (plus plan.guests (sum_of plan.customers)) plan.totals (and_parts (leb plan.totals.sessions 64) (is_amount_within (plus plan.guests (sum_of plan.customers)) plan.totals) fit).1 in
+    let all = bound plan.customers 0 gs plan.guests (parts Guests tt) (λ n. subst (λ m. IsAmountWithin (used (Own (Named m)) gs) (get_or plan.customers n nothing)) (sym (zero-add n)) (parts (Own (Named n)) tt)) in
+    within_trans _ _ _ (subst (λ (a : Amount). IsAmountWithin a (plus plan.guests (sum_of plan.customers))) (sym (used-alike (is_in All) (from_place 0) gs from-all)) all) sums
 
 pub few-sessions : (plan : PlanOf) → sums_fit plan ≡ true → plan.totals.sessions ≤ 64
-few-sessions plan fit = leb-true plan.totals.sessions 64 (and_parts (leb plan.totals.sessions 64) (is_within (plus plan.guests (sum_of plan.customers)) plan.totals) fit).0
+few-sessions plan fit = leb-true plan.totals.sessions 64 (and_parts (leb plan.totals.sessions 64) (is_amount_within (plus plan.guests (sum_of plan.customers)) plan.totals) fit).0

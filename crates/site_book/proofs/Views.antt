@@ -5,7 +5,7 @@ use Rattle.tenant_quota.specs.Quota.{Quota}
 use Rattle.site_book.specs.declared.held.Held.{Held}
 use Rattle.site_book.specs.declared.who.Who.{Who}
 use Rattle.site_book.specs.Names.{same_who}
-use Rattle.site_book.specs.Grants.{used_by, is_held_as, grant_of, without, with_ask}
+use Rattle.site_book.specs.Grants.{used_by, is_held_as, grant_of, grants_without, grants_raised}
 use Rattle.site_book.specs.Events.{grants_of}
 use Rattle.site_book.proofs.NameLemmas.{same-is}
 
@@ -26,19 +26,19 @@ pub grant-theirs : (is_one : Who → Bool) (who : Who) (session : ℕ) (gs : Lis
 grant-theirs is_one who session [] own = refl
 grant-theirs is_one who session (g ∷ gs) own = grind (arith, grant-theirs is_one who session gs own, theirs-is)
 
-pub without-theirs : (is_one : Who → Bool) (who : Who) (session : ℕ) (gs : List Held) → is_one who ≡ true → grants_of is_one (without who session gs) ≡ without who session (grants_of is_one gs)
+pub without-theirs : (is_one : Who → Bool) (who : Who) (session : ℕ) (gs : List Held) → is_one who ≡ true → grants_of is_one (grants_without who session gs) ≡ grants_without who session (grants_of is_one gs)
 without-theirs is_one who session [] own = refl
 without-theirs is_one who session (g ∷ gs) own = grind (arith, without-theirs is_one who session gs own, theirs-is)
 
-pub without-others : (is_one : Who → Bool) (who : Who) (session : ℕ) (gs : List Held) → is_one who ≡ false → grants_of is_one (without who session gs) ≡ grants_of is_one gs
+pub without-others : (is_one : Who → Bool) (who : Who) (session : ℕ) (gs : List Held) → is_one who ≡ false → grants_of is_one (grants_without who session gs) ≡ grants_of is_one gs
 without-others is_one who session [] other = refl
 without-others is_one who session (g ∷ gs) other = grind (arith, without-others is_one who session gs other, others-is)
 
-pub with_ask-theirs : (is_one : Who → Bool) (who : Who) (session : ℕ) (ask : Quota) (gs : List Held) → is_one who ≡ true → grants_of is_one (with_ask who session ask gs) ≡ with_ask who session ask (grants_of is_one gs)
+pub with_ask-theirs : (is_one : Who → Bool) (who : Who) (session : ℕ) (ask : Quota) (gs : List Held) → is_one who ≡ true → grants_of is_one (grants_raised who session ask gs) ≡ grants_raised who session ask (grants_of is_one gs)
 with_ask-theirs is_one who session ask [] own = refl
 with_ask-theirs is_one who session ask (g ∷ gs) own = grind (arith, with_ask-theirs is_one who session ask gs own, theirs-is)
 
-pub with_ask-others : (is_one : Who → Bool) (who : Who) (session : ℕ) (ask : Quota) (gs : List Held) → is_one who ≡ false → grants_of is_one (with_ask who session ask gs) ≡ grants_of is_one gs
+pub with_ask-others : (is_one : Who → Bool) (who : Who) (session : ℕ) (ask : Quota) (gs : List Held) → is_one who ≡ false → grants_of is_one (grants_raised who session ask gs) ≡ grants_of is_one gs
 with_ask-others is_one who session ask [] other = refl
 with_ask-others is_one who session ask (g ∷ gs) other = grind (arith, with_ask-others is_one who session ask gs other, others-is)
 

@@ -25,14 +25,14 @@ sum_of [] = nothing
 sum_of (a ∷ amounts) = plus a (sum_of amounts)
 
 -- no more than the other in sessions, segments and nodes
-pub record IsWithin (a b : Amount) : Type 0 where
+pub record IsAmountWithin (a b : Amount) : Type 0 where
   pub sessions : a.sessions ≤ b.sessions
   pub segments : a.segments ≤ b.segments
   pub nodes : a.nodes ≤ b.nodes
 
 -- whether one amount is no more than the other
-abbrev pub is_within : Amount → Amount → Bool
-is_within a b = nat_le a.sessions b.sessions && nat_le a.segments b.segments && nat_le a.nodes b.nodes
+abbrev pub is_amount_within : Amount → Amount → Bool
+is_amount_within a b = nat_le a.sessions b.sessions && nat_le a.segments b.segments && nat_le a.nodes b.nodes
 
 -- whether both are the same
 abbrev pub is_same : Amount → Amount → Bool

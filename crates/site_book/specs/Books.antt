@@ -10,9 +10,9 @@ use Rattle.site_book.specs.declared.refusal.Refusal.{Refusal}
 use Rattle.site_book.specs.declared.refusal.Refusal.TheVariants.{OverBudget, OverNetwork, OverGuests, Gone, Lower, Unfit, Beyond}
 use Rattle.site_book.specs.declared.who.Who.{Who}
 use Rattle.site_book.specs.Names.{network_of}
-use Rattle.site_book.specs.Amounts.{of_one, plus, is_within, is_same}
+use Rattle.site_book.specs.Amounts.{of_one, plus, is_amount_within, is_same}
 use Rattle.site_book.specs.Plans.{PlanOf, limit_of, sums_fit}
-use Rattle.site_book.specs.Grants.{is_in, used, grant_of, without, with_ask, is_lower}
+use Rattle.site_book.specs.Grants.{is_in, used, grant_of, grants_without, grants_raised, is_no_raise}
 
 -- the plan, and the grants that are out in the order in which they were opened
 pub record BookOf : Type 0 where
@@ -25,30 +25,30 @@ new_book plan = record { plan = plan; grants = [] }
 
 -- what happens at a hall: a session of this number is opened for a customer and reserves this, or is raised to this, or ends; or
 -- another plan comes
-pub data Event : Type 0 where
-  Opens : (who : Who) (session : ℕ) (ask : Quota) → Event
-  Raises : (who : Who) (session : ℕ) (ask : Quota) → Event
-  Closes : (who : Who) (session : ℕ) → Event
-  Replans : (plan : PlanOf) → Event
+pub data BookEvent : Type 0 where
+  Opens : (who : Who) (session : ℕ) (ask : Quota) → BookEvent
+  Raises : (who : Who) (session : ℕ) (ask : Quota) → BookEvent
+  Closes : (who : Who) (session : ℕ) → BookEvent
+  Replans : (plan : PlanOf) → BookEvent
 
 -- the refusal of the first test that applies
-abbrev pub first_of : List (Bool × Refusal) → Option Refusal
-first_of [] = None
-first_of (test ∷ tests) = if test.0 then Some test.1 else first_of tests
+abbrev pub first_refusal : List (Bool × Refusal) → Option Refusal
+first_refusal [] = None
+first_refusal (test ∷ tests) = if test.0 then Some test.1 else first_refusal tests
 
 -- the first refusal, or else the next
-abbrev pub or_else : Option Refusal → Option Refusal → Option Refusal
-or_else None next = next
-or_else (Some refusal) next = Some refusal
+abbrev pub or_next : Option Refusal → Option Refusal → Option Refusal
+or_next None next = next
+or_next (Some refusal) next = Some refusal
 
 -- whether so much more than what the part has is beyond what it may have, where the customer is one of it
-abbrev pub is_beyond : PlanOf → Part → Who → Quota → Amount → Bool
-is_beyond plan part who ask has = is_in part who && not (is_within (plus (of_one ask) has) (limit_of plan part))
+abbrev pub is_beyond_part : PlanOf → Part → Who → Quota → Amount → Bool
+is_beyond_part plan part who ask has = is_in part who && not (is_amount_within (plus (of_one ask) has) (limit_of plan part))
 
 -- the same of its own budget, that of its wider network and that of all guests, which have so much, in this order
 abbrev pub why_beyond : PlanOf → Who → Quota → Amount → Amount → Amount → Option Refusal
 why_beyond plan who ask own network guests =
-    first_of ((is_beyond plan (Own who) who ask own, OverBudget) ∷ (is_beyond plan (Network (network_of who)) who ask network, OverNetwork) ∷ (is_beyond plan Guests who ask guests, OverGuests) ∷ [])
+    first_refusal ((is_beyond_part plan (Own who) who ask own, OverBudget) ∷ (is_beyond_part plan (Network (network_of who)) who ask network, OverNetwork) ∷ (is_beyond_part plan Guests who ask guests, OverGuests) ∷ [])
 
 -- why so much more than what these grants have isn't granted to a customer
 abbrev pub why_over : PlanOf → Who → Quota → List Held → Option Refusal
@@ -57,11 +57,11 @@ why_over plan who ask grants = why_beyond plan who ask (used (Own who) grants) (
 -- why a session isn't raised: it isn't there, it isn't raised by this, or with what it has then a budget is passed
 abbrev pub why_no_raise : PlanOf → Who → ℕ → Quota → List Held → Option Held → Option Refusal
 why_no_raise plan who session ask grants None = Some Gone
-why_no_raise plan who session ask grants (Some held) = if is_lower held.ask ask then Some Lower else why_over plan who ask (without who session grants)
+why_no_raise plan who session ask grants (Some held) = if is_no_raise held.ask ask then Some Lower else why_over plan who ask (grants_without who session grants)
 
 -- whether the part has more than it may have, where the customer is one of it
 abbrev pub is_over : PlanOf → Part → Who → List Held → Bool
-is_over plan part who grants = is_in part who && not (is_within (used part grants) (limit_of plan part))
+is_over plan part who grants = is_in part who && not (is_amount_within (used part grants) (limit_of plan part))
 
 -- the first part of which the customer is one that has more than it may have
 abbrev pub part_over : PlanOf → List Held → Who → Option Part
@@ -86,27 +86,27 @@ are_within plan all (held ∷ grants) = is_none (part_over plan all held.who) &&
 -- why another plan doesn't come in: it is of another hall, or its sums don't fit; or what is out is beyond it
 abbrev pub why_not_replan : BookOf → PlanOf → Option Refusal
 why_not_replan book plan =
-    first_of ((not (is_same plan.totals book.plan.totals && sums_fit plan), Unfit) ∷ (not (are_within plan book.grants book.grants), Beyond) ∷ [])
+    first_refusal ((not (is_same plan.totals book.plan.totals && sums_fit plan), Unfit) ∷ (not (are_within plan book.grants book.grants), Beyond) ∷ [])
 
 -- the answer to an event: why it is refused, or None where it isn't
-abbrev pub answer_to : BookOf → Event → Option Refusal
-answer_to book (Opens who session ask) = why_over book.plan who ask book.grants
-answer_to book (Raises who session ask) = why_no_raise book.plan who session ask book.grants (grant_of who session book.grants)
-answer_to book (Closes who session) = None
-answer_to book (Replans plan) = why_not_replan book plan
+abbrev pub answer_of_book : BookOf → BookEvent → Option Refusal
+answer_of_book book (Opens who session ask) = why_over book.plan who ask book.grants
+answer_of_book book (Raises who session ask) = why_no_raise book.plan who session ask book.grants (grant_of who session book.grants)
+answer_of_book book (Closes who session) = None
+answer_of_book book (Replans plan) = why_not_replan book plan
 
 -- the book after an event that wasn't refused
-abbrev pub taken : BookOf → Event → BookOf
+abbrev pub taken : BookOf → BookEvent → BookOf
 taken book (Opens who session ask) = record book { grants = book.grants ++ record { who = who; session = session; ask = ask } ∷ [] }
-taken book (Raises who session ask) = record book { grants = with_ask who session ask book.grants }
-taken book (Closes who session) = record book { grants = without who session book.grants }
+taken book (Raises who session ask) = record book { grants = grants_raised who session ask book.grants }
+taken book (Closes who session) = record book { grants = grants_without who session book.grants }
 taken book (Replans plan) = record book { plan = plan }
 
 -- the book after an event of which this was the answer: a refusal changes nothing
-abbrev pub after_answer : BookOf → Event → Option Refusal → BookOf
-after_answer book event None = taken book event
-after_answer book event (Some refusal) = book
+abbrev pub book_after_answer : BookOf → BookEvent → Option Refusal → BookOf
+book_after_answer book event None = taken book event
+book_after_answer book event (Some refusal) = book
 
 -- the book after an event
-abbrev pub after : BookOf → Event → BookOf
-after book event = after_answer book event (answer_to book event)
+abbrev pub book_after : BookOf → BookEvent → BookOf
+book_after book event = book_after_answer book event (answer_of_book book event)

@@ -4,43 +4,43 @@ use Rattle.site_book.specs.declared.held.Held.{Held}
 use Rattle.site_book.specs.declared.refusal.Refusal.{Refusal}
 use Rattle.site_book.specs.declared.who.Who.{Who}
 use Rattle.site_book.specs.Names.{same_who}
-use Rattle.site_book.specs.Books.{BookOf, Event, Opens, Raises, Closes, Replans, answer_to, after}
+use Rattle.site_book.specs.Books.{BookOf, BookEvent, Opens, Raises, Closes, Replans, answer_of_book, book_after}
 
 -- the book after a list of events
-abbrev pub run : BookOf → List Event → BookOf
-run book [] = book
-run book (event ∷ events) = run (after book event) events
+abbrev pub book_after_events : BookOf → List BookEvent → BookOf
+book_after_events book [] = book
+book_after_events book (event ∷ events) = book_after_events (book_after book event) events
 
 -- the answer to each of them
-abbrev pub answers : BookOf → List Event → List (Option Refusal)
+abbrev pub answers : BookOf → List BookEvent → List (Option Refusal)
 answers book [] = []
-answers book (event ∷ events) = answer_to book event ∷ answers (after book event) events
+answers book (event ∷ events) = answer_of_book book event ∷ answers (book_after book event) events
 
 -- whether an event is of one of those of whom `is_one` says true; another plan is nobody's
-abbrev pub is_of : (Who → Bool) → Event → Bool
+abbrev pub is_of : (Who → Bool) → BookEvent → Bool
 is_of is_one (Opens who session ask) = is_one who
 is_of is_one (Raises who session ask) = is_one who
 is_of is_one (Closes who session) = is_one who
 is_of is_one (Replans plan) = false
 
 -- whether the event stays when all others' are removed: it is theirs, or another plan that came in, by its answer
-abbrev pub is_kept : (Who → Bool) → Event → Option Refusal → Bool
-is_kept is_one (Opens who session ask) answer = is_one who
-is_kept is_one (Raises who session ask) answer = is_one who
-is_kept is_one (Closes who session) answer = is_one who
-is_kept is_one (Replans plan) answer = is_none answer
+abbrev pub is_event_kept : (Who → Bool) → BookEvent → Option Refusal → Bool
+is_event_kept is_one (Opens who session ask) answer = is_one who
+is_event_kept is_one (Raises who session ask) answer = is_one who
+is_event_kept is_one (Closes who session) answer = is_one who
+is_event_kept is_one (Replans plan) answer = is_none answer
 
 -- the events at a book with those of all others removed, and the plans that didn't come in
-abbrev pub only_events : (Who → Bool) → BookOf → List Event → List Event
+abbrev pub only_events : (Who → Bool) → BookOf → List BookEvent → List BookEvent
 only_events is_one book [] = []
 only_events is_one book (event ∷ events) =
-    if is_kept is_one event (answer_to book event) then event ∷ only_events is_one (after book event) events else only_events is_one (after book event) events
+    if is_event_kept is_one event (answer_of_book book event) then event ∷ only_events is_one (book_after book event) events else only_events is_one (book_after book event) events
 
 -- the answers to their events
-abbrev pub answers_of : (Who → Bool) → BookOf → List Event → List (Option Refusal)
+abbrev pub answers_of : (Who → Bool) → BookOf → List BookEvent → List (Option Refusal)
 answers_of is_one book [] = []
 answers_of is_one book (event ∷ events) =
-    if is_of is_one event then answer_to book event ∷ answers_of is_one (after book event) events else answers_of is_one (after book event) events
+    if is_of is_one event then answer_of_book book event ∷ answers_of is_one (book_after book event) events else answers_of is_one (book_after book event) events
 
 -- their grants
 abbrev pub grants_of : (Who → Bool) → List Held → List Held
@@ -58,7 +58,7 @@ names_without who session (name ∷ names) = if same_who who name.0 && (session 
 
 -- the sessions that are open after an event of which this was the answer: one that was opened is there, and one that was closed
 -- isn't any more
-abbrev pub open_after : List Name → Event → Option Refusal → List Name
+abbrev pub open_after : List Name → BookEvent → Option Refusal → List Name
 open_after names (Opens who session ask) None = names ++ (who, session) ∷ []
 open_after names (Opens who session ask) (Some refusal) = names
 open_after names (Raises who session ask) answer = names
@@ -66,11 +66,11 @@ open_after names (Closes who session) answer = names_without who session names
 open_after names (Replans plan) answer = names
 
 -- the sessions that are still open after a list of events, by their answers alone
-abbrev pub still_open : List Name → List Event → List (Option Refusal) → List Name
+abbrev pub still_open : List Name → List BookEvent → List (Option Refusal) → List Name
 still_open names [] told = names
 still_open names (event ∷ events) [] = names
 still_open names (event ∷ events) (answer ∷ told) = still_open (open_after names event answer) events told
 
 -- the names of the grants that are out
-abbrev pub names_of : List Held → List Name
-names_of grants = map (λ held. (held.who, held.session)) grants
+abbrev pub names_granted : List Held → List Name
+names_granted grants = map (λ held. (held.who, held.session)) grants

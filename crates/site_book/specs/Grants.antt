@@ -30,9 +30,9 @@ abbrev pub is_held_as : Who → ℕ → Held → Bool
 is_held_as who session held = same_who who held.who && (session == held.session)
 
 -- the place of the first grant of this session; the number of grants where there is none
-abbrev pub place_of : Who → ℕ → List Held → ℕ
-place_of who session [] = 0
-place_of who session (held ∷ grants) = if is_held_as who session held then 0 else suc (place_of who session grants)
+abbrev pub grant_place : Who → ℕ → List Held → ℕ
+grant_place who session [] = 0
+grant_place who session (held ∷ grants) = if is_held_as who session held then 0 else suc (grant_place who session grants)
 
 -- the first grant of this session; None where there is none
 abbrev pub grant_of : Who → ℕ → List Held → Option Held
@@ -40,15 +40,15 @@ grant_of who session [] = None
 grant_of who session (held ∷ grants) = if is_held_as who session held then Some held else grant_of who session grants
 
 -- the grants without the first of this session
-abbrev pub without : Who → ℕ → List Held → List Held
-without who session [] = []
-without who session (held ∷ grants) = if is_held_as who session held then grants else held ∷ without who session grants
+abbrev pub grants_without : Who → ℕ → List Held → List Held
+grants_without who session [] = []
+grants_without who session (held ∷ grants) = if is_held_as who session held then grants else held ∷ grants_without who session grants
 
 -- the grants, the first of this session having this
-abbrev pub with_ask : Who → ℕ → Quota → List Held → List Held
-with_ask who session ask [] = []
-with_ask who session ask (held ∷ grants) = if is_held_as who session held then record held { ask = ask } ∷ grants else held ∷ with_ask who session ask grants
+abbrev pub grants_raised : Who → ℕ → Quota → List Held → List Held
+grants_raised who session ask [] = []
+grants_raised who session ask (held ∷ grants) = if is_held_as who session held then record held { ask = ask } ∷ grants else held ∷ grants_raised who session ask grants
 
 -- whether a second reservation is no raise of the first: less in segments or nodes, or the same in both
-abbrev pub is_lower : Quota → Quota → Bool
-is_lower now ask = nat_lt ask.segments now.segments || nat_lt ask.nodes now.nodes || ((ask.segments == now.segments) && (ask.nodes == now.nodes))
+abbrev pub is_no_raise : Quota → Quota → Bool
+is_no_raise now ask = nat_lt ask.segments now.segments || nat_lt ask.nodes now.nodes || ((ask.segments == now.segments) && (ask.nodes == now.nodes))

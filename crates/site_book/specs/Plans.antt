@@ -5,7 +5,7 @@ use Rattle.site_book.specs.declared.held.Part.{Part}
 use Rattle.site_book.specs.declared.held.Part.TheVariants.{Own, Network, Guests, All}
 use Rattle.site_book.specs.declared.who.Who.{Who}
 use Rattle.site_book.specs.declared.who.Who.TheVariants.{Named, V4, V6}
-use Rattle.site_book.specs.Amounts.{nothing, plus, sum_of, is_within}
+use Rattle.site_book.specs.Amounts.{nothing, plus, sum_of, is_amount_within}
 
 -- what the hall has for all sessions, the budgets of the named customers, and what each guest, the guests of one wider network and all
 -- guests together may have
@@ -31,4 +31,4 @@ limit_of plan All = plan.totals
 
 -- whether all sums fit: a hall has 64 sessions at most, and all budgets together are within what it has
 abbrev pub sums_fit : PlanOf → Bool
-sums_fit plan = nat_le plan.totals.sessions 64 && is_within (plus plan.guests (sum_of plan.customers)) plan.totals
+sums_fit plan = nat_le plan.totals.sessions 64 && is_amount_within (plus plan.guests (sum_of plan.customers)) plan.totals

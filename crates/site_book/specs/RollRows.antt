@@ -22,8 +22,8 @@ abbrev pub guest : ℕ → ℕ → Present
 guest number now = newcomer (V4 number) number now
 
 -- the same of a session of the school
-abbrev pub named : ℕ → ℕ → Present
-named session now = newcomer school session now
+abbrev pub named_present : ℕ → ℕ → Present
+named_present session now = newcomer school session now
 
 -- the grants of the guests 1 and 2
 abbrev pub two_guests : List Held

@@ -15,8 +15,8 @@ use Rattle.site_book.specs.declared.present.Whom.{Whom}
 use Rattle.site_book.specs.declared.present.Whom.TheVariants.{One, Each}
 
 -- the names of those who are there, in the order in which they came
-abbrev pub names_in : List Present → List Name
-names_in roll = map (λ present. (present.who, present.session)) roll
+abbrev pub names_present : List Present → List Name
+names_present roll = map (λ present. (present.who, present.session)) roll
 
 -- a session that has just come
 abbrev pub newcomer : Who → ℕ → ℕ → Present

@@ -7,9 +7,9 @@ use Rattle.site_book.specs.declared.who.Who.{Who}
 use Rattle.site_book.specs.declared.who.Who.TheVariants.{Named}
 use Rattle.site_book.specs.Plans.{PlanOf}
 use Rattle.site_book.specs.Amounts.{nothing}
-use Rattle.site_book.specs.Books.{Event, Opens, Closes, Replans, new_book, overrun_of}
+use Rattle.site_book.specs.Books.{BookEvent, Opens, Closes, Replans, new_book, overrun_of}
 use Rattle.site_book.specs.declared.held.Overrun.{Overrun}
-use Rattle.site_book.specs.Events.{answers, run}
+use Rattle.site_book.specs.Events.{answers, book_after_events}
 
 abbrev pub amount : ℕ → ℕ → ℕ → Amount
 amount sessions segments nodes = record { sessions = sessions; segments = segments; nodes = nodes }
@@ -30,8 +30,8 @@ abbrev pub school : Who
 school = Named 0
 
 -- the answer to each event there
-abbrev pub told : List Event → List (Option Refusal)
-told events = answers (new_book small) events
+abbrev pub answers_told : List BookEvent → List (Option Refusal)
+answers_told events = answers (new_book small) events
 
 -- a hall of 4 sessions, 20 segments and 200 nodes, with two named customers and no guests
 abbrev pub two_for : Amount → Amount → PlanOf
@@ -46,19 +46,19 @@ abbrev pub even : PlanOf
 even = two_for (amount 2 10 100) (amount 2 10 100)
 
 -- the first customer opens its two sessions, the other plan is to come in, and the second opens its two
-abbrev pub sold : List Event
+abbrev pub sold : List BookEvent
 sold =
     Opens (Named 0) 1 (ask 10 100) ∷ Opens (Named 0) 2 (ask 10 100) ∷ Replans even
     ∷ Opens (Named 1) 3 (ask 5 50) ∷ Opens (Named 1) 4 (ask 5 50) ∷ []
 
 -- it comes in when the first customer's sessions have ended
-abbrev pub ended : List Event
-ended = Opens (Named 0) 1 (ask 10 100) ∷ Closes (Named 0) 1 ∷ Replans even ∷ Opens (Named 1) 2 (ask 5 50) ∷ Opens (Named 0) 3 (ask 10 100) ∷ []
+abbrev pub ended_in_time : List BookEvent
+ended_in_time = Opens (Named 0) 1 (ask 10 100) ∷ Closes (Named 0) 1 ∷ Replans even ∷ Opens (Named 1) 2 (ask 5 50) ∷ Opens (Named 0) 3 (ask 10 100) ∷ []
 
 -- why each event is refused where the first customer may have all
-abbrev pub told_one_sided : List Event → List (Option Refusal)
+abbrev pub told_one_sided : List BookEvent → List (Option Refusal)
 told_one_sided events = answers (new_book one_sided) events
 
 -- who is beyond the even plan after these events, and by how much
-abbrev pub beyond_even : List Event → List (Option Overrun)
-beyond_even events = let grants = (run (new_book one_sided) events).grants in map (overrun_of even grants) grants
+abbrev pub beyond_even : List BookEvent → List (Option Overrun)
+beyond_even events = let grants = (book_after_events (new_book one_sided) events).grants in map (overrun_of even grants) grants

@@ -1,5 +1,5 @@
 ghost use Rattle.std.specs.Prelude.{◌≡◌, ◌+◌, ◌<◌, ◌≤◌, ◌^◌};
-ghost use Rattle.site_book.specs.Amounts.{is_within, is_same, plus, minus, of_one, IsWithin};
+ghost use Rattle.site_book.specs.Amounts.{is_amount_within, is_same, plus, minus, of_one, IsAmountWithin};
 
 use tenant_quota::Reserve;
 
@@ -25,7 +25,7 @@ impl Amount {
 
     /// Whether it is no more than the other in sessions, segments and nodes.
     pub fn is_within(self, other: Amount) -> bool
-        ensures { result ≡ is_within self other }
+        ensures { result ≡ is_amount_within self other }
     {
         self.sessions <= other.sessions
             && self.segments <= other.segments
@@ -59,7 +59,7 @@ impl Amount {
 
     /// What is left of it without the other, which is within it.
     pub(crate) fn less(self, other: Amount) -> Amount
-        requires { IsWithin other self }
+        requires { IsAmountWithin other self }
         ensures { result ≡ minus self other }
     {
         Amount {

@@ -1,8 +1,8 @@
 ghost use Rattle.std.specs.Prelude.{◌≡◌, [], ◌≤◌, None, length, is_some, IfOk, IfNone};
 ghost use Rattle.site_book.specs.declared.held.Part.TheVariants.{All};
-ghost use Rattle.site_book.specs.Amounts.{IsWithin, of_one, plus};
-ghost use Rattle.site_book.specs.Grants.{used, grant_of, without};
-ghost use Rattle.site_book.specs.Books.{new_book, is_beyond, why_beyond, why_over, why_no_raise, is_over, part_over, overrun_of, are_within, why_not_replan, taken, Opens, Raises, Closes, Replans};
+ghost use Rattle.site_book.specs.Amounts.{IsAmountWithin, of_one, plus};
+ghost use Rattle.site_book.specs.Grants.{used, grant_of, grants_without};
+ghost use Rattle.site_book.specs.Books.{new_book, is_beyond_part, why_beyond, why_over, why_no_raise, is_over, part_over, overrun_of, are_within, why_not_replan, taken, Opens, Raises, Closes, Replans};
 
 use crate::amount::Amount;
 use crate::held::{
@@ -84,7 +84,7 @@ impl Book {
     /// within the hall's totals together with it.
     pub fn why_not_open(&self, who: Who, ask: Reserve) -> Option<Refusal>
         ensures why { result ≡ why_over self.now.plan who ask self.now.grants }
-        ensures room { IfNone result (IsWithin (plus (of_one ask) (used All self.now.grants)) self.now.plan.totals) }
+        ensures room { IfNone result (IsAmountWithin (plus (of_one ask) (used All self.now.grants)) self.now.plan.totals) }
         ensures few { self.now.plan.totals.sessions ≤ 64 }
     {
         let own = used_in(&self.grants, Part::Own(who));
@@ -105,7 +105,7 @@ impl Book {
     /// within the hall's totals together with what it has then.
     pub fn why_not_raise(&self, who: Who, session: u64, ask: Reserve) -> Option<Refusal>
         ensures why { result ≡ why_no_raise self.now.plan who session ask self.now.grants (grant_of who session self.now.grants) }
-        ensures room { IfNone result (IsWithin (plus (of_one ask) (used All (without who session self.now.grants))) self.now.plan.totals) }
+        ensures room { IfNone result (IsAmountWithin (plus (of_one ask) (used All (grants_without who session self.now.grants))) self.now.plan.totals) }
     {
         why_no_raise(&self.plan, &self.grants, who, session, ask)
     }
@@ -165,8 +165,8 @@ impl Book {
 
 /// Whether so much more than what the part has is beyond what it may have, where the customer is one of it.
 fn is_beyond(plan: &Plan, part: Part, who: Who, ask: Reserve, has: Amount) -> bool
-    requires { IsWithin has (record { sessions = 64; segments = 262144; nodes = 4194304 }) }
-    ensures { result ≡ is_beyond plan.now part who ask has }
+    requires { IsAmountWithin has (record { sessions = 64; segments = 262144; nodes = 4194304 }) }
+    ensures { result ≡ is_beyond_part plan.now part who ask has }
 {
     part.has(who) && !has.with_one(ask).is_within(plan.limit(part))
 }
@@ -180,9 +180,9 @@ fn why_beyond(
     network: Amount,
     guests: Amount,
 ) -> Option<Refusal>
-    requires own { IsWithin own (record { sessions = 64; segments = 262144; nodes = 4194304 }) }
-    requires network { IsWithin network (record { sessions = 64; segments = 262144; nodes = 4194304 }) }
-    requires guests { IsWithin guests (record { sessions = 64; segments = 262144; nodes = 4194304 }) }
+    requires own { IsAmountWithin own (record { sessions = 64; segments = 262144; nodes = 4194304 }) }
+    requires network { IsAmountWithin network (record { sessions = 64; segments = 262144; nodes = 4194304 }) }
+    requires guests { IsAmountWithin guests (record { sessions = 64; segments = 262144; nodes = 4194304 }) }
     ensures { result ≡ why_beyond plan.now who ask own network guests }
 {
     if is_beyond(plan, Part::Own(who), who, ask, own) {

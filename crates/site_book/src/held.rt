@@ -1,8 +1,8 @@
 ghost use Rattle.std.specs.Prelude.{◌≡◌, ◌+◌, ◌<◌, ◌≤◌, ◌^◌, length, if◌then◌else◌, ◌≢◌, None, Some};
 ghost use Rattle.std.specs.List.{remove};
 ghost use Rattle.std.specs.Vec.{vec_capacity};
-ghost use Rattle.site_book.specs.Amounts.{IsWithin};
-ghost use Rattle.site_book.specs.Grants.{is_in, used, is_held_as, place_of, grant_of, without, with_ask, is_lower};
+ghost use Rattle.site_book.specs.Amounts.{IsAmountWithin};
+ghost use Rattle.site_book.specs.Grants.{is_in, used, is_held_as, grant_place, grant_of, grants_without, grants_raised, is_no_raise};
 
 use crate::amount::Amount;
 use crate::who::Who;
@@ -113,7 +113,7 @@ pub(crate) fn used_besides(grants: &[Held], place: usize, part: Part) -> Amount
     requires few { length grants.now ≤ 64 }
     requires there { place < length grants.now }
     ensures value { result ≡ used part (remove grants.now place) }
-    ensures within { IsWithin result (record { sessions = 64; segments = 262144; nodes = 4194304 }) }
+    ensures within { IsAmountWithin result (record { sessions = 64; segments = 262144; nodes = 4194304 }) }
 {
     let used = used_in(grants, part);
     let held = grants[place];
@@ -133,7 +133,7 @@ fn is_held_as(held: &Held, who: Who, session: u64) -> bool
 
 /// The place of the first grant of this session, or the number of grants where there is none.
 pub(crate) fn place_of(grants: &[Held], who: Who, session: u64) -> usize
-    ensures place { result ≡ place_of who session grants.now }
+    ensures place { result ≡ grant_place who session grants.now }
     ensures within { result ≤ length grants.now }
 {
     for (place, held) in grants.iter().enumerate() {
@@ -146,7 +146,7 @@ pub(crate) fn place_of(grants: &[Held], who: Who, session: u64) -> usize
 
 /// Takes the first grant of this session out, if there is one.
 pub(crate) fn take_out(grants: &mut Vec<Held>, who: Who, session: u64)
-    ensures grants { grants.new.items ≡ without who session grants.old.items }
+    ensures grants { grants.new.items ≡ grants_without who session grants.old.items }
     ensures capacity { vec_capacity grants.old ≤ vec_capacity grants.new }
 {
     let place = place_of(grants, who, session);
@@ -158,7 +158,7 @@ pub(crate) fn take_out(grants: &mut Vec<Held>, who: Who, session: u64)
 /// Lets the first grant of this session, which is there, have this.
 pub(crate) fn set_ask(grants: &mut Vec<Held>, who: Who, session: u64, ask: Reserve)
     requires { grant_of who session grants.old.items ≢ None }
-    ensures grants { grants.new.items ≡ with_ask who session ask grants.old.items }
+    ensures grants { grants.new.items ≡ grants_raised who session ask grants.old.items }
     ensures capacity { vec_capacity grants.old ≤ vec_capacity grants.new }
 {
     let place = place_of(grants, who, session);
@@ -167,7 +167,7 @@ pub(crate) fn set_ask(grants: &mut Vec<Held>, who: Who, session: u64, ask: Reser
 
 /// Whether the second is no raise of the first: less in segments or nodes, or the same in both.
 pub(crate) fn is_lower(now: Reserve, ask: Reserve) -> bool
-    ensures { result ≡ is_lower now ask }
+    ensures { result ≡ is_no_raise now ask }
 {
     ask.segments() < now.segments()
         || ask.nodes() < now.nodes()

@@ -8,12 +8,12 @@ ghost use Rattle.site_book.specs.declared.held.Part.TheVariants.{All};
 ghost use Rattle.site_book.specs.declared.who.Who.{Who};
 ghost use Rattle.site_book.specs.declared.who.Who.TheVariants.{Named};
 ghost use Rattle.site_book.specs.Names.{same_who, is_guest};
-ghost use Rattle.site_book.specs.Amounts.{IsWithin, nothing, of_one, plus};
+ghost use Rattle.site_book.specs.Amounts.{IsAmountWithin, nothing, of_one, plus};
 ghost use Rattle.site_book.specs.Plans.{PlanOf, sums_fit, limit_of};
-ghost use Rattle.site_book.specs.Grants.{used, grant_of, without};
-ghost use Rattle.site_book.specs.Books.{BookOf, Event, new_book, why_over, why_no_raise, why_not_replan};
+ghost use Rattle.site_book.specs.Grants.{used, grant_of, grants_without};
+ghost use Rattle.site_book.specs.Books.{BookOf, BookEvent, new_book, why_over, why_no_raise, why_not_replan};
 ghost use Rattle.site_book.specs.Allowed.{HasBudgetFor, MayGrow};
-ghost use Rattle.site_book.specs.Events.{run, answers, only_events, answers_of, grants_of, still_open, names_of};
+ghost use Rattle.site_book.specs.Events.{book_after_events, answers, only_events, answers_of, grants_of, still_open, names_granted};
 ghost use Rattle.site_book.specs.declared.refusal.Refusal.{Refusal};
 ghost use Rattle.site_book.specs.declared.refusal.Refusal.TheVariants.{OverGuests};
 ghost use Rattle.site_book.specs.declared.coming.Coming.TheVariants.{Enters, Waits, Ends, Refused};
@@ -35,50 +35,50 @@ pub fn a_refusal_is_ones_own()
 /// sums fit, each customer, the guests of each wider network, all guests and all sessions together have no more than the plan allows
 /// that the book has then; and there are 64 sessions at most.
 pub fn nobody_is_over_budget()
-    ensures within { (plan : PlanOf) (events : List Event) → IsTrue (sums_fit plan) → (part : Part) →
-        let book = run (new_book plan) events in IsWithin (used part book.grants) (limit_of book.plan part) }
-    ensures totals { (plan : PlanOf) (events : List Event) → (run (new_book plan) events).plan.totals ≡ plan.totals }
-    ensures few { (plan : PlanOf) (events : List Event) → IsTrue (sums_fit plan) → length (run (new_book plan) events).grants ≤ 64 }
+    ensures within { (plan : PlanOf) (events : List BookEvent) → IsTrue (sums_fit plan) → (part : Part) →
+        let book = book_after_events (new_book plan) events in IsAmountWithin (used part book.grants) (limit_of book.plan part) }
+    ensures totals { (plan : PlanOf) (events : List BookEvent) → (book_after_events (new_book plan) events).plan.totals ≡ plan.totals }
+    ensures few { (plan : PlanOf) (events : List BookEvent) → IsTrue (sums_fit plan) → length (book_after_events (new_book plan) events).grants ≤ 64 }
 {}
 
 /// What the book grants the hall has room for: after every list of events, where a session or a raise isn't refused, all sessions
 /// with it are within the hall's totals.
 pub fn the_hall_has_room()
-    ensures opens { (plan : PlanOf) (events : List Event) → IsTrue (sums_fit plan) → (who : Who) (ask : Quota) →
-        let book = run (new_book plan) events in
-        why_over book.plan who ask book.grants ≡ None → IsWithin (plus (of_one ask) (used All book.grants)) plan.totals }
-    ensures raises { (plan : PlanOf) (events : List Event) → IsTrue (sums_fit plan) → (who : Who) (session : ℕ) (ask : Quota) →
-        let book = run (new_book plan) events in
+    ensures opens { (plan : PlanOf) (events : List BookEvent) → IsTrue (sums_fit plan) → (who : Who) (ask : Quota) →
+        let book = book_after_events (new_book plan) events in
+        why_over book.plan who ask book.grants ≡ None → IsAmountWithin (plus (of_one ask) (used All book.grants)) plan.totals }
+    ensures raises { (plan : PlanOf) (events : List BookEvent) → IsTrue (sums_fit plan) → (who : Who) (session : ℕ) (ask : Quota) →
+        let book = book_after_events (new_book plan) events in
         why_no_raise book.plan who session ask book.grants (grant_of who session book.grants) ≡ None →
-        IsWithin (plus (of_one ask) (used All (without who session book.grants))) plan.totals }
+        IsAmountWithin (plus (of_one ask) (used All (grants_without who session book.grants))) plan.totals }
 {}
 
 /// Another plan comes in exactly where it is of a hall with the same totals, its sums fit, and all that is out is within it.
 pub fn a_plan_comes_in()
     ensures { (book : BookOf) (plan : PlanOf) → ((why_not_replan book plan ≡ None)
-        ↔ ((plan.totals ≡ book.plan.totals) × IsTrue (sums_fit plan) × ((part : Part) → IsWithin (used part book.grants) (limit_of plan part)))) }
+        ↔ ((plan.totals ≡ book.plan.totals) × IsTrue (sums_fit plan) × ((part : Part) → IsAmountWithin (used part book.grants) (limit_of plan part)))) }
 {}
 
 /// No customer is disturbed by another: after every list of events a named customer got the answers, and has the grants, of that
 /// list with all others' events removed, and the plans that didn't come in. The same holds of all guests together, and so of each.
 pub fn no_customer_is_disturbed()
-    ensures told { (plan : PlanOf) (events : List Event) (number : ℕ) →
+    ensures told { (plan : PlanOf) (events : List BookEvent) (number : ℕ) →
         answers_of (same_who (Named number)) (new_book plan) events ≡ answers_of (same_who (Named number)) (new_book plan) (only_events (same_who (Named number)) (new_book plan) events) }
-    ensures grants { (plan : PlanOf) (events : List Event) (number : ℕ) →
-        grants_of (same_who (Named number)) (run (new_book plan) events).grants ≡ (run (new_book plan) (only_events (same_who (Named number)) (new_book plan) events)).grants }
-    ensures guests_told { (plan : PlanOf) (events : List Event) (guest : Who) → IsTrue (is_guest guest) →
+    ensures grants { (plan : PlanOf) (events : List BookEvent) (number : ℕ) →
+        grants_of (same_who (Named number)) (book_after_events (new_book plan) events).grants ≡ (book_after_events (new_book plan) (only_events (same_who (Named number)) (new_book plan) events)).grants }
+    ensures guests_told { (plan : PlanOf) (events : List BookEvent) (guest : Who) → IsTrue (is_guest guest) →
         answers_of (same_who guest) (new_book plan) events ≡ answers_of (same_who guest) (new_book plan) (only_events is_guest (new_book plan) events) }
-    ensures guests_grants { (plan : PlanOf) (events : List Event) →
-        grants_of is_guest (run (new_book plan) events).grants ≡ (run (new_book plan) (only_events is_guest (new_book plan) events)).grants }
+    ensures guests_grants { (plan : PlanOf) (events : List BookEvent) →
+        grants_of is_guest (book_after_events (new_book plan) events).grants ≡ (book_after_events (new_book plan) (only_events is_guest (new_book plan) events)).grants }
 {}
 
 /// All comes back: the grants that are out are those of the sessions that were opened and have not ended, and when every session
 /// has ended nobody has anything.
 pub fn all_comes_back()
-    ensures out { (plan : PlanOf) (events : List Event) →
-        names_of (run (new_book plan) events).grants ≡ still_open [] events (answers (new_book plan) events) }
-    ensures none { (plan : PlanOf) (events : List Event) → still_open [] events (answers (new_book plan) events) ≡ [] →
-        (part : Part) → used part (run (new_book plan) events).grants ≡ nothing }
+    ensures out { (plan : PlanOf) (events : List BookEvent) →
+        names_granted (book_after_events (new_book plan) events).grants ≡ still_open [] events (answers (new_book plan) events) }
+    ensures none { (plan : PlanOf) (events : List BookEvent) → still_open [] events (answers (new_book plan) events) ≡ [] →
+        (part : Part) → used part (book_after_events (new_book plan) events).grants ≡ nothing }
 {}
 
 /// Who comes enters exactly where the book allows it, whoever is idle.

@@ -1,5 +1,5 @@
 ghost use Rattle.std.specs.Prelude.{◌≡◌, ◌&&◌, IsTrue, IsSome, IfSome, ◌↔◌};
-ghost use Rattle.site_book.specs.Amounts.{is_within, is_same, sum_of, plus};
+ghost use Rattle.site_book.specs.Amounts.{is_amount_within, is_same, sum_of, plus};
 ghost use Rattle.site_book.specs.Plans.{limit_of, budget_of, sums_fit};
 
 use crate::amount::Amount;
@@ -99,7 +99,7 @@ impl Plan {
 
 /// Whether the budgets of the customers and of all guests are within the totals together.
 fn budgets_fit(totals: Amount, guests: Amount, customers: &[Amount]) -> bool
-    ensures { result ≡ is_within (plus guests (sum_of customers.now)) totals }
+    ensures { result ≡ is_amount_within (plus guests (sum_of customers.now)) totals }
 {
     if !guests.is_within(totals) {
         return false;

@@ -10,17 +10,17 @@ ghost use Rattle.site_book.specs.declared.present.Mark.TheVariants.{Spoke, Waits
 ghost use Rattle.site_book.specs.declared.present.Present.{Present};
 ghost use Rattle.site_book.specs.declared.present.Told.TheVariants.{Gone, ByOperator, ByPlan};
 ghost use Rattle.site_book.specs.declared.present.Whom.TheVariants.{One, Each};
-ghost use Rattle.site_book.specs.Rolls.{idlest, marked_all, names_in, newcomer, remaining, without_present};
-ghost use Rattle.site_book.specs.RollRows.{guest_held, named_held, guest, named, asks};
+ghost use Rattle.site_book.specs.Rolls.{idlest, marked_all, names_present, newcomer, remaining, without_present};
+ghost use Rattle.site_book.specs.RollRows.{guest_held, named_held, guest, named_present, asks};
 ghost use Rattle.site_book.specs.Comings.{coming, told_by};
 
 /// Marks are noted of those who are meant, and the first reason to end stays.
 pub fn marks_are_noted()
     ensures spoke { marked_all (One 2) (Spoke 9) (guest 1 5 ∷ guest 2 6 ∷ []) ≡ guest 1 5 ∷ record (guest 2 6) { last = 9 } ∷ [] }
     ensures waits { marked_all (One 1) (waits true 8) (guest 1 5 ∷ guest 2 6 ∷ []) ≡ record (guest 1 5) { waits = true; last = 8 } ∷ guest 2 6 ∷ [] }
-    ensures told { marked_all (Each Guests) (told_to ByOperator) (guest 1 5 ∷ named 2 6 ∷ []) ≡ record (guest 1 5) { told = Some ByOperator } ∷ named 2 6 ∷ [] }
-    ensures first { marked_all (Each (Own school)) (told_to ByPlan) (marked_all (One 2) (told_to Gone) (named 2 6 ∷ [])) ≡ record (named 2 6) { told = Some Gone } ∷ [] }
-    ensures left { names_in (without_present school 2 (guest 1 5 ∷ named 2 6 ∷ named 3 7 ∷ [])) ≡ (V4 1, 1) ∷ (Named 0, 3) ∷ [] }
+    ensures told { marked_all (Each Guests) (told_to ByOperator) (guest 1 5 ∷ named_present 2 6 ∷ []) ≡ record (guest 1 5) { told = Some ByOperator } ∷ named_present 2 6 ∷ [] }
+    ensures first { marked_all (Each (Own school)) (told_to ByPlan) (marked_all (One 2) (told_to Gone) (named_present 2 6 ∷ [])) ≡ record (named_present 2 6) { told = Some Gone } ∷ [] }
+    ensures left { names_present (without_present school 2 (guest 1 5 ∷ named_present 2 6 ∷ named_present 3 7 ∷ [])) ≡ (V4 1, 1) ∷ (Named 0, 3) ∷ [] }
 {}
 
 /// Two guests have all that guests may have. A third waits for nobody who speaks or waits for a job, but the one goes that has been
@@ -37,13 +37,13 @@ pub fn a_third_guest()
 
 /// Of a customer that has its two sessions none goes for its third, but the third waits for one that is leaving.
 pub fn a_customers_third_session()
-    ensures full { coming small (named_held 1 5 ∷ named_held 2 5 ∷ []) (named 1 5 ∷ named 2 6 ∷ []) school (ask 5 5) 999999 60 ≡ Refused OverBudget }
-    ensures leaving { coming small (named_held 1 5 ∷ named_held 2 5 ∷ []) (record (named 1 5) { told = Some Gone } ∷ named 2 6 ∷ []) school (ask 5 5) 7 60 ≡ Waits OverBudget }
+    ensures full { coming small (named_held 1 5 ∷ named_held 2 5 ∷ []) (named_present 1 5 ∷ named_present 2 6 ∷ []) school (ask 5 5) 999999 60 ≡ Refused OverBudget }
+    ensures leaving { coming small (named_held 1 5 ∷ named_held 2 5 ∷ []) (record (named_present 1 5) { told = Some Gone } ∷ named_present 2 6 ∷ []) school (ask 5 5) 7 60 ≡ Waits OverBudget }
 {}
 
 /// Under a plan that gives the first customer half of what it has, its second session ends; the second customer's stays.
 pub fn who_ends_for_a_plan()
-    ensures told { told_by even [] (named_held 1 10 ∷ named_held 2 10 ∷ []) (named 1 5 ∷ named 2 6 ∷ []) ≡ named 1 5 ∷ record (named 2 6) { told = Some ByPlan } ∷ [] }
-    ensures stays { told_by even [] (named_held 1 10 ∷ record (named_held 2 10) { who = Named 1 } ∷ []) (named 1 5 ∷ named 2 6 ∷ []) ≡ named 1 5 ∷ named 2 6 ∷ [] }
-    ensures leaving { told_by even [] (named_held 1 10 ∷ named_held 2 10 ∷ []) (record (named 1 5) { told = Some Gone } ∷ named 2 6 ∷ []) ≡ record (named 1 5) { told = Some Gone } ∷ named 2 6 ∷ [] }
+    ensures told { told_by even [] (named_held 1 10 ∷ named_held 2 10 ∷ []) (named_present 1 5 ∷ named_present 2 6 ∷ []) ≡ named_present 1 5 ∷ record (named_present 2 6) { told = Some ByPlan } ∷ [] }
+    ensures stays { told_by even [] (named_held 1 10 ∷ record (named_held 2 10) { who = Named 1 } ∷ []) (named_present 1 5 ∷ named_present 2 6 ∷ []) ≡ named_present 1 5 ∷ named_present 2 6 ∷ [] }
+    ensures leaving { told_by even [] (named_held 1 10 ∷ named_held 2 10 ∷ []) (record (named_present 1 5) { told = Some Gone } ∷ named_present 2 6 ∷ []) ≡ record (named_present 1 5) { told = Some Gone } ∷ named_present 2 6 ∷ [] }
 {}

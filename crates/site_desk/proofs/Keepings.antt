@@ -25,12 +25,12 @@ use Rattle.site_book.specs.declared.held.Part.TheVariants.{All}
 use Rattle.site_book.specs.declared.refusal.Refusal.{Refusal as BookRefusal}
 use Rattle.site_book.specs.declared.refusal.Refusal.TheVariants.{Lower}
 use Rattle.site_book.specs.declared.who.Who.{Who}
-use Rattle.site_book.specs.Amounts.{of_one, plus, IsWithin}
+use Rattle.site_book.specs.Amounts.{of_one, plus, IsAmountWithin}
 use Rattle.site_book.specs.Plans.{PlanOf}
-use Rattle.site_book.specs.Grants.{used, grant_of, without}
+use Rattle.site_book.specs.Grants.{used, grant_of, grants_without}
 use Rattle.site_book.specs.Books.{BookOf, Opens, Raises, Closes, taken, why_no_raise, why_not_replan}
 use Rattle.site_book.proofs.Keepings.{comes-in}
-use Rattle.site_desk.specs.Booked.{IsBooked, Took, is_within_seat}
+use Rattle.site_desk.specs.Booked.{IsBooked, TookInHall, is_within_seat}
 use Rattle.site_desk.specs.BookedSeats.{Seat, seats_in_book, seats_in_hall, number_of}
 use Rattle.site_desk.proofs.SeatLemmas.{set_seat, drop_seats, seat_at, amount_of, hall-same, hall-new, hall-set, hall-drop, IsThere, hall-at, book-push, book-set, book-drop, book-at, taken-upto, rising-push, rising-set, rising-drop, book-amount, used-found, not_full, not_beyond}
 use Rattle.site_desk.proofs.HallSteps.{went, admit-outcome, more-outcome, leave-outcome, stayed, moved}
@@ -46,7 +46,7 @@ record HasGone (before after : HallOf) (step : Step) : Type 0 where
   totals : after.shared.totals ≡ before.shared.totals
   given : AreNumbersGiven after.shared
 
-gone : (before after : HallOf) (step : Step) → AreNumbersGiven before.shared → Took before step after → HasGone before after step
+gone : (before after : HallOf) (step : Step) → AreNumbersGiven before.shared → TookInHall before step after → HasGone before after step
 gone before after step known took =
     let p = went (jamboree before.grain) before.shared after.shared step took.0 known took.1.one in
     let m = moved (jamboree before.grain) before.shared after.shared step p.0.outcome.0 p.1 in
@@ -81,7 +81,7 @@ booked-new hall book nobody nothing segments nodes = record {
 
 -- a tenant more
 
-pub booked-admit : (hall hall' : HallOf) (book book' : BookOf) (who : Who) (n : ℕ) (q : Quota) → IsBooked hall book → n ≡ hall.shared.newest + 1 → Took hall (Admit n q) hall' → book' ≡ taken book (Opens who n q) → IsBooked hall' book'
+pub booked-admit : (hall hall' : HallOf) (book book' : BookOf) (who : Who) (n : ℕ) (q : Quota) → IsBooked hall book → n ≡ hall.shared.newest + 1 → TookInHall hall (Admit n q) hall' → book' ≡ taken book (Opens who n q) → IsBooked hall' book'
 booked-admit hall hall' book book' who n q is next took entered =
     let g = gone hall hall' (Admit n q) is.given took in
     let less : hall.shared.newest < n = omega (arith, next) in
@@ -103,7 +103,7 @@ tenant-of hall book who n held is found =
 
 -- a tenant raised
 
-pub booked-raise : (hall hall' : HallOf) (book book' : BookOf) (who : Who) (n : ℕ) (q : Quota) (held : Held) → IsBooked hall book → grant_of who n book.grants ≡ Some held → Took hall (AdmitMore n q) hall' → book' ≡ taken book (Raises who n q) → IsBooked hall' book'
+pub booked-raise : (hall hall' : HallOf) (book book' : BookOf) (who : Who) (n : ℕ) (q : Quota) (held : Held) → IsBooked hall book → grant_of who n book.grants ≡ Some held → TookInHall hall (AdmitMore n q) hall' → book' ≡ taken book (Raises who n q) → IsBooked hall' book'
 booked-raise hall hall' book book' who n q held is found took entered =
     let g = gone hall hall' (AdmitMore n q) is.given took in
     let there = tenant-of hall book who n held is found in
@@ -116,7 +116,7 @@ booked-raise hall hall' book book' who n q held is found took entered =
 
 -- a tenant fewer
 
-pub booked-leave : (hall hall' : HallOf) (book book' : BookOf) (who : Who) (n : ℕ) (held : Held) → IsBooked hall book → grant_of who n book.grants ≡ Some held → Took hall (Leave n) hall' → book' ≡ taken book (Closes who n) → IsBooked hall' book'
+pub booked-leave : (hall hall' : HallOf) (book book' : BookOf) (who : Who) (n : ℕ) (held : Held) → IsBooked hall book → grant_of who n book.grants ≡ Some held → TookInHall hall (Leave n) hall' → book' ≡ taken book (Closes who n) → IsBooked hall' book'
 booked-leave hall hall' book book' who n held is found took entered =
     let g = gone hall hall' (Leave n) is.given took in
     let left = leave-outcome (jamboree hall.grain) (tenant_in hall.shared.tenants n) n g.how.outcome g.how.own in
@@ -127,7 +127,7 @@ booked-leave hall hall' book book' who n held is found took entered =
 
 -- a step within its seat
 
-booked-went : (hall hall' : HallOf) (book : BookOf) (step : Step) → IsBooked hall book → is_within_seat step ≡ true → Took hall step hall' → IsBooked hall' book
+booked-went : (hall hall' : HallOf) (book : BookOf) (step : Step) → IsBooked hall book → is_within_seat step ≡ true → TookInHall hall step hall' → IsBooked hall' book
 booked-went hall hall' book step is within took =
     let g = gone hall hall' step is.given took in
     let s = stayed (jamboree hall.grain) (tenant_in hall.shared.tenants (tenant_of step)) step g.how.outcome within g.how.own in
@@ -150,7 +150,7 @@ booked-replan hall book plan is none =
 all-seats : (hall : HallOf) (book : BookOf) → IsBooked hall book → used All book.grants ≡ amount_of (seats_in_hall hall.shared.tenants)
 all-seats hall book is = book-amount book.grants ∙ ap amount_of is.seated
 
-pub has-room : (hall : HallOf) (book : BookOf) (q : Quota) → IsBooked hall book → book.plan.totals.sessions ≤ 64 → IsWithin (plus (of_one q) (used All book.grants)) book.plan.totals → is_full (reservations_in hall.shared) q ≡ false
+pub has-room : (hall : HallOf) (book : BookOf) (q : Quota) → IsBooked hall book → book.plan.totals.sessions ≤ 64 → IsAmountWithin (plus (of_one q) (used All book.grants)) book.plan.totals → is_full (reservations_in hall.shared) q ≡ false
 has-room hall book q is few room = not_full hall.shared q (used All book.grants) book.plan.totals (all-seats hall book is) room few is.segments is.nodes
 
 -- what a raise that the book doesn't refuse has
@@ -162,7 +162,7 @@ pub record MayRaise (hall : HallOf) (book : BookOf) (who : Who) (n : ℕ) (q : Q
   pub more : is_lower tenant.reserve q ≡ false
   pub room : is_beyond (reservations_in hall.shared) tenant.reserve q ≡ false
 
-raise-by : (hall : HallOf) (book : BookOf) (who : Who) (n : ℕ) (q : Quota) (found : Option Held) → IsBooked hall book → grant_of who n book.grants ≡ found → why_no_raise book.plan who n q book.grants found ≡ None → IsWithin (plus (of_one q) (used All (without who n book.grants))) book.plan.totals → MayRaise hall book who n q
+raise-by : (hall : HallOf) (book : BookOf) (who : Who) (n : ℕ) (q : Quota) (found : Option Held) → IsBooked hall book → grant_of who n book.grants ≡ found → why_no_raise book.plan who n q book.grants found ≡ None → IsAmountWithin (plus (of_one q) (used All (grants_without who n book.grants))) book.plan.totals → MayRaise hall book who n q
 raise-by hall book who n q None is at none room = absurd cc
 raise-by hall book who n q (Some held) is at none room =
     let there = tenant-of hall book who n held is at in
@@ -172,7 +172,7 @@ raise-by hall book who n q (Some held) is at none room =
       tenant = there.tenant;
       at = there.at;
       more = ap (λ (r : Quota). is_lower r q) there.reserve ∙ not_lower held none;
-      room = ap (λ (r : Quota). is_beyond (reservations_in hall.shared) r q) there.reserve ∙ not_beyond hall.shared held.ask q (used All book.grants) (used All (without who n book.grants)) book.plan.totals (all-seats hall book is) (used-found who n book.grants held at) room is.segments is.nodes;
+      room = ap (λ (r : Quota). is_beyond (reservations_in hall.shared) r q) there.reserve ∙ not_beyond hall.shared held.ask q (used All book.grants) (used All (grants_without who n book.grants)) book.plan.totals (all-seats hall book is) (used-found who n book.grants held at) room is.segments is.nodes;
     }
   where
     not_lower : (held : Held) → why_no_raise book.plan who n q book.grants (Some held) ≡ None → is_lower held.ask q ≡ false
@@ -181,7 +181,7 @@ raise-by hall book who n q (Some held) is at none room =
       | inr nay ↦ nay
     ]
 
-pub may-raise : (hall : HallOf) (book : BookOf) (who : Who) (n : ℕ) (q : Quota) → IsBooked hall book → why_no_raise book.plan who n q book.grants (grant_of who n book.grants) ≡ None → IsWithin (plus (of_one q) (used All (without who n book.grants))) book.plan.totals → MayRaise hall book who n q
+pub may-raise : (hall : HallOf) (book : BookOf) (who : Who) (n : ℕ) (q : Quota) → IsBooked hall book → why_no_raise book.plan who n q book.grants (grant_of who n book.grants) ≡ None → IsAmountWithin (plus (of_one q) (used All (grants_without who n book.grants))) book.plan.totals → MayRaise hall book who n q
 may-raise hall book who n q is none room = raise-by hall book who n q (grant_of who n book.grants) is refl none room
 
 -- a grant that is there

@@ -6,15 +6,15 @@ use Rattle.tenant_quota.specs.Quota.{Quota}
 use Rattle.site_book.specs.declared.held.Held.{Held}
 use Rattle.site_book.specs.declared.who.Who.{Who}
 use Rattle.site_book.specs.Names.{same_who}
-use Rattle.site_book.specs.Grants.{is_held_as, with_ask, without}
+use Rattle.site_book.specs.Grants.{is_held_as, grants_raised, grants_without}
 use Rattle.site_book.specs.Books.{BookOf, Opens, Raises, Closes, taken}
-use Rattle.site_book.specs.Events.{Name, names_of}
+use Rattle.site_book.specs.Events.{Name, names_granted}
 use Rattle.site_book.specs.Plans.{PlanOf}
 use Rattle.site_book.specs.declared.present.Mark.{Mark}
 use Rattle.site_book.specs.declared.present.Mark.TheVariants.{Spoke, Waits, Told as told_to}
 use Rattle.site_book.specs.declared.present.Present.{Present}
 use Rattle.site_book.specs.declared.present.Whom.{Whom}
-use Rattle.site_book.specs.Rolls.{is_meant, is_present_as, marked, marked_all, marked_if, names_in, newcomer, without_present}
+use Rattle.site_book.specs.Rolls.{is_meant, is_present_as, marked, marked_all, marked_if, names_present, newcomer, without_present}
 use Rattle.site_book.specs.Comings.{stays, told_by, told_unless, with_staying}
 use Rattle.site_desk.specs.declared.turned.Turned.{Turned}
 use Rattle.site_desk.specs.declared.turned.Turned.TheVariants.{ByBook, OldTenant, OutOfMemory}
@@ -35,7 +35,7 @@ marked-name whom mark p = elim (cases_Bool (is_meant whom p)) [
   | inr nay ↦ rw nay refl
 ]
 
-pub names_marked : (whom : Whom) (mark : Mark) (roll : List Present) → names_in (marked_all whom mark roll) ≡ names_in roll
+pub names_marked : (whom : Whom) (mark : Mark) (roll : List Present) → names_present (marked_all whom mark roll) ≡ names_present roll
 names_marked whom mark [] = refl
 names_marked whom mark (p ∷ roll) = λ i. marked-name whom mark p i ∷ names_marked whom mark roll i
 
@@ -43,22 +43,22 @@ told-name : (b : Bool) (p : Present) → name_of (told_unless b p) ≡ name_of p
 told-name true p = refl
 told-name false p = refl
 
-pub names_told : (plan : PlanOf) (before gs : List Held) (roll : List Present) → length gs ≡ length roll → names_in (told_by plan before gs roll) ≡ names_in roll
+pub names_told : (plan : PlanOf) (before gs : List Held) (roll : List Present) → length gs ≡ length roll → names_present (told_by plan before gs roll) ≡ names_present roll
 names_told plan before [] roll alike = refl
 names_told plan before (g ∷ gs) [] alike = refl
 names_told plan before (g ∷ gs) (p ∷ roll) alike =
     let rest : length gs ≡ length roll = omega (arith, alike) in
     λ i. told-name (stays plan before g p) p i ∷ names_told plan (with_staying (stays plan before g p) before g) gs roll rest i
 
-pub roll-push : (roll : List Present) (p : Present) → names_in (roll ++ p ∷ []) ≡ names_in roll ++ name_of p ∷ []
+pub roll-push : (roll : List Present) (p : Present) → names_present (roll ++ p ∷ []) ≡ names_present roll ++ name_of p ∷ []
 roll-push [] p = refl
 roll-push (q ∷ roll) p = ap (λ (l : List Name). name_of q ∷ l) (roll-push roll p)
 
-pub book-push : (gs : List Held) (g : Held) → names_of (gs ++ g ∷ []) ≡ names_of gs ++ (g.who, g.session) ∷ []
+pub book-push : (gs : List Held) (g : Held) → names_granted (gs ++ g ∷ []) ≡ names_granted gs ++ (g.who, g.session) ∷ []
 book-push [] g = refl
 book-push (h ∷ gs) g = ap (λ (l : List Name). (h.who, h.session) ∷ l) (book-push gs g)
 
-pub names-with_ask : (who : Who) (n : ℕ) (q : Quota) (gs : List Held) → names_of (with_ask who n q gs) ≡ names_of gs
+pub names-with_ask : (who : Who) (n : ℕ) (q : Quota) (gs : List Held) → names_granted (grants_raised who n q gs) ≡ names_granted gs
 names-with_ask who n q [] = refl
 names-with_ask who n q (g ∷ gs) = elim (cases_Bool (is_held_as who n g)) [
   | inl aye ↦ rw aye refl
@@ -73,44 +73,44 @@ abbrev drop_name : Who → ℕ → List Name → List Name
 drop_name who n [] = []
 drop_name who n (name ∷ names) = cond (is_named who n name) names (name ∷ drop_name who n names)
 
-roll-drop : (who : Who) (n : ℕ) (roll : List Present) → names_in (without_present who n roll) ≡ drop_name who n (names_in roll)
+roll-drop : (who : Who) (n : ℕ) (roll : List Present) → names_present (without_present who n roll) ≡ drop_name who n (names_present roll)
 roll-drop who n [] = refl
 roll-drop who n (p ∷ roll) = elim (cases_Bool (is_present_as who n p)) [
   | inl aye ↦ rw aye refl
   | inr nay ↦ rw nay (ap (λ (l : List Name). name_of p ∷ l) (roll-drop who n roll))
 ]
 
-book-drop : (who : Who) (n : ℕ) (gs : List Held) → names_of (without who n gs) ≡ drop_name who n (names_of gs)
+book-drop : (who : Who) (n : ℕ) (gs : List Held) → names_granted (grants_without who n gs) ≡ drop_name who n (names_granted gs)
 book-drop who n [] = refl
 book-drop who n (g ∷ gs) = elim (cases_Bool (is_held_as who n g)) [
   | inl aye ↦ rw aye refl
   | inr nay ↦ rw nay (ap (λ (l : List Name). (g.who, g.session) ∷ l) (book-drop who n gs))
 ]
 
-roll-length : (roll : List Present) → length (names_in roll) ≡ length roll
+roll-length : (roll : List Present) → length (names_present roll) ≡ length roll
 roll-length [] = refl
 roll-length (p ∷ roll) = (let rest = roll-length roll in omega (arith, rest))
 
-book-length : (gs : List Held) → length (names_of gs) ≡ length gs
+book-length : (gs : List Held) → length (names_granted gs) ≡ length gs
 book-length [] = refl
 book-length (g ∷ gs) = (let rest = book-length gs in omega (arith, rest))
 
-pub alike : (gs : List Held) (roll : List Present) → names_in roll ≡ names_of gs → length gs ≡ length roll
+pub alike : (gs : List Held) (roll : List Present) → names_present roll ≡ names_granted gs → length gs ≡ length roll
 alike gs roll is = sym (book-length gs) ∙ (ap length (sym is) ∙ roll-length roll)
 
 -- after each call
 
 pub listed_open : (book book' : BookOf) (roll : List Present) (who : Who) (n now : ℕ) (q : Quota) → IsListed book roll → book' ≡ taken book (Opens who n q) → IsListed book' (roll ++ newcomer who n now ∷ [])
 listed_open book book' roll who n now q is entered =
-    roll-push roll (newcomer who n now) ∙ (ap (λ (l : List Name). l ++ (who, n) ∷ []) is ∙ (sym (book-push book.grants (record { who = who; session = n; ask = q })) ∙ ap (λ (b : BookOf). names_of b.grants) (sym entered)))
+    roll-push roll (newcomer who n now) ∙ (ap (λ (l : List Name). l ++ (who, n) ∷ []) is ∙ (sym (book-push book.grants (record { who = who; session = n; ask = q })) ∙ ap (λ (b : BookOf). names_granted b.grants) (sym entered)))
 
 listed-raise : (book book' : BookOf) (roll : List Present) (who : Who) (n : ℕ) (q : Quota) → IsListed book roll → book' ≡ taken book (Raises who n q) → IsListed book' roll
 listed-raise book book' roll who n q is raised =
-    is ∙ (sym (names-with_ask who n q book.grants) ∙ ap (λ (b : BookOf). names_of b.grants) (sym raised))
+    is ∙ (sym (names-with_ask who n q book.grants) ∙ ap (λ (b : BookOf). names_granted b.grants) (sym raised))
 
 pub listed_close : (book book' : BookOf) (roll : List Present) (who : Who) (n : ℕ) → IsListed book roll → book' ≡ taken book (Closes who n) → IsListed book' (without_present who n roll)
 listed_close book book' roll who n is closed =
-    roll-drop who n roll ∙ (ap (drop_name who n) is ∙ (sym (book-drop who n book.grants) ∙ ap (λ (b : BookOf). names_of b.grants) (sym closed)))
+    roll-drop who n roll ∙ (ap (drop_name who n) is ∙ (sym (book-drop who n book.grants) ∙ ap (λ (b : BookOf). names_granted b.grants) (sym closed)))
 
 pub listed_raised : (before after : BookedOf) (roll : List Present) (who : Who) (n : ℕ) (q : Quota) (answer : Result (Unit {0}) Turned) → IsListed before.book roll → IsRaise before who n q answer after → IsListed after.book roll
 listed_raised before after roll who n q (Ok _) is h = listed-raise before.book after.book roll who n q is h.1

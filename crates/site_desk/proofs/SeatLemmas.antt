@@ -14,8 +14,8 @@ use Rattle.site_book.specs.declared.held.Held.{Held}
 use Rattle.site_book.specs.declared.held.Part.TheVariants.{All}
 use Rattle.site_book.specs.declared.who.Who.{Who}
 use Rattle.site_book.specs.Names.{same_who}
-use Rattle.site_book.specs.Amounts.{nothing, of_one, plus, IsWithin}
-use Rattle.site_book.specs.Grants.{used, is_held_as, grant_of, without, with_ask}
+use Rattle.site_book.specs.Amounts.{nothing, of_one, plus, IsAmountWithin}
+use Rattle.site_book.specs.Grants.{used, is_held_as, grant_of, grants_without, grants_raised}
 use Rattle.site_book.proofs.AmountLemmas.{plus_swap}
 use Rattle.site_desk.specs.BookedSeats.{Seat, seats_in_book, seats_in_hall, number_of}
 
@@ -110,7 +110,7 @@ other-number who n g gs held is above = elim (cases_Bool (eqb g.session n)) [
   | inr nay ↦ nay
 ]
 
-pub book-set : (who : Who) (n : ℕ) (q : Quota) (gs : List Held) (held : Held) → grant_of who n gs ≡ Some held → AreRising number_of (seats_in_book gs) → seats_in_book (with_ask who n q gs) ≡ set_seat n q (seats_in_book gs)
+pub book-set : (who : Who) (n : ℕ) (q : Quota) (gs : List Held) (held : Held) → grant_of who n gs ≡ Some held → AreRising number_of (seats_in_book gs) → seats_in_book (grants_raised who n q gs) ≡ set_seat n q (seats_in_book gs)
 book-set who n q [] held is rising = absurd cc
 book-set who n q (g ∷ gs) held is rising = elim (cases_Bool (is_held_as who n g)) [
   | inl aye ↦ (let number = held-number who n g aye in
@@ -125,7 +125,7 @@ drop-above n (s ∷ ss) above =
     let more : n < s.0 = above.0 in
     rw (ne_eqb s.0 n (λ e. omega (arith, e, more))) (ap (λ (r : List Seat). s ∷ r) (drop-above n ss above.1))
 
-pub book-drop : (who : Who) (n : ℕ) (gs : List Held) (held : Held) → grant_of who n gs ≡ Some held → AreRising number_of (seats_in_book gs) → seats_in_book (without who n gs) ≡ drop_seats n (seats_in_book gs)
+pub book-drop : (who : Who) (n : ℕ) (gs : List Held) (held : Held) → grant_of who n gs ≡ Some held → AreRising number_of (seats_in_book gs) → seats_in_book (grants_without who n gs) ≡ drop_seats n (seats_in_book gs)
 book-drop who n [] held is rising = absurd cc
 book-drop who n (g ∷ gs) held is rising = elim (cases_Bool (is_held_as who n g)) [
   | inl aye ↦ (let number = held-number who n g aye in
@@ -208,16 +208,16 @@ hall-sessions [] = refl
 hall-sessions (e ∷ es) = (let rest = hall-sessions es in omega (arith, rest))
 
 -- all have what the session has, and the others
-pub used-found : (who : Who) (n : ℕ) (gs : List Held) (held : Held) → grant_of who n gs ≡ Some held → used All gs ≡ plus (of_one held.ask) (used All (without who n gs))
+pub used-found : (who : Who) (n : ℕ) (gs : List Held) (held : Held) → grant_of who n gs ≡ Some held → used All gs ≡ plus (of_one held.ask) (used All (grants_without who n gs))
 used-found who n [] held is = absurd cc
 used-found who n (g ∷ gs) held is = elim (cases_Bool (is_held_as who n g)) [
   | inl aye ↦ (let both : Some g ≡ Some held = rw aye at is in let same : g ≡ held = cc in rw aye (ap (λ (h : Held). plus (of_one h.ask) (used All gs)) same))
-  | inr nay ↦ (let rest = used-found who n gs held (rw nay at is) in rw nay (ap (plus (of_one g.ask)) rest ∙ plus_swap (of_one g.ask) (of_one held.ask) (used All (without who n gs))))
+  | inr nay ↦ (let rest = used-found who n gs held (rw nay at is) in rw nay (ap (plus (of_one g.ask)) rest ∙ plus_swap (of_one g.ask) (of_one held.ask) (used All (grants_without who n gs))))
 ]
 
 -- room
 
-pub not_full : (shared : CoreState) (q : Quota) (all totals : Amount) → all ≡ amount_of (seats_in_hall shared.tenants) → IsWithin (plus (of_one q) all) totals → totals.sessions ≤ 64 → totals.segments ≤ shared.totals.segments → totals.nodes ≤ shared.totals.nodes → is_full (reservations_in shared) q ≡ false
+pub not_full : (shared : CoreState) (q : Quota) (all totals : Amount) → all ≡ amount_of (seats_in_hall shared.tenants) → IsAmountWithin (plus (of_one q) all) totals → totals.sessions ≤ 64 → totals.segments ≤ shared.totals.segments → totals.nodes ≤ shared.totals.nodes → is_full (reservations_in shared) q ≡ false
 not_full shared q all totals is room few segments nodes =
     let accounts = accounts_in shared.tenants in
     let long : length accounts ≡ all.sessions = hall-sessions shared.tenants ∙ ap (λ (a : Amount). a.sessions) (sym is) in
@@ -225,7 +225,7 @@ not_full shared q all totals is room few segments nodes =
     let node_sum : reserved_nodes accounts ≡ all.nodes = hall-nodes shared.tenants ∙ ap (λ (a : Amount). a.nodes) (sym is) in
     or_from _ _ (or_from _ _ (lt-leb 64 (length accounts) (omega (arith, long, room.sessions, few))) (le-ltb shared.totals.segments (reserved_segments accounts + q.segments) (omega (arith, segment_sum, room.segments, segments)))) (le-ltb shared.totals.nodes (reserved_nodes accounts + q.nodes) (omega (arith, node_sum, room.nodes, nodes)))
 
-pub not_beyond : (shared : CoreState) (own q : Quota) (all others totals : Amount) → all ≡ amount_of (seats_in_hall shared.tenants) → all ≡ plus (of_one own) others → IsWithin (plus (of_one q) others) totals → totals.segments ≤ shared.totals.segments → totals.nodes ≤ shared.totals.nodes → is_beyond (reservations_in shared) own q ≡ false
+pub not_beyond : (shared : CoreState) (own q : Quota) (all others totals : Amount) → all ≡ amount_of (seats_in_hall shared.tenants) → all ≡ plus (of_one own) others → IsAmountWithin (plus (of_one q) others) totals → totals.segments ≤ shared.totals.segments → totals.nodes ≤ shared.totals.nodes → is_beyond (reservations_in shared) own q ≡ false
 not_beyond shared own q all others totals is parts room segments nodes =
     let accounts = accounts_in shared.tenants in
     let segment_sum : reserved_segments accounts ≡ own.segments + others.segments = hall-segments shared.tenants ∙ ap (λ (a : Amount). a.segments) (sym is ∙ parts) in

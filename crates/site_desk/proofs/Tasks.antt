@@ -3,8 +3,8 @@ use Rattle.std.proofs.Common.{◌≡◌, inr, false, Option, Some, None, subst}
 use Rattle.sched_rules.specs.Views.{named, ready_count}
 use Rattle.frame_tree.specs.Frames.{IsReadyAt}
 use Rattle.pool_rules.specs.declared.task.Task.{Task}
-use Rattle.site_desk.specs.Sites.{SiteOf, IsAnyTask, IsNextTask, IsPicked}
+use Rattle.site_desk.specs.Sites.{SiteOf, IsAnyTask, IsNextTask, IsSitePick}
 
-pub next_by : (before after : SiteOf) (found : Option Task) → before.closed ≡ false → IsPicked before None after → IsAnyTask after found → IsNextTask before found after
+pub next_by : (before after : SiteOf) (found : Option Task) → before.closed ≡ false → IsSitePick before None after → IsAnyTask after found → IsNextTask before found after
 next_by before after None is_open picked h = inr (is_open, picked, subst (λ (s : SiteOf). ready_count s.booked.hall.shared.tenants ≡ 0) picked.0 h)
 next_by before after (Some task) is_open picked h = (is_open, inr (picked, subst (λ (s : SiteOf). IsReadyAt (named s.booked.hall.shared task.frame) task.home) picked.0 h))

@@ -33,8 +33,8 @@ pub record IsBooked (hall : HallOf) (book : BookOf) : Type 0 where
   pub nodes : book.plan.totals.nodes ≤ hall.shared.totals.nodes
 
 -- the hall took this step, and nothing else was done to it
-abbrev pub Took : HallOf → StepOf LeafAnswer → HallOf → Type 0
-Took before step after = (did : DidOf Leaf) × IsDecided before step (Ok did) after
+abbrev pub TookInHall : HallOf → StepOf LeafAnswer → HallOf → Type 0
+TookInHall before step after = (did : DidOf Leaf) × IsDecided before step (Ok did) after
 
 -- the hall had no memory left for this step, and nothing was done to it
 abbrev pub RanOut : HallOf → StepOf LeafAnswer → HallOf → Type 0
@@ -43,13 +43,13 @@ RanOut before step after = IsDecided before step (Err HallOutOfMemory) after
 -- what comes of a tenant for which there is room: it is admitted under the number after the newest, or all numbers were given, or memory ran
 -- out
 abbrev pub IsLetIn : HallOf → Quota → Result ℕ HallRefusal → HallOf → Type 0
-IsLetIn before ask (Ok number) after = (number ≡ before.shared.newest + 1) × Took before (Admit number ask) after
+IsLetIn before ask (Ok number) after = (number ≡ before.shared.newest + 1) × TookInHall before (Admit number ask) after
 IsLetIn before ask (Err refusal) after =
     ((refusal ≡ HallOldTenant) ⊎ (refusal ≡ HallOutOfMemory)) × (refusal ≡ HallOldTenant → 2 ^ 62 ≤ before.shared.newest) × IsDecided before (Admit (before.shared.newest + 1) ask) (Err refusal) after
 
 -- what comes of a tenant that is raised to what there is room for: it has that, or memory ran out
 abbrev pub IsRaisedTo : HallOf → ℕ → Quota → Result (Unit {0}) HallRefusal → HallOf → Type 0
-IsRaisedTo before number ask (Ok _) after = Took before (AdmitMore number ask) after
+IsRaisedTo before number ask (Ok _) after = TookInHall before (AdmitMore number ask) after
 IsRaisedTo before number ask (Err refusal) after = (refusal ≡ HallOutOfMemory) × IsDecided before (AdmitMore number ask) (Err refusal) after
 
 -- why a customer is turned away, by the hall's refusal
@@ -61,7 +61,7 @@ turned_by _ = OutOfMemory
 -- the number after the newest, and the grant is entered, both at once; or the hall has no number or no memory left, and nothing changes
 abbrev pub IsAdmission : BookedOf → Who → Quota → Result ℕ Turned → BookedOf → Type 0
 IsAdmission before who ask (Ok number) after =
-    (why_over before.book.plan who ask before.book.grants ≡ None) × (number ≡ before.hall.shared.newest + 1) × (after.book ≡ taken before.book (Opens who number ask)) × Took before.hall (Admit number ask) after.hall
+    (why_over before.book.plan who ask before.book.grants ≡ None) × (number ≡ before.hall.shared.newest + 1) × (after.book ≡ taken before.book (Opens who number ask)) × TookInHall before.hall (Admit number ask) after.hall
 IsAdmission before who ask (Err (ByBook refusal)) after = (why_over before.book.plan who ask before.book.grants ≡ Some refusal) × (after ≡ before)
 IsAdmission before who ask (Err OldTenant) after = (2 ^ 62 ≤ before.hall.shared.newest) × (after ≡ before)
 IsAdmission before who ask (Err OutOfMemory) after =
@@ -71,7 +71,7 @@ IsAdmission before who ask (Err OutOfMemory) after =
 -- memory is left, and nothing changes
 abbrev pub IsRaise : BookedOf → Who → ℕ → Quota → Result (Unit {0}) Turned → BookedOf → Type 0
 IsRaise before who number ask (Ok _) after =
-    (why_no_raise before.book.plan who number ask before.book.grants (grant_of who number before.book.grants) ≡ None) × (after.book ≡ taken before.book (Raises who number ask)) × Took before.hall (AdmitMore number ask) after.hall
+    (why_no_raise before.book.plan who number ask before.book.grants (grant_of who number before.book.grants) ≡ None) × (after.book ≡ taken before.book (Raises who number ask)) × TookInHall before.hall (AdmitMore number ask) after.hall
 IsRaise before who number ask (Err (ByBook refusal)) after =
     (why_no_raise before.book.plan who number ask before.book.grants (grant_of who number before.book.grants) ≡ Some refusal) × (after ≡ before)
 IsRaise before who number ask (Err OldTenant) after = ⊥
@@ -80,7 +80,7 @@ IsRaise before who number ask (Err OutOfMemory) after =
 
 -- what comes of a session's end: both give back what it had; where the book has no such session nothing changes
 abbrev pub IsEnd : BookedOf → Who → ℕ → Bool → BookedOf → Type 0
-IsEnd before who number true after = IsSome (grant_of who number before.book.grants) × (after.book ≡ taken before.book (Closes who number)) × Took before.hall (Leave number) after.hall
+IsEnd before who number true after = IsSome (grant_of who number before.book.grants) × (after.book ≡ taken before.book (Closes who number)) × TookInHall before.hall (Leave number) after.hall
 IsEnd before who number false after = (grant_of who number before.book.grants ≡ None) × (after ≡ before)
 
 -- a step that neither begins nor ends a tenant, nor raises what it reserves

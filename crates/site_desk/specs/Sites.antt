@@ -17,7 +17,7 @@ use Rattle.site_book.specs.declared.held.Held.{Held}
 use Rattle.site_book.specs.declared.held.Overrun.{Overrun}
 use Rattle.site_book.specs.declared.who.Who.{Who}
 use Rattle.site_book.specs.Books.{BookOf, overrun_of}
-use Rattle.site_book.specs.Events.{names_of}
+use Rattle.site_book.specs.Events.{names_granted}
 use Rattle.site_book.specs.Plans.{PlanOf}
 use Rattle.site_book.specs.declared.coming.Coming.{Coming}
 use Rattle.site_book.specs.declared.coming.Coming.TheVariants.{Enters, Waits, Ends, Refused}
@@ -26,8 +26,8 @@ use Rattle.site_book.specs.declared.present.Present.{Present}
 use Rattle.site_book.specs.declared.present.Told.TheVariants.{ForAnother}
 use Rattle.site_book.specs.declared.present.Whom.TheVariants.{One}
 use Rattle.site_book.specs.Comings.{coming}
-use Rattle.site_book.specs.Rolls.{marked_all, names_in, newcomer, without_present}
-use Rattle.fair_pool.specs.Shares.{SharesOf, entered}
+use Rattle.site_book.specs.Rolls.{marked_all, names_present, newcomer, without_present}
+use Rattle.fair_pool.specs.Shares.{SharesOf, tenant_entered}
 use Rattle.fair_pool.specs.Picks.{seen_all, IsFairTask, IsNoTask}
 use Rattle.pool_rules.specs.declared.task.Task.{Task}
 use Rattle.site_desk.specs.Sharing.{share_customer, share_network, unshared}
@@ -46,7 +46,7 @@ pub record SiteOf : Type 0 where
 
 -- who is there is who has a grant, and in the same order
 abbrev pub IsListed : BookOf → List Present → Type 0
-IsListed book roll = names_in roll ≡ names_of book.grants
+IsListed book roll = names_present roll ≡ names_granted book.grants
 
 -- what comes of one who asks for a session there
 abbrev pub met : SiteOf → Who → Quota → ℕ → ℕ → Coming
@@ -57,7 +57,7 @@ met site who ask now most = coming site.booked.book.plan site.booked.book.grants
 -- nobody's going would help, or where no number or no memory is left
 abbrev pub IsCame : SiteOf → Who → Quota → ℕ → ℕ → Came → SiteOf → Type 0
 IsCame before who ask now most (Seated number) after =
-    (met before who ask now most ≡ Enters) × IsAdmission before.booked who ask (Ok number) after.booked × (after ≡ record before { booked = after.booked; roll = before.roll ++ newcomer who number now ∷ []; shares = entered number (share_customer who) (share_network who) before.shares })
+    (met before who ask now most ≡ Enters) × IsAdmission before.booked who ask (Ok number) after.booked × (after ≡ record before { booked = after.booked; roll = before.roll ++ newcomer who number now ∷ []; shares = tenant_entered number (share_customer who) (share_network who) before.shares })
 IsCame before who ask now most (Waiting refusal) after = (met before who ask now most ≡ Waits refusal) × (after ≡ before)
 IsCame before who ask now most (Ending session refusal) after =
     (met before who ask now most ≡ Ends session refusal) × (after ≡ record before { roll = marked_all (One session) (told_to ForAnother) before.roll })
@@ -67,14 +67,14 @@ IsCame before who ask now most (Turned OutOfMemory) after = (met before who ask 
 
 -- what is done where a session leaves: its tenant leaves, its grant is taken back, it is listed no more and shares no more, all at once; nothing
 -- where it isn't there
-abbrev pub IsGone : SiteOf → Who → ℕ → Bool → SiteOf → Type 0
-IsGone before who number true after =
+abbrev pub IsSessionGone : SiteOf → Who → ℕ → Bool → SiteOf → Type 0
+IsSessionGone before who number true after =
     IsEnd before.booked who number true after.booked × (after ≡ record before { booked = after.booked; roll = without_present who number before.roll; shares = unshared number before.shares; left = (before.left + 1) % 2 ^ 64 })
-IsGone before who number false after = IsEnd before.booked who number false after.booked × (after ≡ before)
+IsSessionGone before who number false after = IsEnd before.booked who number false after.booked × (after ≡ before)
 
 -- one step was offered to the hall, and nothing else was done
-abbrev pub IsOffered : SiteOf → StepOf LeafAnswer → Result (DidOf Leaf) Refusal → SiteOf → Type 0
-IsOffered before step answer after =
+abbrev pub IsSiteStep : SiteOf → StepOf LeafAnswer → Result (DidOf Leaf) Refusal → SiteOf → Type 0
+IsSiteStep before step answer after =
     IsDecided before.booked.hall step answer after.booked.hall × (after ≡ record before { booked = record before.booked { hall = after.booked.hall } })
 
 -- whether one of these sessions has this number and wasn't told to end
@@ -83,24 +83,24 @@ stays_in number [] = false
 stays_in number (present ∷ roll) = (number == present.session) && is_none present.told || stays_in number roll
 
 -- whether a seat that waits for a job waits on: the desk isn't closed, the session wasn't told to end, and the job hasn't ended
-abbrev pub waits_on : SiteOf → ℕ → ℕ → Bool
-waits_on site number job = not site.closed && stays_in number site.roll && is_some_live (job_of site.booked.hall.shared number job)
+abbrev pub site_waits_on : SiteOf → ℕ → ℕ → Bool
+site_waits_on site number job = not site.closed && stays_in number site.roll && is_some_live (job_of site.booked.hall.shared number job)
 
 -- whether a worker that waits may go on: the desk is closed, or some frame is ready
-abbrev pub has_news : SiteOf → Bool
-has_news site = site.closed || not (ready_count site.booked.hall.shared.tenants == 0)
+abbrev pub site_has_news : SiteOf → Bool
+site_has_news site = site.closed || not (ready_count site.booked.hall.shared.tenants == 0)
 
 -- the frame that a worker is given after it has waited, with its home: None exactly where the desk is closed or no frame is ready, else one that
 -- is ready
-abbrev pub IsNext : SiteOf → Option (FrameId × ℕ) → Type 0
-IsNext site None = (not site.closed && not (ready_count site.booked.hall.shared.tenants == 0)) ≡ false
-IsNext site (Some ready) = (site.closed ≡ false) × IsReadyAt (named site.booked.hall.shared ready.0) ready.1
+abbrev pub IsNextFrame : SiteOf → Option (FrameId × ℕ) → Type 0
+IsNextFrame site None = (not site.closed && not (ready_count site.booked.hall.shared.tenants == 0)) ≡ false
+IsNextFrame site (Some ready) = (site.closed ≡ false) × IsReadyAt (named site.booked.hall.shared ready.0) ready.1
 
 -- what a pick is and does: it is seen who has a ready frame, and the task is a fair one by then; None only where no tenant that shares has one.
 -- Nothing else is done: the frame isn't taken, and nobody is charged
-abbrev pub IsPicked : SiteOf → Option Task → SiteOf → Type 0
-IsPicked before None after = (after ≡ record before { shares = seen_all before.booked.hall.shared before.shares }) × IsNoTask before.booked.hall.shared after.shares
-IsPicked before (Some task) after = (after ≡ record before { shares = seen_all before.booked.hall.shared before.shares }) × IsFairTask before.booked.hall.shared after.shares task
+abbrev pub IsSitePick : SiteOf → Option Task → SiteOf → Type 0
+IsSitePick before None after = (after ≡ record before { shares = seen_all before.booked.hall.shared before.shares }) × IsNoTask before.booked.hall.shared after.shares
+IsSitePick before (Some task) after = (after ≡ record before { shares = seen_all before.booked.hall.shared before.shares }) × IsFairTask before.booked.hall.shared after.shares task
 
 -- a ready frame of any tenant, as a task; None where none is ready
 abbrev pub IsAnyTask : SiteOf → Option Task → Type 0
@@ -111,9 +111,9 @@ IsAnyTask site (Some task) = IsReadyAt (named site.booked.hall.shared task.frame
 -- where the desk is closed, and where no frame is ready
 abbrev pub IsNextTask : SiteOf → Option Task → SiteOf → Type 0
 IsNextTask before None after =
-    ((before.closed ≡ true) × (after ≡ before)) ⊎ ((before.closed ≡ false) × IsPicked before None after × (ready_count before.booked.hall.shared.tenants ≡ 0))
+    ((before.closed ≡ true) × (after ≡ before)) ⊎ ((before.closed ≡ false) × IsSitePick before None after × (ready_count before.booked.hall.shared.tenants ≡ 0))
 IsNextTask before (Some task) after =
-    (before.closed ≡ false) × (IsPicked before (Some task) after ⊎ (IsPicked before None after × IsReadyAt (named before.booked.hall.shared task.frame) task.home))
+    (before.closed ≡ false) × (IsSitePick before (Some task) after ⊎ (IsSitePick before None after × IsReadyAt (named before.booked.hall.shared task.frame) task.home))
 
 -- by how much each grant's part has more than a plan allows, in the order of the grants
 abbrev pub overruns_of : PlanOf → List Held → List Held → List (Option Overrun)

@@ -5,7 +5,7 @@
 ghost use Rattle.std.specs.Prelude.{◌≡◌, ◌≢◌, true, Err};
 ghost use Rattle.sched_rules.specs.declared.refusal.Refusal.TheVariants.{OutOfMemory};
 ghost use Rattle.desk_rules.specs.hall.Journals.{is_worker_step};
-ghost use Rattle.site_desk.specs.Sites.{IsOffered};
+ghost use Rattle.site_desk.specs.Sites.{IsSiteStep};
 
 use crate::bells::{Bells, bell_of};
 use crate::locked_site::LockedSite;
@@ -44,7 +44,7 @@ impl<'d, A: Allocator + Clone> SiteGuard<'d, A> {
     /// gives the worker a leaf, its waits follow the leaf's depth from then on. Nobody is woken before `release`.
     pub fn offer(&mut self, backoff: &mut Backoff, step: &Step<Jamboree>) -> StepAnswer
         requires { is_worker_step step.now ≡ true }
-        ensures step { IsOffered self.old step.now result self.new }
+        ensures step { IsSiteStep self.old step.now result self.new }
         ensures memory { result ≢ Err OutOfMemory }
     {
         let answer = self.take(step);
@@ -57,7 +57,7 @@ impl<'d, A: Allocator + Clone> SiteGuard<'d, A> {
     /// Offers a worker's step to the hall, and notes whom it wakes.
     fn take(&mut self, step: &Step<Jamboree>) -> StepAnswer
         requires { is_worker_step step.now ≡ true }
-        ensures step { IsOffered self.old step.now result self.new }
+        ensures step { IsSiteStep self.old step.now result self.new }
         ensures memory { result ≢ Err OutOfMemory }
     {
         let answer = self.kept.offer(step);

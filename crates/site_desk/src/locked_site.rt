@@ -19,8 +19,8 @@ ghost use Rattle.site_book.specs.declared.coming.Coming.TheVariants.{Enters};
 ghost use Rattle.site_book.specs.Rolls.{marked_all};
 ghost use Rattle.fair_pool.specs.Lines.{empty_line};
 ghost use Rattle.fair_pool.specs.Picks.{charged_to};
-ghost use Rattle.site_desk.specs.Seats.{IsAsked};
-ghost use Rattle.site_desk.specs.Sites.{IsCame, IsGone, IsOffered, IsNext, IsAnyTask, IsNextTask, IsPicked, has_news, met, overruns_of, stays_in, waits_on};
+ghost use Rattle.site_desk.specs.Seats.{IsSiteAsk};
+ghost use Rattle.site_desk.specs.Sites.{IsCame, IsSessionGone, IsSiteStep, IsNextFrame, IsAnyTask, IsNextTask, IsSitePick, site_has_news, met, overruns_of, stays_in, site_waits_on};
 
 use crate::booked::BookedHall;
 use crate::came::Came;
@@ -140,7 +140,7 @@ impl<A: Allocator + Clone> LockedSite<A> {
     /// False where it isn't there.
     #[tactic(auto, using(crate::proofs::Lists::listed_close))]
     pub(crate) fn leave(&mut self, who: Who, number: u64) -> bool
-        ensures { IsGone self.old who number result self.new }
+        ensures { IsSessionGone self.old who number result self.new }
     {
         let LockedSite {
             booked,
@@ -192,7 +192,7 @@ impl<A: Allocator + Clone> LockedSite<A> {
     fn take(&mut self, step: &Step<Jamboree>) -> StepAnswer
         requires search { IsSearch step.now }
         requires within { is_within_seat step.now ≡ true }
-        ensures step { IsOffered self.old step.now result self.new }
+        ensures step { IsSiteStep self.old step.now result self.new }
         ensures memory { result ≢ Err OutOfMemory }
     {
         self.booked.offer(step)
@@ -207,12 +207,12 @@ impl<A: Allocator + Clone> LockedSite<A> {
         depth: u8,
     ) -> Result<u64, Refusal>
         requires { depth ≤ 12 }
-        ensures asked { IsAsked (record { board = position.now.board; depth = depth }) seat.old result seat.new }
+        ensures asked { IsSiteAsk (record { board = position.now.board; depth = depth }) seat.old result seat.new }
         ensures refused { IfErr result (Contains ask_refusals) }
         ensures full { length seat.old.asked ≡ 256 → self.new ≡ self.old }
         ensures step { MatchResult result
-            (λ _. (did : DidOf LeafOf) × IsOffered self.old (Submit seat.old.number (root_words position.now.board.own position.now.board.opp depth) frame_size) (Ok did) self.new)
-            (λ refusal. length seat.old.asked ≢ 256 → IsOffered self.old (Submit seat.old.number (root_words position.now.board.own position.now.board.opp depth) frame_size) (Err refusal) self.new) }
+            (λ _. (did : DidOf LeafOf) × IsSiteStep self.old (Submit seat.old.number (root_words position.now.board.own position.now.board.opp depth) frame_size) (Ok did) self.new)
+            (λ refusal. length seat.old.asked ≢ 256 → IsSiteStep self.old (Submit seat.old.number (root_words position.now.board.own position.now.board.opp depth) frame_size) (Err refusal) self.new) }
     {
         if seat.asked.len() == JOBS {
             return Err(Refusal::NoJobsLeft);
@@ -231,8 +231,8 @@ impl<A: Allocator + Clone> LockedSite<A> {
     pub(crate) fn cancel(&mut self, seat: &Seat, job: u64) -> Result<(), Refusal>
         ensures none { seat_asked_at seat.now.asked job ≡ None → (result ≡ Err NoJob) × (self.new ≡ self.old) }
         ensures step { MatchResult result
-            (λ _. (did : DidOf LeafOf) × IsOffered self.old (Cancel seat.now.number job) (Ok did) self.new)
-            (λ refusal. seat_asked_at seat.now.asked job ≢ None → IsOffered self.old (Cancel seat.now.number job) (Err refusal) self.new) }
+            (λ _. (did : DidOf LeafOf) × IsSiteStep self.old (Cancel seat.now.number job) (Ok did) self.new)
+            (λ refusal. seat_asked_at seat.now.asked job ≢ None → IsSiteStep self.old (Cancel seat.now.number job) (Err refusal) self.new) }
         ensures refused { IfErr result (Contains cancel_refusals) }
     {
         if seat_asked_at(seat.asked.as_slice(), job).is_none() {
@@ -246,7 +246,7 @@ impl<A: Allocator + Clone> LockedSite<A> {
     /// Offers a worker's step to the hall.
     pub(crate) fn offer(&mut self, step: &Step<Jamboree>) -> StepAnswer
         requires { is_worker_step step.now ≡ true }
-        ensures step { IsOffered self.old step.now result self.new }
+        ensures step { IsSiteStep self.old step.now result self.new }
         ensures memory { result ≢ Err OutOfMemory }
     {
         self.take(step)
@@ -267,7 +267,7 @@ impl<A: Allocator + Clone> LockedSite<A> {
     /// Whether a seat goes on waiting for this job: it is there and hasn't ended, the session wasn't told to end, and the desk isn't
     /// closed.
     pub(crate) fn keeps_waiting(&self, number: u64, job: u64) -> bool
-        ensures { result ≡ waits_on self.now number job }
+        ensures { result ≡ site_waits_on self.now number job }
     {
         match self.booked.hall().outcome(number, job) {
             Some(Outcome::Pending) => !self.closed && self.stays(number),
@@ -306,7 +306,7 @@ impl<A: Allocator + Clone> LockedSite<A> {
 
     /// Whether a worker that waits may go on: the desk is closed, or some frame is ready.
     pub(crate) fn has_news(&self) -> bool
-        ensures { result ≡ has_news self.now }
+        ensures { result ≡ site_has_news self.now }
     {
         self.closed || self.booked.hall().core().any_ready().is_some()
     }
@@ -314,7 +314,7 @@ impl<A: Allocator + Clone> LockedSite<A> {
     /// A frame that is ready, with its home; `None` where no frame is ready or the desk is closed. The frame isn't taken: it stays
     /// ready until a worker's step takes it.
     pub(crate) fn next_ready(&self) -> Option<(FrameId, u8)>
-        ensures { IsNext self.now result }
+        ensures { IsNextFrame self.now result }
     {
         if self.closed {
             None
@@ -326,7 +326,7 @@ impl<A: Allocator + Clone> LockedSite<A> {
     /// The task that comes next, by who was served least: the newest ready frame of a tenant of a customer that none with a ready frame
     /// was served less than; `None` where no tenant that shares has one. The frame isn't taken, and nobody is charged.
     pub(crate) fn pick(&mut self) -> Option<Task>
-        ensures { IsPicked self.old result self.new }
+        ensures { IsSitePick self.old result self.new }
     {
         let hall = self.booked.hall();
         fair_task(hall, &mut self.shares)

@@ -18,9 +18,9 @@ pub struct Seat {
 
 // Clauses see whose it is, the number and the list.
 impl Model for Seat {
-    ghost use Rattle.site_desk.specs.Seats.{SeatOf};
+    ghost use Rattle.site_desk.specs.Seats.{SiteSeatOf};
 
-    ghost Value = { SeatOf };
+    ghost Value = { SiteSeatOf };
 
     ghost view = { λ s. record { who = s.who; number = s.number; asked = s.asked.items } };
 }

@@ -1,6 +1,6 @@
 //! As who a session shares the workers with others.
 ghost use Rattle.std.specs.Prelude.{◌≡◌};
-ghost use Rattle.fair_pool.specs.Shares.{entered};
+ghost use Rattle.fair_pool.specs.Shares.{tenant_entered};
 ghost use Rattle.site_desk.specs.Sharing.{share_customer, share_network, unshared};
 
 use fair_pool::FairShare;
@@ -33,7 +33,7 @@ fn share_network(who: Who) -> u64
 
 /// A customer's tenant shares from now on.
 pub(crate) fn share(shares: &mut FairShare, who: Who, tenant: u64)
-    ensures { shares.new ≡ entered tenant (share_customer who) (share_network who) shares.old }
+    ensures { shares.new ≡ tenant_entered tenant (share_customer who) (share_network who) shares.old }
 {
     let _place = shares.enter(tenant, share_customer(who), share_network(who));
 }

@@ -7,7 +7,7 @@ ghost use Rattle.desk_rules.specs.Asked.{ask_refusals, cancel_refusals, seat_ask
 ghost use Rattle.fair_pool.specs.Lines.{empty_line};
 ghost use Rattle.task_deques.specs.Deals.{posts};
 ghost use Rattle.site_desk.specs.Entries.{IsEntry};
-ghost use Rattle.site_desk.specs.Seats.{IsAsked};
+ghost use Rattle.site_desk.specs.Seats.{IsSiteAsk};
 
 use crate::bells::{A_SLEEP, Bells};
 use crate::booked::BookedHall;
@@ -154,7 +154,7 @@ impl<A: Allocator + Clone> SiteDesk<A> {
         depth: u8,
     ) -> Result<u64, Refusal>
         requires { depth ≤ 12 }
-        ensures asked { IsAsked (record { board = position.now.board; depth = depth }) seat.old result seat.new }
+        ensures asked { IsSiteAsk (record { board = position.now.board; depth = depth }) seat.old result seat.new }
         ensures refused { IfErr result (Contains ask_refusals) }
     {
         let job = self.enter(rt).ask(seat, position, depth)?;

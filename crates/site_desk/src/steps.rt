@@ -4,7 +4,7 @@ ghost use Rattle.sched_rules.specs.Cores.{is_full, is_beyond, reservations_in, t
 ghost use Rattle.sched_rules.specs.Lone.{is_lower};
 ghost use Rattle.sched_rules.specs.Trees.{Tenant};
 ghost use Rattle.sched_rules.specs.declared.step.StepOf.TheVariants.{Leave};
-ghost use Rattle.site_desk.specs.Booked.{IsBooked, IsLetIn, IsRaisedTo, Took, turned_by, IsAdmission, IsRaise, IsEnd};
+ghost use Rattle.site_desk.specs.Booked.{IsBooked, IsLetIn, IsRaisedTo, TookInHall, turned_by, IsAdmission, IsRaise, IsEnd};
 
 use crate::turned::Turned;
 use hall::{Hall, Refusal, StepOf};
@@ -42,7 +42,7 @@ pub(crate) fn raise_to<A: Allocator + Clone>(
 /// Lets a tenant go that is there.
 pub(crate) fn let_go<A: Allocator + Clone>(hall: &mut Hall<A>, number: u64)
     requires { (tenant : Tenant) × (tenant_in hall.old.shared.tenants number ≡ Some tenant) }
-    ensures { Took hall.old (Leave number) hall.new }
+    ensures { TookInHall hall.old (Leave number) hall.new }
 {
     let _answer = hall.offer(&StepOf::Leave(number));
 }

@@ -21,9 +21,9 @@ abbrev pub same_front : ℕ → ℕ → ℕ → ℕ → Bool
 same_front width bits a b = (a / 2 ^ (width - bits)) == (b / 2 ^ (width - bits))
 
 -- how many bits of an address a network fixes
-abbrev pub bits_of : Network → ℕ
-bits_of (v4_network own bits) = bits
-bits_of (v6_network high low bits) = bits
+abbrev pub fixed_bits : Network → ℕ
+fixed_bits (v4_network own bits) = bits
+fixed_bits (v6_network high low bits) = bits
 
 -- whether a network has an address: the bits that it fixes are the address's
 abbrev pub has : Network → Address → Bool

@@ -51,28 +51,28 @@ same_network network [] = None
 same_network network (key ∷ keys) = if is_same_network key.network network then Some key.customer else same_network network keys
 
 -- the first of two
-abbrev pub or_else : Option ℕ → Option ℕ → Option ℕ
-or_else None next = next
-or_else (Some number) next = Some number
+abbrev pub or_other : Option ℕ → Option ℕ → Option ℕ
+or_other None next = next
+or_other (Some number) next = Some number
 
 -- the customer of the second of two tokens that are the same
 abbrev pub repeated_token : List TokenKey → Option ℕ
 repeated_token [] = None
-repeated_token (key ∷ keys) = or_else (customer_of_digest key.digest keys) (repeated_token keys)
+repeated_token (key ∷ keys) = or_other (customer_of_digest key.digest keys) (repeated_token keys)
 
 -- that of two certificates
 abbrev pub repeated_certificate : List CertificateKey → Option ℕ
 repeated_certificate [] = None
-repeated_certificate (key ∷ keys) = or_else (customer_of_name (string_bytes key.name) keys) (repeated_certificate keys)
+repeated_certificate (key ∷ keys) = or_other (customer_of_name (string_bytes key.name) keys) (repeated_certificate keys)
 
 -- that of two networks
 abbrev pub repeated_network : List NetworkKey → Option ℕ
 repeated_network [] = None
-repeated_network (key ∷ keys) = or_else (same_network key.network keys) (repeated_network keys)
+repeated_network (key ∷ keys) = or_other (same_network key.network keys) (repeated_network keys)
 
 -- the customer of a key that stands twice
 abbrev pub shared_key : Keys → Option ℕ
-shared_key keys = or_else (repeated_token keys.tokens.items) (or_else (repeated_certificate keys.certificates.items) (repeated_network keys.networks.items))
+shared_key keys = or_other (repeated_token keys.tokens.items) (or_other (repeated_certificate keys.certificates.items) (repeated_network keys.networks.items))
 
 -- the fault of the first test that fails
 abbrev pub or_fault : Option DirectoryFault → Option DirectoryFault → Option DirectoryFault
@@ -80,8 +80,8 @@ or_fault None next = next
 or_fault (Some fault) next = Some fault
 
 -- the fault where a test says false
-abbrev pub unless : Bool → DirectoryFault → Option DirectoryFault
-unless test fault = if test then None else Some fault
+abbrev pub fault_unless : Bool → DirectoryFault → Option DirectoryFault
+fault_unless test fault = if test then None else Some fault
 
 -- the fault of this customer, if there is one
 abbrev pub of_customer : (ℕ → DirectoryFault) → Option ℕ → Option DirectoryFault
@@ -91,6 +91,6 @@ of_customer fault (Some number) = Some (fault number)
 -- the first fault of a directory: a customer that may never say a line, one without a key, and a key that stands twice
 abbrev pub fault_of : List Terms → Terms → Keys → Option DirectoryFault
 fault_of customers guest keys =
-    or_fault (unless (is_fit_rate guest.rate && are_fit_terms customers) Rates)
+    or_fault (fault_unless (is_fit_rate guest.rate && are_fit_terms customers) Rates)
     (or_fault (of_customer Keyless (first_keyless customers 0 keys))
     (of_customer Shared (shared_key keys)))

@@ -8,7 +8,7 @@ use Rattle.site_file.specs.declared.address.Address.{Address}
 use Rattle.site_file.specs.declared.keys.TokenKey.{TokenKey}
 use Rattle.site_file.specs.declared.keys.CertificateKey.{CertificateKey}
 use Rattle.site_file.specs.declared.keys.NetworkKey.{NetworkKey}
-use Rattle.site_file.specs.Addresses.{has, bits_of, guest_of}
+use Rattle.site_file.specs.Addresses.{has, fixed_bits, guest_of}
 
 -- the customer of the first token of this digest
 abbrev pub customer_of_digest : List ℕ → List TokenKey → Option ℕ
@@ -24,7 +24,7 @@ customer_of_name name (key ∷ keys) = if bytes_eq (string_bytes key.name) name 
 abbrev pub closer : Option NetworkKey → Option NetworkKey → Option NetworkKey
 closer None next = next
 closer (Some key) None = Some key
-closer (Some key) (Some next) = if nat_lt (bits_of key.network) (bits_of next.network) then Some next else Some key
+closer (Some key) (Some next) = if nat_lt (fixed_bits key.network) (fixed_bits next.network) then Some next else Some key
 
 -- of the keys whose networks have the address, the one that fixes the most bits
 abbrev pub closest : Address → List NetworkKey → Option NetworkKey

@@ -11,8 +11,8 @@ abbrev pub may_pass : Rate → ℕ → ℕ → Bool
 may_pass rate paid now = nat_le (after_line rate paid now) (now + rate.period * rate.burst)
 
 -- when all are paid off after a line that passes or doesn't: one that doesn't costs nothing
-abbrev pub after : Rate → ℕ → ℕ → ℕ
-after rate paid now = if may_pass rate paid now then after_line rate paid now else paid
+abbrev pub paid_after : Rate → ℕ → ℕ → ℕ
+paid_after rate paid now = if may_pass rate paid now then after_line rate paid now else paid
 
 -- how many of the lines at these times pass
 abbrev pub passed : Rate → ℕ → List ℕ → ℕ

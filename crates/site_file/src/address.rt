@@ -2,7 +2,7 @@
 ghost use Rattle.std.specs.Prelude.{◌≡◌, ◌≤◌};
 ghost use Rattle.std.specs.Int.{w32, w64, from_be_bytes};
 ghost use Rattle.std.specs.Prelude.{take, drop};
-ghost use Rattle.site_file.specs.Addresses.{v6_of, guest_of, same_front, has, bits_of, is_same_network};
+ghost use Rattle.site_file.specs.Addresses.{v6_of, guest_of, same_front, has, fixed_bits, is_same_network};
 ghost use Rattle.site_file.specs.declared.address.Address.TheVariants.{V4};
 
 use site_book::Who;
@@ -87,7 +87,7 @@ fn same_front(width: u8, bits: u8, a: u64, b: u64) -> bool
 impl Network {
     /// How many bits count: the more there are, the fewer addresses it has.
     pub(crate) fn bits(self) -> u8
-        ensures { result ≡ bits_of self }
+        ensures { result ≡ fixed_bits self }
     {
         match self {
             Network::V4(_, bits) => bits,

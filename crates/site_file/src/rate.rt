@@ -1,5 +1,5 @@
 ghost use Rattle.std.specs.Prelude.{◌≡◌, ◌<◌, ◌^◌};
-ghost use Rattle.site_file.specs.Rates.{after, may_pass};
+ghost use Rattle.site_file.specs.Rates.{paid_after, may_pass};
 
 use std::marker::Model;
 
@@ -42,7 +42,7 @@ impl Meter {
     pub fn pass(&mut self, rate: Rate, now: u64) -> bool
         requires { now < 2 ^ 62 }
         ensures passes { result ≡ may_pass rate self.old now }
-        ensures meter { self.new ≡ after rate self.old now }
+        ensures meter { self.new ≡ paid_after rate self.old now }
     {
         let period = u64::from(rate.period);
         let room = period * u64::from(rate.burst);

@@ -6,8 +6,8 @@ ghost use Rattle.site_file.specs.declared.address.Network.TheVariants.{V4 as v4_
 ghost use Rattle.site_file.specs.Addresses.{v6_of, guest_of, has, is_same_network};
 ghost use Rattle.site_file.specs.Keys.{by_address, by_connection};
 ghost use Rattle.site_file.specs.Checks.{repeated_network, has_network, is_fit_rate};
-ghost use Rattle.site_file.specs.Rates.{after, may_pass, passed};
-ghost use Rattle.site_file.specs.Counts.{count_of};
+ghost use Rattle.site_file.specs.Rates.{paid_after, may_pass, passed};
+ghost use Rattle.site_file.specs.Counts.{count_within};
 
 /// Addresses at the edges of networks, and of the other version.
 pub fn networks_have_addresses()
@@ -59,14 +59,14 @@ pub fn three_at_once()
     ensures none { passed (record { period = 10; burst = 0 }) 0 (100 ∷ 900 ∷ []) ≡ 0 }
     ensures edge { may_pass (record { period = 10; burst = 1 }) 100 100 ≡ true }
     ensures before { may_pass (record { period = 10; burst = 1 }) 100 99 ≡ false }
-    ensures free { after (record { period = 10; burst = 1 }) 100 99 ≡ 100 }
-    ensures back { after (record { period = 10; burst = 2 }) 100 95 ≡ 110 }
+    ensures free { paid_after (record { period = 10; burst = 1 }) 100 99 ≡ 100 }
+    ensures back { paid_after (record { period = 10; burst = 2 }) 100 95 ≡ 110 }
 {}
 
 /// Numbers at the edges of what is allowed.
 pub fn numbers_are_counts()
-    ensures least { count_of (pos 1) 1 4096 ≡ Some 1 }
-    ensures below { count_of (pos 0) 1 4096 ≡ None }
-    ensures above { count_of (pos 4097) 1 4096 ≡ None }
-    ensures negative { count_of (negsuc 0) 0 4096 ≡ None }
+    ensures least { count_within (pos 1) 1 4096 ≡ Some 1 }
+    ensures below { count_within (pos 0) 1 4096 ≡ None }
+    ensures above { count_within (pos 4097) 1 4096 ≡ None }
+    ensures negative { count_within (negsuc 0) 0 4096 ≡ None }
 {}

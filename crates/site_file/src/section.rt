@@ -1,6 +1,6 @@
 //! A table of the file, whose words are taken by their types.
 ghost use Rattle.std.specs.Prelude.{◌≡◌, ◌≤◌, IfOk, IfSome};
-ghost use Rattle.site_file.specs.Counts.{count_of};
+ghost use Rattle.site_file.specs.Counts.{count_within};
 
 use crate::faults::{FileFault, line_of};
 use std::alloc::{AllocError, Global};
@@ -22,7 +22,7 @@ pub(crate) const TABLES: &str = "is to be tables, each with a head of two bracke
 
 /// The number, where it is from `least` to `most`.
 pub(crate) fn count_of(number: i64, least: u32, most: u32) -> Option<u32>
-    ensures value { result ≡ count_of number least most }
+    ensures value { result ≡ count_within number least most }
     ensures within { IfSome result (λ count. (least ≤ count) × (count ≤ most)) }
 {
     match u32::try_from(number) {

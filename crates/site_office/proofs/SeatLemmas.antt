@@ -8,24 +8,24 @@ use Rattle.sched_rules.specs.declared.refusal.Refusal.TheVariants.{NoJob}
 use Rattle.sched_rules.specs.Refusals.{refusal_number}
 use Rattle.tenant_quota.specs.Quota.{Quota}
 use Rattle.session.specs.Calls.{Cancel, Reserve, Reserved, Ended, Told as ToldOf, Refused, reply_of}
-use Rattle.session.specs.Asks.{Asked, asked_at, IsToldOf, KeepsAsks, SaysTrue}
+use Rattle.session.specs.Asks.{Asked, asked_at, IsJobReply, KeepsAsks, SaysTrue}
 use Rattle.session.specs.declared.standings.Standing.{Standing}
 use Rattle.desk_rules.specs.declared.asked.SeatAsked.{SeatAsked}
 use Rattle.desk_rules.specs.Asked.{cancel_refusals, IsShown, seat_asked_at}
 use Rattle.desk_office.specs.Offices.{ask_of, told_answer}
 use Rattle.desk_office.proofs.SeatLemmas.{asked_at-map, told_of, says, refused_by, unasked}
-use Rattle.site_desk.specs.Seats.{SeatOf}
+use Rattle.site_desk.specs.Seats.{SiteSeatOf}
 use Rattle.site_office.specs.Refusing.{raise_refusals}
-use Rattle.site_office.specs.Offices.{asks_of}
+use Rattle.site_office.specs.Offices.{asks_of_seat}
 
 -- what the seat that is there shows of a job
-pub seat_shows : (here : Option SeatOf) (seat : SeatOf) (job : ℕ) (answer : Result Outcome Refusal) (said : Result Standing Refusal) → here ≡ Some seat → IsShown (seat_asked_at seat.asked job) answer → said ≡ told_answer answer
-    → SaysTrue (asks_of here) (reply_of (ToldOf job) said) × IsToldOf job (asked_at (asks_of here) job) (reply_of (ToldOf job) said)
+pub seat_shows : (here : Option SiteSeatOf) (seat : SiteSeatOf) (job : ℕ) (answer : Result Outcome Refusal) (said : Result Standing Refusal) → here ≡ Some seat → IsShown (seat_asked_at seat.asked job) answer → said ≡ told_answer answer
+    → SaysTrue (asks_of_seat here) (reply_of (ToldOf job) said) × IsJobReply job (asked_at (asks_of_seat here) job) (reply_of (ToldOf job) said)
 seat_shows here seat job answer said is shown says_so =
-    let tells : IsToldOf job (asked_at (map ask_of seat.asked) job) (reply_of (ToldOf job) (told_answer answer)) =
-    subst (λ o. IsToldOf job o (reply_of (ToldOf job) (told_answer answer))) (sym (asked_at-map seat.asked job)) (told_of job (seat_asked_at seat.asked job) answer shown) in
-    subst (λ o. SaysTrue (asks_of o) (reply_of (ToldOf job) said) × IsToldOf job (asked_at (asks_of o) job) (reply_of (ToldOf job) said)) (sym is)
-    (subst (λ t. SaysTrue (map ask_of seat.asked) (reply_of (ToldOf job) t) × IsToldOf job (asked_at (map ask_of seat.asked) job) (reply_of (ToldOf job) t)) (sym says_so) (says seat.asked job answer shown, tells))
+    let tells : IsJobReply job (asked_at (map ask_of seat.asked) job) (reply_of (ToldOf job) (told_answer answer)) =
+    subst (λ o. IsJobReply job o (reply_of (ToldOf job) (told_answer answer))) (sym (asked_at-map seat.asked job)) (told_of job (seat_asked_at seat.asked job) answer shown) in
+    subst (λ o. SaysTrue (asks_of_seat o) (reply_of (ToldOf job) said) × IsJobReply job (asked_at (asks_of_seat o) job) (reply_of (ToldOf job) said)) (sym is)
+    (subst (λ t. SaysTrue (map ask_of seat.asked) (reply_of (ToldOf job) t) × IsJobReply job (asked_at (map ask_of seat.asked) job) (reply_of (ToldOf job) t)) (sym says_so) (says seat.asked job answer shown, tells))
 
 -- a seat that stays as it is cancels a job
 cancels : (asks : List SeatAsked) (job : ℕ) (answer : Result (Unit {0}) Refusal) → (seat_asked_at asks job ≡ None → answer ≡ Err NoJob) → IfErr answer (Contains cancel_refusals)
@@ -36,10 +36,10 @@ cancels asks job (Err refusal) none refused =
     (refl, tt, (refused_by cancel_refusals refusal refused, λ h. ap (λ r. Refused (refusal_number r)) (missing (unasked (seat_asked_at asks job) (sym (asked_at-map asks job) ∙ h)))), tt)
 
 -- what becomes of the asks by it
-pub seat_cancels : (here : Option SeatOf) (seat : SeatOf) (job : ℕ) (answer : Result (Unit {0}) Refusal) → here ≡ Some seat
-    → (seat_asked_at seat.asked job ≡ None → answer ≡ Err NoJob) → IfErr answer (Contains cancel_refusals) → KeepsAsks (asks_of here) (Cancel job) (reply_of (λ _. Ended job) answer) (asks_of here)
+pub seat_cancels : (here : Option SiteSeatOf) (seat : SiteSeatOf) (job : ℕ) (answer : Result (Unit {0}) Refusal) → here ≡ Some seat
+    → (seat_asked_at seat.asked job ≡ None → answer ≡ Err NoJob) → IfErr answer (Contains cancel_refusals) → KeepsAsks (asks_of_seat here) (Cancel job) (reply_of (λ _. Ended job) answer) (asks_of_seat here)
 seat_cancels here seat job answer is none refused =
-    subst (λ o. KeepsAsks (asks_of o) (Cancel job) (reply_of (λ _. Ended job) answer) (asks_of o)) (sym is) (cancels seat.asked job answer none refused)
+    subst (λ o. KeepsAsks (asks_of_seat o) (Cancel job) (reply_of (λ _. Ended job) answer) (asks_of_seat o)) (sym is) (cancels seat.asked job answer none refused)
 
 -- asks stay where a reservation is raised, or refused
 pub raises : (asks : List Asked) (quota : Quota) (answer : Result (Unit {0}) Refusal) → IfErr answer (Contains raise_refusals)

@@ -11,14 +11,14 @@ use Rattle.site_office.specs.declared.reception.Info.{Info}
 use Rattle.site_office.specs.Lines.{SiteRequest, Greets, Raises, Informs, Plain}
 
 -- a number, and the space before it
-abbrev pub number_after : ℕ → List ℕ
-number_after number = codes " " ++ decimal number
+abbrev pub spaced_number : ℕ → List ℕ
+spaced_number number = codes " " ++ decimal number
 
 -- the text of what a customer may have and has, with the site's grain and version
 abbrev pub info_text : Info → List ℕ
 info_text info =
-    codes "INFO" ++ number_after info.grain ++ number_after info.may_segments ++ number_after info.may_nodes
-    ++ number_after info.has_segments ++ number_after info.has_nodes ++ codes " 1.0.0"
+    codes "INFO" ++ spaced_number info.grain ++ spaced_number info.may_segments ++ spaced_number info.may_nodes
+    ++ spaced_number info.has_segments ++ spaced_number info.has_nodes ++ codes " 1.0.0"
 
 -- the line is refused by this number, and nothing happens
 abbrev pub IsRefused : {O : Type 0} → ℕ → O → Bool → List ℕ → O → Bool → Type 0

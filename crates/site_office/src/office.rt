@@ -3,7 +3,7 @@ ghost use Rattle.std.specs.Prelude.{◌≡◌, [], is_some, IfOk, IfErr, Contain
 ghost use Rattle.session.specs.Turns.{seated_after};
 ghost use Rattle.session.specs.Asks.{KeepsAsks};
 ghost use Rattle.session.specs.Calls.{Get, Wait as to_wait, Cancel, Told, Ended, reply_of};
-ghost use Rattle.site_office.specs.Offices.{asks_of, owner_of};
+ghost use Rattle.site_office.specs.Offices.{asks_of_seat, owner_of};
 ghost use Rattle.site_office.specs.Refusing.{comer_refusal, comer_refusals};
 
 use crate::entering::{cause_of, comer_refusal, raise_refusal};
@@ -191,7 +191,7 @@ impl<'a, H: House, R: Wait + Clock, A: Allocator + Clone> SiteOffice<'a, H, R, A
 
     /// How the session's job stands now; `NoJob` where there is no session.
     fn got(&self, job: u64) -> Result<Standing, Refusal>
-        ensures { KeepsAsks (asks_of self.now.seat) (Get job) (reply_of (Told job) result) (asks_of self.now.seat) }
+        ensures { KeepsAsks (asks_of_seat self.now.seat) (Get job) (reply_of (Told job) result) (asks_of_seat self.now.seat) }
     {
         match &self.seat {
             Some(seat) => told_answer(self.desk.get(self.rt, seat, job)),
@@ -201,7 +201,7 @@ impl<'a, H: House, R: Wait + Clock, A: Allocator + Clone> SiteOffice<'a, H, R, A
 
     /// How the session's job stands once it has ended, the session is told to end, or the desk is closed; `NoJob` where there is no session.
     fn waited(&self, job: u64, now: u64) -> Result<Standing, Refusal>
-        ensures { KeepsAsks (asks_of self.now.seat) (to_wait job) (reply_of (Told job) result) (asks_of self.now.seat) }
+        ensures { KeepsAsks (asks_of_seat self.now.seat) (to_wait job) (reply_of (Told job) result) (asks_of_seat self.now.seat) }
     {
         match &self.seat {
             Some(seat) => told_answer(self.desk.wait(self.rt, seat, job, now)),
@@ -211,7 +211,7 @@ impl<'a, H: House, R: Wait + Clock, A: Allocator + Clone> SiteOffice<'a, H, R, A
 
     /// Cancels the session's job; `NoJob` where there is no session.
     fn cancelled(&self, job: u64) -> Result<(), Refusal>
-        ensures { KeepsAsks (asks_of self.now.seat) (Cancel job) (reply_of (λ _. Ended job) result) (asks_of self.now.seat) }
+        ensures { KeepsAsks (asks_of_seat self.now.seat) (Cancel job) (reply_of (λ _. Ended job) result) (asks_of_seat self.now.seat) }
     {
         match &self.seat {
             Some(seat) => self.desk.cancel(self.rt, seat, job),
@@ -262,7 +262,7 @@ impl<'a, H: House, R: Wait + Clock, A: Allocator + Clone> SiteOffice<'a, H, R, A
 }
 
 impl<H: House, R: Wait + Clock, A: Allocator + Clone> Office for SiteOffice<'_, H, R, A> {
-    ghost does = { λ from call reply to. KeepsAsks (asks_of from.seat) call reply (asks_of to.seat)
+    ghost does = { λ from call reply to. KeepsAsks (asks_of_seat from.seat) call reply (asks_of_seat to.seat)
         × (is_some to.seat ≡ seated_after (is_some from.seat) reply) };
 
     /// Takes a seat at the desk for a new tenant of the customer that was greeted. `OldTenant` where a tenant is there already, or all

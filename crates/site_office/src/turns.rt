@@ -4,7 +4,7 @@ ghost use Rattle.std.specs.Option.{option_copied};
 ghost use Rattle.line_io.specs.Views.{text_of};
 ghost use Rattle.protocol.specs.Texts.{error_text};
 ghost use Rattle.site_office.specs.Lines.{Greets, Raises, Informs, site_request};
-ghost use Rattle.site_office.specs.Turns.{IsWelcomed, SiteTurned, info_text, number_after};
+ghost use Rattle.site_office.specs.Turns.{IsWelcomed, SiteTurned, info_text, spaced_number};
 ghost use Rattle.site_office.specs.Views.{asked_seen};
 
 use crate::reception::{Greeted, Info, Reception};
@@ -38,7 +38,7 @@ fn refuse(text: &mut SessionText, number: u8)
 /// Appends a space and a number.
 fn push_after(text: &mut SessionText, number: u64)
     requires { length text.old.items + 21 ≤ 1114 }
-    ensures text { text.new.items ≡ text.old.items ++ number_after number }
+    ensures text { text.new.items ≡ text.old.items ++ spaced_number number }
     ensures short { length text.new.items ≤ length text.old.items + 21 }
 {
     text.push(b' ');

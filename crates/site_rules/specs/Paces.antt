@@ -8,5 +8,5 @@ abbrev pub until : Times → Pace → ℕ
 until times pace = min (if pace.welcomed then pace.last + times.idle else pace.came + times.welcome) (2 ^ 64 - 1)
 
 -- how long from now on; None where it may be silent no more
-abbrev pub left : Times → Pace → ℕ → Option ℕ
-left times pace now = if nat_lt now (until times pace) then Some (until times pace - now) else None
+abbrev pub time_left : Times → Pace → ℕ → Option ℕ
+time_left times pace now = if nat_lt now (until times pace) then Some (until times pace - now) else None

@@ -30,15 +30,15 @@ abbrev pub port_of : List ℕ → Option ℕ
 port_of word = port_within (word_number word)
 
 -- what is told by two addresses and what their ports write
-abbrev pub told_by : Bool → List ℕ → List ℕ → ℕ → Option ℕ → Option ℕ → TextOf
-told_by four source target used None other = Wrong
-told_by four source target used (Some port) None = Wrong
-told_by four source target used (Some port) (Some other) = Told four source target port used
+abbrev pub told_by_header : Bool → List ℕ → List ℕ → ℕ → Option ℕ → Option ℕ → TextOf
+told_by_header four source target used None other = Wrong
+told_by_header four source target used (Some port) None = Wrong
+told_by_header four source target used (Some port) (Some other) = Told four source target port used
 
 -- what is told by two addresses and the two words of their ports
 abbrev pub ports_by : Bool → List ℕ → List ℕ → ℕ → Option (List ℕ × List ℕ) → TextOf
 ports_by four source target used None = Wrong
-ports_by four source target used (Some words) = told_by four source target used (port_of words.0) (port_of words.1)
+ports_by four source target used (Some words) = told_by_header four source target used (port_of words.0) (port_of words.1)
 
 abbrev pub told_reading : Bool → List ℕ → List ℕ → List ℕ → ℕ → TextOf
 told_reading four source target ports used = ports_by four source target used (split_at_space ports)

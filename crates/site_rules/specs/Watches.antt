@@ -5,16 +5,16 @@ use Rattle.site_rules.specs.declared.watches.Seen.TheVariants.{Silent, Ended, Lo
 use Rattle.site_rules.specs.declared.watches.Watch.{Watch}
 
 -- since when its input has ended, after a look: from the first look on that saw it
-abbrev pub since_after : Option ℕ → Seen → ℕ → Option ℕ
-since_after before Silent now = None
-since_after (Some since) Ended now = Some since
-since_after (Some since) Lost now = Some since
-since_after None Ended now = Some now
-since_after None Lost now = Some now
+abbrev pub ended_since : Option ℕ → Seen → ℕ → Option ℕ
+ended_since before Silent now = None
+ended_since (Some since) Ended now = Some since
+ended_since (Some since) Lost now = Some since
+ended_since None Ended now = Some now
+ended_since None Lost now = Some now
 
 -- the same of a watch
-abbrev pub after : Watch → Seen → ℕ → Watch
-after watch seen now = record { since = since_after watch.since seen now }
+abbrev pub watch_after : Watch → Seen → ℕ → Watch
+watch_after watch seen now = record { since = ended_since watch.since seen now }
 
 -- whether so much time has passed since then
 abbrev pub has_passed : Option ℕ → ℕ → ℕ → Bool

@@ -1,6 +1,6 @@
 //! Until when a connection may be silent.
 ghost use Rattle.std.specs.Prelude.{◌≡◌, false};
-ghost use Rattle.site_rules.specs.Paces.{left, until};
+ghost use Rattle.site_rules.specs.Paces.{time_left, until};
 
 /// How long a connection may be silent, in milliseconds.
 #[derive(Clone, Copy, Debug)]
@@ -47,7 +47,7 @@ impl Pace {
 
     /// How long it may be silent from now on; `None` where it may be no more.
     pub fn left(&self, times: &Times, now: u64) -> Option<u64>
-        ensures { result ≡ left times.now self.now now }
+        ensures { result ≡ time_left times.now self.now now }
     {
         let until = self.until(times);
         if now < until { Some(until - now) } else { None }

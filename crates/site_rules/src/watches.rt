@@ -1,6 +1,6 @@
 //! When the client of a session that waits for a job is gone.
 ghost use Rattle.std.specs.Prelude.{◌≡◌};
-ghost use Rattle.site_rules.specs.Watches.{after, is_gone};
+ghost use Rattle.site_rules.specs.Watches.{watch_after, is_gone};
 
 /// What is seen of a connection that isn't read.
 #[derive(Clone, Copy, Debug, PartialEq, Eq)]
@@ -26,7 +26,7 @@ impl Watch {
 
     /// After a look.
     pub fn after(self, seen: Seen, now: u64) -> Watch
-        ensures { result ≡ after self seen now }
+        ensures { result ≡ watch_after self seen now }
     {
         match (seen, self.since) {
             (Seen::Silent, _) => Watch { since: None },

@@ -6,8 +6,8 @@ use Rattle.task_deques.specs.Seats.{Deque, DequeSeat}
 use Rattle.task_deques.specs.Deals.{WorkerSeats}
 
 -- the task of a frame that worker 1 made ready
-abbrev pub task : ℕ → Task
-task serial = record { frame = record { tenant = 1; serial = serial }; home = 1 }
+abbrev pub worker_task : ℕ → Task
+worker_task serial = record { frame = record { tenant = 1; serial = serial }; home = 1 }
 
 -- a seat at a deque, with so many parts, which has pushed and taken these tasks
 abbrev pub seat : Deque → ℕ → List Task → List Task → DequeSeat
@@ -26,7 +26,7 @@ abbrev pub two_workers : ℕ → Deque → Deque → List WorkerSeats
 two_workers parts one two = new_worker parts one (two_thieves one two) ∷ new_worker parts two (two_thieves one two) ∷ []
 
 -- worker 1 has pushed the tasks 1, 2 and 3 and taken 3 again, and worker 2 has stolen 1
-abbrev pub played : Deque → Deque → List WorkerSeats
-played one two =
-    record { own = seat one 62 (task 1 ∷ task 2 ∷ task 3 ∷ []) (task 3 ∷ []); thieves = two_thieves one two }
-    ∷ record { own = seat two 62 [] []; thieves = seat one 1 [] (task 1 ∷ []) ∷ seat two 1 [] [] ∷ [] } ∷ []
+abbrev pub played_seats : Deque → Deque → List WorkerSeats
+played_seats one two =
+    record { own = seat one 62 (worker_task 1 ∷ worker_task 2 ∷ worker_task 3 ∷ []) (worker_task 3 ∷ []); thieves = two_thieves one two }
+    ∷ record { own = seat two 62 [] []; thieves = seat one 1 [] (worker_task 1 ∷ []) ∷ seat two 1 [] [] ∷ [] } ∷ []

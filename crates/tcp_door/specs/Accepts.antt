@@ -10,7 +10,7 @@ is_passing Interrupted = true
 is_passing _ = false
 
 -- whether its number says that no descriptor is left: 24 in the process (Linux's EMFILE), 23 in the system (ENFILE)
-abbrev pub is_full : Option ℤ → Bool
-is_full None = false
-is_full (Some (pos number)) = nat_eq number 24 || nat_eq number 23
-is_full (Some (negsuc _)) = false
+abbrev pub is_out_of_descriptors : Option ℤ → Bool
+is_out_of_descriptors None = false
+is_out_of_descriptors (Some (pos number)) = nat_eq number 24 || nat_eq number 23
+is_out_of_descriptors (Some (negsuc _)) = false

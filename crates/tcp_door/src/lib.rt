@@ -19,7 +19,7 @@
 
 ghost use Rattle.std.specs.Prelude.{◌≡◌, IfErr, false};
 ghost use Rattle.std.specs.IoError.{error_kind, raw_os_error};
-ghost use Rattle.tcp_door.specs.Accepts.{is_full, is_passing};
+ghost use Rattle.tcp_door.specs.Accepts.{is_out_of_descriptors, is_passing};
 
 use std::io::{self, ErrorKind};
 use std::net::OpenListener;
@@ -105,7 +105,7 @@ fn is_passing(kind: ErrorKind) -> bool
 
 /// Whether `accept` found no descriptor left for a connection.
 fn is_full(error: &io::Error) -> bool
-    ensures { result ≡ is_full (raw_os_error error.now) }
+    ensures { result ≡ is_out_of_descriptors (raw_os_error error.now) }
 {
     matches!(error.raw_os_error(), Some(PROCESS_IS_FULL | SYSTEM_IS_FULL))
 }

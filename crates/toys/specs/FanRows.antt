@@ -26,8 +26,8 @@ abbrev pub two : ℕ → FrameId
 two serial = record { tenant = 2; serial = serial }
 
 -- so many segments and nodes reserved
-abbrev pub quota : ℕ → ℕ → Quota
-quota segments nodes = record { segments = segments; nodes = nodes }
+abbrev pub toy_quota : ℕ → ℕ → Quota
+toy_quota segments nodes = record { segments = segments; nodes = nodes }
 
 -- so many segments, nodes and steps left
 abbrev pub some_left : ℕ → ℕ → ℕ → Left
@@ -70,7 +70,7 @@ fan_answers =
 
 -- tenant 1 is admitted with so many segments and nodes
 abbrev pub one_with : ℕ → ℕ → List (StepOf FanAnswer)
-one_with segments nodes = Admit 1 (quota segments nodes) ∷ []
+one_with segments nodes = Admit 1 (toy_quota segments nodes) ∷ []
 
 -- one_with, fan_opens, fan_opens_five and fan_answers, and then frame 2 is taken in
 abbrev pub fan_steps : List (StepOf FanAnswer)
@@ -82,7 +82,7 @@ fan_steps_before_inlet = one_with 8 8 ++ fan_opens ++ fan_opens_five ++ fan_answ
 
 -- what tenant 2 does between steps of tenant 1: it is admitted, submits a job, and worker 4 advances its root once
 abbrev pub steps_between : List (StepOf FanAnswer)
-steps_between = Admit 2 (quota 8 8) ∷ Submit 2 (0 ∷ 0 ∷ []) 4 ∷ Steal 4 0 (two 1) ∷ Advance 4 (two 1) ∷ []
+steps_between = Admit 2 (toy_quota 8 8) ∷ Submit 2 (0 ∷ 0 ∷ []) 4 ∷ Steal 4 0 (two 1) ∷ Advance 4 (two 1) ∷ []
 
 -- fan_steps, with tenant 2's steps put in after the root of tenant 1 waits
 abbrev pub mixed_steps : List (StepOf FanAnswer)
@@ -99,19 +99,19 @@ narrow_returns =
 
 -- a new core of 32 segments and 32 nodes after fan_steps_before_inlet
 abbrev pub before_inlet : CoreState
-before_inlet = shared_run fan (shared_by_nobody (quota 32 32)) fan_steps_before_inlet
+before_inlet = shared_run fan (shared_by_nobody (toy_quota 32 32)) fan_steps_before_inlet
 
 -- a core of 16 segments and 32 nodes with two tenants, the first of which has used all its segments
 abbrev pub used_up : CoreState
-used_up = shared_run fan (shared_by_nobody (quota 16 32)) (Admit 1 (quota 5 8) ∷ Admit 2 (quota 3 8) ∷ fan_opens ++ fan_opens_five)
+used_up = shared_run fan (shared_by_nobody (toy_quota 16 32)) (Admit 1 (toy_quota 5 8) ∷ Admit 2 (toy_quota 3 8) ∷ fan_opens ++ fan_opens_five)
 
 -- used_up once tenant 1 has raised its reservation to this
-abbrev pub with_more : ℕ → ℕ → CoreState
-with_more segments nodes = shared_run fan used_up (AdmitMore 1 (quota segments nodes) ∷ [])
+abbrev pub used_up_with : ℕ → ℕ → CoreState
+used_up_with segments nodes = shared_run fan used_up (AdmitMore 1 (toy_quota segments nodes) ∷ [])
 
 -- steps of two tenants, one of which is refused
 abbrev pub some_steps : List (StepOf FanAnswer)
-some_steps = Admit 1 (quota 1 1) ∷ Admit 2 (quota 1 1) ∷ Take 1 (one 9) ∷ Leave 2 ∷ []
+some_steps = Admit 1 (toy_quota 1 1) ∷ Admit 2 (toy_quota 1 1) ∷ Take 1 (one 9) ∷ Leave 2 ∷ []
 
 -- the answers to some_steps on a new core
 abbrev pub some_answers : List (Result (DidOf ℕ) Refusal)

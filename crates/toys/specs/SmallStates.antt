@@ -16,12 +16,12 @@ use Rattle.sched_rules.specs.Trees.{Tenant, Tree, admitted_with}
 use Rattle.sched_rules.specs.Lone.{Outcome, lone, lone_refusal}
 use Rattle.toys.specs.Toys.{word_at}
 use Rattle.sched_rules.specs.Cores.{CoreState, shared_refusal}
-use Rattle.toys.specs.FanRows.{frame, one_job, quota}
+use Rattle.toys.specs.FanRows.{frame, one_job, toy_quota}
 
 -- a procedure with this act and this inlet at any words, and these stores of any answer, which is itself its input
 abbrev pub always : Act → InletAct → List (ℕ × ℕ) → Functions ℕ ℕ
 always act inlet stores =
-    record { next = λ sight. act; inlet = λ own child. inlet; input = λ own. word_at own 0; asked = λ answer. answer; accept = λ own answer. stores; same = λ one other. one == other }
+    record { next = λ sight. act; inlet = λ own child_frame. inlet; input = λ own. word_at own 0; asked = λ answer. answer; accept = λ own answer. stores; same = λ one other. one == other }
 
 -- an act: these stores, and what is done after them
 abbrev pub act : List (ℕ × ℕ) → Continuation → Act
@@ -45,11 +45,11 @@ storing_outside = always (act [] Go) (inlet ((4, 1) ∷ []) false false) ((4, 1)
 
 -- a tenant with 4 segments and 4 nodes, of which 3 were opened, and one job, after so many steps
 abbrev pub tenant_with : ℕ → Tree → Tenant
-tenant_with steps frames = one_job (quota 4 4) 3 steps frames
+tenant_with steps frames = one_job (toy_quota 4 4) 3 steps frames
 
 -- a tenant that has taken no step of 64
-abbrev pub fresh : Tree → Tenant
-fresh frames = tenant_with 0 frames
+abbrev pub fresh_tenant : Tree → Tenant
+fresh_tenant frames = tenant_with 0 frames
 
 -- a tenant that has taken all its 64 steps
 abbrev pub tired : Tree → Tenant
@@ -57,23 +57,23 @@ tired frames = tenant_with 64 frames
 
 -- a tenant that has opened all its 4 nodes
 abbrev pub nodeless : Tree → Tenant
-nodeless frames = one_job (quota 4 4) 4 0 frames
+nodeless frames = one_job (toy_quota 4 4) 4 0 frames
 
 -- a tenant that reserved so many segments, and 4 nodes
 abbrev pub wide : ℕ → Tree → Tenant
-wide segments frames = one_job (quota segments 4) 3 0 frames
+wide segments frames = one_job (toy_quota segments 4) 3 0 frames
 
 -- a tenant with so many jobs, all cancelled, that has opened so many of 4 nodes
 abbrev pub tenant_of_jobs : ℕ → ℕ → Tenant
-tenant_of_jobs jobs serials = record { reserve = quota 4 4; serials = serials; steps = 0; jobs = replicate jobs Cancelled; frames = [] }
+tenant_of_jobs jobs serials = record { reserve = toy_quota 4 4; serials = serials; steps = 0; jobs = replicate jobs Cancelled; frames = [] }
 
 -- a root of 4 words with serial 1
-abbrev pub root : State → Frame (List ℕ)
-root state = frame 1 (1 ∷ []) state (0 ∷ 0 ∷ 0 ∷ 0 ∷ [])
+abbrev pub root_frame : State → Frame (List ℕ)
+root_frame state = frame 1 (1 ∷ []) state (0 ∷ 0 ∷ 0 ∷ 0 ∷ [])
 
 -- a child of that root with this serial, of 4 words
-abbrev pub child : ℕ → State → Frame (List ℕ)
-child serial state = frame serial (1 ∷ serial ∷ []) state (7 ∷ 0 ∷ 0 ∷ 0 ∷ [])
+abbrev pub child_frame : ℕ → State → Frame (List ℕ)
+child_frame serial state = frame serial (1 ∷ serial ∷ []) state (7 ∷ 0 ∷ 0 ∷ 0 ∷ [])
 
 -- why a step of a tenant in this state is refused; none where it is taken
 abbrev pub refusal : Functions ℕ ℕ → Tenant → StepOf ℕ → Option Refusal
@@ -81,7 +81,7 @@ refusal functions tenant step = lone_refusal functions (Some tenant) step
 
 -- a core of 8 segments and 32 nodes with these tenants, the greatest number so far being 7
 abbrev pub core_of : List (ℕ × Tenant) → CoreState
-core_of tenants = record { totals = quota 8 32; newest = 7; tenants = tenants }
+core_of tenants = record { totals = toy_quota 8 32; newest = 7; tenants = tenants }
 
 -- why a step among these tenants is refused; none where it is taken
 abbrev pub among : List (ℕ × Tenant) → StepOf ℕ → Option Refusal
@@ -89,15 +89,15 @@ among tenants step = shared_refusal idle (core_of tenants) step
 
 -- two tenants, one with these frames, and a second whose root worker 5 runs
 abbrev pub beside : Tree → List (ℕ × Tenant)
-beside frames = (1, fresh frames) ∷ (2, fresh (root (Running 5) ∷ [])) ∷ []
+beside frames = (1, fresh_tenant frames) ∷ (2, fresh_tenant (root_frame (Running 5) ∷ [])) ∷ []
 
 -- so many tenants, all under number 7, each with 1 segment and 1 node
 abbrev pub crowd : ℕ → List (ℕ × Tenant)
-crowd count = replicate count (7, admitted_with (quota 1 1))
+crowd count = replicate count (7, admitted_with (toy_quota 1 1))
 
 -- a core of 128 segments and 128 nodes with these tenants
 abbrev pub roomy : List (ℕ × Tenant) → CoreState
-roomy tenants = record { totals = quota 128 128; newest = 7; tenants = tenants }
+roomy tenants = record { totals = toy_quota 128 128; newest = 7; tenants = tenants }
 
 -- a procedure whose every inlet has these stores and aborts or wakes as said; its frames go on without a store
 abbrev pub taking_in : List (ℕ × ℕ) → Bool → Bool → Functions ℕ ℕ
@@ -127,7 +127,7 @@ family state =
 
 -- a tenant of 16 segments and 16 nodes that was given 9 serials, after so many steps, with these jobs and frames
 abbrev pub housed : ℕ → List Job → Tree → Tenant
-housed steps jobs frames = record { reserve = quota 16 16; serials = 9; steps = steps; jobs = jobs; frames = frames }
+housed steps jobs frames = record { reserve = toy_quota 16 16; serials = 9; steps = steps; jobs = jobs; frames = frames }
 
 -- two jobs that live, under roots 1 and 3
 abbrev pub two_jobs : List Job
@@ -136,4 +136,4 @@ two_jobs = Live 1 ∷ Live 3 ∷ []
 -- a tenant of this reservation that has taken 256 steps, with a job that is spent and one that lives
 abbrev pub resting : ℕ → ℕ → Tenant
 resting segments nodes =
-    record { reserve = quota segments nodes; serials = 9; steps = 256; jobs = Spent ∷ Live 3 ∷ []; frames = frame 3 (3 ∷ []) (Ready 1) (5 ∷ []) ∷ [] }
+    record { reserve = toy_quota segments nodes; serials = 9; steps = 256; jobs = Spent ∷ Live 3 ∷ []; frames = frame 3 (3 ∷ []) (Ready 1) (5 ∷ []) ∷ [] }

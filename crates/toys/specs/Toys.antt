@@ -36,20 +36,20 @@ pub record Line : Type 0 where
   pub after : Continuation
 
 -- opening a child of this kind, with count 0 and 4 words
-abbrev pub spawns : ℕ → Continuation
-spawns kind = Spawn (kind ∷ 0 ∷ []) 4
+abbrev pub toy_spawns : ℕ → Continuation
+toy_spawns kind = Spawn (kind ∷ 0 ∷ []) 4
 
 -- Fan's table; at any other kind and count it returns without a store
 abbrev pub fan_table : List Line
 fan_table =
-    record { kind = 0; count = 0; next_count = 1; after = spawns 1 }
-    ∷ record { kind = 0; count = 1; next_count = 2; after = spawns 2 }
-    ∷ record { kind = 0; count = 2; next_count = 3; after = spawns 1 }
+    record { kind = 0; count = 0; next_count = 1; after = toy_spawns 1 }
+    ∷ record { kind = 0; count = 1; next_count = 2; after = toy_spawns 2 }
+    ∷ record { kind = 0; count = 2; next_count = 3; after = toy_spawns 1 }
     ∷ record { kind = 0; count = 3; next_count = 4; after = Wait }
-    ∷ record { kind = 0; count = 4; next_count = 5; after = spawns 1 }
+    ∷ record { kind = 0; count = 4; next_count = 5; after = toy_spawns 1 }
     ∷ record { kind = 0; count = 5; next_count = 6; after = Wait }
     ∷ record { kind = 1; count = 0; next_count = 1; after = Compute }
-    ∷ record { kind = 2; count = 0; next_count = 1; after = spawns 1 }
+    ∷ record { kind = 2; count = 0; next_count = 1; after = toy_spawns 1 }
     ∷ record { kind = 2; count = 1; next_count = 2; after = Wait }
     ∷ []
 
@@ -89,8 +89,8 @@ abbrev pub chain_inlet : List ℕ → List ℕ → InletAct
 chain_inlet own child = record { stores = (2, word_at child 0) ∷ []; abort = false; wake = false }
 
 -- the procedure Chain; an answer is itself the input that it was computed from, and nothing is stored of it
-abbrev pub chain : Functions ℕ ℕ
-chain = toy chain_act chain_inlet (λ answer. answer) (λ answer. [])
+abbrev pub chain_procedure : Functions ℕ ℕ
+chain_procedure = toy chain_act chain_inlet (λ answer. answer) (λ answer. [])
 
 -- the procedure Spin: a frame goes on for ever, without a store; an answer is itself its input and stores nothing
 abbrev pub spin : Functions ℕ ℕ

@@ -6,8 +6,8 @@ ghost use Rattle.sched_rules.specs.declared.job.Job.TheVariants.{Live, Done, Spe
 ghost use Rattle.sched_rules.specs.declared.step.StepOf.TheVariants.{AdmitMore, Submit, Take, Steal, Advance, Answer, Inlet, Finish, Spend, Cancel, Leave};
 ghost use Rattle.sched_rules.specs.declared.step.DidOf.TheVariants.{AdmittedMore, Submitted, Took, Went, Grew, Spawned, Waited, Computing as IsComputing, Returned as HasReturned, Answered, TakenIn, Finished, Spent, Cancelled, Left};
 ghost use Rattle.sched_rules.specs.Trees.{left, sight};
-ghost use Rattle.toys.specs.FanRows.{one, quota, some_left, frame, one_job};
-ghost use Rattle.toys.specs.SmallStates.{idle, acting, always, act, inlet, taking_in, fresh, tenant_with, root, child, outcome, bare, family, housed, two_jobs, resting};
+ghost use Rattle.toys.specs.FanRows.{one, toy_quota, some_left, frame, one_job};
+ghost use Rattle.toys.specs.SmallStates.{idle, acting, always, act, inlet, taking_in, fresh_tenant, tenant_with, root_frame, child_frame, outcome, bare, family, housed, two_jobs, resting};
 
 /// A frame sees its own words, its parent's and so on to the root's, and no sibling's.
 pub fn what_a_frame_sees()
@@ -19,49 +19,49 @@ pub fn what_a_frame_sees()
 /// A new root holds the words given first, then zeros; it is ready in the hall.
 pub fn submitting()
     ensures job { outcome idle (housed 5 (SpentJob ∷ []) []) (Submit 1 (3 ∷ 4 ∷ []) 5) ≡
-        Ok (Some (record { reserve = quota 16 16; serials = 10; steps = 5; jobs = SpentJob ∷ Live 10 ∷ []; frames = frame 10 (10 ∷ []) (Ready 0) (3 ∷ 4 ∷ 0 ∷ 0 ∷ 0 ∷ []) ∷ [] }), Submitted 2 (one 10)) }
+        Ok (Some (record { reserve = toy_quota 16 16; serials = 10; steps = 5; jobs = SpentJob ∷ Live 10 ∷ []; frames = frame 10 (10 ∷ []) (Ready 0) (3 ∷ 4 ∷ 0 ∷ 0 ∷ 0 ∷ []) ∷ [] }), Submitted 2 (one 10)) }
 {}
 
 /// What an act does after its stores, which are done in order.
 pub fn acting_in_turn()
-    ensures stores { outcome (acting ((1, 5) ∷ (2, 7) ∷ (1, 6) ∷ []) Go) (fresh (root (Running 1) ∷ [])) (Advance 1 (one 1))
+    ensures stores { outcome (acting ((1, 5) ∷ (2, 7) ∷ (1, 6) ∷ []) Go) (fresh_tenant (root_frame (Running 1) ∷ [])) (Advance 1 (one 1))
         ≡ Ok (Some (tenant_with 1 (frame 1 (1 ∷ []) (Running 1) (0 ∷ 6 ∷ 7 ∷ 0 ∷ []) ∷ [])), Went) }
-    ensures grow { outcome (acting ((3, 5) ∷ []) (Grow 2)) (fresh (root (Running 1) ∷ [])) (Advance 1 (one 1))
+    ensures grow { outcome (acting ((3, 5) ∷ []) (Grow 2)) (fresh_tenant (root_frame (Running 1) ∷ [])) (Advance 1 (one 1))
         ≡ Ok (Some (tenant_with 1 (frame 1 (1 ∷ []) (Running 1) (0 ∷ 0 ∷ 0 ∷ 5 ∷ 0 ∷ 0 ∷ []) ∷ [])), Grew) }
-    ensures spawn { outcome (acting ((3, 5) ∷ []) (Spawn (8 ∷ []) 2)) (fresh (root (Running 1) ∷ [])) (Advance 1 (one 1))
+    ensures spawn { outcome (acting ((3, 5) ∷ []) (Spawn (8 ∷ []) 2)) (fresh_tenant (root_frame (Running 1) ∷ [])) (Advance 1 (one 1))
         ≡ Ok (
-          Some (one_job (quota 4 4) 4 1 (frame 1 (1 ∷ []) (Running 1) (0 ∷ 0 ∷ 0 ∷ 5 ∷ []) ∷ frame 4 (1 ∷ 4 ∷ []) (Ready 1) (8 ∷ 0 ∷ []) ∷ [])),
+          Some (one_job (toy_quota 4 4) 4 1 (frame 1 (1 ∷ []) (Running 1) (0 ∷ 0 ∷ 0 ∷ 5 ∷ []) ∷ frame 4 (1 ∷ 4 ∷ []) (Ready 1) (8 ∷ 0 ∷ []) ∷ [])),
           Spawned (one 4),
         ) }
-    ensures wait_without_child { outcome (acting [] Wait) (fresh (root (Running 1) ∷ [])) (Advance 1 (one 1)) ≡ Ok (Some (tenant_with 1 (root (Running 1) ∷ [])), Went) }
-    ensures wait { outcome (acting [] Wait) (fresh (root (Running 1) ∷ child 2 (Ready 1) ∷ [])) (Advance 1 (one 1)) ≡ Ok (Some (tenant_with 1 (root Waiting ∷ child 2 (Ready 1) ∷ [])), Waited) }
-    ensures compute { outcome (acting ((0, 9) ∷ []) Compute) (fresh (root (Running 1) ∷ [])) (Advance 1 (one 1))
+    ensures wait_without_child { outcome (acting [] Wait) (fresh_tenant (root_frame (Running 1) ∷ [])) (Advance 1 (one 1)) ≡ Ok (Some (tenant_with 1 (root_frame (Running 1) ∷ [])), Went) }
+    ensures wait { outcome (acting [] Wait) (fresh_tenant (root_frame (Running 1) ∷ child_frame 2 (Ready 1) ∷ [])) (Advance 1 (one 1)) ≡ Ok (Some (tenant_with 1 (root_frame Waiting ∷ child_frame 2 (Ready 1) ∷ [])), Waited) }
+    ensures compute { outcome (acting ((0, 9) ∷ []) Compute) (fresh_tenant (root_frame (Running 1) ∷ [])) (Advance 1 (one 1))
         ≡ Ok (Some (tenant_with 1 (frame 1 (1 ∷ []) (Computing 1) (9 ∷ 0 ∷ 0 ∷ 0 ∷ []) ∷ [])), IsComputing 9) }
-    ensures return_root { outcome (acting [] Return) (fresh (root (Running 1) ∷ [])) (Advance 1 (one 1)) ≡ Ok (Some (tenant_with 1 (root Returned ∷ [])), HasReturned true) }
-    ensures return_child { outcome (acting [] Return) (fresh (root Waiting ∷ child 2 (Running 1) ∷ [])) (Advance 1 (one 2)) ≡ Ok (Some (tenant_with 1 (root Waiting ∷ child 2 Returned ∷ [])), HasReturned false) }
-    ensures return_with_child { outcome (acting [] Return) (fresh (root (Running 1) ∷ child 2 Returned ∷ [])) (Advance 1 (one 1)) ≡ Ok (Some (tenant_with 1 (root Waiting ∷ child 2 Returned ∷ [])), Waited) }
+    ensures return_root { outcome (acting [] Return) (fresh_tenant (root_frame (Running 1) ∷ [])) (Advance 1 (one 1)) ≡ Ok (Some (tenant_with 1 (root_frame Returned ∷ [])), HasReturned true) }
+    ensures return_child { outcome (acting [] Return) (fresh_tenant (root_frame Waiting ∷ child_frame 2 (Running 1) ∷ [])) (Advance 1 (one 2)) ≡ Ok (Some (tenant_with 1 (root_frame Waiting ∷ child_frame 2 Returned ∷ [])), HasReturned false) }
+    ensures return_with_child { outcome (acting [] Return) (fresh_tenant (root_frame (Running 1) ∷ child_frame 2 Returned ∷ [])) (Advance 1 (one 1)) ≡ Ok (Some (tenant_with 1 (root_frame Waiting ∷ child_frame 2 Returned ∷ [])), Waited) }
 {}
 
 /// An accepted answer's stores are done, and its worker runs the frame again.
 pub fn accepting()
-    ensures stores { outcome (always (act [] Go) (inlet [] false false) ((1, 3) ∷ [])) (fresh (root (Computing 2) ∷ [])) (Answer 2 (one 1) 0)
+    ensures stores { outcome (always (act [] Go) (inlet [] false false) ((1, 3) ∷ [])) (fresh_tenant (root_frame (Computing 2) ∷ [])) (Answer 2 (one 1) 0)
         ≡ Ok (Some (tenant_with 1 (frame 1 (1 ∷ []) (Running 2) (0 ∷ 3 ∷ 0 ∷ 0 ∷ []) ∷ [])), Answered) }
 {}
 
 /// A parent that waits is woken where its inlet says abort or wake, or where it has no child left.
 pub fn waking()
-    ensures no_child_left { outcome (taking_in ((2, 5) ∷ []) false false) (fresh (root Waiting ∷ child 2 Returned ∷ [])) (Inlet 3 (one 2))
+    ensures no_child_left { outcome (taking_in ((2, 5) ∷ []) false false) (fresh_tenant (root_frame Waiting ∷ child_frame 2 Returned ∷ [])) (Inlet 3 (one 2))
         ≡ Ok (Some (tenant_with 1 (frame 1 (1 ∷ []) (Ready 3) (0 ∷ 0 ∷ 5 ∷ 0 ∷ []) ∷ [])), TakenIn (Some (one 1)) 0) }
-    ensures child_left { outcome (taking_in ((2, 5) ∷ []) false false) (fresh (root Waiting ∷ child 2 Returned ∷ child 3 (Ready 1) ∷ [])) (Inlet 3 (one 2))
-        ≡ Ok (Some (tenant_with 1 (frame 1 (1 ∷ []) Waiting (0 ∷ 0 ∷ 5 ∷ 0 ∷ []) ∷ child 3 (Ready 1) ∷ [])), TakenIn None 0) }
-    ensures wake { outcome (taking_in [] false true) (fresh (root Waiting ∷ child 2 Returned ∷ child 3 (Ready 1) ∷ [])) (Inlet 3 (one 2))
-        ≡ Ok (Some (tenant_with 1 (root (Ready 3) ∷ child 3 (Ready 1) ∷ [])), TakenIn (Some (one 1)) 0) }
-    ensures abort { outcome (taking_in [] true false) (fresh (root Waiting ∷ child 2 Returned ∷ child 3 (Running 1) ∷ [])) (Inlet 3 (one 2))
-        ≡ Ok (Some (tenant_with 1 (root (Ready 3) ∷ [])), TakenIn (Some (one 1)) 1) }
-    ensures running_parent { outcome (taking_in [] true true) (fresh (root (Running 1) ∷ child 2 Returned ∷ [])) (Inlet 3 (one 2))
-        ≡ Ok (Some (tenant_with 1 (root (Running 1) ∷ [])), TakenIn None 0) }
-    ensures ready_parent { outcome (taking_in [] false true) (fresh (root (Ready 0) ∷ child 2 Returned ∷ [])) (Inlet 3 (one 2))
-        ≡ Ok (Some (tenant_with 1 (root (Ready 0) ∷ [])), TakenIn None 0) }
+    ensures child_left { outcome (taking_in ((2, 5) ∷ []) false false) (fresh_tenant (root_frame Waiting ∷ child_frame 2 Returned ∷ child_frame 3 (Ready 1) ∷ [])) (Inlet 3 (one 2))
+        ≡ Ok (Some (tenant_with 1 (frame 1 (1 ∷ []) Waiting (0 ∷ 0 ∷ 5 ∷ 0 ∷ []) ∷ child_frame 3 (Ready 1) ∷ [])), TakenIn None 0) }
+    ensures wake { outcome (taking_in [] false true) (fresh_tenant (root_frame Waiting ∷ child_frame 2 Returned ∷ child_frame 3 (Ready 1) ∷ [])) (Inlet 3 (one 2))
+        ≡ Ok (Some (tenant_with 1 (root_frame (Ready 3) ∷ child_frame 3 (Ready 1) ∷ [])), TakenIn (Some (one 1)) 0) }
+    ensures abort { outcome (taking_in [] true false) (fresh_tenant (root_frame Waiting ∷ child_frame 2 Returned ∷ child_frame 3 (Running 1) ∷ [])) (Inlet 3 (one 2))
+        ≡ Ok (Some (tenant_with 1 (root_frame (Ready 3) ∷ [])), TakenIn (Some (one 1)) 1) }
+    ensures running_parent { outcome (taking_in [] true true) (fresh_tenant (root_frame (Running 1) ∷ child_frame 2 Returned ∷ [])) (Inlet 3 (one 2))
+        ≡ Ok (Some (tenant_with 1 (root_frame (Running 1) ∷ [])), TakenIn None 0) }
+    ensures ready_parent { outcome (taking_in [] false true) (fresh_tenant (root_frame (Ready 0) ∷ child_frame 2 Returned ∷ [])) (Inlet 3 (one 2))
+        ≡ Ok (Some (tenant_with 1 (root_frame (Ready 0) ∷ [])), TakenIn None 0) }
 {}
 
 /// An abort removes all that is below the parent, to the last generation, and nothing else.
@@ -79,7 +79,7 @@ pub fn aborting()
 /// What AdmitMore adds to a reservation can be used from then on. Nothing else of the tenant changes, and a job
 /// that was given up stays so.
 pub fn reserving_more()
-    ensures raised { outcome idle (resting 16 16) (AdmitMore 1 (quota 17 18)) ≡ Ok (Some (resting 17 18), AdmittedMore) }
+    ensures raised { outcome idle (resting 16 16) (AdmitMore 1 (toy_quota 17 18)) ≡ Ok (Some (resting 17 18), AdmittedMore) }
     ensures left_before { left (resting 16 16) ≡ some_left 15 7 0 }
     ensures left_after { left (resting 17 18) ≡ some_left 16 9 32 }
 {}

@@ -1,6 +1,6 @@
 //! The toy procedure Fan: a root opens children of two kinds, takes the first result and aborts the others.
 ghost use Rattle.std.specs.Prelude.{◌≡◌};
-ghost use Rattle.toys.specs.Toys.{spawns};
+ghost use Rattle.toys.specs.Toys.{toy_spawns};
 
 use crate::acts::{counted, idle_inlet, plain};
 use crate::toy::{Play, Toy, ToyAnswer};
@@ -86,7 +86,7 @@ impl Play for FanPlay {
 
 /// Opening a child of this kind, with count 0.
 fn child(kind: u64) -> Continuation
-    ensures { result ≡ spawns kind }
+    ensures { result ≡ toy_spawns kind }
 {
     Continuation::Spawn(GivenWords::two(kind, 0), 4)
 }

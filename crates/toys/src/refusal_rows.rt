@@ -7,14 +7,14 @@ ghost use Rattle.sched_rules.specs.declared.refusal.Refusal.TheVariants.{NoTenan
 ghost use Rattle.sched_rules.specs.declared.step.StepOf.TheVariants.{Admit, AdmitMore, Submit, Take, Steal, Advance, Answer, Inlet, Finish, Spend, Cancel, Leave};
 ghost use Rattle.sched_rules.specs.Lone.{lone_refusal};
 ghost use Rattle.sched_rules.specs.Cores.{shared_refusal};
-ghost use Rattle.toys.specs.FanRows.{one, two, quota, frame};
-ghost use Rattle.toys.specs.SmallStates.{idle, acting, storing_outside, fresh, tired, nodeless, wide, tenant_of_jobs, root, child, refusal, roomy, among, beside, crowd};
+ghost use Rattle.toys.specs.FanRows.{one, two, toy_quota, frame};
+ghost use Rattle.toys.specs.SmallStates.{idle, acting, storing_outside, fresh_tenant, tired, nodeless, wide, tenant_of_jobs, root_frame, child_frame, refusal, roomy, among, beside, crowd};
 
 /// A tenant that isn't there can be admitted, and all its other steps are refused by NoTenant. One that is
 /// there isn't admitted again.
 pub fn no_tenant()
-    ensures admit { lone_refusal idle None (Admit 1 (quota 1 1)) ≡ None }
-    ensures admit_more { lone_refusal idle None (AdmitMore 1 (quota 1 1)) ≡ Some NoTenant }
+    ensures admit { lone_refusal idle None (Admit 1 (toy_quota 1 1)) ≡ None }
+    ensures admit_more { lone_refusal idle None (AdmitMore 1 (toy_quota 1 1)) ≡ Some NoTenant }
     ensures submit { lone_refusal idle None (Submit 1 [] 0) ≡ Some NoTenant }
     ensures take { lone_refusal idle None (Take 1 (one 1)) ≡ Some NoTenant }
     ensures steal { lone_refusal idle None (Steal 1 0 (one 1)) ≡ Some NoTenant }
@@ -25,7 +25,7 @@ pub fn no_tenant()
     ensures spend { lone_refusal idle None (Spend (one 1)) ≡ Some NoTenant }
     ensures cancel { lone_refusal idle None (Cancel 1 1) ≡ Some NoTenant }
     ensures leave { lone_refusal idle None (Leave 1) ≡ Some NoTenant }
-    ensures again { refusal idle (fresh []) (Admit 1 (quota 1 1)) ≡ Some OldTenant }
+    ensures again { refusal idle (fresh_tenant []) (Admit 1 (toy_quota 1 1)) ≡ Some OldTenant }
 {}
 
 /// A step that names a frame that isn't there is refused by NoFrame, also where the tenant has no step left.
@@ -41,11 +41,11 @@ pub fn no_frame()
 
 /// The refusals of Submit, in the order of their tests: BadAct, NoJobsLeft, NoNodes, NoSegments.
 pub fn submit_refusals()
-    ensures no_size { refusal idle (fresh []) (Submit 1 [] 0) ≡ Some BadAct }
+    ensures no_size { refusal idle (fresh_tenant []) (Submit 1 [] 0) ≡ Some BadAct }
     ensures great_size { refusal idle (wide 16 []) (Submit 1 [] 129) ≡ Some BadAct }
     ensures greatest_size { refusal idle (wide 16 []) (Submit 1 [] 128) ≡ None }
-    ensures many_words { refusal idle (fresh []) (Submit 1 (1 ∷ 2 ∷ []) 1) ≡ Some BadAct }
-    ensures as_many_words { refusal idle (fresh []) (Submit 1 (1 ∷ []) 1) ≡ None }
+    ensures many_words { refusal idle (fresh_tenant []) (Submit 1 (1 ∷ 2 ∷ []) 1) ≡ Some BadAct }
+    ensures as_many_words { refusal idle (fresh_tenant []) (Submit 1 (1 ∷ []) 1) ≡ None }
     ensures bad_before_jobs { refusal idle (tenant_of_jobs 256 3) (Submit 1 [] 0) ≡ Some BadAct }
     ensures jobs { refusal idle (tenant_of_jobs 256 3) (Submit 1 [] 4) ≡ Some NoJobsLeft }
     ensures last_job { refusal idle (tenant_of_jobs 255 3) (Submit 1 [] 4) ≡ None }
@@ -59,185 +59,185 @@ pub fn submit_refusals()
 
 /// The refusals of Take, in the order of their tests: NotReady, NotHere, NoSteps, Busy.
 pub fn take_refusals()
-    ensures running { refusal idle (fresh (root (Running 1) ∷ [])) (Take 1 (one 1)) ≡ Some NotReady }
-    ensures computing { refusal idle (fresh (root (Computing 1) ∷ [])) (Take 1 (one 1)) ≡ Some NotReady }
-    ensures waiting { refusal idle (fresh (root Waiting ∷ [])) (Take 1 (one 1)) ≡ Some NotReady }
-    ensures returned { refusal idle (fresh (root Returned ∷ [])) (Take 1 (one 1)) ≡ Some NotReady }
-    ensures ready_before_here { refusal idle (fresh (root (Running 2) ∷ [])) (Take 1 (one 1)) ≡ Some NotReady }
-    ensures elsewhere { refusal idle (fresh (root (Ready 2) ∷ [])) (Take 1 (one 1)) ≡ Some NotHere }
-    ensures in_the_hall { refusal idle (fresh (root (Ready 0) ∷ [])) (Take 1 (one 1)) ≡ Some NotHere }
-    ensures here_before_steps { refusal idle (tired (root (Ready 2) ∷ [])) (Take 1 (one 1)) ≡ Some NotHere }
-    ensures no_steps { refusal idle (tired (root (Ready 1) ∷ [])) (Take 1 (one 1)) ≡ Some NoSteps }
-    ensures steps_before_free { refusal idle (tired (root (Ready 1) ∷ child 2 (Running 1) ∷ [])) (Take 1 (one 1)) ≡ Some NoSteps }
-    ensures runs { refusal idle (fresh (root (Ready 1) ∷ child 2 (Running 1) ∷ [])) (Take 1 (one 1)) ≡ Some Busy }
-    ensures computes { refusal idle (fresh (root (Ready 1) ∷ child 2 (Computing 1) ∷ [])) (Take 1 (one 1)) ≡ Some Busy }
-    ensures another_runs { refusal idle (fresh (root (Ready 1) ∷ child 2 (Running 2) ∷ [])) (Take 1 (one 1)) ≡ None }
+    ensures running { refusal idle (fresh_tenant (root_frame (Running 1) ∷ [])) (Take 1 (one 1)) ≡ Some NotReady }
+    ensures computing { refusal idle (fresh_tenant (root_frame (Computing 1) ∷ [])) (Take 1 (one 1)) ≡ Some NotReady }
+    ensures waiting { refusal idle (fresh_tenant (root_frame Waiting ∷ [])) (Take 1 (one 1)) ≡ Some NotReady }
+    ensures returned { refusal idle (fresh_tenant (root_frame Returned ∷ [])) (Take 1 (one 1)) ≡ Some NotReady }
+    ensures ready_before_here { refusal idle (fresh_tenant (root_frame (Running 2) ∷ [])) (Take 1 (one 1)) ≡ Some NotReady }
+    ensures elsewhere { refusal idle (fresh_tenant (root_frame (Ready 2) ∷ [])) (Take 1 (one 1)) ≡ Some NotHere }
+    ensures in_the_hall { refusal idle (fresh_tenant (root_frame (Ready 0) ∷ [])) (Take 1 (one 1)) ≡ Some NotHere }
+    ensures here_before_steps { refusal idle (tired (root_frame (Ready 2) ∷ [])) (Take 1 (one 1)) ≡ Some NotHere }
+    ensures no_steps { refusal idle (tired (root_frame (Ready 1) ∷ [])) (Take 1 (one 1)) ≡ Some NoSteps }
+    ensures steps_before_free { refusal idle (tired (root_frame (Ready 1) ∷ child_frame 2 (Running 1) ∷ [])) (Take 1 (one 1)) ≡ Some NoSteps }
+    ensures runs { refusal idle (fresh_tenant (root_frame (Ready 1) ∷ child_frame 2 (Running 1) ∷ [])) (Take 1 (one 1)) ≡ Some Busy }
+    ensures computes { refusal idle (fresh_tenant (root_frame (Ready 1) ∷ child_frame 2 (Computing 1) ∷ [])) (Take 1 (one 1)) ≡ Some Busy }
+    ensures another_runs { refusal idle (fresh_tenant (root_frame (Ready 1) ∷ child_frame 2 (Running 2) ∷ [])) (Take 1 (one 1)) ≡ None }
 {}
 
 /// The refusals of Steal, in the order of their tests: NotReady, NotHere, NoSteps, Busy.
 pub fn steal_refusals()
-    ensures running { refusal idle (fresh (root (Running 1) ∷ [])) (Steal 2 1 (one 1)) ≡ Some NotReady }
-    ensures ready_before_here { refusal idle (fresh (root (Running 1) ∷ [])) (Steal 1 1 (one 1)) ≡ Some NotReady }
-    ensures another_home { refusal idle (fresh (root (Ready 1) ∷ [])) (Steal 3 2 (one 1)) ≡ Some NotHere }
-    ensures from_itself { refusal idle (fresh (root (Ready 1) ∷ [])) (Steal 1 1 (one 1)) ≡ Some NotHere }
-    ensures here_before_steps { refusal idle (tired (root (Ready 1) ∷ [])) (Steal 3 2 (one 1)) ≡ Some NotHere }
-    ensures no_steps { refusal idle (tired (root (Ready 1) ∷ [])) (Steal 2 1 (one 1)) ≡ Some NoSteps }
-    ensures steps_before_free { refusal idle (tired (root (Ready 1) ∷ child 2 (Running 2) ∷ [])) (Steal 2 1 (one 1)) ≡ Some NoSteps }
-    ensures busy { refusal idle (fresh (root (Ready 1) ∷ child 2 (Running 2) ∷ [])) (Steal 2 1 (one 1)) ≡ Some Busy }
-    ensures from_another { refusal idle (fresh (root (Ready 1) ∷ [])) (Steal 2 1 (one 1)) ≡ None }
-    ensures from_the_hall { refusal idle (fresh (root (Ready 0) ∷ [])) (Steal 2 0 (one 1)) ≡ None }
+    ensures running { refusal idle (fresh_tenant (root_frame (Running 1) ∷ [])) (Steal 2 1 (one 1)) ≡ Some NotReady }
+    ensures ready_before_here { refusal idle (fresh_tenant (root_frame (Running 1) ∷ [])) (Steal 1 1 (one 1)) ≡ Some NotReady }
+    ensures another_home { refusal idle (fresh_tenant (root_frame (Ready 1) ∷ [])) (Steal 3 2 (one 1)) ≡ Some NotHere }
+    ensures from_itself { refusal idle (fresh_tenant (root_frame (Ready 1) ∷ [])) (Steal 1 1 (one 1)) ≡ Some NotHere }
+    ensures here_before_steps { refusal idle (tired (root_frame (Ready 1) ∷ [])) (Steal 3 2 (one 1)) ≡ Some NotHere }
+    ensures no_steps { refusal idle (tired (root_frame (Ready 1) ∷ [])) (Steal 2 1 (one 1)) ≡ Some NoSteps }
+    ensures steps_before_free { refusal idle (tired (root_frame (Ready 1) ∷ child_frame 2 (Running 2) ∷ [])) (Steal 2 1 (one 1)) ≡ Some NoSteps }
+    ensures busy { refusal idle (fresh_tenant (root_frame (Ready 1) ∷ child_frame 2 (Running 2) ∷ [])) (Steal 2 1 (one 1)) ≡ Some Busy }
+    ensures from_another { refusal idle (fresh_tenant (root_frame (Ready 1) ∷ [])) (Steal 2 1 (one 1)) ≡ None }
+    ensures from_the_hall { refusal idle (fresh_tenant (root_frame (Ready 0) ∷ [])) (Steal 2 0 (one 1)) ≡ None }
 {}
 
 /// The refusals of Advance, in the order of their tests: NotRunning, NoSteps, BadAct, NoNodes, NoSegments.
 pub fn advance_refusals()
-    ensures ready { refusal idle (fresh (root (Ready 1) ∷ [])) (Advance 1 (one 1)) ≡ Some NotRunning }
-    ensures another_runs { refusal idle (fresh (root (Running 2) ∷ [])) (Advance 1 (one 1)) ≡ Some NotRunning }
-    ensures computing { refusal idle (fresh (root (Computing 1) ∷ [])) (Advance 1 (one 1)) ≡ Some NotRunning }
-    ensures waiting { refusal idle (fresh (root Waiting ∷ [])) (Advance 1 (one 1)) ≡ Some NotRunning }
-    ensures returned { refusal idle (fresh (root Returned ∷ [])) (Advance 1 (one 1)) ≡ Some NotRunning }
-    ensures running_before_steps { refusal idle (tired (root (Running 2) ∷ [])) (Advance 1 (one 1)) ≡ Some NotRunning }
-    ensures no_steps { refusal idle (tired (root (Running 1) ∷ [])) (Advance 1 (one 1)) ≡ Some NoSteps }
-    ensures steps_before_bad { refusal (acting [] (Grow 0)) (tired (root (Running 1) ∷ [])) (Advance 1 (one 1)) ≡ Some NoSteps }
-    ensures bad_before_nodes { refusal (acting [] (Spawn [] 0)) (nodeless (root (Running 1) ∷ [])) (Advance 1 (one 1)) ≡ Some BadAct }
-    ensures no_nodes { refusal (acting [] (Spawn [] 4)) (nodeless (root (Running 1) ∷ [])) (Advance 1 (one 1)) ≡ Some NoNodes }
-    ensures nodes_before_segments { refusal (acting [] (Spawn [] 128)) (nodeless (root (Running 1) ∷ [])) (Advance 1 (one 1)) ≡ Some NoNodes }
-    ensures no_segments { refusal (acting [] (Spawn [] 49)) (fresh (root (Running 1) ∷ [])) (Advance 1 (one 1)) ≡ Some NoSegments }
-    ensures all_segments { refusal (acting [] (Spawn [] 48)) (fresh (root (Running 1) ∷ [])) (Advance 1 (one 1)) ≡ None }
-    ensures goes { refusal idle (fresh (root (Running 1) ∷ [])) (Advance 1 (one 1)) ≡ None }
+    ensures ready { refusal idle (fresh_tenant (root_frame (Ready 1) ∷ [])) (Advance 1 (one 1)) ≡ Some NotRunning }
+    ensures another_runs { refusal idle (fresh_tenant (root_frame (Running 2) ∷ [])) (Advance 1 (one 1)) ≡ Some NotRunning }
+    ensures computing { refusal idle (fresh_tenant (root_frame (Computing 1) ∷ [])) (Advance 1 (one 1)) ≡ Some NotRunning }
+    ensures waiting { refusal idle (fresh_tenant (root_frame Waiting ∷ [])) (Advance 1 (one 1)) ≡ Some NotRunning }
+    ensures returned { refusal idle (fresh_tenant (root_frame Returned ∷ [])) (Advance 1 (one 1)) ≡ Some NotRunning }
+    ensures running_before_steps { refusal idle (tired (root_frame (Running 2) ∷ [])) (Advance 1 (one 1)) ≡ Some NotRunning }
+    ensures no_steps { refusal idle (tired (root_frame (Running 1) ∷ [])) (Advance 1 (one 1)) ≡ Some NoSteps }
+    ensures steps_before_bad { refusal (acting [] (Grow 0)) (tired (root_frame (Running 1) ∷ [])) (Advance 1 (one 1)) ≡ Some NoSteps }
+    ensures bad_before_nodes { refusal (acting [] (Spawn [] 0)) (nodeless (root_frame (Running 1) ∷ [])) (Advance 1 (one 1)) ≡ Some BadAct }
+    ensures no_nodes { refusal (acting [] (Spawn [] 4)) (nodeless (root_frame (Running 1) ∷ [])) (Advance 1 (one 1)) ≡ Some NoNodes }
+    ensures nodes_before_segments { refusal (acting [] (Spawn [] 128)) (nodeless (root_frame (Running 1) ∷ [])) (Advance 1 (one 1)) ≡ Some NoNodes }
+    ensures no_segments { refusal (acting [] (Spawn [] 49)) (fresh_tenant (root_frame (Running 1) ∷ [])) (Advance 1 (one 1)) ≡ Some NoSegments }
+    ensures all_segments { refusal (acting [] (Spawn [] 48)) (fresh_tenant (root_frame (Running 1) ∷ [])) (Advance 1 (one 1)) ≡ None }
+    ensures goes { refusal idle (fresh_tenant (root_frame (Running 1) ∷ [])) (Advance 1 (one 1)) ≡ None }
 {}
 
 /// Acts that are refused by BadAct, and for each limit an act that just keeps it.
 pub fn bad_acts()
-    ensures store_outside { refusal (acting ((4, 1) ∷ []) Go) (fresh (root (Running 1) ∷ [])) (Advance 1 (one 1)) ≡ Some BadAct }
-    ensures second_store_outside { refusal (acting ((3, 1) ∷ (4, 1) ∷ []) Go) (fresh (root (Running 1) ∷ [])) (Advance 1 (one 1)) ≡ Some BadAct }
-    ensures store_inside { refusal (acting ((3, 1) ∷ []) Go) (fresh (root (Running 1) ∷ [])) (Advance 1 (one 1)) ≡ None }
-    ensures no_growth { refusal (acting [] (Grow 0)) (fresh (root (Running 1) ∷ [])) (Advance 1 (one 1)) ≡ Some BadAct }
-    ensures great_growth { refusal (acting [] (Grow 125)) (wide 16 (root (Running 1) ∷ [])) (Advance 1 (one 1)) ≡ Some BadAct }
-    ensures greatest_growth { refusal (acting [] (Grow 124)) (wide 16 (root (Running 1) ∷ [])) (Advance 1 (one 1)) ≡ None }
-    ensures growth_within_a_segment { refusal (acting [] (Grow 12)) (wide 1 (root (Running 1) ∷ [])) (Advance 1 (one 1)) ≡ None }
-    ensures growth_beyond_a_segment { refusal (acting [] (Grow 13)) (wide 1 (root (Running 1) ∷ [])) (Advance 1 (one 1)) ≡ Some NoSegments }
-    ensures no_size { refusal (acting [] (Spawn [] 0)) (fresh (root (Running 1) ∷ [])) (Advance 1 (one 1)) ≡ Some BadAct }
-    ensures great_size { refusal (acting [] (Spawn [] 129)) (wide 16 (root (Running 1) ∷ [])) (Advance 1 (one 1)) ≡ Some BadAct }
-    ensures greatest_size { refusal (acting [] (Spawn [] 128)) (wide 16 (root (Running 1) ∷ [])) (Advance 1 (one 1)) ≡ None }
-    ensures many_words { refusal (acting [] (Spawn (1 ∷ 2 ∷ []) 1)) (fresh (root (Running 1) ∷ [])) (Advance 1 (one 1)) ≡ Some BadAct }
-    ensures computing_with_a_child { refusal (acting [] Compute) (fresh (root (Running 1) ∷ child 2 Waiting ∷ [])) (Advance 1 (one 1)) ≡ Some BadAct }
-    ensures computing { refusal (acting [] Compute) (nodeless (root (Running 1) ∷ [])) (Advance 1 (one 1)) ≡ None }
+    ensures store_outside { refusal (acting ((4, 1) ∷ []) Go) (fresh_tenant (root_frame (Running 1) ∷ [])) (Advance 1 (one 1)) ≡ Some BadAct }
+    ensures second_store_outside { refusal (acting ((3, 1) ∷ (4, 1) ∷ []) Go) (fresh_tenant (root_frame (Running 1) ∷ [])) (Advance 1 (one 1)) ≡ Some BadAct }
+    ensures store_inside { refusal (acting ((3, 1) ∷ []) Go) (fresh_tenant (root_frame (Running 1) ∷ [])) (Advance 1 (one 1)) ≡ None }
+    ensures no_growth { refusal (acting [] (Grow 0)) (fresh_tenant (root_frame (Running 1) ∷ [])) (Advance 1 (one 1)) ≡ Some BadAct }
+    ensures great_growth { refusal (acting [] (Grow 125)) (wide 16 (root_frame (Running 1) ∷ [])) (Advance 1 (one 1)) ≡ Some BadAct }
+    ensures greatest_growth { refusal (acting [] (Grow 124)) (wide 16 (root_frame (Running 1) ∷ [])) (Advance 1 (one 1)) ≡ None }
+    ensures growth_within_a_segment { refusal (acting [] (Grow 12)) (wide 1 (root_frame (Running 1) ∷ [])) (Advance 1 (one 1)) ≡ None }
+    ensures growth_beyond_a_segment { refusal (acting [] (Grow 13)) (wide 1 (root_frame (Running 1) ∷ [])) (Advance 1 (one 1)) ≡ Some NoSegments }
+    ensures no_size { refusal (acting [] (Spawn [] 0)) (fresh_tenant (root_frame (Running 1) ∷ [])) (Advance 1 (one 1)) ≡ Some BadAct }
+    ensures great_size { refusal (acting [] (Spawn [] 129)) (wide 16 (root_frame (Running 1) ∷ [])) (Advance 1 (one 1)) ≡ Some BadAct }
+    ensures greatest_size { refusal (acting [] (Spawn [] 128)) (wide 16 (root_frame (Running 1) ∷ [])) (Advance 1 (one 1)) ≡ None }
+    ensures many_words { refusal (acting [] (Spawn (1 ∷ 2 ∷ []) 1)) (fresh_tenant (root_frame (Running 1) ∷ [])) (Advance 1 (one 1)) ≡ Some BadAct }
+    ensures computing_with_a_child { refusal (acting [] Compute) (fresh_tenant (root_frame (Running 1) ∷ child_frame 2 Waiting ∷ [])) (Advance 1 (one 1)) ≡ Some BadAct }
+    ensures computing { refusal (acting [] Compute) (nodeless (root_frame (Running 1) ∷ [])) (Advance 1 (one 1)) ≡ None }
 {}
 
 /// The refusals of Answer, in the order of their tests: NotComputing, Mismatch, NoSteps, BadAct. The input of
 /// these frames is 0.
 pub fn answer_refusals()
-    ensures running { refusal idle (fresh (root (Running 1) ∷ [])) (Answer 1 (one 1) 0) ≡ Some NotComputing }
-    ensures another_computes { refusal idle (fresh (root (Computing 2) ∷ [])) (Answer 1 (one 1) 0) ≡ Some NotComputing }
-    ensures computing_before_mismatch { refusal idle (fresh (root (Running 1) ∷ [])) (Answer 1 (one 1) 5) ≡ Some NotComputing }
-    ensures mismatch { refusal idle (fresh (root (Computing 1) ∷ [])) (Answer 1 (one 1) 5) ≡ Some Mismatch }
-    ensures mismatch_before_steps { refusal idle (tired (root (Computing 1) ∷ [])) (Answer 1 (one 1) 5) ≡ Some Mismatch }
-    ensures no_steps { refusal idle (tired (root (Computing 1) ∷ [])) (Answer 1 (one 1) 0) ≡ Some NoSteps }
-    ensures steps_before_bad { refusal storing_outside (tired (root (Computing 1) ∷ [])) (Answer 1 (one 1) 0) ≡ Some NoSteps }
-    ensures bad { refusal storing_outside (fresh (root (Computing 1) ∷ [])) (Answer 1 (one 1) 0) ≡ Some BadAct }
-    ensures accepted { refusal idle (fresh (root (Computing 1) ∷ [])) (Answer 1 (one 1) 0) ≡ None }
+    ensures running { refusal idle (fresh_tenant (root_frame (Running 1) ∷ [])) (Answer 1 (one 1) 0) ≡ Some NotComputing }
+    ensures another_computes { refusal idle (fresh_tenant (root_frame (Computing 2) ∷ [])) (Answer 1 (one 1) 0) ≡ Some NotComputing }
+    ensures computing_before_mismatch { refusal idle (fresh_tenant (root_frame (Running 1) ∷ [])) (Answer 1 (one 1) 5) ≡ Some NotComputing }
+    ensures mismatch { refusal idle (fresh_tenant (root_frame (Computing 1) ∷ [])) (Answer 1 (one 1) 5) ≡ Some Mismatch }
+    ensures mismatch_before_steps { refusal idle (tired (root_frame (Computing 1) ∷ [])) (Answer 1 (one 1) 5) ≡ Some Mismatch }
+    ensures no_steps { refusal idle (tired (root_frame (Computing 1) ∷ [])) (Answer 1 (one 1) 0) ≡ Some NoSteps }
+    ensures steps_before_bad { refusal storing_outside (tired (root_frame (Computing 1) ∷ [])) (Answer 1 (one 1) 0) ≡ Some NoSteps }
+    ensures bad { refusal storing_outside (fresh_tenant (root_frame (Computing 1) ∷ [])) (Answer 1 (one 1) 0) ≡ Some BadAct }
+    ensures accepted { refusal idle (fresh_tenant (root_frame (Computing 1) ∷ [])) (Answer 1 (one 1) 0) ≡ None }
 {}
 
 /// The refusals of Inlet, in the order of their tests: NotReturned, NoSteps, BadAct, Busy.
 pub fn inlet_refusals()
-    ensures running { refusal idle (fresh (root Waiting ∷ child 2 (Running 1) ∷ [])) (Inlet 1 (one 2)) ≡ Some NotReturned }
-    ensures root { refusal idle (fresh (root Returned ∷ [])) (Inlet 1 (one 1)) ≡ Some NotReturned }
-    ensures returned_before_steps { refusal idle (tired (root Waiting ∷ child 2 (Ready 1) ∷ [])) (Inlet 1 (one 2)) ≡ Some NotReturned }
-    ensures root_before_steps { refusal idle (tired (root Returned ∷ [])) (Inlet 1 (one 1)) ≡ Some NotReturned }
-    ensures no_steps { refusal idle (tired (root Waiting ∷ child 2 Returned ∷ [])) (Inlet 1 (one 2)) ≡ Some NoSteps }
-    ensures steps_before_bad { refusal storing_outside (tired (root Waiting ∷ child 2 Returned ∷ [])) (Inlet 1 (one 2)) ≡ Some NoSteps }
-    ensures bad { refusal storing_outside (fresh (root Waiting ∷ child 2 Returned ∷ [])) (Inlet 1 (one 2)) ≡ Some BadAct }
-    ensures bad_before_free { refusal storing_outside (fresh (root Waiting ∷ child 2 Returned ∷ child 3 (Running 1) ∷ [])) (Inlet 1 (one 2)) ≡ Some BadAct }
-    ensures busy { refusal idle (fresh (root Waiting ∷ child 2 Returned ∷ child 3 (Running 1) ∷ [])) (Inlet 1 (one 2)) ≡ Some Busy }
-    ensures taken_in { refusal idle (fresh (root Waiting ∷ child 2 Returned ∷ child 3 (Running 2) ∷ [])) (Inlet 1 (one 2)) ≡ None }
+    ensures running { refusal idle (fresh_tenant (root_frame Waiting ∷ child_frame 2 (Running 1) ∷ [])) (Inlet 1 (one 2)) ≡ Some NotReturned }
+    ensures root { refusal idle (fresh_tenant (root_frame Returned ∷ [])) (Inlet 1 (one 1)) ≡ Some NotReturned }
+    ensures returned_before_steps { refusal idle (tired (root_frame Waiting ∷ child_frame 2 (Ready 1) ∷ [])) (Inlet 1 (one 2)) ≡ Some NotReturned }
+    ensures root_before_steps { refusal idle (tired (root_frame Returned ∷ [])) (Inlet 1 (one 1)) ≡ Some NotReturned }
+    ensures no_steps { refusal idle (tired (root_frame Waiting ∷ child_frame 2 Returned ∷ [])) (Inlet 1 (one 2)) ≡ Some NoSteps }
+    ensures steps_before_bad { refusal storing_outside (tired (root_frame Waiting ∷ child_frame 2 Returned ∷ [])) (Inlet 1 (one 2)) ≡ Some NoSteps }
+    ensures bad { refusal storing_outside (fresh_tenant (root_frame Waiting ∷ child_frame 2 Returned ∷ [])) (Inlet 1 (one 2)) ≡ Some BadAct }
+    ensures bad_before_free { refusal storing_outside (fresh_tenant (root_frame Waiting ∷ child_frame 2 Returned ∷ child_frame 3 (Running 1) ∷ [])) (Inlet 1 (one 2)) ≡ Some BadAct }
+    ensures busy { refusal idle (fresh_tenant (root_frame Waiting ∷ child_frame 2 Returned ∷ child_frame 3 (Running 1) ∷ [])) (Inlet 1 (one 2)) ≡ Some Busy }
+    ensures taken_in { refusal idle (fresh_tenant (root_frame Waiting ∷ child_frame 2 Returned ∷ child_frame 3 (Running 2) ∷ [])) (Inlet 1 (one 2)) ≡ None }
 {}
 
 /// The refusals of Finish, in the order of their tests: NotReturned, NoSteps, Busy.
 pub fn finish_refusals()
-    ensures waiting { refusal idle (fresh (root Waiting ∷ [])) (Finish 1 (one 1)) ≡ Some NotReturned }
-    ensures child { refusal idle (fresh (root Waiting ∷ child 2 Returned ∷ [])) (Finish 1 (one 2)) ≡ Some NotReturned }
-    ensures returned_before_steps { refusal idle (tired (root Waiting ∷ [])) (Finish 1 (one 1)) ≡ Some NotReturned }
-    ensures child_before_steps { refusal idle (tired (root Waiting ∷ child 2 Returned ∷ [])) (Finish 1 (one 2)) ≡ Some NotReturned }
-    ensures no_steps { refusal idle (tired (root Returned ∷ [])) (Finish 1 (one 1)) ≡ Some NoSteps }
-    ensures steps_before_free { refusal idle (tired (root Returned ∷ frame 2 (2 ∷ []) (Running 1) [] ∷ [])) (Finish 1 (one 1)) ≡ Some NoSteps }
-    ensures busy { refusal idle (fresh (root Returned ∷ frame 2 (2 ∷ []) (Running 1) [] ∷ [])) (Finish 1 (one 1)) ≡ Some Busy }
-    ensures done { refusal idle (fresh (root Returned ∷ [])) (Finish 1 (one 1)) ≡ None }
+    ensures waiting { refusal idle (fresh_tenant (root_frame Waiting ∷ [])) (Finish 1 (one 1)) ≡ Some NotReturned }
+    ensures child { refusal idle (fresh_tenant (root_frame Waiting ∷ child_frame 2 Returned ∷ [])) (Finish 1 (one 2)) ≡ Some NotReturned }
+    ensures returned_before_steps { refusal idle (tired (root_frame Waiting ∷ [])) (Finish 1 (one 1)) ≡ Some NotReturned }
+    ensures child_before_steps { refusal idle (tired (root_frame Waiting ∷ child_frame 2 Returned ∷ [])) (Finish 1 (one 2)) ≡ Some NotReturned }
+    ensures no_steps { refusal idle (tired (root_frame Returned ∷ [])) (Finish 1 (one 1)) ≡ Some NoSteps }
+    ensures steps_before_free { refusal idle (tired (root_frame Returned ∷ frame 2 (2 ∷ []) (Running 1) [] ∷ [])) (Finish 1 (one 1)) ≡ Some NoSteps }
+    ensures busy { refusal idle (fresh_tenant (root_frame Returned ∷ frame 2 (2 ∷ []) (Running 1) [] ∷ [])) (Finish 1 (one 1)) ≡ Some Busy }
+    ensures done { refusal idle (fresh_tenant (root_frame Returned ∷ [])) (Finish 1 (one 1)) ≡ None }
 {}
 
 /// Spend is refused by NotSpent, unless no step is left or the frame can't do its next act or its inlet.
 pub fn spend_refusals()
-    ensures ready { refusal (acting [] (Grow 0)) (fresh (root (Ready 1) ∷ [])) (Spend (one 1)) ≡ Some NotSpent }
-    ensures running { refusal idle (fresh (root (Running 1) ∷ [])) (Spend (one 1)) ≡ Some NotSpent }
-    ensures computing { refusal (acting [] (Grow 0)) (fresh (root (Computing 1) ∷ [])) (Spend (one 1)) ≡ Some NotSpent }
-    ensures waiting { refusal (acting [] (Grow 0)) (fresh (root Waiting ∷ [])) (Spend (one 1)) ≡ Some NotSpent }
-    ensures returned { refusal idle (fresh (root Waiting ∷ child 2 Returned ∷ [])) (Spend (one 2)) ≡ Some NotSpent }
-    ensures returned_root { refusal storing_outside (fresh (root Returned ∷ [])) (Spend (one 1)) ≡ Some NotSpent }
-    ensures accepting_outside { refusal storing_outside (fresh (root (Computing 1) ∷ [])) (Spend (one 1)) ≡ Some NotSpent }
-    ensures no_steps { refusal idle (tired (root (Ready 1) ∷ [])) (Spend (one 1)) ≡ None }
-    ensures bad_act { refusal (acting [] (Grow 0)) (fresh (root (Running 1) ∷ [])) (Spend (one 1)) ≡ None }
-    ensures no_nodes { refusal (acting [] (Spawn [] 4)) (nodeless (root (Running 1) ∷ [])) (Spend (one 1)) ≡ None }
-    ensures no_segments { refusal (acting [] (Spawn [] 49)) (fresh (root (Running 1) ∷ [])) (Spend (one 1)) ≡ None }
-    ensures bad_inlet { refusal storing_outside (fresh (root Waiting ∷ child 2 Returned ∷ [])) (Spend (one 2)) ≡ None }
+    ensures ready { refusal (acting [] (Grow 0)) (fresh_tenant (root_frame (Ready 1) ∷ [])) (Spend (one 1)) ≡ Some NotSpent }
+    ensures running { refusal idle (fresh_tenant (root_frame (Running 1) ∷ [])) (Spend (one 1)) ≡ Some NotSpent }
+    ensures computing { refusal (acting [] (Grow 0)) (fresh_tenant (root_frame (Computing 1) ∷ [])) (Spend (one 1)) ≡ Some NotSpent }
+    ensures waiting { refusal (acting [] (Grow 0)) (fresh_tenant (root_frame Waiting ∷ [])) (Spend (one 1)) ≡ Some NotSpent }
+    ensures returned { refusal idle (fresh_tenant (root_frame Waiting ∷ child_frame 2 Returned ∷ [])) (Spend (one 2)) ≡ Some NotSpent }
+    ensures returned_root { refusal storing_outside (fresh_tenant (root_frame Returned ∷ [])) (Spend (one 1)) ≡ Some NotSpent }
+    ensures accepting_outside { refusal storing_outside (fresh_tenant (root_frame (Computing 1) ∷ [])) (Spend (one 1)) ≡ Some NotSpent }
+    ensures no_steps { refusal idle (tired (root_frame (Ready 1) ∷ [])) (Spend (one 1)) ≡ None }
+    ensures bad_act { refusal (acting [] (Grow 0)) (fresh_tenant (root_frame (Running 1) ∷ [])) (Spend (one 1)) ≡ None }
+    ensures no_nodes { refusal (acting [] (Spawn [] 4)) (nodeless (root_frame (Running 1) ∷ [])) (Spend (one 1)) ≡ None }
+    ensures no_segments { refusal (acting [] (Spawn [] 49)) (fresh_tenant (root_frame (Running 1) ∷ [])) (Spend (one 1)) ≡ None }
+    ensures bad_inlet { refusal storing_outside (fresh_tenant (root_frame Waiting ∷ child_frame 2 Returned ∷ [])) (Spend (one 2)) ≡ None }
 {}
 
 /// Cancel is refused by NoJob for number 0, for a number above the last job's, and for a job that has ended.
 pub fn cancel_refusals()
-    ensures zero { refusal idle (fresh (root Waiting ∷ [])) (Cancel 1 0) ≡ Some NoJob }
-    ensures over { refusal idle (fresh (root Waiting ∷ [])) (Cancel 1 2) ≡ Some NoJob }
+    ensures zero { refusal idle (fresh_tenant (root_frame Waiting ∷ [])) (Cancel 1 0) ≡ Some NoJob }
+    ensures over { refusal idle (fresh_tenant (root_frame Waiting ∷ [])) (Cancel 1 2) ≡ Some NoJob }
     ensures cancelled { refusal idle (tenant_of_jobs 1 1) (Cancel 1 1) ≡ Some NoJob }
-    ensures live { refusal idle (fresh (root Waiting ∷ [])) (Cancel 1 1) ≡ None }
-    ensures without_steps { refusal idle (tired (root Waiting ∷ [])) (Cancel 1 1) ≡ None }
+    ensures live { refusal idle (fresh_tenant (root_frame Waiting ∷ [])) (Cancel 1 1) ≡ None }
+    ensures without_steps { refusal idle (tired (root_frame Waiting ∷ [])) (Cancel 1 1) ≡ None }
 {}
 
 /// The refusals of Admit among several tenants, in the order of their tests: OldTenant, Full.
 pub fn admit_refusals()
-    ensures zero { among [] (Admit 0 (quota 1 1)) ≡ Some OldTenant }
-    ensures old { among [] (Admit 7 (quota 1 1)) ≡ Some OldTenant }
-    ensures older { among [] (Admit 6 (quota 1 1)) ≡ Some OldTenant }
-    ensures next { among [] (Admit 8 (quota 1 1)) ≡ None }
-    ensures over { among [] (Admit (2 ^ 62 + 1) (quota 1 1)) ≡ Some OldTenant }
-    ensures greatest { among [] (Admit (2 ^ 62) (quota 1 1)) ≡ None }
-    ensures old_before_full { among [] (Admit 7 (quota 9 1)) ≡ Some OldTenant }
-    ensures segments { among [] (Admit 8 (quota 9 1)) ≡ Some Full }
-    ensures segments_beside { among ((7, fresh []) ∷ []) (Admit 8 (quota 5 1)) ≡ Some Full }
-    ensures nodes_beside { among ((7, fresh []) ∷ []) (Admit 8 (quota 1 29)) ≡ Some Full }
-    ensures both_beside { among ((7, fresh []) ∷ []) (Admit 8 (quota 4 28)) ≡ None }
-    ensures places { shared_refusal idle (roomy (crowd 64)) (Admit 8 (quota 1 1)) ≡ Some Full }
-    ensures last_place { shared_refusal idle (roomy (crowd 63)) (Admit 8 (quota 1 1)) ≡ None }
+    ensures zero { among [] (Admit 0 (toy_quota 1 1)) ≡ Some OldTenant }
+    ensures old { among [] (Admit 7 (toy_quota 1 1)) ≡ Some OldTenant }
+    ensures older { among [] (Admit 6 (toy_quota 1 1)) ≡ Some OldTenant }
+    ensures next { among [] (Admit 8 (toy_quota 1 1)) ≡ None }
+    ensures over { among [] (Admit (2 ^ 62 + 1) (toy_quota 1 1)) ≡ Some OldTenant }
+    ensures greatest { among [] (Admit (2 ^ 62) (toy_quota 1 1)) ≡ None }
+    ensures old_before_full { among [] (Admit 7 (toy_quota 9 1)) ≡ Some OldTenant }
+    ensures segments { among [] (Admit 8 (toy_quota 9 1)) ≡ Some Full }
+    ensures segments_beside { among ((7, fresh_tenant []) ∷ []) (Admit 8 (toy_quota 5 1)) ≡ Some Full }
+    ensures nodes_beside { among ((7, fresh_tenant []) ∷ []) (Admit 8 (toy_quota 1 29)) ≡ Some Full }
+    ensures both_beside { among ((7, fresh_tenant []) ∷ []) (Admit 8 (toy_quota 4 28)) ≡ None }
+    ensures places { shared_refusal idle (roomy (crowd 64)) (Admit 8 (toy_quota 1 1)) ≡ Some Full }
+    ensures last_place { shared_refusal idle (roomy (crowd 63)) (Admit 8 (toy_quota 1 1)) ≡ None }
 {}
 
 /// The refusals of AdmitMore, in the order of their tests: NoTenant, Lower, Full. What the tenant itself
 /// reserves isn't counted twice, and it doesn't matter that 64 tenants are there. These tenants reserve 4
 /// segments and 4 nodes.
 pub fn admit_more_refusals()
-    ensures nobody { among [] (AdmitMore 7 (quota 9 1)) ≡ Some NoTenant }
-    ensures fewer_segments { refusal idle (fresh []) (AdmitMore 1 (quota 3 9)) ≡ Some Lower }
-    ensures fewer_nodes { refusal idle (fresh []) (AdmitMore 1 (quota 9 3)) ≡ Some Lower }
-    ensures as_much { refusal idle (fresh []) (AdmitMore 1 (quota 4 4)) ≡ Some Lower }
-    ensures one_segment { refusal idle (fresh []) (AdmitMore 1 (quota 5 4)) ≡ None }
-    ensures one_node { refusal idle (fresh []) (AdmitMore 1 (quota 4 5)) ≡ None }
-    ensures without_steps { refusal idle (tired []) (AdmitMore 1 (quota 5 5)) ≡ None }
-    ensures lower_before_full { among ((7, fresh []) ∷ []) (AdmitMore 7 (quota 9 3)) ≡ Some Lower }
-    ensures segments { among ((7, fresh []) ∷ []) (AdmitMore 7 (quota 9 4)) ≡ Some Full }
-    ensures nodes { among ((7, fresh []) ∷ []) (AdmitMore 7 (quota 4 33)) ≡ Some Full }
-    ensures all { among ((7, fresh []) ∷ []) (AdmitMore 7 (quota 8 32)) ≡ None }
-    ensures segments_beside { among (beside []) (AdmitMore 1 (quota 5 4)) ≡ Some Full }
-    ensures nodes_beside { among (beside []) (AdmitMore 1 (quota 4 29)) ≡ Some Full }
-    ensures all_beside { among (beside []) (AdmitMore 1 (quota 4 28)) ≡ None }
-    ensures places { shared_refusal idle (roomy (crowd 64)) (AdmitMore 7 (quota 65 65)) ≡ None }
-    ensures beyond { shared_refusal idle (roomy (crowd 64)) (AdmitMore 7 (quota 66 65)) ≡ Some Full }
+    ensures nobody { among [] (AdmitMore 7 (toy_quota 9 1)) ≡ Some NoTenant }
+    ensures fewer_segments { refusal idle (fresh_tenant []) (AdmitMore 1 (toy_quota 3 9)) ≡ Some Lower }
+    ensures fewer_nodes { refusal idle (fresh_tenant []) (AdmitMore 1 (toy_quota 9 3)) ≡ Some Lower }
+    ensures as_much { refusal idle (fresh_tenant []) (AdmitMore 1 (toy_quota 4 4)) ≡ Some Lower }
+    ensures one_segment { refusal idle (fresh_tenant []) (AdmitMore 1 (toy_quota 5 4)) ≡ None }
+    ensures one_node { refusal idle (fresh_tenant []) (AdmitMore 1 (toy_quota 4 5)) ≡ None }
+    ensures without_steps { refusal idle (tired []) (AdmitMore 1 (toy_quota 5 5)) ≡ None }
+    ensures lower_before_full { among ((7, fresh_tenant []) ∷ []) (AdmitMore 7 (toy_quota 9 3)) ≡ Some Lower }
+    ensures segments { among ((7, fresh_tenant []) ∷ []) (AdmitMore 7 (toy_quota 9 4)) ≡ Some Full }
+    ensures nodes { among ((7, fresh_tenant []) ∷ []) (AdmitMore 7 (toy_quota 4 33)) ≡ Some Full }
+    ensures all { among ((7, fresh_tenant []) ∷ []) (AdmitMore 7 (toy_quota 8 32)) ≡ None }
+    ensures segments_beside { among (beside []) (AdmitMore 1 (toy_quota 5 4)) ≡ Some Full }
+    ensures nodes_beside { among (beside []) (AdmitMore 1 (toy_quota 4 29)) ≡ Some Full }
+    ensures all_beside { among (beside []) (AdmitMore 1 (toy_quota 4 28)) ≡ None }
+    ensures places { shared_refusal idle (roomy (crowd 64)) (AdmitMore 7 (toy_quota 65 65)) ≡ None }
+    ensures beyond { shared_refusal idle (roomy (crowd 64)) (AdmitMore 7 (toy_quota 66 65)) ≡ Some Full }
 {}
 
 /// A worker that is busy with another tenant's frame: a step that its own tenant alone would take is refused by
 /// Busy, if it needs a free worker.
 pub fn busy_elsewhere()
-    ensures take { among (beside (root (Ready 5) ∷ [])) (Take 5 (one 1)) ≡ Some Busy }
-    ensures steal { among (beside (root (Ready 1) ∷ [])) (Steal 5 1 (one 1)) ≡ Some Busy }
-    ensures inlet { among (beside (root Waiting ∷ child 2 Returned ∷ [])) (Inlet 5 (one 2)) ≡ Some Busy }
-    ensures finish { among (beside (root Returned ∷ [])) (Finish 5 (one 1)) ≡ Some Busy }
-    ensures free_worker { among (beside (root (Ready 4) ∷ [])) (Take 4 (one 1)) ≡ None }
-    ensures own_refusal_first { among (beside (root Waiting ∷ [])) (Take 5 (one 1)) ≡ Some NotReady }
+    ensures take { among (beside (root_frame (Ready 5) ∷ [])) (Take 5 (one 1)) ≡ Some Busy }
+    ensures steal { among (beside (root_frame (Ready 1) ∷ [])) (Steal 5 1 (one 1)) ≡ Some Busy }
+    ensures inlet { among (beside (root_frame Waiting ∷ child_frame 2 Returned ∷ [])) (Inlet 5 (one 2)) ≡ Some Busy }
+    ensures finish { among (beside (root_frame Returned ∷ [])) (Finish 5 (one 1)) ≡ Some Busy }
+    ensures free_worker { among (beside (root_frame (Ready 4) ∷ [])) (Take 4 (one 1)) ≡ None }
+    ensures own_refusal_first { among (beside (root_frame Waiting ∷ [])) (Take 5 (one 1)) ≡ Some NotReady }
     ensures no_tenant_first { among (beside []) (Take 5 (record { tenant = 3; serial = 1 })) ≡ Some NoTenant }
-    ensures advance { among (beside (root (Running 5) ∷ [])) (Advance 5 (one 1)) ≡ None }
+    ensures advance { among (beside (root_frame (Running 5) ∷ [])) (Advance 5 (one 1)) ≡ None }
     ensures submit { among (beside []) (Submit 1 [] 4) ≡ None }
 {}

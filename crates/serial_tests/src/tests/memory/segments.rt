@@ -1,5 +1,5 @@
 ghost use Rattle.segment_region.specs.Segments.{IsTaken};
-ghost use Rattle.serial_tests.specs.Taken.{AreTaken};
+ghost use Rattle.serial_tests.specs.Taken.{AreBothTaken};
 
 use crate::tests::memory::holds;
 use segment_region::{Region, SegNo};
@@ -39,7 +39,7 @@ fn is_blank(rt: &impl Abort, region: &Region, segment: SegNo)
 }
 
 fn take_two(rt: &impl Abort, region: &mut Region) -> Two
-    ensures { AreTaken region.new result.one result.other }
+    ensures { AreBothTaken region.new result.one result.other }
 {
     let one = region.take().expect(rt, "two are free");
     let other = region.take().expect(rt, "one is free");
@@ -48,23 +48,23 @@ fn take_two(rt: &impl Abort, region: &mut Region) -> Two
 }
 
 fn has_no_more(rt: &impl Abort, region: &mut Region, two: &Two)
-    requires { AreTaken region.old two.now.one two.now.other }
-    ensures { AreTaken region.new two.now.one two.now.other }
+    requires { AreBothTaken region.old two.now.one two.now.other }
+    ensures { AreBothTaken region.new two.now.one two.now.other }
 {
     has_free(rt, region, 0);
     holds(rt, region.take().is_none());
 }
 
 fn write_one(region: &mut Region, two: &Two)
-    requires { AreTaken region.old two.now.one two.now.other }
-    ensures { AreTaken region.new two.now.one two.now.other }
+    requires { AreBothTaken region.old two.now.one two.now.other }
+    ensures { AreBothTaken region.new two.now.one two.now.other }
 {
     region.words_mut(two.one)[3] = 7;
     region.set_link(two.one, Some(two.other));
 }
 
 fn one_is_written(rt: &impl Abort, region: &Region, two: &Two)
-    requires { AreTaken region.now two.now.one two.now.other }
+    requires { AreBothTaken region.now two.now.one two.now.other }
 {
     has_words(
         rt,
@@ -77,7 +77,7 @@ fn one_is_written(rt: &impl Abort, region: &Region, two: &Two)
 }
 
 fn give_and_take(rt: &impl Abort, region: &mut Region, two: &Two)
-    requires { AreTaken region.old two.now.one two.now.other }
+    requires { AreBothTaken region.old two.now.one two.now.other }
 {
     region.give(two.one);
     has_free(rt, region, 1);

@@ -3,7 +3,7 @@ use Rattle.std.proofs.Common.{◌≡◌, true, false, refl, ap, sym, ◌∙◌}
 use Rattle.site_book.specs.declared.held.Held.{Held}
 use Rattle.site_book.specs.declared.held.Part.TheVariants.{Own, Network, Guests}
 use Rattle.site_book.specs.Names.{network_of}
-use Rattle.site_book.specs.Grants.{used, without, is_lower}
+use Rattle.site_book.specs.Grants.{used, grants_without, is_no_raise}
 use Rattle.site_book.specs.Books.{why_beyond}
 use Rattle.site_book.proofs.BookLemmas.{gone-why, raise-is, found-held, removed-list}
 use Rattle.site_book.proofs.book.why_no_raise.Goals as goal
@@ -17,7 +17,7 @@ returns-then-is_lower c =
     let gs = c.args.grants.now in
     let held = c.index-grants-place.result in
     let found = found-held gs gs c.args.who c.args.session c.place_of-place.result held refl c.place_of-place.ensures.place c.if-place-grants.false c.index-grants-place.is in
-    let low : is_lower held.ask c.args.ask ≡ true = ap (λ (h : Held). is_lower h.ask c.args.ask) c.index-grants-place.is ∙ (sym c.is_lower.ensures ∙ c.if-is_lower.true) in
+    let low : is_no_raise held.ask c.args.ask ≡ true = ap (λ (h : Held). is_no_raise h.ask c.args.ask) c.index-grants-place.is ∙ (sym c.is_lower.ensures ∙ c.if-is_lower.true) in
     raise-is c.args.plan.now c.args.who c.args.session c.args.ask gs held true found low
 
 pub returns : goal.returns
@@ -25,9 +25,9 @@ returns c =
     let gs = c.args.grants.now in
     let held = c.index-grants-place.result in
     let found = found-held gs gs c.args.who c.args.session c.place_of-place.result held refl c.place_of-place.ensures.place c.if-place-grants.false c.index-grants-place.is in
-    let low : is_lower held.ask c.args.ask ≡ false = ap (λ (h : Held). is_lower h.ask c.args.ask) c.index-grants-place.is ∙ (sym c.is_lower.ensures ∙ c.if-is_lower.false) in
+    let low : is_no_raise held.ask c.args.ask ≡ false = ap (λ (h : Held). is_no_raise h.ask c.args.ask) c.index-grants-place.is ∙ (sym c.is_lower.ensures ∙ c.if-is_lower.false) in
     let others = removed-list gs gs c.args.who c.args.session c.place_of-place.result refl c.place_of-place.ensures.place c.if-place-grants.false in
     let own = c.used_besides-own.ensures.value ∙ ap (used (Own c.args.who)) others in
-    let network : c.used_besides-network.result ≡ used (Network (network_of c.args.who)) (without c.args.who c.args.session gs) = c.used_besides-network.ensures.value ∙ (λ i. used (Network (c.network.ensures i)) (others i)) in
+    let network : c.used_besides-network.result ≡ used (Network (network_of c.args.who)) (grants_without c.args.who c.args.session gs) = c.used_besides-network.ensures.value ∙ (λ i. used (Network (c.network.ensures i)) (others i)) in
     let guests = c.used_besides-guests.ensures.value ∙ ap (used Guests) others in
     c.why_beyond.ensures ∙ ((λ i. why_beyond c.args.plan.now c.args.who c.args.ask (own i) (network i) (guests i)) ∙ raise-is c.args.plan.now c.args.who c.args.session c.args.ask gs held false found low)

@@ -1,7 +1,7 @@
 use Rattle.std.proofs.Common.{◌≡◌, ◌+◌, drop}
-use Rattle.site_book.specs.Grants.{place_of}
+use Rattle.site_book.specs.Grants.{grant_place}
 use Rattle.site_book.proofs.held.place_of.Given as goal
 
 -- none of those before is of the session
 abbrev pub invariant-loop-place : goal.invariant-loop-place
-invariant-loop-place l = l.place + place_of l.who l.session (drop l.place l.grants) ≡ place_of l.who l.session l.grants
+invariant-loop-place l = l.place + grant_place l.who l.session (drop l.place l.grants) ≡ grant_place l.who l.session l.grants

@@ -1,12 +1,12 @@
 use Rattle.std.proofs.Common.{ap, ◌∙◌}
 use Rattle.site_book.specs.Grants.{used}
 use Rattle.site_book.specs.Books.{new_book}
-use Rattle.site_book.specs.Events.{run}
+use Rattle.site_book.specs.Events.{book_after_events}
 use Rattle.site_book.proofs.RunLemmas.{names-run, no-names}
 use Rattle.site_book.proofs.laws.all_comes_back.Goals as goal
 
 pub returns : goal.returns
 returns c = record {
   out = λ plan events. names-run (new_book plan) events;
-  none = λ plan events none part. ap (used part) (no-names (run (new_book plan) events).grants (names-run (new_book plan) events ∙ none));
+  none = λ plan events none part. ap (used part) (no-names (book_after_events (new_book plan) events).grants (names-run (new_book plan) events ∙ none));
 }

@@ -1,10 +1,10 @@
 use Rattle.std.proofs.Common.{◌≡◌, length}
-use Rattle.site_book.specs.Amounts.{is_within, plus, sum_of}
+use Rattle.site_book.specs.Amounts.{is_amount_within, plus, sum_of}
 use Rattle.site_book.proofs.plan.budgets_fit.Given as goal
 
 -- the rest is within what is left exactly where all is within the totals
 abbrev pub invariant-loop-customer : goal.invariant-loop-customer
-invariant-loop-customer l = is_within (sum_of l.rest) l.left ≡ is_within (plus l.fn.guests (sum_of l.customers)) l.fn.totals
+invariant-loop-customer l = is_amount_within (sum_of l.rest) l.left ≡ is_amount_within (plus l.fn.guests (sum_of l.customers)) l.fn.totals
 
 abbrev pub decreases-loop-customer : goal.decreases-loop-customer
 decreases-loop-customer l = length l.rest

@@ -1,7 +1,7 @@
 use Rattle.std.proofs.Common.{[], ◌∷◌, refl, arith}
 use Rattle.std.proofs.lemmas.List.Elements.{All-from_recursion}
 use Rattle.task_deques.specs.Deals.{IsAccounted}
-use Rattle.task_deques.specs.Rows.{task, seat}
+use Rattle.task_deques.specs.Rows.{worker_task, seat}
 use Rattle.task_deques.proofs.rows.rows_are_joined.Goals as goal
 
 pub returns : goal.returns
@@ -10,7 +10,7 @@ returns c = record {
   shorter = λ one two. refl;
   longer = λ one two. refl;
   whole = λ one two. refl;
-  accounted = λ one two. All-from_recursion IsAccounted (seat one 64 (task 1 ∷ task 2 ∷ task 3 ∷ []) (task 3 ∷ task 1 ∷ []) ∷ seat two 64 [] [] ∷ [])
-      ((task 2 ∷ [], λ h. omega arith), (([], λ h. refl), tt));
+  accounted = λ one two. All-from_recursion IsAccounted (seat one 64 (worker_task 1 ∷ worker_task 2 ∷ worker_task 3 ∷ []) (worker_task 3 ∷ worker_task 1 ∷ []) ∷ seat two 64 [] [] ∷ [])
+      ((worker_task 2 ∷ [], λ h. omega arith), (([], λ h. refl), tt));
   made_up = λ one is. let none = is.1 (λ _. 1) in omega arith;
 }

@@ -4,7 +4,7 @@ use Rattle.task_deques.specs.declared.rule.Tally.{Tally}
 use Rattle.task_deques.specs.Tallies.{tally}
 use Rattle.task_deques.specs.Seats.{Deque, new_thief}
 use Rattle.task_deques.specs.Deals.{WorkerSeats, Posts, posts_of, IsDealt, IsWhole}
-use Rattle.task_deques.specs.Rows.{two_thieves, new_worker, two_workers, played}
+use Rattle.task_deques.specs.Rows.{two_thieves, new_worker, two_workers, played_seats}
 use Rattle.task_deques.proofs.rows.two_workers_are_dealt.Goals as goal
 
 -- what each of the workers that were dealt has
@@ -30,5 +30,5 @@ returns c = record {
   no_thief = λ one is. let none = (is 0 (posts_of (new_worker 63 one [])) (omega arith)).0 in cc;
   one_worker = λ one two is. let fewer = (is 0 (posts_of (new_worker 63 one (two_thieves one two))) (omega arith)).0 in cc;
   no_longer = λ one two is. let new = ap (λ (t : Tally). t.pushed) (is 0 (new_worker 62 one (two_thieves one two)) (omega arith)).0 in cc;
-  still = λ one two. let all : List Posts = map posts_of (played one two) in All-from_recursion (Whole all) all ((refl, refl), ((refl, refl), tt));
+  still = λ one two. let all : List Posts = map posts_of (played_seats one two) in All-from_recursion (Whole all) all ((refl, refl), ((refl, refl), tt));
 }

@@ -3,7 +3,7 @@ use Rattle.sched_rules.specs.declared.step.StepOf.{StepOf}
 use Rattle.sched_rules.specs.declared.step.StepOf.TheVariants.{Admit}
 use Rattle.hall.specs.jamboree_rules.declared.leaf.LeafAnswer.{LeafAnswer}
 use Rattle.desk.specs.Traces.{Known}
-use Rattle.desk.specs.Histories.{AllOwn, AreSeats, HasNoLeave, IsAdmitted, IsComeBy}
+use Rattle.desk.specs.Histories.{AllOwn, AreSeats, HasNoLeave, IsSeated, IsComeBy}
 use Rattle.desk.proofs.Coming.{come_admitted, new_unused}
 use Rattle.desk.proofs.Judged.{tenant_in-new}
 use Rattle.desk.proofs.locked_hall.LockedHall.admit.Goals as goal
@@ -43,7 +43,7 @@ returns-clause-admitted g c =
     let mine = ap (λ (l : List (StepOf LeafAnswer)). l ++ step ∷ []) c.begin-trace.ensures.seen.1 in
     let known : Known (StepOf LeafAnswer) = record { maker = m; seen = log ++ (m, step) ∷ []; mine = step ∷ [] } in
     let is : c.add.new.trace ≡ known = c.add.ensures.trace ∙ (λ i. record { maker = m; seen = seen i; mine = mine i }) in
-    subst (λ (k : Known (StepOf LeafAnswer)). IsAdmitted c.args.reserve (record { tenant = t; share = 1; asked = c.new.result.items; known = k })) (sym is)
+    subst (λ (k : Known (StepOf LeafAnswer)). IsSeated c.args.reserve (record { tenant = t; share = 1; asked = c.new.result.items; known = k })) (sym is)
     (record { before = log; seen = refl; unused = new_unused g.L.DeskLedger.begun c.self.inside.hall log t c.self.invariant.7 c.next_tenant-tenant.ensures.value; unmade = c.begin-trace.ensures.fresh; mine = refl })
 
 pub returns-clause-new : goal.returns-clause-new

@@ -1,7 +1,7 @@
 use Rattle.std.proofs.Common.{◌≡◌, ◌≤◌, replicate}
 use Rattle.std.specs.Prelude.{vec_capacity}
-use Rattle.fair_pool.specs.Accounts.{nobody}
+use Rattle.fair_pool.specs.Accounts.{free_account}
 use Rattle.fair_pool.proofs.line.Line.new.Given as goal
 
 abbrev pub invariant-loop-place : goal.invariant-loop-place
-invariant-loop-place l = record { items : l.accounts.items ≡ replicate l._place nobody; room : 64 ≤ vec_capacity l.accounts; names : l.names.items ≡ replicate l._place 0; name_room : 64 ≤ vec_capacity l.names }
+invariant-loop-place l = record { items : l.accounts.items ≡ replicate l._place free_account; room : 64 ≤ vec_capacity l.accounts; names : l.names.items ≡ replicate l._place 0; name_room : 64 ≤ vec_capacity l.names }

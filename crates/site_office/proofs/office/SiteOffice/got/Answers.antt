@@ -1,6 +1,6 @@
 use Rattle.std.proofs.Common.{inl, refl}
 use Rattle.session.specs.Calls.{Get}
-use Rattle.site_office.specs.Offices.{asks_of}
+use Rattle.site_office.specs.Offices.{asks_of_seat}
 use Rattle.desk_office.proofs.SeatLemmas.{same_asks, told_to}
 use Rattle.site_office.proofs.SeatLemmas.{seat_shows}
 use Rattle.site_office.proofs.office.SiteOffice.got.Goals as goal
@@ -8,4 +8,4 @@ use Rattle.site_office.proofs.office.SiteOffice.got.Goals as goal
 pub returns-in-Some : goal.returns-in-Some
 returns-in-Some g c =
     let shows = seat_shows c.args.self.now.seat c.in-Some.seat c.args.job c.get.result c.told_answer.result c.in-Some.is c.get.ensures c.told_answer.ensures in
-    (same_asks (asks_of c.args.self.now.seat) (Get c.args.job) c.args.job c.told_answer.result, shows.0, shows.1, told_to (Get c.args.job) c.args.job c.told_answer.result (inl refl))
+    (same_asks (asks_of_seat c.args.self.now.seat) (Get c.args.job) c.args.job c.told_answer.result, shows.0, shows.1, told_to (Get c.args.job) c.args.job c.told_answer.result (inl refl))

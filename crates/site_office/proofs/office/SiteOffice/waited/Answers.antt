@@ -1,6 +1,6 @@
 use Rattle.std.proofs.Common.{inr, refl}
 use Rattle.session.specs.Calls.{Wait}
-use Rattle.site_office.specs.Offices.{asks_of}
+use Rattle.site_office.specs.Offices.{asks_of_seat}
 use Rattle.desk_office.proofs.SeatLemmas.{same_asks, told_to}
 use Rattle.site_office.proofs.SeatLemmas.{seat_shows}
 use Rattle.site_office.proofs.office.SiteOffice.waited.Goals as goal
@@ -8,4 +8,4 @@ use Rattle.site_office.proofs.office.SiteOffice.waited.Goals as goal
 pub returns-in-Some : goal.returns-in-Some
 returns-in-Some g c =
     let shows = seat_shows c.args.self.now.seat c.in-Some.seat c.args.job c.wait.result c.told_answer.result c.in-Some.is c.wait.ensures c.told_answer.ensures in
-    (same_asks (asks_of c.args.self.now.seat) (Wait c.args.job) c.args.job c.told_answer.result, shows.0, shows.1, told_to (Wait c.args.job) c.args.job c.told_answer.result (inr refl))
+    (same_asks (asks_of_seat c.args.self.now.seat) (Wait c.args.job) c.args.job c.told_answer.result, shows.0, shows.1, told_to (Wait c.args.job) c.args.job c.told_answer.result (inr refl))
