@@ -1,4 +1,4 @@
-"""Each attack of hostile.py, by 54 addresses at once over TLS, which have one processor's time: everybody else is served beside it, and all comes back.
+"""Each attack of hostile.py, by 54 addresses at once over TLS, which are kept on one processor: everybody else is served beside it, and all comes back.
 With --length 60 ten minutes of all."""
 from __future__ import annotations
 
@@ -10,7 +10,6 @@ import subprocess
 import sys
 import threading
 import time
-from collections.abc import Iterator
 
 import pytest
 from place import LEFT, SCHOOL, SMALL, Answer, Site, until
@@ -20,23 +19,6 @@ sys.path.insert(0, str(pathlib.Path(__file__).resolve().parents[1]))
 import hostile  # noqa: E402
 
 KINDS = [each.__name__ for each in hostile.KINDS]
-
-
-@contextlib.contextmanager
-def one_processor() -> Iterator[list[str]]:
-    """The words before a command that has one processor's time: in a control group, where this user may make one, else on one processor."""
-    for root, limits in (("/sys/fs/cgroup", {"cpu.max": "100000 100000"}), ("/sys/fs/cgroup/cpu", {"cpu.cfs_period_us": "100000", "cpu.cfs_quota_us": "100000"})):
-        group = pathlib.Path(root, f"othello-trial-{os.getpid()}")
-        if os.access(f"{root}/cgroup.procs", os.W_OK):
-            group.mkdir()
-            try:
-                for name, value in limits.items():
-                    (group / name).write_text(value)
-                yield ["sh", "-c", f'echo $$ > {group}/cgroup.procs && exec "$@"', "sh"]
-            finally:
-                group.rmdir()
-            return
-    yield ["taskset", "-c", "0"]
 
 
 class Beside:
@@ -89,8 +71,8 @@ def test_everybody_else_is_served(kind: str, made: dict[str, str], wanted: list[
     terms = [*LEFT, ("[guests.each]\nsessions = 4\nsegments = 4096\nnodes = 131072", "[guests.each]\nsessions = 1\nsegments = 1024\nnodes = 65536")]
     with Site(made, terms=terms, more=SCHOOL) as site, Beside(site, wanted) as beside:
         command = [sys.executable, str(pathlib.Path(hostile.__file__)), str(site.port), "54", str(seconds), *([kind] if kind else [])]
-        with one_processor() as words:
-            said = subprocess.run([*words, *command], capture_output=True, text=True, check=True, env={**os.environ, "TLS": "yes"}).stdout
+        one = ["taskset", "--cpu-list", str(max(os.sched_getaffinity(0)))]
+        said = subprocess.run([*one, *command], capture_output=True, text=True, check=True, env={**os.environ, "TLS": "yes"}).stdout
         time.sleep(0.5)
         beside.stop.set()
         for each in beside.threads:
