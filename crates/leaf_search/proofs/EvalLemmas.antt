@@ -1,5 +1,4 @@
 -- Lemmas of othello_eval, for the crates above.
-pub use Rattle.othello_eval.proofs.GreatestLemmas as GreatestLemmas
 pub use Rattle.othello_eval.proofs.MinimaxLemmas as MinimaxLemmas
 pub use Rattle.othello_eval.proofs.TableLemmas as TableLemmas
 pub use Rattle.othello_eval.proofs.TableProps as TableProps

@@ -1,12 +1,15 @@
 -- The steps of a window search at one position, over any choices and what each is worth.
-use Rattle.std.proofs.Common.{◌↔◌, append-nil, append_assoc, ◌≡◌, ◌<◌, length, ℤ, pos, negsuc, neg_ℤ, List, [], ◌∷◌, ◌++◌, map, Option, Some, refl, sym, ◌∙◌, ap, subst, arith}
-use Rattle.std.specs.Prelude.{find, ◌≤ℤ◌, ◌<ℤ◌, IsSome, IfSome, All, Contains}
+use Rattle.std.proofs.Common.{◌↔◌, append-nil, append_assoc, ◌≡◌, ◌<◌, length, ℤ, pos, negsuc, neg_ℤ, List, [], ◌∷◌, ◌++◌, map, Option, Some, refl, sym, ◌∙◌, ap, subst, arith, find, ◌≤ℤ◌, ◌<ℤ◌, IsSome, IfSome, All, Contains, ℕ, ◌-◌, Bool, IsTrue, true, false}
 use Rattle.std.specs.Int.{int_max}
 use Rattle.std.proofs.lemmas.Int.{ints, clamps, by_lt_z}
 use Rattle.std.proofs.lemmas.List.Elements.{All-nil, All-cons, All-append, All-weaker, Contains-append_right}
-use Rattle.othello_eval.specs.Minimax.{greatest, greatest_or, int_equal}
+use Rattle.std.proofs.lemmas.Grind.{common_steps}
+use Rattle.othello_eval.specs.othello_moves.Choices.{choices, after, plies}
+use Rattle.othello_eval.specs.othello_moves.declared.choices.Choice.{Choice}
+use Rattle.othello_board.specs.declared.cells.Cell.{Cell}
+use Rattle.othello_eval.specs.Minimax.{greatest, greatest_or, int_equal, minimax, choice_value}
 use Rattle.leaf_search.specs.Bounds.{IsBound}
-use Rattle.othello_eval.proofs.GreatestLemmas.{find-kept, find-new, greatest_or-upper, greatest_or-lower, found_below_greatest}
+use Rattle.othello_eval.proofs.MinimaxLemmas.{find-kept, find-new, greatest_or-upper, greatest_or-lower, found_below_greatest}
 
 -- what is known once these choices were searched, none of which ended the search: no value is above the
 -- best score, and where that is above alpha it is the value of the first choice that attains it
@@ -24,26 +27,27 @@ IsBestOf-kept alpha v taken best choice c so_far under = record {
 }
 
 -- a choice with a better score that is at most alpha: the score is an upper bound
-pub IsBestOf-low : {X : Type 0} (alpha : ℤ) (v : X → ℤ) (taken : List X) (best : ℤ) (choice : Option X) (c : X) (score : ℤ) → IsBestOf alpha v taken best choice → best <ℤ score → score ≤ℤ alpha → v c ≤ℤ score → IsBestOf alpha v (taken ++ c ∷ []) score (Some c)
-IsBestOf-low alpha v taken best choice c score so_far better low under = record {
-  above = All-append (λ c. v c ≤ℤ score) taken (c ∷ [])
-      (All-weaker (λ c. v c ≤ℤ best) (λ c. v c ≤ℤ score) (λ d (below : v d ≤ℤ best). omega (arith, ints)) taken so_far.above)
-      (All-cons (λ c. v c ≤ℤ score) c [] under (All-nil (λ c. v c ≤ℤ score)));
-  first = λ (higher : alpha <ℤ score). absurd (omega (arith, ints));
-  found = λ (higher : alpha <ℤ score). absurd (omega (arith, ints));
-}
+module _ {X : Type 0} (alpha : ℤ) (v : X → ℤ) (taken : List X) (best : ℤ) (choice : Option X) (c : X) (score : ℤ) (so_far : IsBestOf alpha v taken best choice) (better : best <ℤ score) where
+  pub IsBestOf-low : score ≤ℤ alpha → v c ≤ℤ score → IsBestOf alpha v (taken ++ c ∷ []) score (Some c)
+  IsBestOf-low low under = record {
+    above = All-append (λ c. v c ≤ℤ score) taken (c ∷ [])
+        (All-weaker (λ c. v c ≤ℤ best) (λ c. v c ≤ℤ score) (λ d (below : v d ≤ℤ best). omega (arith, ints)) taken so_far.above)
+        (All-cons (λ c. v c ≤ℤ score) c [] under (All-nil (λ c. v c ≤ℤ score)));
+    first = λ (higher : alpha <ℤ score). absurd (omega (arith, ints));
+    found = λ (higher : alpha <ℤ score). absurd (omega (arith, ints));
+  }
 
--- a choice with a better score that is its value: it is the first with that value
-pub IsBestOf-new : {X : Type 0} (alpha : ℤ) (v : X → ℤ) (taken : List X) (best : ℤ) (choice : Option X) (c : X) (score : ℤ) → IsBestOf alpha v taken best choice → best <ℤ score → v c ≡ score → IsBestOf alpha v (taken ++ c ∷ []) score (Some c)
-IsBestOf-new alpha v taken best choice c score so_far better same = record {
-  above = All-append (λ c. v c ≤ℤ score) taken (c ∷ [])
-      (All-weaker (λ c. v c ≤ℤ best) (λ c. v c ≤ℤ score) (λ d (below : v d ≤ℤ best). omega (arith, ints)) taken so_far.above)
-      (All-cons (λ c. v c ≤ℤ score) c [] (omega (arith, ints)) (All-nil (λ c. v c ≤ℤ score)));
-  first = λ higher. find-new v score taken c
-      (All-weaker (λ c. v c ≤ℤ best) (λ c. v c <ℤ score) (λ d (below : v d ≤ℤ best). omega (arith, ints)) taken so_far.above)
-      same;
-  found = λ higher. refl;
-}
+  -- a choice with a better score that is its value: it is the first with that value
+  pub IsBestOf-new : v c ≡ score → IsBestOf alpha v (taken ++ c ∷ []) score (Some c)
+  IsBestOf-new same = record {
+    above = All-append (λ c. v c ≤ℤ score) taken (c ∷ [])
+        (All-weaker (λ c. v c ≤ℤ best) (λ c. v c ≤ℤ score) (λ d (below : v d ≤ℤ best). omega (arith, ints)) taken so_far.above)
+        (All-cons (λ c. v c ≤ℤ score) c [] (omega (arith, ints)) (All-nil (λ c. v c ≤ℤ score)));
+    first = λ higher. find-new v score taken c []
+        (All-weaker (λ c. v c ≤ℤ best) (λ c. v c <ℤ score) (λ d (below : v d ≤ℤ best). omega (arith, ints)) taken so_far.above)
+        same;
+    found = λ higher. refl;
+  }
 
 -- once all choices were searched and none ended the search, the best score is the bound
 pub all_bound : {X : Type 0} (alpha beta : ℤ) (v : X → ℤ) (other : ℤ) (cs : List X) (best : ℤ) (choice : Option X) → 0 < length cs → best <ℤ beta → IsBestOf alpha v cs best choice → IsBound alpha beta best (greatest_or other (map v cs))
@@ -76,21 +80,22 @@ cut_bound alpha beta v other before c later score window high under =
 
 -- what a child's score says of the choice that leads to it, where the child was searched with the window
 -- from -beta to -floor, floor being the greater of alpha and the best score
-pub child_under : (beta floor low high score value : ℤ) → low ≡ neg_ℤ beta → high ≡ neg_ℤ floor → IsBound low high score value → neg_ℤ score ≤ℤ floor → neg_ℤ value ≤ℤ neg_ℤ score
-child_under beta floor low high score value low_is high_is bound small =
-    let at_high : high ≤ℤ score = omega (arith, ints) in
-    let under : score ≤ℤ value = bound.lower at_high in omega (arith, ints)
+module _ (beta floor low high score value : ℤ) (low_is : low ≡ neg_ℤ beta) (high_is : high ≡ neg_ℤ floor) (bound : IsBound low high score value) where
+  pub child_under : neg_ℤ score ≤ℤ floor → neg_ℤ value ≤ℤ neg_ℤ score
+  child_under small =
+      let at_high : high ≤ℤ score = omega (arith, ints) in
+      let under : score ≤ℤ value = bound.lower at_high in omega (arith, ints)
 
-pub child_over : (beta floor low high score value : ℤ) → low ≡ neg_ℤ beta → high ≡ neg_ℤ floor → IsBound low high score value → beta ≤ℤ neg_ℤ score → neg_ℤ score ≤ℤ neg_ℤ value
-child_over beta floor low high score value low_is high_is bound great =
-    let at_low : score ≤ℤ low = omega (arith, ints) in
-    let over : value ≤ℤ score = bound.upper at_low in omega (arith, ints)
+  pub child_over : beta ≤ℤ neg_ℤ score → neg_ℤ score ≤ℤ neg_ℤ value
+  child_over great =
+      let at_low : score ≤ℤ low = omega (arith, ints) in
+      let over : value ≤ℤ score = bound.upper at_low in omega (arith, ints)
 
-pub child_exact : (beta floor low high score value : ℤ) → low ≡ neg_ℤ beta → high ≡ neg_ℤ floor → IsBound low high score value → floor <ℤ neg_ℤ score → neg_ℤ score <ℤ beta → neg_ℤ value ≡ neg_ℤ score
-child_exact beta floor low high score value low_is high_is bound higher lower =
-    let above_low : low <ℤ score = omega (arith, ints) in
-    let below_high : score <ℤ high = omega (arith, ints) in
-    ap neg_ℤ (bound.exact above_low below_high)
+  pub child_exact : floor <ℤ neg_ℤ score → neg_ℤ score <ℤ beta → neg_ℤ value ≡ neg_ℤ score
+  child_exact higher lower =
+      let above_low : low <ℤ score = omega (arith, ints) in
+      let below_high : score <ℤ high = omega (arith, ints) in
+      ap neg_ℤ (bound.exact above_low below_high)
 
 -- one turn: the child that the choice c leads to was searched to a score with the window from -beta to
 -- -floor, and the best was raised where that score is better; the search wasn't ended
@@ -155,24 +160,23 @@ IsSearching-turn alpha beta v all left best choice c rest floor low high score v
 pub cut_score : (best beta score new_best : ℤ) → best <ℤ beta → beta ≤ℤ new_best → (best <ℤ neg_ℤ score → new_best ≡ neg_ℤ score) → (neg_ℤ score ≤ℤ best → new_best ≡ best) → new_best ≡ neg_ℤ score
 cut_score best beta score new_best h1 h2 h3 h4 = grind arith
 
-pub IsSearching-cut : {X : Type 0} (alpha beta : ℤ) (v : X → ℤ) (all left : List X) (best : ℤ) (choice : Option X) (c : X) (rest : List X) (floor low high score value new_best other : ℤ) →
-    alpha <ℤ beta → IsSearching alpha beta v all left best choice → left ≡ c ∷ rest → low ≡ neg_ℤ beta → high ≡ neg_ℤ floor → IsBound low high score value → v c ≡ neg_ℤ value →
-    new_best ≡ neg_ℤ score → beta ≤ℤ new_best → IsBound alpha beta new_best (greatest_or other (map v all))
-IsSearching-cut alpha beta v all left best choice c rest floor low high score value new_best other window s next low_is high_is bound worth is great =
-    let over : neg_ℤ score ≤ℤ neg_ℤ value = child_over beta floor low high score value low_is high_is bound (omega (arith, ints)) in
-    subst (λ cs. IsBound alpha beta new_best (greatest_or other (map v cs))) (ap (λ l. s.taken ++ l) (sym next) ∙ s.split)
-    (cut_bound alpha beta v other s.taken c rest new_best window great (omega (arith, ints)))
+module _ {X : Type 0} (alpha beta : ℤ) (v : X → ℤ) (all left : List X) (best : ℤ) (choice : Option X) where
+  pub IsSearching-cut : (c : X) (rest : List X) (floor low high score value new_best other : ℤ) → alpha <ℤ beta → IsSearching alpha beta v all left best choice → left ≡ c ∷ rest → low ≡ neg_ℤ beta → high ≡ neg_ℤ floor → IsBound low high score value → v c ≡ neg_ℤ value → new_best ≡ neg_ℤ score → beta ≤ℤ new_best → IsBound alpha beta new_best (greatest_or other (map v all))
+  IsSearching-cut c rest floor low high score value new_best other window s next low_is high_is bound worth is great =
+      let over : neg_ℤ score ≤ℤ neg_ℤ value = child_over beta floor low high score value low_is high_is bound (omega (arith, ints)) in
+      subst (λ cs. IsBound alpha beta new_best (greatest_or other (map v cs))) (ap (λ l. s.taken ++ l) (sym next) ∙ s.split)
+      (cut_bound alpha beta v other s.taken c rest new_best window great (omega (arith, ints)))
 
--- the end of the choices
-pub IsSearching-all : {X : Type 0} (alpha beta : ℤ) (v : X → ℤ) (all left : List X) (best : ℤ) (choice : Option X) → IsSearching alpha beta v all left best choice → left ≡ [] → IsBestOf alpha v all best choice
-IsSearching-all alpha beta v all left best choice s none = grind (arith, append-nil)
+  -- the end of the choices
+  pub IsSearching-all : IsSearching alpha beta v all left best choice → left ≡ [] → IsBestOf alpha v all best choice
+  IsSearching-all s none = grind (arith, append-nil)
 
-pub IsSearching-real : {X : Type 0} (alpha beta : ℤ) (v : X → ℤ) (all left : List X) (best : ℤ) (choice : Option X) → IsSearching alpha beta v all left best choice → left ≡ [] → 0 < length all → negsuc 127999 ≤ℤ best
-IsSearching-real alpha beta v all left best choice s none some =
-    s.real (subst (λ cs. 0 < length cs) (sym (sym (append-nil s.taken) ∙ (ap (λ l. s.taken ++ l) (sym none) ∙ s.split))) some)
+  pub IsSearching-real : IsSearching alpha beta v all left best choice → left ≡ [] → 0 < length all → negsuc 127999 ≤ℤ best
+  IsSearching-real s none some =
+      s.real (subst (λ cs. 0 < length cs) (sym (sym (append-nil s.taken) ∙ (ap (λ l. s.taken ++ l) (sym none) ∙ s.split))) some)
 
-pub IsSearching-next : {X : Type 0} (alpha beta : ℤ) (v : X → ℤ) (all left : List X) (best : ℤ) (choice : Option X) (c : X) (rest : List X) → IsSearching alpha beta v all left best choice → left ≡ c ∷ rest → Contains all c
-IsSearching-next alpha beta v all left best choice c rest s next = next_chosen all s.taken left rest c s.split next
+  pub IsSearching-next : (c : X) (rest : List X) → IsSearching alpha beta v all left best choice → left ≡ c ∷ rest → Contains all c
+  IsSearching-next c rest s next = next_chosen all s.taken left rest c s.split next
 
 -- the same where nobody asks for the choice
 pub record Searched {X : Type 0} (alpha beta : ℤ) (v : X → ℤ) (all left : List X) (best : ℤ) : Type 0 where
@@ -208,3 +212,18 @@ bound_above a z s m high window = grind (arith, ints)
 
 pub bound_inside : (a z s m : ℤ) → a <ℤ s → s <ℤ z → IsBound a z s m ↔ (m ≡ s)
 bound_inside a z s m higher lower = ((λ bound. bound.exact higher lower), λ same. exact_bound a z s m same)
+
+-- what a choice is worth, by the plies of the choice and the board after it
+pub worth_is : (d p : ℕ) (b : List Cell) (c : Choice) (board : List Cell) → p ≡ plies c → b ≡ after board c → choice_value d board c ≡ neg_ℤ (minimax (d - p) b)
+worth_is d p b c board same is = ap (λ b. neg_ℤ (minimax (d - plies c) b)) (sym is) ∙ ap (λ q. neg_ℤ (minimax (d - q) b)) (sym same)
+
+-- whether there are choices
+some_length : {X : Type 0} (xs : List X) → (xs ≡ [] → ⊥) → 0 < length xs
+some_length xs h1 = grind (arith, common_steps)
+
+pub some_left : (board : List Cell) (left : List Choice) (none : Bool) → left ≡ choices board → IsTrue none ↔ (left ≡ []) → none ≡ false → 0 < length (choices board)
+some_left board left none all exactly denied =
+    some_length (choices board) (λ empty. let told : none ≡ true = exactly.1 (all ∙ empty) in cc)
+
+pub none_left : (board : List Cell) (left : List Choice) (none : Bool) → left ≡ choices board → IsTrue none ↔ (left ≡ []) → none ≡ true → choices board ≡ []
+none_left board left none all exactly told = sym all ∙ exactly.0 told

@@ -13,11 +13,9 @@ use Rattle.std.proofs.lemmas.Grind.{common_steps}
 use Rattle.othello_board.specs.declared.cells.Cell.TheVariants.{Opp}
 use Rattle.othello_board.specs.Rules.{cell_at, led_by, outflanked, is_among}
 use Rattle.othello_board.specs.Words.{cells_of, bits_of}
-use Rattle.othello_board.proofs.BitLemmas.{apart, bit_at-bits_of, bits_of-append}
-use Rattle.othello_board.proofs.CellLemmas.{bit_cases, own_here, opp_here, empty_here}
+use Rattle.othello_board.proofs.CellLemmas.{apart, bit_at-bits_of, bits_of-append, bit_cases, own_here, opp_here, empty_here}
 use Rattle.othello_board.specs.Runs.{negated, others, rising_run, lowered_to, falling_run}
-use Rattle.othello_board.proofs.RayLemmas.{comes, ordered, falls_to, falls_by}
-use Rattle.othello_board.proofs.ShiftLemmas.{bit_at-right}
+use Rattle.othello_board.proofs.ShiftLemmas.{comes, ordered, falls_to, falls_by, bit_at-right}
 
 -- ---- in a list
 
@@ -142,6 +140,9 @@ around up (s ∷ before) stop after order =
 pow_twice : (k : ℕ) → 2 ^ (k + 1) ≡ 2 * 2 ^ k
 pow_twice k = ap (λ m. 2 ^ m) (add-one k) ∙ pow-suc 2 k ∙ mul_comm (2 ^ k) 2
 
+by_order : (i k : ℕ) → (i < k) ⊎ ((i ≡ k) ⊎ (k < i))
+by_order i k = grind arith
+
 -- a number and its negation share just the lowest bit
 and_negated-by : (x k neg : ℕ) → x < 2 ^ 64 → k < 64 → bit_at x k ≡ 1 → ((i : ℕ) → i < k → bit_at x i ≡ 0) → neg ≡ (2 ^ 64 - 1 - x) + 1 → (i : ℕ) → i < 64 → bit_at (bit_and x neg) i ≡ bit_at (2 ^ k) i
 and_negated-by x k neg fits k_below set lower is i below =
@@ -160,7 +161,7 @@ and_negated-by x k neg fits k_below set lower is i below =
     let neg_is : neg ≡ b * 2 ^ (k + 1) + 2 ^ k = omega (arith, is, whole, low, pow_pos k) in
     let nx_is : nx ≡ b * 2 ^ (k + 1) + (2 ^ k - 1) = whole ∙ ap (λ m. b * 2 ^ (k + 1) + m) low in
     bit_at_and x neg i
-    ∙ elim (order i k) [
+    ∙ elim (by_order i k) [
       | inl lower_bit ↦ omega (arith, lower i lower_bit, bit_at-pow_other k i (λ e. omega arith))
       | inr rest ↦ elim rest [
         | inl same ↦
@@ -175,9 +176,6 @@ and_negated-by x k neg fits k_below set lower is i below =
       ]
     ]
   where
-    order : (i k : ℕ) → (i < k) ⊎ ((i ≡ k) ⊎ (k < i))
-    order i k = grind arith
-
     low_bit : (j : ℕ) → j < k + 1 → 1 - bit_at x j ≡ bit_at (2 ^ k - 1) j
     low_bit j below =
         elim (eqb_tells j k) [
@@ -258,36 +256,34 @@ negated_sum x fits = omega arith
 negated_fits : (x : ℕ) → negated x < 2 ^ 64
 negated_fits x = mod_below (0 + (2 ^ 64 - x)) (2 ^ 64) (omega arith)
 
-rising_stop : (own opp before stop after : ℕ) → joined before stop after < 2 ^ 64 → opp < 2 ^ 64 → stop < 64 → bit_at opp stop ≡ 0
-    → ((i : ℕ) → bit_at before i ≡ 1 → bit_at opp i ≡ 1) → ((i : ℕ) → bit_at before i ≡ 1 → i < stop) → ((i : ℕ) → bit_at after i ≡ 1 → stop < i)
-    → rising_run own opp (joined before stop after) ≡ cond (set_in own stop) before 0
-rising_stop own opp before stop after fits opp_fits below other opposing under over =
-    let ray = joined before stop after in
-    let rest = others opp ray in
-    let rest_fits : rest < 2 ^ 64 = omega (arith, and_le_l ray (2 ^ 64 - 1 - opp)) in
-    let lowest : bit_and rest (negated rest) ≡ 2 ^ stop =
-    and_negated rest stop (negated rest) rest_fits below (stop_bit before stop after opp opp_fits below other)
-    (λ i low. before_bit before stop after opp i opp_fits (omega arith) (opposing i) (clear_bit after i (λ set. omega (arith, over i set))) (λ e. omega arith))
-    (negated_fits rest) (negated_sum rest rest_fits) in
-    rising_end ray before stop (bit_at own stop) (bit_and (bit_and rest (negated rest)) own) (bit_at-lt own stop)
-    (ap (λ n. bit_and n own) lowest ∙ own_end own stop) (rising_kept before stop after fits below under over)
+module _ (own opp before : ℕ) where
+  rising_stop : (stop after : ℕ) → joined before stop after < 2 ^ 64 → opp < 2 ^ 64 → stop < 64 → bit_at opp stop ≡ 0 → ((i : ℕ) → bit_at before i ≡ 1 → bit_at opp i ≡ 1) → ((i : ℕ) → bit_at before i ≡ 1 → i < stop) → ((i : ℕ) → bit_at after i ≡ 1 → stop < i) → rising_run own opp (joined before stop after) ≡ cond (set_in own stop) before 0
+  rising_stop stop after fits opp_fits below other opposing under over =
+      let ray = joined before stop after in
+      let rest = others opp ray in
+      let rest_fits : rest < 2 ^ 64 = omega (arith, and_le_l ray (2 ^ 64 - 1 - opp)) in
+      let lowest : bit_and rest (negated rest) ≡ 2 ^ stop =
+      and_negated rest stop (negated rest) rest_fits below (stop_bit before stop after opp opp_fits below other)
+      (λ i low. before_bit before stop after opp i opp_fits (omega arith) (opposing i) (clear_bit after i (λ set. omega (arith, over i set))) (λ e. omega arith))
+      (negated_fits rest) (negated_sum rest rest_fits) in
+      rising_end ray before stop (bit_at own stop) (bit_and (bit_and rest (negated rest)) own) (bit_at-lt own stop)
+      (ap (λ n. bit_and n own) lowest ∙ own_end own stop) (rising_kept before stop after fits below under over)
 
--- falling: the bits above the end
-falling_kept : (before stop after : ℕ) → joined before stop after < 2 ^ 64 → stop < 64 → ((i : ℕ) → bit_at before i ≡ 1 → stop < i) → ((i : ℕ) → bit_at after i ≡ 1 → i < stop)
-    → bit_and (joined before stop after) (2 ^ 64 - 2 ^ (stop + 1)) ≡ before
-falling_kept before stop after fits stop_below over under =
-    same_from_bits_below 64 _ _ (omega (arith, and_le_l (joined before stop after) (2 ^ 64 - 2 ^ (stop + 1)))) (omega (arith, le_or_l before (bit_or (2 ^ stop) after))) (λ i below.
-    let here = joined_bit before stop after i in
-    bit_at_and (joined before stop after) (2 ^ 64 - 2 ^ (stop + 1)) i
-    ∙ elim (cases_lt stop i) [
-      | inl high ↦
-          let no_after = clear_bit after i (λ set. omega (arith, under i set)) in
-          let no_stop = bit_at-pow_other stop i (λ e. omega arith) in
-          omega (arith, here, no_after, no_stop, bit_at_mask_inside (stop + 1) 64 i (omega arith) below, bit_at-lt before i)
-      | inr low ↦
-          let no_before = clear_bit before i (λ set. omega (arith, over i set)) in
-          omega (arith, no_before, bit_at_mask_below (stop + 1) 64 i (omega arith))
-    ])
+  -- falling: the bits above the end
+  falling_kept : joined own opp before < 2 ^ 64 → opp < 64 → ((i : ℕ) → bit_at own i ≡ 1 → opp < i) → ((i : ℕ) → bit_at before i ≡ 1 → i < opp) → bit_and (joined own opp before) (2 ^ 64 - 2 ^ (opp + 1)) ≡ own
+  falling_kept fits stop_below over under =
+      same_from_bits_below 64 _ _ (omega (arith, and_le_l (joined own opp before) (2 ^ 64 - 2 ^ (opp + 1)))) (omega (arith, le_or_l own (bit_or (2 ^ opp) before))) (λ i below.
+      let here = joined_bit own opp before i in
+      bit_at_and (joined own opp before) (2 ^ 64 - 2 ^ (opp + 1)) i
+      ∙ elim (cases_lt opp i) [
+        | inl high ↦
+            let no_after = clear_bit before i (λ set. omega (arith, under i set)) in
+            let no_stop = bit_at-pow_other opp i (λ e. omega arith) in
+            omega (arith, here, no_after, no_stop, bit_at_mask_inside (opp + 1) 64 i (omega arith) below, bit_at-lt own i)
+        | inr low ↦
+            let no_before = clear_bit own i (λ set. omega (arith, over i set)) in
+            omega (arith, no_before, bit_at_mask_below (opp + 1) 64 i (omega arith))
+      ])
 
 pow_most : (stop : ℕ) → stop < 64 → 2 ^ (stop + 1) ≤ 2 ^ 64
 pow_most stop below = omega (arith, pow_twice stop, pow_half stop below)
@@ -384,7 +380,7 @@ falling_stop own opp before stop after k fits opp_fits below some other opposing
     let last : bit_and rest (2 ^ 64 - 1 - lower) ≡ 2 ^ stop =
     same_from_bits_below 64 (bit_and rest (2 ^ 64 - 1 - lower)) (2 ^ stop) (omega (arith, and_le_l rest (2 ^ 64 - 1 - lower))) (pow_below stop 64 below) (λ i i_below.
     other_bit rest lower i lower_fits i_below
-    ∙ elim (order i stop) [
+    ∙ elim (by_order i stop) [
       | inl low ↦ omega (arith, bit_at-pow_other stop i (λ e. omega arith), bit_at-lt rest i, lower_case i low)
       | inr more ↦ elim more [
         | inl same ↦
@@ -398,9 +394,6 @@ falling_stop own opp before stop after k fits opp_fits below some other opposing
     let end_is : end ≡ bit_at own stop * 2 ^ stop = ap (λ n. bit_and n own) last ∙ own_end own stop in
     let end_fits : end < 2 ^ 64 = omega (arith, and_le_l (bit_and rest (2 ^ 64 - 1 - lower)) own, and_le_l rest (2 ^ 64 - 1 - lower)) in
     falling_end ray before stop (bit_at own stop) end (negated end) below (bit_at-lt own stop) end_is (negated_fits end) (negated_sum end end_fits) (falling_kept before stop after fits below over under)
-  where
-    order : (i k : ℕ) → (i < k) ⊎ ((i ≡ k) ⊎ (k < i))
-    order i k = grind arith
 
 -- ---- a ray of opposing discs alone
 

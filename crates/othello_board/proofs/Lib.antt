@@ -1,10 +1,4 @@
-pub mod BitLemmas
 pub mod CellLemmas
 pub mod PlayLemmas
-pub mod CountLemmas
-pub mod FlipLemmas
 pub mod ShiftLemmas
-pub mod StepLemmas
-pub mod RayLemmas
 pub mod EndLemmas
-pub mod Shifts

@@ -1,12 +1,56 @@
--- A shifted word, bit by bit.
-use Rattle.std.proofs.Common.{◌≡◌, ℕ, zero, suc, ◌+◌, ◌-◌, ◌*◌, ◌/◌, ◌%◌, ◌^◌, ◌<◌, ◌≤◌, Bool, true, ◌&&◌, eqb, leb, ltb, Option, Some, None, inl, inr, sym, ap, ◌∙◌, arith}
+-- Representation: directions as the words of bits see them.
 use Rattle.std.specs.Int.{bit_at}
+use Rattle.othello_board.specs.declared.directions.Direction.{Direction}
+use Rattle.othello_board.specs.declared.directions.Direction.TheVariants.{North, NorthEast, East, SouthEast, South, SouthWest, West, NorthWest}
+use Rattle.std.proofs.Common.{◌≡◌, zero, suc, ◌*◌, ◌/◌, ◌%◌, ◌^◌, ◌<◌, ◌≤◌, Bool, true, ◌&&◌, eqb, leb, ltb, inl, inr, sym, ap, ◌∙◌, arith, false, [], ◌∷◌, unwrap_or, ◌||◌, get_or, List, refl, subst, ℕ, ◌+◌, ◌-◌, nat_lt, if◌then◌else◌, Option, Some, None, ltb-true, leb-true}
 use Rattle.std.proofs.lemmas.Bool.{eqb-true, and_parts}
-use borrow.Author.Tests.{ltb-true, leb-true}
 use Rattle.std.proofs.lemmas.Nat.{div-add-mod', mod_below, pow_pos}
 use Rattle.std.proofs.lemmas.Bool.Decides.{eqb_tells}
 use Rattle.std.proofs.lemmas.Nat.Bits.{bit_at-zero, bit_at_above, bit_at_cat_low, bit_at_cat_high}
-use Rattle.othello_board.proofs.Shifts.{bit_there}
+use Rattle.std.specs.Option.{option_map}
+use Rattle.othello_board.specs.Rules.{step, squares_beside, ray}
+use Rattle.std.specs.List.{list_all}
+use Rattle.othello_board.specs.declared.rays.TheConstants.{RAYS}
+use Rattle.othello_board.specs.Words.{bits_of}
+
+-- the opposite direction
+abbrev pub opposite : Direction → Direction
+opposite North = South
+opposite NorthEast = SouthWest
+opposite East = West
+opposite SouthEast = NorthWest
+opposite South = North
+opposite SouthWest = NorthEast
+opposite West = East
+opposite NorthWest = SouthEast
+
+-- bit s of a word for Some s, and 0 for None
+abbrev pub bit_there : ℕ → Option ℕ → ℕ
+bit_there word None = 0
+bit_there word (Some s) = bit_at word s
+
+-- t - k, or None where t is less than k
+abbrev pub less_by : ℕ → ℕ → Option ℕ
+less_by k t = if nat_lt t k then None else Some (t - k)
+
+-- t + k, or None where that is over 63
+abbrev pub more_by : ℕ → ℕ → Option ℕ
+more_by k t = if nat_lt (t + k) 64 then Some (t + k) else None
+
+-- the square whose bit a shift of a word by one step in a direction moves to square t; None where the shift brings in
+-- a 0. The shift ignores the left and the right edge: a step beyond column h comes in at column a, and the other way
+-- round
+abbrev pub slid_from : Direction → ℕ → Option ℕ
+slid_from North t = more_by 8 t
+slid_from NorthEast t = more_by 7 t
+slid_from East t = less_by 1 t
+slid_from SouthEast t = less_by 9 t
+slid_from South t = less_by 8 t
+slid_from SouthWest t = less_by 7 t
+slid_from West t = more_by 1 t
+slid_from NorthWest t = more_by 9 t
+
+-- A shifted word, bit by bit.
 
 -- a test that holds below n
 abbrev pub all_below : ℕ → (ℕ → Bool) → Bool
@@ -67,3 +111,148 @@ slid_up x k from all t below = up_by x k t (from t) below (holds_below 64 (λ s.
 
 pub slid_down : (x k : ℕ) (from : ℕ → Option ℕ) → all_below 64 (λ t. down_test k t (from t)) ≡ true → x < 2 ^ 64 → (t : ℕ) → t < 64 → bit_at (x / 2 ^ k) t ≡ bit_there x (from t)
 slid_down x k from all fits t below = down_by x k t (from t) fits below (holds_below 64 (λ s. down_test k s (from s)) all t below)
+
+-- Steps and the way back.
+
+-- a step leads to a square of the board, and a step in the other direction leads back
+abbrev is_square : ℕ → Option ℕ → Bool
+is_square s None = false
+is_square s (Some t) = eqb t s
+
+abbrev back_test : Direction → ℕ → Option ℕ → Bool
+back_test back s None = true
+back_test back s (Some t) = ltb t 64 && is_square s (step back t)
+
+is_square-true : (s : ℕ) (o : Option ℕ) → is_square s o ≡ true → o ≡ Some s
+is_square-true s o h3 = grind arith
+
+back_by : (back : Direction) (s t : ℕ) (next : Option ℕ) → back_test back s next ≡ true → next ≡ Some t → (t < 64) × (step back t ≡ Some s)
+back_by back s t next h5 h6 = grind (arith, is_square-true)
+
+back_everywhere : (d : Direction) → all_below 64 (λ s. back_test (opposite d) s (step d s)) ≡ true
+back_everywhere d = grind arith
+
+pub step_back : (d : Direction) (s t : ℕ) → s < 64 → step d s ≡ Some t → (t < 64) × (step (opposite d) t ≡ Some s)
+step_back d s t below e =
+    back_by (opposite d) s t (step d s) (holds_below 64 (λ q. back_test (opposite d) q (step d q)) (back_everywhere d) s below) e
+
+-- the squares beside a square: none at the edge, else the next one and those beside it
+pub beside_edge : (n : ℕ) (d : Direction) (s : ℕ) → step d s ≡ None → squares_beside (suc n) d s ≡ []
+unfolding squares_beside
+beside_edge n d s edge = ap (λ next. unwrap_or (option_map (λ t. t ∷ squares_beside n d t) next) []) edge
+
+pub beside_next : (n : ℕ) (d : Direction) (s t : ℕ) → step d s ≡ Some t → squares_beside (suc n) d s ≡ t ∷ squares_beside n d t
+unfolding squares_beside
+beside_next n d s t next = ap (λ found. unwrap_or (option_map (λ u. u ∷ squares_beside n d u) found) []) next
+
+-- The table of rays holds what the rules say, and the squares of a ray come in order.
+
+-- where the table has the rays of a direction
+abbrev pub number_of : Direction → ℕ
+number_of East = 0
+number_of SouthEast = 1
+number_of South = 2
+number_of SouthWest = 3
+number_of West = 4
+number_of NorthWest = 5
+number_of North = 6
+number_of NorthEast = 7
+
+-- whether a step in a direction leads to a greater square
+abbrev pub rises : Direction → Bool
+rises East = true
+rises SouthEast = true
+rises South = true
+rises SouthWest = true
+rises _ = false
+
+-- by how many squares a step in a direction rises or falls
+abbrev pub stride : Direction → ℕ
+stride East = 1
+stride West = 1
+stride SouthEast = 9
+stride NorthWest = 9
+stride South = 8
+stride North = 8
+stride SouthWest = 7
+stride NorthEast = 7
+
+holds_in_table : (d : Direction) → all_below 64 (λ s. eqb (get_or (get_or RAYS s []) (number_of d) 0) (bits_of (ray d s))) ≡ true
+unfolding squares_beside
+holds_in_table North = refl
+holds_in_table NorthEast = refl
+holds_in_table East = refl
+holds_in_table SouthEast = refl
+holds_in_table South = refl
+holds_in_table SouthWest = refl
+holds_in_table West = refl
+holds_in_table NorthWest = refl
+
+pub table_read : (d : Direction) (s : ℕ) → s < 64 → get_or (get_or RAYS s []) (number_of d) 0 ≡ bits_of (ray d s)
+table_read d s below =
+    eqb-true (get_or (get_or RAYS s []) (number_of d) 0) (bits_of (ray d s)) (holds_below 64 (λ t. eqb (get_or (get_or RAYS t []) (number_of d) 0) (bits_of (ray d t))) (holds_in_table d) s below)
+
+-- the word of the table for a square and a direction
+abbrev pub ray_at : ℕ → Direction → ℕ
+ray_at s d = get_or (get_or RAYS s []) (number_of d) 0
+
+rays_fit : (d : Direction) → all_below 64 (λ s. ltb (bits_of (ray d s)) (2 ^ 64)) ≡ true
+unfolding squares_beside
+rays_fit North = refl
+rays_fit NorthEast = refl
+rays_fit East = refl
+rays_fit SouthEast = refl
+rays_fit South = refl
+rays_fit SouthWest = refl
+rays_fit West = refl
+rays_fit NorthWest = refl
+
+pub ray_fits : (d : Direction) (s : ℕ) → s < 64 → ray_at s d < 2 ^ 64
+ray_fits d s below =
+    subst (λ n. n < 2 ^ 64) (sym (table_read d s below)) (ltb-true (bits_of (ray d s)) (2 ^ 64) (holds_below 64 (λ t. ltb (bits_of (ray d t)) (2 ^ 64)) (rays_fit d) s below))
+
+-- one square comes before another where the numbers rise, or where they fall
+abbrev pub comes : Bool → ℕ → ℕ → Bool
+comes true s t = ltb s t
+comes false s t = ltb t s
+
+-- the squares of a list are on the board, and each comes before those after it
+abbrev pub ordered : Bool → List ℕ → Bool
+ordered up [] = true
+ordered up (s ∷ more) = ltb s 64 && (list_all (comes up s) more && ordered up more)
+
+rays_ordered : (d : Direction) → all_below 64 (λ s. ordered (rises d) (ray d s)) ≡ true
+unfolding squares_beside
+rays_ordered North = refl
+rays_ordered NorthEast = refl
+rays_ordered East = refl
+rays_ordered SouthEast = refl
+rays_ordered South = refl
+rays_ordered SouthWest = refl
+rays_ordered West = refl
+rays_ordered NorthWest = refl
+
+pub ray_ordered : (d : Direction) (s : ℕ) → s < 64 → ordered (rises d) (ray d s) ≡ true
+ray_ordered d s below = holds_below 64 (λ t. ordered (rises d) (ray d t)) (rays_ordered d) s below
+
+-- the squares of a list fall by this number at each step: each is more than those after it by that number, up to 6 times
+abbrev pub falls_to : ℕ → ℕ → ℕ → Bool
+falls_to k s t = eqb s (t + k) || (eqb s (t + 2 * k) || (eqb s (t + 3 * k) || (eqb s (t + 4 * k) || (eqb s (t + 5 * k) || eqb s (t + 6 * k)))))
+
+abbrev pub falls_by : ℕ → List ℕ → Bool
+falls_by k [] = true
+falls_by k (s ∷ more) = list_all (falls_to k s) more && falls_by k more
+
+rays_fall : (d : Direction) → all_below 64 (λ s. rises d || falls_by (stride d) (ray d s)) ≡ true
+unfolding squares_beside
+rays_fall North = refl
+rays_fall NorthEast = refl
+rays_fall East = refl
+rays_fall SouthEast = refl
+rays_fall South = refl
+rays_fall SouthWest = refl
+rays_fall West = refl
+rays_fall NorthWest = refl
+
+pub ray_falls : (d : Direction) (s : ℕ) → s < 64 → rises d || falls_by (stride d) (ray d s) ≡ true
+ray_falls d s below = holds_below 64 (λ t. rises d || falls_by (stride d) (ray d t)) (rays_fall d) s below

@@ -33,6 +33,7 @@ impl Board {
     }
 
     /// What stands on a square, 0 to 63.
+    #[tactic(auto, using(crate::proofs::CellLemmas::reads_own, crate::proofs::CellLemmas::reads_opp, crate::proofs::CellLemmas::reads_empty))]
     pub fn cell(self, square: u8) -> Cell
         requires { square < 64 }
         ensures { result ≡ cell_at (cells self) square }
@@ -47,6 +48,7 @@ impl Board {
     }
 
     /// The board as the other player sees it: own and opposing discs exchanged.
+    #[tactic(auto, using(std::proofs::lemmas::Nat::and_comm, crate::proofs::CellLemmas::word_rules))]
     pub fn swap(self) -> Board
         ensures words { (result.own ≡ self.opp) × (result.opp ≡ self.own) }
         ensures cells { cells result ≡ exchanged (cells self) }
@@ -58,6 +60,7 @@ impl Board {
     }
 
     /// How many discs the mover has, and how many the opponent.
+    #[tactic(auto, using(crate::proofs::CellLemmas::word_rules))]
     pub fn count(self) -> (u32, u32)
         ensures own { result.0 ≡ count_by is_own_cell (cells self) }
         ensures opp { result.1 ≡ count_by is_opp_cell (cells self) }

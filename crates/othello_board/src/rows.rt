@@ -1,4 +1,6 @@
 //! The definitions of the rules, tried on boards: each contract is computed from the definitions alone.
+#![tactic(auto, unfolding(crate::specs::Rules::squares, crate::specs::Rules::squares_beside))]
+
 ghost use Rattle.std.specs.Prelude.{◌≡◌, [], ◌∷◌, false, true};
 ghost use Rattle.othello_board.specs.declared.cells.Cell.TheVariants.{Empty, Own, Opp};
 ghost use Rattle.othello_board.specs.declared.directions.Direction.TheVariants.{West, East, South};

@@ -16,6 +16,7 @@ pub fn values_are_bounded()
 {}
 
 /// One disc of difference in a finished game outranks every evaluation.
+#[tactic(auto, using(crate::proofs::ValueLemmas::win_outranks, crate::proofs::ValueLemmas::loss_outranked))]
 pub fn a_disc_outranks_evaluations()
     ensures won { (board other : List Cell)
         → count_by is_opp_cell board < count_by is_own_cell board → eval other <ℤ final_value board }
@@ -24,12 +25,14 @@ pub fn a_disc_outranks_evaluations()
 {}
 
 /// A finished game has its final value at every depth, and no best choice.
+#[tactic(auto, using(crate::proofs::Rules::finished_games_rules))]
 pub fn finished_games()
     ensures value { (depth : ℕ) (board : List Cell) → choices board ≡ [] → minimax depth board ≡ final_value board }
     ensures choice { (depth : ℕ) (board : List Cell) → choices board ≡ [] → best_choice depth board ≡ None }
 {}
 
 /// At depth 0 a game that goes on has its evaluation, and no best choice.
+#[tactic(auto, using(crate::proofs::Rules::games_at_depth_0_rules))]
 pub fn games_at_depth_0()
     ensures value { (board : List Cell) → choices board ≢ [] → minimax 0 board ≡ eval board }
     ensures choice { (board : List Cell) → best_choice 0 board ≡ None }
@@ -37,6 +40,7 @@ pub fn games_at_depth_0()
 
 /// The minimax value and the best choice at a board, by what its choices are worth there: at depth 1 and
 /// more the greatest of that, and the first choice that attains it; at depth 0 the evaluation.
+#[tactic(auto, using(crate::proofs::Rules::values_by_choices_rules))]
 pub fn values_by_choices()
     ensures leaf { (board : List Cell) → minimax 0 board ≡ leaf_value board (choices board) }
     ensures deeper { (depth : ℕ) (board : List Cell) → 0 < depth
@@ -47,6 +51,7 @@ pub fn values_by_choices()
 
 /// At depth 1 and more the value of a game that goes on is the greatest of what the choices are worth:
 /// it is one of these, no choice is worth more, and a number that no choice exceeds isn't less.
+#[tactic(auto, using(crate::proofs::MinimaxLemmas::best_choice_there, crate::proofs::MinimaxLemmas::choices_below, crate::proofs::MinimaxLemmas::minimax_least))]
 pub fn value_is_the_greatest()
     ensures attained { (depth : ℕ) (board : List Cell) → 0 < depth → choices board ≢ []
         → IsSome (best_choice depth board) }

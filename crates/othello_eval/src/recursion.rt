@@ -18,7 +18,7 @@ pub struct Valued {
 }
 
 /// The minimax value of a board to a depth, 0 to 12, and the best choice.
-#[tactic(auto, using(othello_moves::proofs::DescentLemmas::goes_down))]
+#[tactic(auto, using(othello_moves::proofs::AllowedLemmas::goes_down))]
 pub fn plain(board: Board, depth: u8) -> Valued
     requires { depth ≤ 12 }
     ensures value { result.value ≡ minimax depth (cells board) }

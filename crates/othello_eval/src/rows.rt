@@ -1,4 +1,6 @@
 //! The definitions of values, tried on boards: each contract is computed from the definitions alone.
+#![tactic(auto, unfolding(othello_board::specs::Rules::squares, othello_board::specs::Rules::squares_beside, othello_moves::specs::Choices::in_order, crate::specs::Values::weights, crate::specs::Minimax::minimax, crate::specs::Minimax::best_choice))]
+
 ghost use Rattle.std.specs.Prelude.{◌≡◌, pos, negsuc, Some, None, [], ◌∷◌};
 ghost use Rattle.othello_board.specs.Rows.{opening};
 ghost use Rattle.othello_moves.specs.declared.choices.Choice.TheVariants.{Square, Pass};

@@ -50,6 +50,7 @@ pub(crate) fn discs_value(board: Board) -> i32
 }
 
 /// The evaluation of a board whose game goes on, from -1,184 to 1,184.
+#[tactic(auto, using(crate::proofs::MinimaxLemmas::same_bits, crate::proofs::MinimaxLemmas::within_more))]
 pub fn eval(board: Board) -> i32
     ensures value { result ≡ eval (cells board) }
     ensures within { IsWithin 1184 result }
@@ -59,6 +60,7 @@ pub fn eval(board: Board) -> i32
 
 /// The value of a finished game, from -128,000 to 128,000: 2000 for each disc that the mover has more
 /// than the opponent.
+#[tactic(auto, using(crate::proofs::Rules::final_value_rules))]
 pub fn final_value(board: Board) -> i32
     ensures value { result ≡ final_value (cells board) }
     ensures within { IsWithin 128000 result }

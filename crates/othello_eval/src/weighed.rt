@@ -142,6 +142,7 @@ impl Weighed {
 
     /// The board as the other player sees it.
     #[inline(always)]
+    #[tactic(auto, using(crate::proofs::Rules::swap_rules))]
     fn swap(self) -> Weighed
         ensures { cells result.board ≡ exchanged (cells self.board) }
     {

@@ -1,17 +1,15 @@
 -- The words of the lanes, and the legal squares that they make.
-use Rattle.std.proofs.Common.{◌≡◌, ℕ, ◌-◌, ◌*◌, ◌^◌, ◌<◌, Bool, not, ◌||◌, filter, bit_and, bit_or, max, refl, ap, ap₂, ◌∙◌, arith}
+use Rattle.std.proofs.Common.{◌≡◌, ℕ, ◌-◌, ◌*◌, ◌^◌, ◌<◌, not, filter, bit_and, bit_or, refl, ap, ap₂, ◌∙◌, arith}
 use Rattle.std.specs.Int.{bit_at}
-use Rattle.std.proofs.lemmas.Nat.{or_lt, and_le_l, and_le_r, mod_below, shr_le}
+use Rattle.std.proofs.lemmas.Nat.{or_lt, and_le_l, and_le_r, mod_below, shr_le, or_comm}
 use Rattle.std.proofs.lemmas.Nat.Bits.{bit_at_and, bit_at_or, bit_at_ones, same_from_bits}
 use Rattle.othello_board.specs.declared.directions.Direction.{Direction}
 use Rattle.othello_board.specs.declared.directions.Direction.TheVariants.{North, NorthEast, East, SouthEast, South, SouthWest, West, NorthWest}
 use Rattle.othello_board.specs.Rules.{run, is_legal, squares, is_nil}
 use Rattle.othello_board.specs.Words.{cells_of, bits_of}
-use Rattle.othello_board.proofs.Shifts.{opposite, slid_from, bit_there}
-use Rattle.othello_board.proofs.ShiftLemmas.{slid_up, slid_down}
-use Rattle.othello_moves.proofs.Inner.{bit_of}
+use Rattle.othello_board.proofs.ShiftLemmas.{opposite, slid_from, bit_there, slid_up, slid_down}
+use Rattle.othello_moves.proofs.LeadLemmas.{bit_of, inside, inside_bit, middle_bit, paired, paired_bit, led, led_one, led_more, led_two_more, start_bit, starts_bit, legal_bit, word_of_passing}
 use Rattle.othello_moves.specs.Lanes.{raised, lowered, reached}
-use Rattle.othello_moves.proofs.LeadLemmas.{inside, inside_bit, middle_bit, paired, paired_bit, led, led_one, led_more, led_two_more, start_bit, starts_bit, max_of_tests, legal_bit, word_of_passing}
 
 -- what a lane reaches is where a run begins
 reached_bits : (shift : ℕ → ℕ) (own opp over : ℕ) (d : Direction)
@@ -56,12 +54,6 @@ inner_discs opp = bit_and opp 0x7e7e_7e7e_7e7e_7e7e
 
 -- ---- all directions
 
-either_bit : (x y t : ℕ) (a b : Bool) → bit_at x t ≡ bit_of a → bit_at y t ≡ bit_of b → bit_at (bit_or x y) t ≡ bit_of (a || b)
-either_bit x y t a b first second = bit_at_or x y t ∙ ap₂ max first second ∙ max_of_tests a b
-
-turned_lines : (x y : ℕ) → bit_or x y ≡ bit_or y x
-turned_lines x y = same_from_bits _ _ (λ i. rw (bit_at_or x y i, bit_at_or y x i) (omega arith))
-
 pub both_lines : (own opp : ℕ) → own < 2 ^ 64 → opp < 2 ^ 64 → bit_and own opp ≡ 0
     → bit_and (bit_or
     (bit_or (bit_or (reached (lowered 8) own (all_discs opp)) (reached (raised 8) own (all_discs opp))) (bit_or (reached (lowered 7) own (inner_discs opp)) (reached (raised 7) own (inner_discs opp))))
@@ -84,7 +76,7 @@ both_lines own opp own_fits opp_fits disjoint =
     let all = bit_or (bit_or (bit_or s n) (bit_or sw ne)) (bit_or (bit_or e w) (bit_or se nw)) in
     let empty = 2 ^ 64 - 1 - bit_or own opp in
     let by_order : all ≡ bit_or (bit_or (bit_or n s) (bit_or ne sw)) (bit_or (bit_or e w) (bit_or se nw)) =
-    ap₂ (λ x y. bit_or (bit_or x y) (bit_or (bit_or e w) (bit_or se nw))) (turned_lines s n) (turned_lines sw ne) in
+    ap₂ (λ x y. bit_or (bit_or x y) (bit_or (bit_or e w) (bit_or se nw))) (or_comm s n) (or_comm sw ne) in
     let lane : (shift : ℕ → ℕ) (over : ℕ) (d : Direction) → ((x : ℕ) → x < 2 ^ 64 → (t : ℕ) → t < 64 → bit_at (shift x) t ≡ bit_there x (slid_from (opposite d) t)) → ((x : ℕ) → x < 2 ^ 64 → shift x < 2 ^ 64) → over < 2 ^ 64 → ((t : ℕ) → t < 64 → bit_at over t ≡ bit_of (inside board d t)) → (t : ℕ) → t < 64 → bit_at (reached shift own over) t ≡ bit_of (not (is_nil (run board t d))) =
     λ shift over d slides fits over_fits over_bits. reached_bits shift own opp over d slides fits own_fits over_fits over_bits in
     let up : (k : ℕ) (d : Direction) → ((x : ℕ) (t : ℕ) → t < 64 → bit_at (raised k x) t ≡ bit_there x (slid_from (opposite d) t)) → ((t : ℕ) → t < 64 → bit_at inner t ≡ bit_of (inside board d t)) → (t : ℕ) → t < 64 → bit_at (reached (raised k) own inner) t ≡ bit_of (not (is_nil (run board t d))) =
@@ -116,7 +108,3 @@ pub by_lanes : (own opp : ℕ) → own < 2 ^ 64 → opp < 2 ^ 64 → bit_and own
     ≡ bits_of (filter (is_legal (cells_of own opp)) squares)
 by_lanes own opp own_fits opp_fits disjoint =
     parted _ _ (2 ^ 64 - 1 - bit_or own opp) ∙ both_lines own opp own_fits opp_fits disjoint
-
--- the same for the opponent, where the words are named the other way round
-pub and_turned : (x y : ℕ) → bit_and x y ≡ bit_and y x
-and_turned x y = same_from_bits _ _ (λ i. rw (bit_at_and x y i, bit_at_and y x i) (omega arith))

@@ -1,24 +1,42 @@
--- The spread of a word from the mover's discs over opposing ones, bit by bit and round by round.
-use Rattle.std.proofs.Common.{◌≡◌, ℕ, zero, suc, ◌+◌, ◌-◌, ◌^◌, ◌<◌, ◌≤◌, Bool, true, false, not, ◌&&◌, ◌||◌, cond, eqb, ltb, List, [], ◌++◌, filter, Option, Some, None, unwrap_or, bit_and, bit_or, min, max, inl, inr, refl, sym, ap, ap₂, ◌∙◌, arith, w64}
-use Rattle.std.specs.Prelude.{is_some}
+-- Representation: which squares may stand inside a run.
+use Rattle.othello_board.specs.declared.directions.Direction.{Direction}
+use Rattle.othello_board.specs.declared.directions.Direction.TheVariants.{North, NorthEast, East, SouthEast, South, SouthWest, West, NorthWest}
+use Rattle.std.proofs.Common.{◌≡◌, zero, suc, ◌+◌, ◌-◌, ◌^◌, ◌<◌, ◌≤◌, false, ◌||◌, cond, eqb, ltb, List, [], ◌++◌, filter, Option, Some, None, unwrap_or, bit_and, bit_or, min, max, inl, inr, refl, sym, ap, ap₂, ◌∙◌, arith, w64, ℕ, ◌%◌, ◌==◌, Bool, true, not, ◌&&◌, if◌then◌else◌, is_some}
 use Rattle.std.specs.List.{flat_map, range_with_len}
 use Rattle.std.specs.Int.{bit_at}
 use Rattle.std.proofs.lemmas.Bool.{cases_lt, ne_eqb, eqb-true, ltb-true, and_parts, or_cases, not-true, and_right}
 use Rattle.std.proofs.lemmas.Nat.{or_lt}
 use Rattle.std.proofs.lemmas.Nat.Bits.{bit_at_and, bit_at_or, bit_at_not, bit_at_above, bit_at-lt, same_from_bits}
+use Rattle.std.proofs.Math.Bool.{and_comm}
 use Rattle.othello_board.specs.declared.cells.Cell.{Cell}
 use Rattle.othello_board.specs.declared.cells.Cell.TheVariants.{Empty, Own, Opp}
-use Rattle.othello_board.specs.declared.directions.Direction.{Direction}
-use Rattle.othello_board.specs.declared.directions.Direction.TheVariants.{North, NorthEast, East, SouthEast, South, SouthWest, West, NorthWest}
 use Rattle.othello_board.specs.Rules.{step, squares_beside, outflanked, led_by, cell_at, run, flips, directions, is_legal, squares, is_among, is_own_cell, is_opp_cell, is_empty_cell, is_nil}
 use Rattle.othello_board.specs.Words.{cells_of, bits_of}
-use Rattle.othello_board.proofs.Shifts.{opposite, slid_from, bit_there}
-use Rattle.othello_board.proofs.BitLemmas.{apart, bit_at-bits_of}
-use Rattle.othello_board.proofs.CellLemmas.{cell_at-cells_of, bit_cases}
-use Rattle.othello_board.proofs.ShiftLemmas.{all_below, holds_below}
-use Rattle.othello_board.proofs.StepLemmas.{step_back, beside_edge, beside_next}
-use Rattle.othello_moves.proofs.BitLemmas.{is_among-filter, is_square}
-use Rattle.othello_moves.proofs.Inner.{bit_of, has_both_sides, is_inner}
+use Rattle.othello_board.proofs.ShiftLemmas.{opposite, slid_from, bit_there, all_below, holds_below, step_back, beside_edge, beside_next}
+use Rattle.othello_board.proofs.CellLemmas.{apart, bit_at-bits_of, cell_at-cells_of, bit_cases}
+use Rattle.othello_moves.proofs.BitLemmas.{is_among-filter, is_square, and-true}
+
+-- 1 where a test holds, else 0
+abbrev pub bit_of : Bool → ℕ
+bit_of test = if test then 1 else 0
+
+-- whether a square lies in columns b to g
+abbrev pub has_both_sides : ℕ → Bool
+has_both_sides s = not (s % 8 == 0) && not (s % 8 == 7)
+
+-- whether an opposing disc on this square is counted as inside a run in this direction: on any square for north and
+-- south, else only in columns b to g, so that no shift of a word leads around the left or the right edge
+abbrev pub is_inner : Direction → ℕ → Bool
+is_inner North s = true
+is_inner NorthEast s = has_both_sides s
+is_inner East s = has_both_sides s
+is_inner SouthEast s = has_both_sides s
+is_inner South s = true
+is_inner SouthWest s = has_both_sides s
+is_inner West s = has_both_sides s
+is_inner NorthWest s = has_both_sides s
+
+-- The spread of a word from the mover's discs over opposing ones, bit by bit and round by round.
 
 -- the next n squares beside a square in a direction begin with opposing discs, or none, and then a disc of the mover
 abbrev pub goes_on : ℕ → List Cell → Direction → ℕ → Bool
@@ -39,10 +57,10 @@ opp_of a b p q h = grind (arith, bit_cases)
 empty_of : (a b : ℕ) → a < 2 → b < 2 → 1 - max a b ≡ bit_of (is_empty_cell (cond (eqb a 1) Own (cond (eqb b 1) Opp Empty)))
 empty_of a b p q = grind (arith, bit_cases)
 
-own_bit : (own opp t : ℕ) → t < 64 → bit_at own t ≡ bit_of (is_own_cell (cell_at (cells_of own opp) t))
+pub own_bit : (own opp t : ℕ) → t < 64 → bit_at own t ≡ bit_of (is_own_cell (cell_at (cells_of own opp) t))
 own_bit own opp t below = grind (arith, own_of, bit_at-lt, cell_at-cells_of)
 
-opp_bit : (own opp t : ℕ) → bit_and own opp ≡ 0 → t < 64 → bit_at opp t ≡ bit_of (is_opp_cell (cell_at (cells_of own opp) t))
+pub opp_bit : (own opp t : ℕ) → bit_and own opp ≡ 0 → t < 64 → bit_at opp t ≡ bit_of (is_opp_cell (cell_at (cells_of own opp) t))
 opp_bit own opp t disjoint below = grind (arith, opp_of, bit_at-lt, apart, cell_at-cells_of)
 
 pub empty_bit : (own opp t : ℕ) → t < 64 → 1 - max (bit_at own t) (bit_at opp t) ≡ bit_of (is_empty_cell (cell_at (cells_of own opp) t))
@@ -270,33 +288,27 @@ pub paired_bit : (over slid : ℕ) (board : List Cell) (d : Direction) → ((t :
 paired_bit over slid board d bits slides t below = slid_under over over slid (inside board d) (inside board d) d bits (inside_inner board d) slides bits t below
 
 -- two discs more
-or_false : (x : Bool) → (x || false) ≡ x
-or_false x = grind arith
-
 nothing_more : (x y : Bool) → (x || (y && false)) ≡ x
-nothing_more x y = ap (λ z. x || z) (and_right y false refl) ∙ or_false x
+nothing_more x y = grind arith
 
 joins : (b o w p w2 p2 g h : Bool) → (g ≡ true → h ≡ true)
     → ((b && (o && (w || (p && (w2 || (p2 && g)))))) || (((o && b) && (p && true)) && (p2 && h))) ≡ (b && (o && (w || (p && (w2 || (p2 && h))))))
 joins b o w p w2 p2 g h h1 = grind arith
 
 -- the second square
-two_by : (board : List Cell) (d : Direction) (m : ℕ) (b o : Bool) (u : ℕ) (next : Option ℕ) → between_by d u next ≡ true
-    → ((b && (o && (is_own_cell (cell_at board u) || (is_opp_cell (cell_at board u) && ahead m board d next)))) || (((o && b) && inside board d u) && there_is (leads (suc m) board d) next))
-    ≡ (b && (o && (is_own_cell (cell_at board u) || (is_opp_cell (cell_at board u) && ahead (suc (suc m)) board d next))))
-two_by board d m b o u next h8 = grind (arith, nothing_more, joins, keeps_on)
+module _ (board : List Cell) (d : Direction) (m : ℕ) (b o : Bool) where
+  two_by : (u : ℕ) (next : Option ℕ) → between_by d u next ≡ true → ((b && (o && (is_own_cell (cell_at board u) || (is_opp_cell (cell_at board u) && ahead m board d next)))) || (((o && b) && inside board d u) && there_is (leads (suc m) board d) next)) ≡ (b && (o && (is_own_cell (cell_at board u) || (is_opp_cell (cell_at board u) && ahead (suc (suc m)) board d next))))
+  two_by u next h8 = grind (arith, nothing_more, joins, keeps_on)
 
--- the first square
-pair_by : (board : List Cell) (d : Direction) (m : ℕ) (b o : Bool) (t : ℕ) (next : Option ℕ) → t < 64 → step d t ≡ next
-    → ((b && (o && ahead (suc m) board d next)) || (((o && b) && there_is (inside board d) next) && there_is (λ u. there_is (leads (suc m) board d) (step d u)) next))
-    ≡ (b && (o && ahead (suc (suc (suc m))) board d next))
-pair_by board d m b o t None below e = nothing_more (b && (o && false)) ((o && b) && false)
-pair_by board d m b o t (Some u) below e =
-    let w = is_own_cell (cell_at board u) in
-    let p = is_opp_cell (cell_at board u) in
-    ap (λ g. (b && (o && (w || (p && g)))) || (((o && b) && inside board d u) && there_is (leads (suc m) board d) (step d u))) (goes_on-next m board d u (step d u) refl)
-    ∙ two_by board d m b o u (step d u) (between d t u below e)
-    ∙ ap (λ g. b && (o && (w || (p && g)))) (sym (goes_on-next (suc (suc m)) board d u (step d u) refl))
+  -- the first square
+  pair_by : (t : ℕ) (next : Option ℕ) → t < 64 → step d t ≡ next → ((b && (o && ahead (suc m) board d next)) || (((o && b) && there_is (inside board d) next) && there_is (λ u. there_is (leads (suc m) board d) (step d u)) next)) ≡ (b && (o && ahead (suc (suc (suc m))) board d next))
+  pair_by t None below e = nothing_more (b && (o && false)) ((o && b) && false)
+  pair_by t (Some u) below e =
+      let w = is_own_cell (cell_at board u) in
+      let p = is_opp_cell (cell_at board u) in
+      ap (λ g. (b && (o && (w || (p && g)))) || (((o && b) && inside board d u) && there_is (leads (suc m) board d) (step d u))) (goes_on-next m board d u (step d u) refl)
+      ∙ two_by u (step d u) (between d t u below e)
+      ∙ ap (λ g. b && (o && (w || (p && g)))) (sym (goes_on-next (suc (suc m)) board d u (step d u) refl))
 
 pub led_two_more : (found pairs slid twice m : ℕ) (board : List Cell) (d : Direction) → ((t : ℕ) → t < 64 → bit_at pairs t ≡ bit_of (paired board d t))
     → ((t : ℕ) → t < 64 → bit_at slid t ≡ bit_there found (slid_from (opposite d) t)) → ((t : ℕ) → t < 64 → bit_at twice t ≡ bit_there slid (slid_from (opposite d) t))
@@ -369,10 +381,7 @@ legal_bit own opp reached t own_fits opp_fits below here =
     bit_at_and reached (2 ^ 64 - 1 - bit_or own opp) t
     ∙ ap₂ min here (bit_at_not w64 (bit_or own opp) t (or_lt 64 own opp own_fits opp_fits) below ∙ ap (λ b. 1 - b) (bit_at_or own opp t) ∙ empty_bit own opp t below)
     ∙ min_of_tests (not (is_nil (flips board t))) (is_empty_cell (cell_at board t))
-    ∙ ap bit_of (and_comm_of (not (is_nil (flips board t))) (is_empty_cell (cell_at board t)))
-  where
-    and_comm_of : (a b : Bool) → (a && b) ≡ (b && a)
-    and_comm_of a b = grind arith
+    ∙ ap bit_of (and_comm (not (is_nil (flips board t))) (is_empty_cell (cell_at board t)))
 
 among_range : (i a n : ℕ) → a + n ≤ i → is_among i (range_with_len a n) ≡ false
 among_range i a zero over = refl
@@ -387,9 +396,6 @@ no_square i over = among_range i 0 64 over
 pub word_of_passing : (word : ℕ) (test : ℕ → Bool) → word < 2 ^ 64 → ((t : ℕ) → t < 64 → bit_at word t ≡ bit_of (test t)) → word ≡ bits_of (filter test squares)
 word_of_passing word test fits bits =
     same_from_bits word (bits_of (filter test squares)) (λ i. elim (cases_lt i 64) [
-      | inl below ↦ bits i below ∙ ap bit_of (sym (is_among-filter test squares i ∙ ap (λ a. test i && a) (is_square i below) ∙ and_true (test i))) ∙ sym (bit_at-bits_of (filter test squares) i)
+      | inl below ↦ bits i below ∙ ap bit_of (sym (is_among-filter test squares i ∙ ap (λ a. test i && a) (is_square i below) ∙ and-true (test i))) ∙ sym (bit_at-bits_of (filter test squares) i)
       | inr over ↦ bit_at_above word 64 i fits over ∙ sym (bit_at-bits_of (filter test squares) i ∙ ap (λ a. bit_of a) (is_among-filter test squares i ∙ ap (λ a. test i && a) (no_square i over) ∙ and_right (test i) false refl))
     ])
-  where
-    and_true : (b : Bool) → (b && true) ≡ b
-    and_true b = grind arith

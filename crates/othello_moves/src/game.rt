@@ -23,6 +23,7 @@ pub fn choice_count(board: Board) -> usize
 }
 
 /// The choice at this place in the order of the board's choices, counted from 0.
+#[tactic(auto, using(crate::proofs::Rules::choice_rules))]
 pub fn choice(board: Board, index: usize) -> Choice
     requires { index < length (choices (cells board)) }
     ensures value { slice_get (choices (cells board)) index ≡ Some result }

@@ -9,21 +9,25 @@ ghost use Rattle.othello_moves.specs.declared.choices.Choice.TheVariants.{Pass};
 ghost use Rattle.othello_moves.specs.Choices.{choices, legal_squares, after, IsAllowed};
 
 /// A choice that is a square lies on the board and is legal.
+#[tactic(auto, using(crate::proofs::AllowedLemmas::choices_allowed))]
 pub fn choices_are_legal()
     ensures { (board : List Cell) → All (IsAllowed board) (choices board) }
 {}
 
 /// After a pass the player to move has a legal square, so no two passes come one after the other.
+#[tactic(auto, using(crate::proofs::AllowedLemmas::square_after_pass))]
 pub fn a_pass_is_followed_by_a_square()
     ensures { (board : List Cell) → Contains (choices board) Pass → is_nil (legal_squares (after board Pass)) ≡ false }
 {}
 
 /// There are at most 64 choices.
+#[tactic(auto, using(crate::proofs::AllowedLemmas::choices_fit))]
 pub fn choices_are_few()
     ensures { (board : List Cell) → length (choices board) ≤ 64 }
 {}
 
 /// A board has 64 cells, and so has the board after any choice.
+#[tactic(auto, using(crate::proofs::Rules::boards_keep_their_size_rules))]
 pub fn boards_keep_their_size()
     ensures board { (b : Board) → length (cells b) ≡ 64 }
     ensures after { (board : List Cell) (c : Choice) → length board ≡ 64 → length (after board c) ≡ 64 }

@@ -99,6 +99,7 @@ pub(crate) fn both_moves(board: Board) -> (u64, u64)
 }
 
 /// How many legal squares there are; a pass isn't counted.
+#[tactic(auto, using(crate::proofs::Rules::move_count_rules))]
 pub fn move_count(board: Board) -> u32
     ensures { result ≡ length (legal_squares (cells board)) }
 {

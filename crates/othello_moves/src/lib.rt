@@ -10,7 +10,7 @@
 //!
 //! The word of legal squares spreads, for each direction, over opposing discs by runs of 1, 2, 4 and 6
 //! (`proofs/LeadLemmas.antt`), within the squares that may stand inside a run, so that no ray wraps around
-//! the board (`proofs/Inner.antt`). It does so in the lanes of one vector (`proofs/LaneLemmas.antt`): four directions at
+//! the board (`proofs/LeadLemmas.antt`). It does so in the lanes of one vector (`proofs/LaneLemmas.antt`): four directions at
 //! a time for one player, or two for each player.
 //!
 //! Why it is so:

@@ -1,4 +1,6 @@
 //! The definitions of choices, tried on boards: each contract is computed from the definitions alone.
+#![tactic(auto, unfolding(othello_board::specs::Rules::squares, othello_board::specs::Rules::squares_beside, crate::specs::Choices::in_order))]
+
 ghost use Rattle.std.specs.Prelude.{◌≡◌, [], ◌∷◌};
 ghost use Rattle.othello_board.specs.Rows.{opening};
 ghost use Rattle.othello_moves.specs.declared.choices.Choice.TheVariants.{Square, Pass};

@@ -46,6 +46,7 @@ impl Choices {
     }
 
     /// How many choices are left.
+    #[tactic(auto, using(crate::proofs::Rules::len_rules))]
     pub fn len(&self) -> usize
         ensures { result ≡ length self.now }
     {

@@ -1,17 +1,11 @@
 -- The choice that has a code, and the words of a board.
-use Rattle.std.proofs.Common.{◌≡◌, ℕ, suc, ◌<◌, ◌^◌, true, false, cond, eqb, List, [], ◌∷◌, Option, Some, None, IsSome, Contains, ℤ, bit_and, min, ⊎_elim, refl, sym, ap, ◌∙◌, arith}
-use Rattle.std.specs.Int.{bit_at}
+use Rattle.std.proofs.Common.{◌≡◌, ℕ, suc, ◌<◌, ◌^◌, true, false, eqb, List, [], ◌∷◌, Option, Some, None, IsSome, Contains, ℤ, bit_and, ⊎_elim, refl, sym, ◌∙◌, arith}
 use Rattle.std.proofs.lemmas.Bool.{cond-true, cond-false, cases_Bool}
-use Rattle.std.proofs.lemmas.Nat.Bits.{bit_at-lt}
-use Rattle.othello_board.specs.declared.cells.Cell.TheVariants.{Empty, Own, Opp}
 use Rattle.othello_board.specs.declared.boards.Board.{Board}
 use Rattle.othello_board.specs.Rules.{cell_at, is_own_cell, is_opp_cell}
 use Rattle.othello_board.specs.Words.{cells, cells_of}
-use Rattle.othello_board.proofs.BitLemmas.{apart}
-use Rattle.othello_board.proofs.CellLemmas.{bit_cases, cell_at-cells_of}
 use Rattle.othello_moves.specs.declared.choices.Choice.{Choice}
-use Rattle.othello_moves.proofs.Inner.{bit_of}
-use Rattle.othello_moves.proofs.LeadLemmas.{word_of_passing}
+use Rattle.othello_moves.proofs.LeadLemmas.{word_of_passing, own_bit, opp_bit}
 use Rattle.page_engine.specs.leaf_search.othello_eval.Values.{IsWithin}
 use Rattle.page_engine.specs.Codes.{choice_code, with_code, own_bits, opp_bits}
 
@@ -31,22 +25,14 @@ coded_contained code (d ∷ ds) c e = ⊎_elim here (later (coded_contained code
         let h = more (sym (cond-false (eqb (choice_code d) code) (Some d) (with_code code ds) f) ∙ e) in
         (suc h.0, omega (arith, h.1), h.2)
 
-own_by : (a b : ℕ) → a < 2 → b < 2 → a ≡ bit_of (is_own_cell (cond (eqb a 1) Own (cond (eqb b 1) Opp Empty)))
-own_by a b p q = grind (arith, bit_cases)
-
-opp_by : (a b : ℕ) → a < 2 → b < 2 → min a b ≡ 0 → b ≡ bit_of (is_opp_cell (cond (eqb a 1) Own (cond (eqb b 1) Opp Empty)))
-opp_by a b p q h = grind (arith, bit_cases)
-
 -- the words of a board are those of its cells
 pub own_word-cells : (b : Board) → b.own < 2 ^ 64 → b.own ≡ own_bits (cells b)
 own_word-cells b fits =
-    word_of_passing b.own (λ s. is_own_cell (cell_at (cells b) s)) fits
-    (λ t below. own_by (bit_at b.own t) (bit_at b.opp t) (bit_at-lt b.own t) (bit_at-lt b.opp t) ∙ ap (λ c. bit_of (is_own_cell c)) (sym (cell_at-cells_of b.own b.opp t below)))
+    word_of_passing b.own (λ s. is_own_cell (cell_at (cells b) s)) fits (own_bit b.own b.opp)
 
 pub opp_word-cells : (b : Board) → b.opp < 2 ^ 64 → bit_and b.own b.opp ≡ 0 → b.opp ≡ opp_bits (cells b)
 opp_word-cells b fits disjoint =
-    word_of_passing b.opp (λ s. is_opp_cell (cell_at (cells b) s)) fits
-    (λ t below. opp_by (bit_at b.own t) (bit_at b.opp t) (bit_at-lt b.own t) (bit_at-lt b.opp t) (apart b.own b.opp t disjoint) ∙ ap (λ c. bit_of (is_opp_cell c)) (sym (cell_at-cells_of b.own b.opp t below)))
+    word_of_passing b.opp (λ s. is_opp_cell (cell_at (cells b) s)) fits (λ t below. opp_bit b.own b.opp t disjoint below)
 
 -- the cells of a board that was made of two words
 pub cells_here : (b : Board) (own opp : ℕ) → (b.own ≡ own) × (b.opp ≡ opp) → cells b ≡ cells_of own opp

@@ -49,7 +49,7 @@ impl Discs {
     }
 
     /// The board of these discs, seen by a side.
-    #[tactic(auto, using(crate::proofs::DiscLemmas::apart_other_way))]
+    #[tactic(auto, using(crate::proofs::ReadingLemmas::apart_other_way))]
     pub fn seen_by(self, side: Side) -> Board
         ensures black { side ≡ Side.Black → (result.own ≡ self.black) × (result.opp ≡ self.white) }
         ensures white { side ≡ Side.White → (result.own ≡ self.white) × (result.opp ≡ self.black) }

@@ -13,6 +13,7 @@ use super::reading::read;
 use super::writing::write;
 
 /// A text spells at most one position.
+#[tactic(auto, using(crate::proofs::Readings::one_position))]
 pub fn one_position(text: &[u8], first: Position, second: Position)
     requires first { Spells text.now first }
     requires second { Spells text.now second }

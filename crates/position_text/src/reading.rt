@@ -16,6 +16,7 @@ const LENGTH: usize = 66;
 const SPACE: u8 = b' ';
 
 /// The discs of a text's first 64 bytes, or the fault that names the first of them that spells no cell.
+#[tactic(auto, using(crate::proofs::ReadingLemmas::none_held, crate::proofs::ReadingLemmas::held_at))]
 fn cells(text: &[u8]) -> Result<Discs, TextFault>
     requires { length text.now ≡ 66 }
     ensures ok { IfOk result (λ discs. HoldsFirst discs.black discs.white text.now 64) }

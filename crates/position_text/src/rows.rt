@@ -1,4 +1,6 @@
 //! The definitions of texts, tried on the opening: each contract is computed from the definitions alone.
+#![tactic(auto, unfolding(othello_board::specs::Rules::squares))]
+
 ghost use Rattle.std.specs.Prelude.{◌≡◌, ◌++◌, map, codes, Some, None};
 ghost use Rattle.std.specs.Str.{byte};
 ghost use Rattle.othello_board.specs.Words.{cells};

@@ -1,5 +1,7 @@
--- What the text of a position asks for, by what reading it gives.
-use Rattle.std.proofs.Common.{◌≡◌, ◌≢◌, ◌↔◌, ℕ, cond, List, map, length, Option, Some, None, IsSome, Result, Ok, Err, refl, ap, ◌∙◌}
+-- A line and a number, byte by byte.
+use Rattle.std.proofs.Common.{ℕ, ◌^◌, ◌<◌, ◌≤◌, List, ◌++◌, Option, arith, ◌≡◌, ◌≢◌, ◌↔◌, cond, map, length, Some, None, IsSome, Result, Ok, Err, refl, ap, ◌∙◌}
+use Rattle.std.specs.Option.{option_map}
+use Rattle.std.proofs.Math.Nat.{pow-le-pow_right}
 use Rattle.std.proofs.lemmas.Bool.{ne_eqb, eq-eqb}
 use Rattle.othello_board.specs.declared.cells.Cell.{Cell}
 use Rattle.othello_board.specs.Words.{cells}
@@ -15,6 +17,15 @@ use Rattle.protocol.specs.declared.faults.ProtocolFault.{ProtocolFault}
 use Rattle.protocol.specs.declared.faults.ProtocolFault.TheVariants.{PositionLength, PositionSide}
 use Rattle.protocol.specs.Faults.{position_fault}
 use Rattle.protocol.specs.Questions.{QuestionOf, mover_question, marks_question, position_question}
+
+-- the two sides of the space, where these bytes stand in front
+abbrev pub behind : List ℕ → Option (List ℕ × List ℕ) → Option (List ℕ × List ℕ)
+behind front found = option_map (λ p. (front ++ p.0, p.1)) found
+
+pub seven_digits_fit : (n i : ℕ) → n < 10 ^ i → i ≤ 7 → n < 10000000
+seven_digits_fit n i below few = omega (arith, pow-le-pow_right {n = 10} (omega arith) {i = i} {j = 7} few)
+
+-- What the text of a position asks for, by what reading it gives.
 
 -- what is asked of a board, and a fault
 abbrev pub asks : ℕ → List Cell → Side → Result QuestionOf ProtocolFault

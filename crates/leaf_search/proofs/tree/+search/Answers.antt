@@ -1,10 +1,7 @@
-use Rattle.std.proofs.Common.{rules, ◌≡◌, ◌↔◌, ◌<◌, ℕ, Bool, IsTrue, true, false, List, neg_ℤ, length, ◌-◌, [], refl, sym, ◌∙◌, ap, subst, arith}
+use Rattle.std.proofs.Common.{rules, ◌≡◌, ℕ, true, false, neg_ℤ, ◌-◌, refl, sym, ◌∙◌, ap, subst, arith}
 use Rattle.std.specs.Int.{int_max}
 use Rattle.std.proofs.lemmas.Int.{ints, clamps}
-use Rattle.std.proofs.lemmas.Grind.{common_steps}
 use Rattle.othello_board.specs.Words.{cells}
-use Rattle.othello_board.specs.declared.cells.Cell.{Cell}
-use Rattle.othello_eval.specs.othello_moves.declared.choices.Choice.{Choice}
 use Rattle.othello_eval.specs.othello_moves.Choices.{choices, after, plies}
 use Rattle.othello_eval.proofs.othello_moves_DescentLemmas.{goes_down}
 use Rattle.othello_eval.specs.Values.{final_value}
@@ -12,23 +9,8 @@ use Rattle.othello_eval.specs.Minimax.{minimax, choice_value}
 use Rattle.leaf_search.specs.Bounds.{IsBound}
 use Rattle.leaf_search.specs.declared.scored.Counted.{Counted}
 use Rattle.othello_eval.proofs.MinimaxLemmas.{minimax-deeper, minimax-over}
-use Rattle.leaf_search.proofs.WindowLemmas.{all_bound, Searched-turn, IsSearching-cut, IsSearching-all, IsSearching-real, IsSearching-next, exact_bound}
+use Rattle.leaf_search.proofs.WindowLemmas.{all_bound, Searched-turn, IsSearching-cut, IsSearching-all, IsSearching-real, IsSearching-next, exact_bound, worth_is, some_left, none_left}
 use Rattle.leaf_search.proofs.tree.+search.Goals as goal
-
--- what a choice is worth, by the plies of the choice and the board after it
-worth_is : (d p : ℕ) (b : List Cell) (c : Choice) (board : List Cell) → p ≡ plies c → b ≡ after board c → choice_value d board c ≡ neg_ℤ (minimax (d - p) b)
-worth_is d p b c board same is = ap (λ b. neg_ℤ (minimax (d - plies c) b)) (sym is) ∙ ap (λ q. neg_ℤ (minimax (d - q) b)) (sym same)
-
--- whether there are choices
-some_length : {X : Type 0} (xs : List X) → (xs ≡ [] → ⊥) → 0 < length xs
-some_length xs h1 = grind (arith, common_steps)
-
-some_left : (board : List Cell) (left : List Choice) (none : Bool) → left ≡ choices board → IsTrue none ↔ (left ≡ []) → none ≡ false → 0 < length (choices board)
-some_left board left none all exactly denied =
-    some_length (choices board) (λ empty. let told : none ≡ true = exactly.1 (all ∙ empty) in cc)
-
-none_left : (board : List Cell) (left : List Choice) (none : Bool) → left ≡ choices board → IsTrue none ↔ (left ≡ []) → none ≡ true → choices board ≡ []
-none_left board left none all exactly told = sym all ∙ exactly.0 told
 
 pub score_of-search_below-child-requires : goal.score_of-search_below-child-requires
 score_of-search_below-child-requires t c =

@@ -4,8 +4,7 @@ use Rattle.othello_board.specs.declared.boards.Board.{Board}
 use Rattle.othello_board.specs.Words.{cells}
 use Rattle.othello_eval.specs.othello_moves.Choices.{choices}
 use Rattle.othello_eval.specs.Minimax.{minimax}
-use Rattle.othello_eval.proofs.BestLemmas.{minimax_leaf_there}
-use Rattle.othello_eval.proofs.MinimaxLemmas.{minimax-over}
+use Rattle.othello_eval.proofs.MinimaxLemmas.{minimax_leaf_there, minimax-over}
 use Rattle.leaf_search.proofs.tree.entered.Goals as goal
 
 -- where the game is over

@@ -1,5 +1,4 @@
-use Rattle.std.proofs.Common.{◌≡◌, sym, ◌∙◌, ap, subst, arith}
-use Rattle.std.specs.Prelude.{IfSome, Contains}
+use Rattle.std.proofs.Common.{◌≡◌, sym, ◌∙◌, ap, subst, arith, IfSome, Contains}
 use Rattle.std.proofs.lemmas.Int.{ints}
 use Rattle.othello_board.specs.Words.{cells}
 use Rattle.othello_eval.specs.othello_moves.Choices.{choices}

@@ -1,4 +1,4 @@
-use Rattle.othello_eval.proofs.BestLemmas.{best_choice_attains, best_choice_first}
+use Rattle.othello_eval.proofs.MinimaxLemmas.{best_choice_attains, best_choice_first}
 use Rattle.othello_eval.proofs.laws.best_choice_is_the_first.Goals as goal
 
 pub returns : goal.returns

@@ -3,12 +3,10 @@ use Rattle.othello_board.specs.Words.{cells}
 use Rattle.othello_board.specs.declared.cells.Cell.{Cell}
 use Rattle.othello_moves.specs.declared.choices.Choice.{Choice}
 use Rattle.othello_moves.specs.Choices.{choices, plies}
-use Rattle.othello_moves.proofs.DescentLemmas.{goes_down}
-use Rattle.othello_moves.proofs.AllowedLemmas.{length-cells}
+use Rattle.othello_moves.proofs.AllowedLemmas.{goes_down, length-cells}
 use Rattle.othello_eval.specs.Values.{IsWithin}
 use Rattle.othello_eval.specs.Minimax.{minimax, choice_value}
-use Rattle.othello_eval.proofs.MinimaxLemmas.{minimax-over, best_choice-over, minimax_within}
-use Rattle.othello_eval.proofs.PlainLemmas.{same_bits, within_more, child_value, leaf_value_at, leaf_choice_at, start_value, start_choice, running_more, running_same, running_all, left_chosen, next_chosen}
+use Rattle.othello_eval.proofs.MinimaxLemmas.{minimax-over, best_choice-over, minimax_within, same_bits, within_more, child_value, leaf_value_at, leaf_choice_at, start_value, start_choice, running_more, running_same, running_all, left_chosen, next_chosen}
 use Rattle.othello_eval.proofs.recursion.+plain.Goals as goal
 
 -- the value below, by the plies of the choice

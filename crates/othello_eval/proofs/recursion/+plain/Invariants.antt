@@ -2,8 +2,8 @@ use Rattle.std.proofs.Common.{◌+◌, ◌*◌, ◌≡◌, Some, All, Contains, 
 use Rattle.othello_board.specs.Words.{cells}
 use Rattle.othello_moves.specs.Choices.{choices}
 use Rattle.othello_eval.specs.Minimax.{minimax, choice_value, best_choice}
-use Rattle.othello_moves.proofs.DescentLemmas.{passing}
-use Rattle.othello_eval.proofs.BestLemmas.{running}
+use Rattle.othello_moves.proofs.AllowedLemmas.{passing}
+use Rattle.othello_eval.proofs.MinimaxLemmas.{running}
 use Rattle.othello_eval.proofs.recursion.+plain.Given as goal
 
 abbrev pub decreases-plain : goal.decreases-plain

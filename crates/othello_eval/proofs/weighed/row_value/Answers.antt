@@ -1,6 +1,6 @@
 use Rattle.std.proofs.Common.{refl, sym, subst}
 use Rattle.othello_eval.specs.Values.{IsWithin}
-use Rattle.othello_eval.proofs.RowLemmas.{row_read, row_within}
+use Rattle.othello_eval.proofs.MaskLemmas.{row_read, row_within}
 use Rattle.othello_eval.proofs.weighed.row_value.Goals as goal
 
 pub returns-clause-value : goal.returns-clause-value

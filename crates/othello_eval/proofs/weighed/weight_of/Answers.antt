@@ -1,6 +1,6 @@
 use Rattle.std.proofs.Common.{sym, subst}
 use Rattle.othello_eval.specs.Values.{IsWithin}
-use Rattle.othello_eval.proofs.WeighedLemmas.{weight_read, weight_within}
+use Rattle.othello_eval.proofs.ValueLemmas.{weight_read, weight_within}
 use Rattle.othello_eval.proofs.weighed.weight_of.Goals as goal
 
 pub returns-clause-value : goal.returns-clause-value

@@ -1,8 +1,9 @@
 use Rattle.std.proofs.Common.{filter, ap, ◌∙◌, arith}
+use Rattle.std.proofs.lemmas.Nat.{and_comm}
 use Rattle.othello_board.specs.Rules.{squares, is_legal}
 use Rattle.othello_board.specs.Words.{bits_of}
 use Rattle.othello_board.proofs.CellLemmas.{exchanged-cells_of}
-use Rattle.othello_moves.proofs.LaneLemmas.{by_lanes, and_turned}
+use Rattle.othello_moves.proofs.LaneLemmas.{by_lanes}
 use Rattle.othello_moves.proofs.legal.both_moves.Goals as goal
 
 pub returns-clause-own : goal.returns-clause-own
@@ -15,5 +16,5 @@ returns-clause-opp c =
     let own = c.args.board.own in
     let opp = c.args.board.opp in
     rw (c.lower.ensures, c.raise.ensures, c.lower-2.ensures, c.raise-2.ensures, c.lanes.ensures, c.lanes-2.ensures)
-    (by_lanes opp own (omega arith) (omega arith) (and_turned opp own ∙ c.args.board.disjoint)
+    (by_lanes opp own (omega arith) (omega arith) (and_comm opp own ∙ c.args.board.disjoint)
     ∙ ap (λ cs. bits_of (filter (is_legal cs) squares)) (exchanged-cells_of own opp c.args.board.disjoint))

@@ -1,6 +1,6 @@
 use Rattle.std.proofs.Common.{◌≡◌, take, drop}
 use Rattle.protocol.specs.Words.{split_at_space}
-use Rattle.protocol.proofs.WordLemmas.{behind}
+use Rattle.protocol.proofs.QuestionLemmas.{behind}
 use Rattle.protocol.proofs.words.split_at_space.Given as goal
 
 abbrev pub invariant-loop-i : goal.invariant-loop-i

@@ -1,5 +1,5 @@
 use Rattle.std.proofs.Common.{arith}
-use Rattle.protocol.proofs.WordLemmas.{seven_digits_fit}
+use Rattle.protocol.proofs.QuestionLemmas.{seven_digits_fit}
 use Rattle.protocol.proofs.words.word_number.Goals as goal
 
 pub overflow_mul-number : goal.overflow_mul-number

@@ -1,5 +1,5 @@
 use Rattle.std.proofs.Common.{arith}
-use Rattle.othello_board.proofs.FlipLemmas.{flips_in_lanes}
+use Rattle.othello_board.proofs.PlayLemmas.{flips_in_lanes}
 use Rattle.othello_board.proofs.boards.Board.flips.Goals as goal
 
 pub returns : goal.returns

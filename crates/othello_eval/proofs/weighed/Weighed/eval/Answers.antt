@@ -4,11 +4,9 @@ use Rattle.othello_board.specs.Rules.{squares, exchanged, is_legal}
 use Rattle.othello_board.specs.Words.{cells, bits_of}
 use Rattle.othello_moves.specs.Choices.{legal_squares}
 use Rattle.othello_moves.proofs.AllowedLemmas.{legal_squares_fit}
-use Rattle.othello_moves.proofs.OrderLemmas.{length-in_order}
+use Rattle.othello_moves.proofs.BitLemmas.{length-in_order}
 use Rattle.othello_eval.specs.Values.{weights, discs_value, eval, IsWithin}
-use Rattle.othello_eval.proofs.ValueLemmas.{eval_within}
-use Rattle.othello_eval.proofs.WeighedLemmas.{known_within}
-use Rattle.othello_eval.proofs.CodeLemmas.{small_fits, difference_fits, mobility_fits, eval_fits, eval_is}
+use Rattle.othello_eval.proofs.ValueLemmas.{eval_within, known_within, small_fits, difference_fits, mobility_fits, eval_fits, eval_is}
 use Rattle.othello_eval.proofs.weighed.Weighed.eval.Goals as goal
 
 -- as many bits are set as squares are legal, so at most 64

@@ -1,7 +1,7 @@
 use Rattle.std.proofs.Common.{bit_or, arith}
 use Rattle.std.proofs.lemmas.Bool.{eqb-true, eq-eqb}
 use Rattle.othello_board.specs.Words.{cells}
-use Rattle.othello_moves.proofs.OrderLemmas.{over_exactly}
+use Rattle.othello_moves.proofs.BitLemmas.{over_exactly}
 use Rattle.othello_moves.proofs.mobility.Mobility.is_over.Goals as goal
 
 pub returns : goal.returns
