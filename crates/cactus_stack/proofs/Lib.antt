@@ -1,12 +1,4 @@
-pub mod Numbers
-pub mod Options
-pub mod Follow
 pub mod Content
-pub mod Fresh
 pub mod Grown
-pub mod Sound
-pub mod Blocks
-pub mod Changes
 pub mod Steps
-pub mod Trees
 pub mod LawFacts

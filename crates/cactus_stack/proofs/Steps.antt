@@ -1,21 +1,96 @@
--- What each call does to the places.
-use Rattle.std.proofs.Common.{◌≡◌, ℕ, zero, suc, ◌+◌, ◌-◌, ◌*◌, ◌/◌, ◌%◌, ◌<◌, ◌≤◌, List, [], ◌∷◌, ◌++◌, length, take, drop, replicate, Option, None, Some, get_or, refl, sym, ap, ◌∙◌, arith}
+-- One place changes, and all others stay.
+use Rattle.std.proofs.Common.{◌≡◌, ◌≢◌, ℕ, zero, suc, ◌+◌, ◌<◌, List, [], ◌∷◌, length, sum_by, Option, None, Some, get_or, refl, sym, ap, ◌∙◌, arith, inl, inr, get_or-set_other, get_or-set_same, ◌-◌, ◌*◌, ◌/◌, ◌%◌, ◌≤◌, ◌++◌, take, drop, replicate}
 use Rattle.std.proofs.Math.ListN.{set}
-use Rattle.std.proofs.Math.Seq.{take-append-add, drop-append-add, take-set-lt}
-use Rattle.std.proofs.lemmas.List.{append_assoc, length-set, take-append-drop, take-replicate, drop-replicate, replicate-append-replicate, drop-set-lt, length-replicate, get_or_default, set-get_or}
-use Rattle.std.proofs.lemmas.List.Folds.{sum_by-replicate}
-use Rattle.segment_region.specs.Segments.{Segment, Segments, words_at, link_at, IsTaken, IsFree, with_segment_words, taken_count}
-use Rattle.segment_region.proofs.Counts.{taken_count-write, taken_count-replicate}
-use Rattle.cactus_stack.specs.Nodes.{Node, Nodes, charge, padded, node_at, node_words, IsOpen, IsUnused, HasAllChildren, free_segments, with_node, with_node_words, without}
-use Rattle.cactus_stack.specs.Chains.{chain, content, AreApart, AllBlocks, AllFree, IsFreshChain, IsGrownChain, IsGivenBack}
-use Rattle.cactus_stack.specs.Places.{nowhere, place_at, len_at, resized, with_len, segments_of, words_in_chain, node_in, nodes_from, IsSoundList, AreStored, IsUnder, IsForest, IsStack, IsWholeSight}
+use Rattle.std.proofs.lemmas.List.{length-set, ext_get_or, append_assoc, take-append-drop, take-replicate, drop-replicate, replicate-append-replicate, drop-set-lt, length-replicate, get_or_default, set-get_or}
+use Rattle.std.proofs.lemmas.List.Sums.{sum_by-set, sum_by-cons}
+use Rattle.std.proofs.lemmas.Bool.{cases_eq}
+use Rattle.segment_region.specs.Segments.{Segments, taken_count, Segment, words_at, link_at, IsTaken, IsFree, with_segment_words}
+use Rattle.cactus_stack.specs.Nodes.{Node, Nodes, charge, node_at, total_charge, charge_of, padded, node_words, IsOpen, IsUnused, HasAllChildren, free_segments, with_node, with_node_words, without}
+use Rattle.cactus_stack.specs.Chains.{AreApart, AgreesOn, chain, content, AllBlocks, AllFree, IsFreshChain, IsGrownChain, IsGivenBack}
+use Rattle.cactus_stack.specs.Places.{node_in, nodes_from, nowhere, place_at, len_at, charge_of_place, segments_of, IsSoundList, AreStored, resized, with_len, words_in_chain, IsUnder, IsForest, IsStack, IsWholeSight}
 use Rattle.cactus_stack.specs.declared.place.Place.{Place}
-use Rattle.cactus_stack.proofs.Numbers.{apart-sym, apart-append, apart-get_or}
-use Rattle.cactus_stack.proofs.Follow.{agrees-apart, agrees-taken, agrees-set, apart-free}
-use Rattle.cactus_stack.proofs.Content.{content-write, chain-write, blocks-write, blocks-get_or}
-use Rattle.cactus_stack.proofs.Sound.{charge-some, charge-room, charge-below, length-words_in, len-of-node, node_in-some, place_of_sound}
-use Rattle.cactus_stack.proofs.Changes.{IsChange, changed, still_stored, node_at-nodes_from, all-taken}
-use Rattle.cactus_stack.proofs.Trees.{tree-write, tree-open, tree-without, depth-le-length, sight-open}
+use Rattle.cactus_stack.proofs.Content.{apart-sym, chain-agrees, content-agrees, blocks-agrees, charge_of-node_in, apart-append, apart-get_or, agrees-apart, agrees-taken, agrees-set, apart-free, content-write, chain-write, blocks-write, blocks-get_or, charge-some, charge-room, charge-below, length-words_in, len-of-node, node_in-some, place_of_sound}
+use Rattle.std.proofs.Math.Seq.{take-append-add, drop-append-add, take-set-lt}
+use Rattle.std.proofs.lemmas.List.Folds.{sum_by-replicate}
+use Rattle.segment_region.proofs.Counts.{taken_count-write, taken_count-replicate}
+use Rattle.cactus_stack.proofs.LawFacts.{tree-write, tree-open, tree-without, depth-le-length, sight-open}
+
+-- the node of a number, given its place
+abbrev pub node_of : Segments → ℕ → Place → Option Node
+node_of region n place = node_in region n place.len place.parent
+
+module _ (region : Segments) where
+  pub length-nodes_from : (n : ℕ) (places : List Place) → length (nodes_from region n places) ≡ length places
+  length-nodes_from n [] = refl
+  length-nodes_from n (place ∷ places) = ap suc (length-nodes_from (suc n) places)
+
+  get_or-nodes_from : (n i : ℕ) (places : List Place) → get_or (nodes_from region n places) i None ≡ node_of region (n + i) (place_at places i)
+  get_or-nodes_from n i [] = refl
+  get_or-nodes_from n zero (place ∷ places) = let same : n + 0 ≡ n = omega arith in rw same refl
+  get_or-nodes_from n (suc i) (place ∷ places) =
+      let same : suc n + i ≡ n + suc i = omega arith in
+      get_or-nodes_from (suc n) i places ∙ ap (λ (k : ℕ). node_of region k (place_at places i)) same
+
+  -- from the first number on
+  pub node_at-nodes_from : (i : ℕ) (places : List Place) → node_at (nodes_from region 0 places) i ≡ node_of region i (place_at places i)
+  node_at-nodes_from i places = grind (arith, get_or-nodes_from)
+
+  charges-from : (n : ℕ) (places : List Place) → ((i : ℕ) → IsSoundList region (n + i) (len_at places i)) → total_charge (nodes_from region n places) ≡ sum_by charge_of_place places
+  charges-from n [] sound = refl
+  charges-from n (place ∷ places) sound =
+      let here : n + 0 ≡ n = omega arith in
+      let first : IsSoundList region n place.len = rw here at (sound 0) in
+      let next : (i : ℕ) → IsSoundList region (suc n + i) (len_at places i) = λ i. (let same : n + suc i ≡ suc n + i = omega arith in rw same at (sound (suc i))) in
+      rw (sum_by-cons charge_of (node_of region n place) (nodes_from region (suc n) places), sum_by-cons charge_of_place place places)
+      (omega (arith, charge_of-node_in region n place.len place.parent first, charges-from (suc n) places next))
+
+-- all that is charged is taken, and there are as many places as segments
+pub all-taken : (region : Segments) (places : List Place) (nodes : Nodes) → AreStored region places → nodes_from region 0 places ≡ nodes → (total_charge nodes ≡ taken_count region) × (length nodes ≡ length region)
+all-taken region places nodes stored view = grind (arith, charges-from, length-nodes_from)
+
+node_in-agrees : (old new : Segments) (n len : ℕ) (parent : Option ℕ) → AgreesOn old new (segments_of old n len) → node_in new n len parent ≡ node_in old n len parent
+node_in-agrees old new n len parent h6 = grind (arith, chain-agrees, content-agrees)
+
+sound-agrees : (old new : Segments) (n len : ℕ) → AgreesOn old new (segments_of old n len) → IsSoundList old n len → IsSoundList new n len
+sound-agrees old new n len agrees sound = grind (arith, chain-agrees, blocks-agrees, content-agrees)
+
+-- what a change of one place owes
+pub record IsChange (old new : Segments) (places : List Place) (n : ℕ) (place : Place) : Type 0 where
+  pub within : n < length places
+  pub same_count : length new ≡ length old
+  pub counted : taken_count new + charge (len_at places n) ≡ taken_count old + charge place.len
+  pub agrees : (m : ℕ) → m ≢ n → AgreesOn old new (segments_of old m (len_at places m))
+  pub is_sound : IsSoundList new n place.len
+  pub is_apart : (m : ℕ) → m ≢ n → AreApart (segments_of old m (len_at places m)) (segments_of new n place.len)
+
+module _ {old new : Segments} {places : List Place} {n : ℕ} {place : Place} (change : IsChange old new places n place) where
+  pub changed : nodes_from new 0 (set places n place) ≡ set (nodes_from old 0 places) n (node_of new n place)
+  changed =
+      let before : Nodes = nodes_from old 0 places in
+      let inside : n < length before = rw length-nodes_from change.within in
+      ext_get_or None (nodes_from new 0 (set places n place)) (set before n (node_of new n place))
+      (length-nodes_from new 0 (set places n place) ∙ length-set places n place ∙ sym (length-set before n (node_of new n place) ∙ length-nodes_from old 0 places))
+      (λ i _. node_at-nodes_from new i (set places n place) ∙ elim (cases_eq i n) [
+        | inl same ↦ rw (same, get_or-set_same places n place nowhere change.within, get_or-set_same before n (node_of new n place) None inside) refl
+        | inr other ↦ rw (get_or-set_other places n i place nowhere other, get_or-set_other before n i (node_of new n place) None other)
+            (node_in-agrees old new i (len_at places i) (place_at places i).parent (change.agrees i other) ∙ sym (node_at-nodes_from old i places))
+      ])
+
+  pub still_stored : AreStored old places → AreStored new (set places n place)
+  still_stored stored =
+      let same : (m : ℕ) → m ≢ n → segments_of new m (len_at places m) ≡ segments_of old m (len_at places m) = λ m other. chain-agrees (charge (len_at places m)) old new (Some m) (change.agrees m other) in
+      let here : len_at (set places n place) n ≡ place.len = ap (λ (p : Place). p.len) (get_or-set_same places n place nowhere change.within) in
+      let there : (m : ℕ) → m ≢ n → len_at (set places n place) m ≡ len_at places m = λ m other. ap (λ (p : Place). p.len) (get_or-set_other places n m place nowhere other) in
+      let beside : (m : ℕ) → m ≢ n → AreApart (segments_of new m (len_at (set places n place) m)) (segments_of new n place.len) = λ m other. rw (there m other, same m other) (change.is_apart m other) in
+      record {
+        in_limits = rw length-set stored.in_limits;
+        same_count = omega (arith, length-set places n place, stored.same_count, change.same_count);
+        counted = omega (arith, sum_by-set charge_of_place places n place nowhere change.within, stored.counted, change.counted);
+        sound = λ m. grind (arith, sound-agrees);
+        apart = λ m k different. grind (arith, apart-sym, set);
+      }
+
+-- What each call does to the places.
 
 lt-of-len : (places : List Place) (n : ℕ) → 0 < len_at places n → n < length places
 lt-of-len [] n some = absurd (omega arith)

@@ -1,27 +1,16 @@
 -- What each change of the slots does to the frames, and that the slots stay sound.
-use Rattle.std.proofs.Common.{◌≡◌, ℕ, zero, suc, ◌+◌, ◌<◌, Bool, true, false, not, ◌||◌, eqb, List, [], ◌∷◌, ◌++◌, Option, Some, None, length, get_or, set, slice_index, cond, refl, ap, sym, ◌∙◌, inl, inr, arith, subst}
-use Rattle.std.specs.List.{filter, remove}
-use Rattle.std.proofs.lemmas.Bool.{cases_eq, cases_Bool, false≢true, eq-eqb, ne_eqb}
-use Rattle.frame_tree.specs.declared.names.State.{State}
-use Rattle.frame_tree.specs.declared.slot.Slot.{Slot}
-use Rattle.frame_tree.specs.Frames.{Frame, has_frame, path_in, path_under, root_of, AllBelow, is_ready, with_state, frames_without, has_parent}
-use Rattle.frame_tree.specs.Slots.{frame_of_slot, frames_from, has_parent_slot, CountsAtParent, children_at, IsNextSlot, IsLinked, has_slot, serials_of, AllAbove, Rises, is_serial, child_slots, ready_slots, CountsAre, AreSoundSlots, with_slot, with_child, without_child, kept_slots, is_kept}
-use Rattle.frame_tree.proofs.Forest.{AllBelow-append, AllBelow-left, AllBelow-right, has_frame-append, path_in-left, path_in-right, frames_from-append, IsLinked-append, linked_rises}
-use Rattle.frame_tree.proofs.Places.{filter_not-above}
-use Rattle.frame_tree.proofs.Search.{above_at, with_slot-set}
-use Rattle.frame_tree.proofs.Cuts.{IsClosed, Keeps-none, frames_from-kept, IsLinked-kept, kept_slots-linked, kept_follows, has_slot-filter}
-use Rattle.frame_tree.proofs.Lengths.{length-filter_push}
-use Rattle.frame_tree.proofs.Counts.{count_in, CountsAre-same, CountsAre-append, CountsAre-with_slot, CountsAre-filter, length-filter_with_slot, length-filter_set, length-filter_remove, CountsAre-with_child, CountsAre-without_child, no_child_of_new, no_child_stays, children_stay}
+use Rattle.std.proofs.Common.{◌≡◌, ℕ, zero, suc, ◌+◌, ◌<◌, Bool, true, false, not, ◌||◌, eqb, List, [], ◌∷◌, ◌++◌, Option, Some, None, length, get_or, set, slice_index, cond, refl, ap, sym, ◌∙◌, inl, inr, arith, subst, ◌≤◌, IsTrue, nat_lt, length-set}
+use Rattle.frame_tree.proofs.Common.{Slot, State, Ready, filter, remove, cases_eq, cases_Bool, false≢true, eq-eqb, ne_eqb}
+use Rattle.frame_tree.specs.Frames.{Frame, has_frame, path_in, path_under, root_of, AllBelow, is_ready, with_state, frames_without, has_parent, children_of, aborted, frames_under, values_of, new_frame}
+use Rattle.frame_tree.specs.Slots.{frame_of_slot, frames_from, has_parent_slot, CountsAtParent, children_at, IsNextSlot, IsLinked, has_slot, serials_of, AllAbove, Rises, is_serial, child_slots, ready_slots, CountsAre, AreSoundSlots, with_slot, with_child, without_child, kept_slots, is_kept, root_under, AllCountsBelow, gone_values}
+use Rattle.frame_tree.proofs.Forest.{AllBelow-append, AllBelow-left, AllBelow-right, has_frame-append, path_in-left, path_in-right, frames_from-append, IsLinked-append, linked_rises, above_at, with_slot-set, IsClosed, Keeps-none, frames_from-kept, IsLinked-kept, kept_slots-linked, kept_follows, has_slot-filter, serial_read, kept_slots-frames, gone_values-frames}
+use Rattle.frame_tree.proofs.Places.{filter_not-above, length-filter_push, length-filter-le}
+use Rattle.frame_tree.proofs.Finds.{count_in, CountsAre-same, CountsAre-append, CountsAre-with_slot, CountsAre-filter, length-filter_with_slot, length-filter_set, length-filter_remove, CountsAre-with_child, CountsAre-without_child, no_child_of_new, no_child_stays, children_stay, counts_below, counted_at, root_under-path, children_of-length, frames_from-length, no_children, none_of_length}
 
 -- a change that no frame shows
 pub frames_from-with_slot : {T : Type 0} (p : ℕ) (change : Slot T → Slot T) (frames : List (Frame T)) (xs : List (Slot T)) → ((fs : List (Frame T)) (x : Slot T) → frame_of_slot fs (change x) ≡ frame_of_slot fs x) → frames_from frames (with_slot p change xs) ≡ frames_from frames xs
 frames_from-with_slot p change frames [] e = refl
-frames_from-with_slot {T} p change frames (x ∷ xs) e =
-    rw (same p change frames x e (eqb x.serial p)) (ap (λ fs. frame_of_slot frames x ∷ fs) (frames_from-with_slot p change (frames ++ frame_of_slot frames x ∷ []) xs e))
-  where
-    same : {T : Type 0} (p : ℕ) (change : Slot T → Slot T) (frames : List (Frame T)) (x : Slot T) → ((fs : List (Frame T)) (x : Slot T) → frame_of_slot fs (change x) ≡ frame_of_slot fs x) → (b : Bool) → frame_of_slot frames (cond b (change x) x) ≡ frame_of_slot frames x
-    same p change frames x e true = e frames x
-    same p change frames x e false = refl
+frames_from-with_slot p change frames (x ∷ xs) e = grind (arith, frames_from-with_slot p change (frames ++ frame_of_slot frames x ∷ []) xs e)
 
 pub IsNextSlot-with : {T : Type 0} (frames : List (Frame T)) (x y : Slot T) → y.serial ≡ x.serial → y.parent ≡ x.parent → y.root ≡ x.root → IsNextSlot frames x → IsNextSlot frames y
 IsNextSlot-with frames x y serial parent root n = grind arith
@@ -42,27 +31,28 @@ pub frames_from-with_child : {T : Type 0} (parent : Option ℕ) (xs : List (Slot
 frames_from-with_child None xs = refl
 frames_from-with_child (Some p) xs = frames_from-with_slot p (λ s. record s { children = s.children + 1 }) [] xs (λ fs x. refl)
 
-pub IsLinked-with_child : {T : Type 0} (parent : Option ℕ) (xs : List (Slot T)) → IsLinked [] xs → IsLinked [] (with_child parent xs)
-IsLinked-with_child parent xs h3 = grind (arith, IsLinked-with_slot)
+module _ {T : Type 0} (parent : Option ℕ) (xs : List (Slot T)) where
+  pub IsLinked-with_child : IsLinked [] xs → IsLinked [] (with_child parent xs)
+  IsLinked-with_child h3 = grind (arith, IsLinked-with_slot)
 
-pub count-with_child : {T : Type 0} (parent : Option ℕ) (xs : List (Slot T)) (n : ℕ) → count_in (with_child parent xs) n ≡ count_in xs n
-count-with_child parent xs n = grind (arith, length-filter_with_slot)
+  pub count-with_child : (n : ℕ) → count_in (with_child parent xs) n ≡ count_in xs n
+  count-with_child n = grind (arith, length-filter_with_slot)
 
-pub ready-with_child : {T : Type 0} (parent : Option ℕ) (xs : List (Slot T)) → length (ready_slots (with_child parent xs)) ≡ length (ready_slots xs)
-ready-with_child parent xs = grind (arith, length-filter_with_slot)
+  pub ready-with_child : length (ready_slots (with_child parent xs)) ≡ length (ready_slots xs)
+  ready-with_child = grind (arith, length-filter_with_slot)
 
--- one child less of a parent
-pub frames_from-without_child : {T : Type 0} (parent : Option ℕ) (xs : List (Slot T)) → frames_from [] (without_child parent xs) ≡ frames_from [] xs
-frames_from-without_child parent xs = grind (arith, frames_from-with_slot)
+  -- one child less of a parent
+  pub frames_from-without_child : frames_from [] (without_child parent xs) ≡ frames_from [] xs
+  frames_from-without_child = grind (arith, frames_from-with_slot)
 
-pub IsLinked-without_child : {T : Type 0} (parent : Option ℕ) (xs : List (Slot T)) → IsLinked [] xs → IsLinked [] (without_child parent xs)
-IsLinked-without_child parent xs h3 = grind (arith, IsLinked-with_slot)
+  pub IsLinked-without_child : IsLinked [] xs → IsLinked [] (without_child parent xs)
+  IsLinked-without_child h3 = grind (arith, IsLinked-with_slot)
 
-pub count-without_child : {T : Type 0} (parent : Option ℕ) (xs : List (Slot T)) (n : ℕ) → count_in (without_child parent xs) n ≡ count_in xs n
-count-without_child parent xs n = grind (arith, length-filter_with_slot)
+  pub count-without_child : (n : ℕ) → count_in (without_child parent xs) n ≡ count_in xs n
+  count-without_child n = grind (arith, length-filter_with_slot)
 
-pub ready-without_child : {T : Type 0} (parent : Option ℕ) (xs : List (Slot T)) → length (ready_slots (without_child parent xs)) ≡ length (ready_slots xs)
-ready-without_child parent xs = grind (arith, length-filter_with_slot)
+  pub ready-without_child : length (ready_slots (without_child parent xs)) ≡ length (ready_slots xs)
+  ready-without_child = grind (arith, length-filter_with_slot)
 
 -- a new slot at the end
 pub sound_add : {T : Type 0} (xs : List (Slot T)) (ready : ℕ) (slot : Slot T) → AreSoundSlots xs ready → IsNextSlot (frames_from [] xs) slot → slot.children ≡ 0 → is_ready slot.state ≡ true → AreSoundSlots (with_child slot.parent xs ++ slot ∷ []) (ready + 1)
@@ -79,9 +69,6 @@ sound_add {T} xs ready slot s next none is =
       ready_count = (let push = length-filter_push (λ x. is_ready x.state) ys slot in let e = rw is at push in let r = ready-with_child slot.parent xs in omega (arith, e, r, s.ready_count));
     }
 
-pub frames_add : {T : Type 0} (xs : List (Slot T)) (slot : Slot T) → frames_from [] (with_child slot.parent xs ++ slot ∷ []) ≡ frames_from [] xs ++ frame_of_slot (frames_from [] xs) slot ∷ []
-frames_add xs slot = grind (arith, frames_from-with_child, frames_from-append)
-
 -- frames that are as before to those under them
 pub record Same {T : Type 0} (frames others : List (Frame T)) : Type 0 where
   pub paths : (p : ℕ) → path_in others p ≡ path_in frames p
@@ -91,40 +78,42 @@ pub record Same {T : Type 0} (frames others : List (Frame T)) : Type 0 where
 pub Same-none : {T : Type 0} → Same {T = T} [] []
 Same-none = record { paths = λ p. refl; has = λ p. refl; below = λ m b. b }
 
-pub Same-next : {T : Type 0} (frames others : List (Frame T)) (x y : Frame T) → x.serial ≡ y.serial → x.path ≡ y.path → Same frames others → Same (frames ++ x ∷ []) (others ++ y ∷ [])
-Same-next frames others x y serial path s = grind (arith, has_frame-append, AllBelow-append, AllBelow-left, AllBelow-right, path_in-left, path_in-right)
+module _ {T : Type 0} (frames others : List (Frame T)) where
+  pub Same-next : (x y : Frame T) → x.serial ≡ y.serial → x.path ≡ y.path → Same frames others → Same (frames ++ x ∷ []) (others ++ y ∷ [])
+  Same-next x y serial path s = grind (arith, has_frame-append, AllBelow-append, AllBelow-left, AllBelow-right, path_in-left, path_in-right)
 
-pub path_under-same : {T : Type 0} (frames others : List (Frame T)) (parent : Option ℕ) (serial : ℕ) → Same frames others → path_under others parent serial ≡ path_under frames parent serial
-path_under-same frames others parent serial h5 = grind arith
+  pub path_under-same : (parent : Option ℕ) (serial : ℕ) → Same frames others → path_under others parent serial ≡ path_under frames parent serial
+  path_under-same parent serial h5 = grind arith
 
-pub has_parent-same : {T : Type 0} (frames others : List (Frame T)) (parent : Option ℕ) → Same frames others → has_parent others parent ≡ has_parent frames parent
-has_parent-same frames others parent h4 = grind arith
+  pub has_parent-same : (parent : Option ℕ) → Same frames others → has_parent others parent ≡ has_parent frames parent
+  has_parent-same parent h4 = grind arith
 
 -- the slot of a frame in another state
 abbrev pub in_state : {T : Type 0} → State → Slot T → Slot T
 in_state state slot = record slot { state = state }
 
 -- frames in another state
-pub frames_from-state : {T : Type 0} (n : ℕ) (state : State) (frames others : List (Frame T)) (xs : List (Slot T)) → Same frames others → frames_from others (with_slot n (in_state state) xs) ≡ with_state n state (frames_from frames xs)
-frames_from-state n state frames others [] s = refl
-frames_from-state {T} n state frames others (x ∷ xs) s =
-    let path = path_under-same frames others x.parent x.serial s in
-    elim (cases_Bool (eqb x.serial n)) [
-      | inl same ↦ rw (same, path) (ap (λ fs. record (frame_of_slot frames x) { state = state } ∷ fs) (
-          let y : Frame T = record { serial = x.serial; path = path_under frames x.parent x.serial; state = state; value = x.value } in
-          frames_from-state n state (frames ++ frame_of_slot frames x ∷ []) (others ++ y ∷ []) xs (Same-next frames others (frame_of_slot frames x) y refl refl s)))
-      | inr differs ↦ rw (differs, path) (ap (λ fs. frame_of_slot frames x ∷ fs) (frames_from-state n state (frames ++ frame_of_slot frames x ∷ []) (others ++ frame_of_slot frames x ∷ []) xs (Same-next frames others (frame_of_slot frames x) (frame_of_slot frames x) refl refl s)))
-    ]
+module _ {T : Type 0} (n : ℕ) (state : State) where
+  pub frames_from-state : (frames others : List (Frame T)) (xs : List (Slot T)) → Same frames others → frames_from others (with_slot n (in_state state) xs) ≡ with_state n state (frames_from frames xs)
+  frames_from-state frames others [] s = refl
+  frames_from-state frames others (x ∷ xs) s =
+      let path = path_under-same frames others x.parent x.serial s in
+      elim (cases_Bool (eqb x.serial n)) [
+        | inl same ↦ rw (same, path) (ap (λ fs. record (frame_of_slot frames x) { state = state } ∷ fs) (
+            let y : Frame T = record { serial = x.serial; path = path_under frames x.parent x.serial; state = state; value = x.value } in
+            frames_from-state (frames ++ frame_of_slot frames x ∷ []) (others ++ y ∷ []) xs (Same-next frames others (frame_of_slot frames x) y refl refl s)))
+        | inr differs ↦ rw (differs, path) (ap (λ fs. frame_of_slot frames x ∷ fs) (frames_from-state (frames ++ frame_of_slot frames x ∷ []) (others ++ frame_of_slot frames x ∷ []) xs (Same-next frames others (frame_of_slot frames x) (frame_of_slot frames x) refl refl s)))
+      ]
 
-pub IsLinked-state : {T : Type 0} (n : ℕ) (state : State) (frames others : List (Frame T)) (xs : List (Slot T)) → Same frames others → IsLinked frames xs → IsLinked others (with_slot n (in_state state) xs)
-IsLinked-state n state frames others [] s l = tt
-IsLinked-state {T} n state frames others (x ∷ xs) s l =
-    let path = path_under-same frames others x.parent x.serial s in
-    let next : IsNextSlot others x = record { above = s.below x.serial l.0.above; parent = has_parent-same frames others x.parent s ∙ l.0.parent; root = l.0.root ∙ ap root_of (sym path) } in
-    elim (cases_Bool (eqb x.serial n)) [
-      | inl same ↦ rw same (IsNextSlot-with others x (in_state state x) refl refl refl next, IsLinked-state n state (frames ++ frame_of_slot frames x ∷ []) (others ++ frame_of_slot others (in_state state x) ∷ []) xs (Same-next frames others (frame_of_slot frames x) (frame_of_slot others (in_state state x)) refl (sym path) s) l.1)
-      | inr differs ↦ rw differs (next, IsLinked-state n state (frames ++ frame_of_slot frames x ∷ []) (others ++ frame_of_slot others x ∷ []) xs (Same-next frames others (frame_of_slot frames x) (frame_of_slot others x) refl (sym path) s) l.1)
-    ]
+  pub IsLinked-state : (frames others : List (Frame T)) (xs : List (Slot T)) → Same frames others → IsLinked frames xs → IsLinked others (with_slot n (in_state state) xs)
+  IsLinked-state frames others [] s l = tt
+  IsLinked-state frames others (x ∷ xs) s l =
+      let path = path_under-same frames others x.parent x.serial s in
+      let next : IsNextSlot others x = record { above = s.below x.serial l.0.above; parent = has_parent-same frames others x.parent s ∙ l.0.parent; root = l.0.root ∙ ap root_of (sym path) } in
+      elim (cases_Bool (eqb x.serial n)) [
+        | inl same ↦ rw same (IsNextSlot-with others x (in_state state x) refl refl refl next, IsLinked-state (frames ++ frame_of_slot frames x ∷ []) (others ++ frame_of_slot others (in_state state x) ∷ []) xs (Same-next frames others (frame_of_slot frames x) (frame_of_slot others (in_state state x)) refl (sym path) s) l.1)
+        | inr differs ↦ rw differs (next, IsLinked-state (frames ++ frame_of_slot frames x ∷ []) (others ++ frame_of_slot others x ∷ []) xs (Same-next frames others (frame_of_slot frames x) (frame_of_slot others x) refl (sym path) s) l.1)
+      ]
 
 -- the counts of ready slots before and after
 pub ready_state : {T : Type 0} (xs : List (Slot T)) (i : ℕ) (slot : Slot T) (state : State) → i < length xs → slot ≡ get_or xs i slot → length (ready_slots (set xs i (in_state state slot))) + cond (is_ready slot.state) 1 0 ≡ length (ready_slots xs) + cond (is_ready state) 1 0
@@ -133,14 +122,13 @@ ready_state xs i slot state lt is = length-filter_set (λ x. is_ready x.state) x
 pub sound_state : {T : Type 0} (xs : List (Slot T)) (ready now i n : ℕ) (slot : Slot T) (state : State) → AreSoundSlots xs ready → i < length xs → slice_index (serials_of xs) i ≡ n → slot ≡ get_or xs i slot → now + cond (is_ready slot.state) 1 0 ≡ ready + cond (is_ready state) 1 0 → AreSoundSlots (set xs i (in_state state slot)) now
 sound_state {T} xs ready now i n slot state s lt at is count =
     let changed : set xs i (in_state state slot) ≡ with_slot n (in_state state) xs = with_slot-set xs i n (in_state state) slot (linked_rises [] xs s.linked) lt at is in
-    let r = ready_state xs i slot state lt is in
     let P : List (Slot T) → Type 0 = λ ys. IsLinked [] ys in
     let Q : List (Slot T) → Type 0 = λ ys. CountsAre (λ m. count_in ys m) ys in
     record {
       linked = subst P (sym changed) (IsLinked-state n state [] [] xs Same-none s.linked);
       counted = subst Q (sym changed) (CountsAre-with_slot (λ m. count_in xs m) (λ m. count_in (with_slot n (in_state state) xs) m) n (in_state state) xs (λ x. refl)
           (λ x e has. has ∙ sym (same_count n n state xs)) (λ m ne. sym (same_count m n state xs)) s.counted);
-      ready_count = omega (arith, r, count, s.ready_count);
+      ready_count = omega (arith, ready_state xs i slot state lt is, count, s.ready_count);
     }
   where
     same_count : {T : Type 0} (m n : ℕ) (state : State) (xs : List (Slot T)) → count_in (with_slot n (in_state state) xs) m ≡ count_in xs m
@@ -154,34 +142,35 @@ frames_state xs i n slot state l lt at is =
 abbrev pub childless : {T : Type 0} → Slot T → Slot T
 childless slot = record slot { children = 0 }
 
-pub cleared-linked : {T : Type 0} (n : ℕ) (xs : List (Slot T)) → IsLinked [] xs → IsLinked [] (with_slot n childless xs)
-cleared-linked n xs l = IsLinked-with_slot n childless [] xs (λ fs x. refl) (λ x. refl) (λ x. refl) l
+module _ {T : Type 0} (n : ℕ) (xs : List (Slot T)) where
+  pub cleared-linked : IsLinked [] xs → IsLinked [] (with_slot n childless xs)
+  cleared-linked l = IsLinked-with_slot n childless [] xs (λ fs x. refl) (λ x. refl) (λ x. refl) l
 
-pub cleared-frames : {T : Type 0} (n : ℕ) (xs : List (Slot T)) → frames_from [] (with_slot n childless xs) ≡ frames_from [] xs
-cleared-frames n xs = frames_from-with_slot n childless [] xs (λ fs x. refl)
+  pub cleared-frames : frames_from [] (with_slot n childless xs) ≡ frames_from [] xs
+  cleared-frames = frames_from-with_slot n childless [] xs (λ fs x. refl)
 
-pub cleared-counts : {T : Type 0} (n : ℕ) (xs : List (Slot T)) → CountsAre (λ m. count_in xs m) xs → CountsAre (λ m. cond (eqb m n) 0 (count_in (with_slot n childless xs) m)) (with_slot n childless xs)
-cleared-counts n xs c =
-    CountsAre-with_slot (λ m. count_in xs m) (λ m. cond (eqb m n) 0 (count_in (with_slot n childless xs) m)) n childless xs (λ x. refl)
-    (λ x e has. rw (eq-eqb n n refl) refl)
-    (λ m ne. rw (ne_eqb m n ne) (sym (length-filter_with_slot (λ x. is_serial m x.parent) n childless xs (λ x. refl)))) c
+  pub cleared-counts : CountsAre (λ m. count_in xs m) xs → CountsAre (λ m. cond (eqb m n) 0 (count_in (with_slot n childless xs) m)) (with_slot n childless xs)
+  cleared-counts c =
+      CountsAre-with_slot (λ m. count_in xs m) (λ m. cond (eqb m n) 0 (count_in (with_slot n childless xs) m)) n childless xs (λ x. refl)
+      (λ x e has. rw (eq-eqb n n refl) refl)
+      (λ m ne. rw (ne_eqb m n ne) (sym (length-filter_with_slot (λ x. is_serial m x.parent) n childless xs (λ x. refl)))) c
 
-pub sound_cut : {T : Type 0} (n : ℕ) (xs ys : List (Slot T)) (ready now : ℕ) → AreSoundSlots xs ready → ys ≡ with_slot n childless xs → now ≡ length (ready_slots (kept_slots n ys)) → AreSoundSlots (kept_slots n ys) now
-sound_cut {T} n xs ys ready now s is count =
-    let P : List (Slot T) → Type 0 = λ zs. IsLinked [] zs in
-    let linked : IsLinked [] ys = subst P (sym is) (cleared-linked n xs s.linked) in
-    let Q : List (Slot T) → Type 0 = λ zs. CountsAre (λ m. cond (eqb m n) 0 (count_in zs m)) zs in
-    let counts : CountsAre (λ m. cond (eqb m n) 0 (count_in ys m)) ys = subst Q (sym is) (cleared-counts n xs s.counted) in
-    let follows = kept_follows n (frames_from [] ys) [] ys refl linked tt in
-    record {
-      linked = kept_slots-linked n ys linked;
-      counted = CountsAre-filter (λ m. cond (eqb m n) 0 (count_in ys m)) (λ m. count_in (kept_slots n ys) m) (is_kept n (frames_from [] ys)) ys
-          (λ m kept. elim (cases_eq m n) [
-            | inl e ↦ rw (eq-eqb m n e, e) (sym (no_child_stays (is_kept n (frames_from [] ys)) n ys follows))
-            | inr ne ↦ rw (ne_eqb m n ne) (sym (children_stay (is_kept n (frames_from [] ys)) n m ys follows ne kept))
-          ]) counts;
-      ready_count = count;
-    }
+  pub sound_cut : (ys : List (Slot T)) (ready now : ℕ) → AreSoundSlots xs ready → ys ≡ with_slot n childless xs → now ≡ length (ready_slots (kept_slots n ys)) → AreSoundSlots (kept_slots n ys) now
+  sound_cut ys ready now s is count =
+      let P : List (Slot T) → Type 0 = λ zs. IsLinked [] zs in
+      let linked : IsLinked [] ys = subst P (sym is) (cleared-linked s.linked) in
+      let Q : List (Slot T) → Type 0 = λ zs. CountsAre (λ m. cond (eqb m n) 0 (count_in zs m)) zs in
+      let counts : CountsAre (λ m. cond (eqb m n) 0 (count_in ys m)) ys = subst Q (sym is) (cleared-counts s.counted) in
+      let follows = kept_follows n (frames_from [] ys) [] ys refl linked tt in
+      record {
+        linked = kept_slots-linked n ys linked;
+        counted = CountsAre-filter (λ m. cond (eqb m n) 0 (count_in ys m)) (λ m. count_in (kept_slots n ys) m) (is_kept n (frames_from [] ys)) ys
+            (λ m kept. elim (cases_eq m n) [
+              | inl e ↦ rw (eq-eqb m n e, e) (sym (no_child_stays (is_kept n (frames_from [] ys)) n ys follows))
+              | inr ne ↦ rw (ne_eqb m n ne) (sym (children_stay (is_kept n (frames_from [] ys)) n m ys follows ne kept))
+            ]) counts;
+        ready_count = count;
+      }
 
 -- a removal is a filter
 pub remove-filter : {T : Type 0} (xs : List (Slot T)) (i n : ℕ) → Rises xs → i < length xs → slice_index (serials_of xs) i ≡ n → remove xs i ≡ filter (λ x. not (eqb x.serial n)) xs
@@ -219,11 +208,7 @@ parent_below frames (x ∷ xs) (suc i) slot p l lt is parent =
     (rest.0, regroup frames (frame_of_slot frames x) p (has_slot xs p) (sym (ap (λ b. b || has_slot xs p) (has_frame-append frames (frame_of_slot frames x ∷ []) p)) ∙ rest.1))
   where
     regroup : {T : Type 0} (frames : List (Frame T)) (f : Frame T) (p : ℕ) (b : Bool) → ((has_frame frames p || has_frame (f ∷ []) p) || b) ≡ true → (has_frame frames p || (eqb f.serial p || b)) ≡ true
-    regroup frames f p b h =
-        elim (cases_Bool (has_frame frames p)) [
-          | inl a ↦ rw a refl
-          | inr a ↦ rw a (elim (cases_Bool (eqb f.serial p)) [ inl c ↦ rw c refl | inr c ↦ rw c (rw (a, c) at h) ])
-        ]
+    regroup frames f p b h = grind arith
 
 pub has_lost : {T : Type 0} (xs : List (Slot T)) (ready i : ℕ) (slot : Slot T) → AreSoundSlots xs ready → i < length xs → slot ≡ get_or xs i slot → slice_index (serials_of xs) i ≡ slot.serial → child_slots slot.serial xs ≡ [] → HasLost xs (remove xs i) slot
 has_lost {T} xs ready i slot s lt is at none =
@@ -257,14 +242,100 @@ children_at-counts count (x ∷ xs) p c h = grind (arith, children_at-counts cou
 pub lost_counted : {T : Type 0} (xs ys : List (Slot T)) (slot : Slot T) → HasLost xs ys slot → CountsAtParent ys slot.parent
 lost_counted xs ys slot h = grind (arith, children_at-counts)
 
-pub sound_lost : {T : Type 0} (xs ys zs : List (Slot T)) (ready now : ℕ) (slot : Slot T) → HasLost xs ys slot → zs ≡ without_child slot.parent ys → now ≡ length (ready_slots ys) → AreSoundSlots zs now
-sound_lost {T} xs ys zs ready now slot h is count =
-    let P : List (Slot T) → Type 0 = λ ws. AreSoundSlots ws now in
-    subst P (sym is) (record {
-      linked = IsLinked-without_child slot.parent ys h.linked;
-      counted = CountsAre-same (λ m. count_in ys m) (λ m. count_in (without_child slot.parent ys) m) (without_child slot.parent ys) (λ m. sym (count-without_child slot.parent ys m)) (CountsAre-without_child (λ m. count_in xs m) (λ m. count_in ys m) slot.parent ys h.counts h.counted);
-      ready_count = count ∙ sym (ready-without_child slot.parent ys);
-    })
+-- What the methods of a tenant's frames need, over plain lists.
 
-pub frames_lost : {T : Type 0} (xs ys zs : List (Slot T)) (slot : Slot T) → HasLost xs ys slot → zs ≡ without_child slot.parent ys → frames_from [] zs ≡ frames_without slot.serial (frames_from [] xs)
-frames_lost xs ys zs slot h is = rw is (frames_from-without_child slot.parent ys ∙ h.frames)
+-- whether there is a child, by the count that is kept
+pub counted_children : {T : Type 0} (xs : List (Slot T)) (ready i serial : ℕ) (slot : Slot T) → AreSoundSlots xs ready → i < length xs → slice_index (serials_of xs) i ≡ serial → slot ≡ get_or xs i slot → (IsTrue (nat_lt 0 slot.children) → 0 < length (children_of (frames_from [] xs) serial)) × (0 < length (children_of (frames_from [] xs) serial) → IsTrue (nat_lt 0 slot.children))
+counted_children xs ready i serial slot s lt at is = grind (arith, counted_at, children_of-length)
+
+pub no_counted_children : {T : Type 0} (xs : List (Slot T)) (ready serial : ℕ) → AreSoundSlots xs ready → has_slot xs serial ≡ false → (IsTrue false → 0 < length (children_of (frames_from [] xs) serial)) × (0 < length (children_of (frames_from [] xs) serial) → IsTrue false)
+no_counted_children xs ready serial s none =
+    let gone = ap length (no_children [] xs serial refl none s.linked) in
+    (λ t. absurd (false≢true t), λ h. absurd (omega (arith, children_of-length xs serial s.linked, gone)))
+
+-- no count reaches the places that there can be
+pub few_counts : {T : Type 0} (xs : List (Slot T)) (ready limit : ℕ) → AreSoundSlots xs ready → length (frames_from [] xs) < limit → AllCountsBelow limit xs
+few_counts xs ready limit s few = grind (arith, frames_from-length, counts_below, length-filter-le)
+
+-- a frame that was added
+pub added_sound : {T : Type 0} (xs zs : List (Slot T)) (ready serial root home : ℕ) (parent : Option ℕ) (value : T) → AreSoundSlots xs ready → AllBelow serial (frames_from [] xs) → has_parent (frames_from [] xs) parent ≡ true → root ≡ root_under xs parent serial → zs ≡ with_child parent xs ++ record { serial = serial; parent = parent; root = root; state = Ready home; children = 0; value = value } ∷ [] → AreSoundSlots zs (ready + 1)
+added_sound {T} xs zs ready serial root home parent value s above there is_root is =
+    let slot : Slot T = record { serial = serial; parent = parent; root = root; state = Ready home; children = 0; value = value } in
+    let P : List (Slot T) → Type 0 = λ ys. AreSoundSlots ys (ready + 1) in
+    subst P (sym is) (sound_add xs ready slot s (record { above = above; parent = there; root = is_root ∙ root_under-path xs parent serial s.linked there }) refl refl)
+
+pub added_frames : {T : Type 0} (xs zs : List (Slot T)) (serial root home : ℕ) (parent : Option ℕ) (value : T) → zs ≡ with_child parent xs ++ record { serial = serial; parent = parent; root = root; state = Ready home; children = 0; value = value } ∷ [] → frames_from [] zs ≡ frames_from [] xs ++ new_frame (frames_from [] xs) serial parent home value ∷ []
+added_frames xs zs serial root home parent value is = grind (arith, frames_from-with_child, frames_from-append)
+
+-- a leaf has no child slot
+pub leaf_slots : {T : Type 0} (xs : List (Slot T)) (serial : ℕ) → IsLinked [] xs → children_of (frames_from [] xs) serial ≡ [] → child_slots serial xs ≡ []
+leaf_slots xs serial l none = none_of_length (child_slots serial xs) (sym (children_of-length xs serial l) ∙ ap length none)
+
+-- an abort at the slot that was read
+module _ {T : Type 0} (xs : List (Slot T)) (ready i n : ℕ) (slot : Slot T) (s : AreSoundSlots xs ready) (lt : i < length xs) (at : slice_index (serials_of xs) i ≡ n) (is : slot ≡ get_or xs i slot) where
+  changed : set xs i (childless slot) ≡ with_slot n childless xs
+  changed = with_slot-set xs i n childless slot (linked_rises [] xs s.linked) lt at is
+
+  pub cut_linked : IsLinked [] (set xs i (childless slot))
+  cut_linked = let P : List (Slot T) → Type 0 = λ ys. IsLinked [] ys in subst P (sym changed) (cleared-linked n xs s.linked)
+
+  pub cut_sound : (now : ℕ) (zs : List (Slot T)) → zs ≡ kept_slots n (set xs i (childless slot)) → now ≡ length (ready_slots zs) → AreSoundSlots zs now
+  cut_sound now zs kept count =
+      let P : List (Slot T) → Type 0 = λ ws. AreSoundSlots ws now in
+      subst P (sym kept) (sound_cut n xs (set xs i (childless slot)) ready now s changed (count ∙ ap (λ ws. length (ready_slots ws)) kept))
+
+  pub cut_frames : (zs : List (Slot T)) → zs ≡ kept_slots n (set xs i (childless slot)) → frames_from [] zs ≡ aborted n (frames_from [] xs)
+  cut_frames zs kept = rw (kept, changed) (kept_slots-frames n (with_slot n childless xs) (cleared-linked n xs s.linked) ∙ ap (λ fs. aborted n fs) (cleared-frames n xs))
+
+  pub cut_values : gone_values n (set xs i (childless slot)) ≡ values_of (frames_under n (frames_from [] xs))
+  cut_values = rw changed (gone_values-frames n (with_slot n childless xs) (cleared-linked n xs s.linked) ∙ ap (λ fs. values_of (frames_under n fs)) (cleared-frames n xs))
+
+pub cut_length : {T : Type 0} (n : ℕ) (xs : List (Slot T)) (i : ℕ) (slot : Slot T) (zs : List (Slot T)) → zs ≡ kept_slots n (set xs i (childless slot)) → length zs ≤ length xs
+cut_length n xs i slot zs kept = grind (arith, length-filter-le, length-set)
+
+-- a leaf that was removed, and what it leaves
+module _ {T : Type 0} (xs : List (Slot T)) (ready i n : ℕ) (slot : Slot T) (s : AreSoundSlots xs ready) (lt : i < length xs) (at : slice_index (serials_of xs) i ≡ n) (is : slot ≡ get_or xs i slot) (leaf : children_of (frames_from [] xs) n ≡ []) where
+  own : slot.serial ≡ n
+  own = sym (serial_read xs i slot lt is) ∙ at
+
+  pub lost : HasLost xs (remove xs i) slot
+  lost = has_lost xs ready i slot s lt is (serial_read xs i slot lt is) (rw own (leaf_slots xs n s.linked leaf))
+
+  pub lost_sound : AreSoundSlots (without_child slot.parent (remove xs i)) (length (ready_slots (remove xs i)))
+  lost_sound =
+      let ys = remove xs i in
+      record {
+        linked = IsLinked-without_child slot.parent ys lost.linked;
+        counted = CountsAre-same (λ m. count_in ys m) (λ m. count_in (without_child slot.parent ys) m) (without_child slot.parent ys) (λ m. sym (count-without_child slot.parent ys m))
+            (CountsAre-without_child (λ m. count_in xs m) (λ m. count_in ys m) slot.parent ys lost.counts lost.counted);
+        ready_count = sym (ready-without_child slot.parent ys);
+      }
+
+  pub lost_frames : frames_from [] (without_child slot.parent (remove xs i)) ≡ frames_without n (frames_from [] xs)
+  lost_frames = frames_from-without_child slot.parent (remove xs i) ∙ lost.frames ∙ ap (λ m. frames_without m (frames_from [] xs)) own
+
+-- no child, by the count that is kept
+pub counted_leaf : {T : Type 0} (xs : List (Slot T)) (ready i serial : ℕ) (slot : Slot T) → AreSoundSlots xs ready → i < length xs → slice_index (serials_of xs) i ≡ serial → slot ≡ get_or xs i slot → nat_lt 0 slot.children ≡ false → children_of (frames_from [] xs) serial ≡ []
+counted_leaf xs ready i serial slot s lt at is none = grind (arith, counted_at, children_of-length, none_of_length)
+
+pub no_counted_leaf : {T : Type 0} (xs : List (Slot T)) (ready serial : ℕ) → AreSoundSlots xs ready → has_slot xs serial ≡ false → children_of (frames_from [] xs) serial ≡ []
+no_counted_leaf xs ready serial s none =
+    none_of_length (children_of (frames_from [] xs) serial) (children_of-length xs serial s.linked ∙ ap length (no_children [] xs serial refl none s.linked))
+
+-- a serial above the last slot's is above all
+pub last_below : {T : Type 0} (frames : List (Frame T)) (xs : List (Slot T)) (i n : ℕ) (slot : Slot T) → IsLinked frames xs → length xs ≡ i + 1 → slot ≡ get_or xs i slot → slot.serial < n → AllBelow n (frames_from frames xs)
+last_below frames [] i n slot l long is lt = absurd (omega (arith, long))
+last_below frames (x ∷ []) zero n slot l long is lt = (let e = ap (λ s. s.serial) is in omega (arith, e, lt), tt)
+last_below frames (x ∷ []) (suc i) n slot l long is lt = absurd (omega (arith, long))
+last_below frames (x ∷ y ∷ xs) zero n slot l long is lt = absurd (omega (arith, long))
+last_below frames (x ∷ y ∷ xs) (suc i) n slot l long is lt =
+    let rise = linked_rises frames (x ∷ y ∷ xs) l in
+    let within : i < length (y ∷ xs) = omega (arith, long) in
+    let above = above_at (y ∷ xs) x.serial i rise.0 within in
+    let e = serial_read (y ∷ xs) i slot within is in
+    (omega (arith, above, e, lt), last_below (frames ++ frame_of_slot frames x ∷ []) (y ∷ xs) i n slot l.1 (omega (arith, long)) is lt)
+
+pub below_at : {T : Type 0} (frames : List (Frame T)) (xs : List (Slot T)) (i n : ℕ) (slot : Slot T) → i < length xs → slot ≡ get_or xs i slot → AllBelow n (frames_from frames xs) → slot.serial < n
+below_at frames [] i n slot lt is below = absurd (omega arith)
+below_at frames (x ∷ xs) zero n slot lt is below = let e = ap (λ s. s.serial) is in omega (arith, e, below.0)
+below_at frames (x ∷ xs) (suc i) n slot lt is below = below_at (frames ++ frame_of_slot frames x ∷ []) xs i n slot (omega arith) is below.1

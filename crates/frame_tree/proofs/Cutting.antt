@@ -1,18 +1,8 @@
 -- A slot store of which some slots went.
 use Rattle.std.proofs.Common.{◌≡◌, ◌≢◌, ℕ, zero, suc, ◌+◌, ◌<◌, ◌≤◌, Bool, true, false, not, ◌||◌, eqb, List, [], ◌∷◌, ◌++◌, Option, Some, None, IsSome, get_or, slice_index, take, length, append-nil, map, refl, ap, sym, ◌∙◌, inl, inr, arith, subst}
-use Rattle.std.specs.List.{filter, remove}
-use Rattle.std.proofs.lemmas.Bool.{cases_eq, cases_Bool, false≢true, eq-eqb, ne_eqb, not-true, or_right}
-use Rattle.std.proofs.lemmas.List.Elements.{filter-append}
-use Rattle.slab.specs.Slab.{Slab, get, slab_len}
-use Rattle.frame_tree.specs.declared.slot.Slot.{Slot as TenantSlot}
-use Rattle.frame_tree.specs.declared.slot_store.StoredSlot.{StoredSlot}
-use Rattle.frame_tree.specs.Slots.{frames_from, is_kept, IsLinked, kept_slots, gone_values, child_slots, AllAbove, Rises, serials_of}
-use Rattle.frame_tree.specs.Places.{has_number}
-use Rattle.frame_tree.specs.SlotStores.{with_found, slots_in, AreApartKeys, HasSerial, KnowsParent, IsHere, AllHere, IsSlotStore, AreThere, is_marked, marked_in, swept_in, values_in}
-use Rattle.frame_tree.proofs.Cuts.{IsClosed, IsClosed-from_follows, kept_follows}
-use Rattle.frame_tree.proofs.Lengths.{length-filter-le}
-use Rattle.frame_tree.specs.SlotStores.{Marks, AreKeys, IsKeyAt}
-use Rattle.frame_tree.proofs.Search.{serial_read}
+use Rattle.frame_tree.proofs.Common.{StoredSlot, has_number, filter-append, filter, remove, Slot as TenantSlot, Slab, get, slab_len, cases_eq, cases_Bool, false≢true, eq-eqb, ne_eqb, not-true, or_right, frames_from, is_kept, IsLinked, kept_slots, gone_values, child_slots, AllAbove, Rises, serials_of, with_found, slots_in, AreApartKeys, HasSerial, KnowsParent, IsHere, AllHere, IsSlotStore, AreThere, is_marked, marked_in, swept_in, values_in, Marks, AreKeys, IsKeyAt}
+use Rattle.frame_tree.proofs.Forest.{IsClosed, IsClosed-from_follows, kept_follows, serial_read}
+use Rattle.frame_tree.proofs.Places.{length-filter-le}
 use Rattle.frame_tree.proofs.SlotStores.{has_number-append, has_number-at, here_read, slots_in-length, slot_read, here_found, here_contains}
 use Rattle.frame_tree.proofs.Keys.{key_found, knows_key}
 use Rattle.frame_tree.proofs.Changes.{parent_below, remove-filter, leaf-closed}
@@ -114,36 +104,37 @@ cut_marks under old marked new order left c k x has is = c.marks k ∙ (rw (is, 
 not_not : (b : Bool) → not (not b) ≡ b
 not_not b = grind arith
 
-pub cut_stays : {T : Type 0} (under : ℕ) (old marked new : Slab (StoredSlot T)) (order left : List ℕ) → HasCut under old marked new order left → Stays old new (λ key. not (is_marked (get marked key))) (is_kept under (frames_from [] (slots_in old order))) order
-cut_stays under old marked new order left c = grind (arith, cut_marks, not_not, not-true)
+module _ {T : Type 0} (under : ℕ) (old marked new : Slab (StoredSlot T)) (order left : List ℕ) where
+  pub cut_stays : HasCut under old marked new order left → Stays old new (λ key. not (is_marked (get marked key))) (is_kept under (frames_from [] (slots_in old order))) order
+  cut_stays c = grind (arith, cut_marks, not_not, not-true)
 
--- the slots that stay
-pub cut_slots : {T : Type 0} (under : ℕ) (old marked new : Slab (StoredSlot T)) (order left : List ℕ) → HasCut under old marked new order left → AllHere old [] order → slots_in new left ≡ kept_slots under (slots_in old order)
-cut_slots under old marked new order left c h =
-    let s = cut_stays under old marked new order left c in
-    ap (slots_in new) c.kept ∙ slots-filter old new (λ key. not (is_marked (get marked key))) (is_kept under (frames_from [] (slots_in old order))) order [] order s.agree (λ k x has is stays. rw (s.renew k x has is stays) refl) (λ k has. has) h
+  -- the slots that stay
+  pub cut_slots : HasCut under old marked new order left → AllHere old [] order → slots_in new left ≡ kept_slots under (slots_in old order)
+  cut_slots c h =
+      let s = cut_stays c in
+      ap (slots_in new) c.kept ∙ slots-filter old new (λ key. not (is_marked (get marked key))) (is_kept under (frames_from [] (slots_in old order))) order [] order s.agree (λ k x has is stays. rw (s.renew k x has is stays) refl) (λ k has. has) h
 
--- the values of those that went
-pub cut_values : {T : Type 0} (under : ℕ) (old marked new : Slab (StoredSlot T)) (order left : List ℕ) → HasCut under old marked new order left → AllHere old [] order → values_in marked (filter (λ key. is_marked (get marked key)) order) ≡ gone_values under (slots_in old order)
-cut_values under old marked new order left c h =
-    ap (map (λ slot. slot.value)) (slots-filter old marked (λ key. is_marked (get marked key)) (λ serial. not (is_kept under (frames_from [] (slots_in old order)) serial)) order [] order
-    (λ k x has is. rw (cut_marks under old marked new order left c k x has is) refl)
-    (λ k x has is goes. rw (cut_marks under old marked new order left c k x has is) refl) (λ k has. has) h)
+  -- the values of those that went
+  pub cut_values : HasCut under old marked new order left → AllHere old [] order → values_in marked (filter (λ key. is_marked (get marked key)) order) ≡ gone_values under (slots_in old order)
+  cut_values c h =
+      ap (map (λ slot. slot.value)) (slots-filter old marked (λ key. is_marked (get marked key)) (λ serial. not (is_kept under (frames_from [] (slots_in old order)) serial)) order [] order
+      (λ k x has is. rw (cut_marks under old marked new order left c k x has is) refl)
+      (λ k x has is goes. rw (cut_marks under old marked new order left c k x has is) refl) (λ k has. has) h)
 
--- the slot store
-pub cut_store : {T : Type 0} (under : ℕ) (old marked new : Slab (StoredSlot T)) (order left : List ℕ) (room places : ℕ) → HasCut under old marked new order left → IsSlotStore old order room places → IsLinked [] (slots_in old order) → slab_len new + length order ≡ slab_len old + length left → new.capacity ≡ old.capacity → IsSlotStore new left room places
-cut_store under old marked new order left room places c s l len capacity =
-    let closed = IsClosed-from_follows (is_kept under (frames_from [] (slots_in old order))) under (slots_in old order) (kept_follows under (frames_from [] (slots_in old order)) [] (slots_in old order) refl l tt) in
-    let here = here-filter old new (λ key. not (is_marked (get marked key))) (is_kept under (frames_from [] (slots_in old order))) order [] order (cut_stays under old marked new order left c) (λ k has. absurd (false≢true has)) (λ k has. has) closed s.here in
-    let fewer : length left ≤ length order = omega (arith, ap length c.kept, length-filter-le (λ key. not (is_marked (get marked key))) order) in
-    record {
-      here = rw c.kept here;
-      apart = rw c.kept (apart-filter (λ key. not (is_marked (get marked key))) order s.apart);
-      counted = omega (arith, len, s.counted);
-      within = omega (arith, fewer, s.within);
-      slab_room = omega (arith, s.slab_room, capacity);
-      order_room = s.order_room;
-    }
+  -- the slot store
+  pub cut_store : (room places : ℕ) → HasCut under old marked new order left → IsSlotStore old order room places → IsLinked [] (slots_in old order) → slab_len new + length order ≡ slab_len old + length left → new.capacity ≡ old.capacity → IsSlotStore new left room places
+  cut_store room places c s l len capacity =
+      let closed = IsClosed-from_follows (is_kept under (frames_from [] (slots_in old order))) under (slots_in old order) (kept_follows under (frames_from [] (slots_in old order)) [] (slots_in old order) refl l tt) in
+      let here = here-filter old new (λ key. not (is_marked (get marked key))) (is_kept under (frames_from [] (slots_in old order))) order [] order (cut_stays c) (λ k has. absurd (false≢true has)) (λ k has. has) closed s.here in
+      let fewer : length left ≤ length order = omega (arith, ap length c.kept, length-filter-le (λ key. not (is_marked (get marked key))) order) in
+      record {
+        here = rw c.kept here;
+        apart = rw c.kept (apart-filter (λ key. not (is_marked (get marked key))) order s.apart);
+        counted = omega (arith, len, s.counted);
+        within = omega (arith, fewer, s.within);
+        slab_room = omega (arith, s.slab_room, capacity);
+        order_room = s.order_room;
+      }
 
 -- each key has a slot, marked or not
 pub marked_there : {T : Type 0} (under : ℕ) (slots : List (TenantSlot T)) (all : List ℕ) (old marked : Slab (StoredSlot T)) (keys : List ℕ) → Marks under slots all old marked → AreThere old keys → AreThere marked keys
@@ -181,11 +172,7 @@ remove_key (k ∷ keys) zero d a lt = rw (eq-eqb k k refl) (sym (all_stay k keys
   where
     all_stay : (k : ℕ) (keys : List ℕ) → has_number keys k ≡ false → filter (λ j. not (eqb j k)) keys ≡ keys
     all_stay k [] none = refl
-    all_stay k (j ∷ keys) none =
-        elim (cases_Bool (eqb j k)) [
-          | inl same ↦ absurd (false≢true (sym none ∙ (rw same refl)))
-          | inr differs ↦ rw differs (ap (λ ks. j ∷ ks) (all_stay k keys (rw differs at none)))
-        ]
+    all_stay k (j ∷ keys) none = grind (arith, all_stay k keys)
 remove_key (k ∷ keys) (suc i) d a lt =
     let other : k ≢ get_or keys i d = λ e. false≢true (sym a.0 ∙ (ap (has_number keys) e ∙ has_number-at keys i d (omega arith))) in
     rw (ne_eqb k (get_or keys i d) other) (ap (λ ks. k ∷ ks) (remove_key keys i d a.1 (omega arith)))
@@ -223,17 +210,19 @@ same_key {T} slab before (i ∷ keys) k j x y h rise has_k has_j is_k is_j same 
     serial_at slab i k a x is_i same is_k = by_one (get slab i) a x is_i (ap (get slab) same ∙ is_k)
 
 -- those that stay when a leaf is taken away
-pub taken_stays : {T : Type 0} (old new : Slab (StoredSlot T)) (order : List ℕ) (at key : ℕ) (kept : StoredSlot T) → HasTaken old new order at key kept → AllHere old [] order → Rises (slots_in old order) → Stays old new (λ k. not (eqb k key)) (λ serial. not (eqb serial kept.slot.serial)) order
-taken_stays old new order at key kept t h rise = grind (arith, has_number-at, by_one, eq-eqb, ne_eqb, same_key, false≢true, unmarked)
+module _ {T : Type 0} (old new : Slab (StoredSlot T)) (order : List ℕ) (at key : ℕ) (kept : StoredSlot T) (t : HasTaken old new order at key kept)
+    (h : AllHere old [] order) where
+  pub taken_stays : Rises (slots_in old order) → Stays old new (λ k. not (eqb k key)) (λ serial. not (eqb serial kept.slot.serial)) order
+  taken_stays rise = grind (arith, has_number-at, by_one, eq-eqb, ne_eqb, same_key, false≢true, unmarked)
 
-pub taken_slots : {T : Type 0} (old new : Slab (StoredSlot T)) (order : List ℕ) (at key : ℕ) (kept : StoredSlot T) → HasTaken old new order at key kept → AllHere old [] order → AreApartKeys order → Rises (slots_in old order) → slots_in new (remove order at) ≡ remove (slots_in old order) at
-taken_slots old new order at key kept t h a rise =
-    let s = taken_stays old new order at key kept t h rise in
-    let within : at < length (slots_in old order) = rw (slots_in-length old [] order h) t.within in
-    let here = serial_read (slots_in old order) at kept.slot within (sym (slot_read old order at key kept kept.slot h t.within t.read t.was)) in
-    ap (slots_in new) (remove_key order at key a t.within ∙ ap (λ j. filter (λ k. not (eqb k j)) order) (sym t.read))
-    ∙ (slots-filter old new (λ k. not (eqb k key)) (λ serial. not (eqb serial kept.slot.serial)) order [] order s.agree (λ k x has is stays. rw (s.renew k x has is stays) refl) (λ k has. has) h
-    ∙ sym (remove-filter (slots_in old order) at kept.slot.serial rise within here))
+  pub taken_slots : AreApartKeys order → Rises (slots_in old order) → slots_in new (remove order at) ≡ remove (slots_in old order) at
+  taken_slots a rise =
+      let s = taken_stays rise in
+      let within : at < length (slots_in old order) = rw (slots_in-length old [] order h) t.within in
+      let here = serial_read (slots_in old order) at kept.slot within (sym (slot_read old order at key kept kept.slot h t.within t.read t.was)) in
+      ap (slots_in new) (remove_key order at key a t.within ∙ ap (λ j. filter (λ k. not (eqb k j)) order) (sym t.read))
+      ∙ (slots-filter old new (λ k. not (eqb k key)) (λ serial. not (eqb serial kept.slot.serial)) order [] order s.agree (λ k x has is stays. rw (s.renew k x has is stays) refl) (λ k has. has) h
+      ∙ sym (remove-filter (slots_in old order) at kept.slot.serial rise within here))
 
 pub taken_store : {T : Type 0} (old new : Slab (StoredSlot T)) (order left : List ℕ) (room places at key : ℕ) (kept : StoredSlot T) → HasTaken old new order at key kept → IsSlotStore old order room places → Rises (slots_in old order) → child_slots (slice_index (serials_of (slots_in old order)) at) (slots_in old order) ≡ [] → left ≡ remove order at → length left + 1 ≡ length order → slab_len new + 1 ≡ slab_len old → new.capacity ≡ old.capacity → IsSlotStore new left room places
 taken_store old new order left room places at key kept t s rise leaf is long len capacity =
@@ -280,19 +269,20 @@ pub record IsParentKey {T : Type 0} (slab : Slab (StoredSlot T)) (keys : List �
   pub key_at : IsKeyAt slab keys name at key
   pub found : get slab key ≡ Some kept
 
-pub parent_key : {T : Type 0} (slab : Slab (StoredSlot T)) (keys : List ℕ) (parent above : Option ℕ) (key : ℕ) → above ≡ Some key → AreKeys slab keys → KnowsParent slab keys parent above → IsParentKey slab keys parent key
-parent_key {T} slab keys parent above key is are k = of slab keys parent key are (rw is at k)
-  where
-    of : {T : Type 0} (slab : Slab (StoredSlot T)) (keys : List ℕ) (parent : Option ℕ) (key : ℕ) → AreKeys slab keys → KnowsParent slab keys parent (Some key) → IsParentKey slab keys parent key
-    of slab keys None key are k = absurd k
-    of slab keys (Some p) key are k =
-        let y = named_slot p (get slab key) k.1 in
-        let place = key_found slab keys p key y.0 are y.1 y.2 in
-        record { name = p; at = place.0; kept = y.0; is = refl; key_at = place.1; found = y.1 }
+module _ {T : Type 0} (slab : Slab (StoredSlot T)) (keys : List ℕ) (parent above : Option ℕ) where
+  pub parent_key : (key : ℕ) → above ≡ Some key → AreKeys slab keys → KnowsParent slab keys parent above → IsParentKey slab keys parent key
+  parent_key key is are k = of slab keys parent key are (rw is at k)
+    where
+      of : {T : Type 0} (slab : Slab (StoredSlot T)) (keys : List ℕ) (parent : Option ℕ) (key : ℕ) → AreKeys slab keys → KnowsParent slab keys parent (Some key) → IsParentKey slab keys parent key
+      of slab keys None key are k = absurd k
+      of slab keys (Some p) key are k =
+          let y = named_slot p (get slab key) k.1 in
+          let place = key_found slab keys p key y.0 are y.1 y.2 in
+          record { name = p; at = place.0; kept = y.0; is = refl; key_at = place.1; found = y.1 }
 
--- no key is a root's
-pub no_parent_key : {T : Type 0} (slab : Slab (StoredSlot T)) (keys : List ℕ) (parent above : Option ℕ) → above ≡ None → KnowsParent slab keys parent above → parent ≡ None
-no_parent_key slab keys parent above h5 h6 = grind arith
+  -- no key is a root's
+  pub no_parent_key : above ≡ None → KnowsParent slab keys parent above → parent ≡ None
+  no_parent_key h5 h6 = grind arith
 
 -- slots rise without the one at a place
 pub rises_remove : {T : Type 0} (xs : List (TenantSlot T)) (i : ℕ) → Rises xs → Rises (remove xs i)

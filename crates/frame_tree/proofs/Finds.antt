@@ -1,19 +1,10 @@
 -- What a slot tells of the frame that it stands for.
-use Rattle.std.proofs.Common.{◌≡◌, ℕ, zero, suc, ◌<◌, true, false, eqb, List, [], ◌∷◌, ◌++◌, Option, Some, None, length, get_or, slice_index, refl, ap, sym, ◌∙◌, inl, inr, arith, subst, IfSome}
-use Rattle.std.specs.List.{filter}
-use Rattle.std.proofs.lemmas.Bool.{cases_eq, cases_Bool, false≢true, eq-eqb, ne_eqb, and_parts, or_parts, and_right}
-use Rattle.std.proofs.lemmas.Option.{none-some}
-use Rattle.std.proofs.lemmas.Grind.{common_steps}
-use Rattle.frame_tree.specs.declared.names.FrameId.{FrameId}
-use Rattle.frame_tree.specs.declared.names.State.{State}
-use Rattle.frame_tree.specs.declared.names.State.TheVariants.{Ready, Running, Computing, Waiting, Returned}
+use Rattle.std.proofs.Common.{◌≡◌, ℕ, zero, suc, ◌<◌, true, false, eqb, List, [], ◌∷◌, ◌++◌, Option, Some, None, length, get_or, slice_index, refl, ap, sym, ◌∙◌, inl, inr, arith, subst, IfSome, ◌≢◌, ◌+◌, ◌-◌, Bool, set, cond}
+use Rattle.frame_tree.proofs.Common.{Slot, FrameId, none-some, length-map, common_steps, filter, remove, cases_eq, cases_Bool, false≢true, eq-eqb, ne_eqb, and_parts, and_right, eqb-true, State, Ready, Running, Computing, Waiting, Returned}
 use Rattle.frame_tree.specs.declared.names.Entry.{Entry}
-use Rattle.frame_tree.specs.declared.slot.Slot.{Slot}
-use Rattle.frame_tree.specs.Frames.{Frame, frame_at, has_frame, path_in, path_under, root_of, parent_of, is_one_more, children_under, children_of, entry_of_frame, name_of, names_of, ready_frames, newest_ready_of, first_of_two, ready_name, has_parent, IsReadyAt, IsTreeAfter}
-use Rattle.frame_tree.specs.Slots.{frame_of_slot, frames_from, IsLinked, has_slot, serials_of, AllAbove, is_serial, child_slots, slots_of, names_in, ready_slots, newest_in, has_parent_slot, root_at, root_under}
-use Rattle.frame_tree.proofs.Forest.{path_in-left, EndsIn, EndsIn-path_in, parent_of-append, AllEnd, AllEnd-next, AllEnd-frames_from, has_frame-frames_from, linked_rises}
-use Rattle.frame_tree.proofs.Search.{above_at}
-use Rattle.frame_tree.proofs.Cuts.{all_next}
+use Rattle.frame_tree.specs.Frames.{Frame, frame_at, has_frame, path_in, path_under, root_of, parent_of, is_one_more, children_under, children_of, entry_of_frame, name_of, names_of, ready_frames, newest_ready_of, first_of_two, ready_name, has_parent, IsReadyAt, IsTreeAfter, AllBelow}
+use Rattle.frame_tree.specs.Slots.{frame_of_slot, frames_from, IsLinked, has_slot, serials_of, AllAbove, is_serial, child_slots, slots_of, names_in, ready_slots, newest_in, has_parent_slot, root_at, root_under, CountsAre, AllCountsBelow, with_slot, with_child, without_child}
+use Rattle.frame_tree.proofs.Forest.{path_in-left, EndsIn, EndsIn-path_in, parent_of-append, AllEnd, AllEnd-next, AllEnd-frames_from, has_frame-frames_from, linked_rises, above_at, all_next, has_frame-above, FollowsBy, has_frame-append}
 
 -- a slot's frame is found, with this path
 pub record IsFound {T : Type 0} (frames : List (Frame T)) (slot : Slot T) (serial : ℕ) (path : List ℕ) : Type 0 where
@@ -103,19 +94,7 @@ child_names tenant all frames (x ∷ xs) above end e same is l ends =
 -- no child of one that is not there
 pub no_children : {T : Type 0} (frames : List (Frame T)) (xs : List (Slot T)) (serial : ℕ) → has_frame frames serial ≡ false → has_slot xs serial ≡ false → IsLinked frames xs → child_slots serial xs ≡ []
 no_children frames [] serial before none l = refl
-no_children frames (x ∷ xs) serial before none l =
-    let parts = or_parts (eqb x.serial serial) (has_slot xs serial) none in
-    rw (no_parent frames x.parent serial before l.0.parent) (no_children (frames ++ frame_of_slot frames x ∷ []) xs serial (absent frames (frame_of_slot frames x) serial before parts.0) parts.1 l.1)
-  where
-    no_parent : {T : Type 0} (frames : List (Frame T)) (parent : Option ℕ) (serial : ℕ) → has_frame frames serial ≡ false → has_parent frames parent ≡ true → is_serial serial parent ≡ false
-    no_parent frames None serial before h = refl
-    no_parent frames (Some p) serial before h = ne_eqb p serial (λ e. false≢true (sym before ∙ (ap (λ q. has_frame frames q) (sym e) ∙ h)))
-
-    absent : {T : Type 0} (frames : List (Frame T)) (next : Frame T) (serial : ℕ) → has_frame frames serial ≡ false → eqb next.serial serial ≡ false → has_frame (frames ++ next ∷ []) serial ≡ false
-    absent [] next serial h e = rw e refl
-    absent (f ∷ fs) next serial h e =
-        let parts = or_parts (eqb f.serial serial) (has_frame fs serial) h in
-        rw parts.0 (absent fs next serial parts.1 e)
+no_children frames (x ∷ xs) serial before none l = grind (arith, no_children (frames ++ frame_of_slot frames x ∷ []) xs serial, has_frame-append)
 
 -- the names of the children, whether the frame is there or not
 pub children_of-names : {T : Type 0} (tenant : ℕ) (xs : List (Slot T)) (serial : ℕ) → IsLinked [] xs → names_of tenant (children_of (frames_from [] xs) serial) ≡ names_in tenant (child_slots serial xs)
@@ -127,11 +106,7 @@ children_of-names tenant xs serial l =
   where
     there_none : {T : Type 0} (frames : List (Frame T)) (serial : ℕ) → frame_at frames serial ≡ None → has_frame frames serial ≡ false
     there_none [] serial h = refl
-    there_none (f ∷ fs) serial h =
-        elim (cases_Bool (eqb f.serial serial)) [
-          | inl same ↦ (let e : Some f ≡ None = rw same at h in absurd cc)
-          | inr differs ↦ rw differs (there_none fs serial (rw differs at h))
-        ]
+    there_none (f ∷ fs) serial h = grind (arith, there_none fs serial)
 
     children_there : {T : Type 0} (tenant : ℕ) (xs : List (Slot T)) (serial : ℕ) (at : Option (Frame T)) → frame_at (frames_from [] xs) serial ≡ at → IsLinked [] xs → has_frame (frames_from [] xs) serial ≡ true → names_of tenant (children_under at (frames_from [] xs)) ≡ names_in tenant (child_slots serial xs)
     children_there tenant xs serial None is l there = absurd (false≢true (sym (there_none (frames_from [] xs) serial is) ∙ there))
@@ -156,15 +131,7 @@ newest_ready_of-slots tenant frames (x ∷ xs) = ap (λ o. first_of_two o (ready
 -- as many children as child slots
 pub children_of-length : {T : Type 0} (xs : List (Slot T)) (serial : ℕ) → IsLinked [] xs → length (children_of (frames_from [] xs) serial) ≡ length (child_slots serial xs)
 children_of-length xs serial l =
-    sym (length_names 0 (children_of (frames_from [] xs) serial)) ∙ (ap length (children_of-names 0 xs serial l) ∙ length_slots 0 (child_slots serial xs))
-  where
-    length_names : {T : Type 0} (tenant : ℕ) (fs : List (Frame T)) → length (names_of tenant fs) ≡ length fs
-    length_names tenant [] = refl
-    length_names tenant (f ∷ fs) = omega (arith, length_names tenant fs)
-
-    length_slots : {T : Type 0} (tenant : ℕ) (xs : List (Slot T)) → length (names_in tenant xs) ≡ length xs
-    length_slots tenant [] = refl
-    length_slots tenant (x ∷ xs) = omega (arith, length_slots tenant xs)
+    sym (length-map (children_of (frames_from [] xs) serial) _) ∙ ap length (children_of-names 0 xs serial l) ∙ length-map (child_slots serial xs) _
 
 -- a list with no element
 pub none_of_length : {X : Type 0} (xs : List X) → length xs ≡ 0 → xs ≡ []
@@ -191,18 +158,7 @@ root_under-path xs (Some p) serial l h =
 -- what is above all serials is not the newest ready
 pub newest_above : {T : Type 0} (tenant serial : ℕ) (xs : List (Slot T)) (ready : FrameId × ℕ) → AllAbove serial xs → newest_in tenant xs ≡ Some ready → serial < ready.0.serial
 newest_above tenant serial [] ready above is = absurd (none-some ready is)
-newest_above tenant serial (x ∷ xs) ready above is = by_tail tenant serial x.serial x.state (newest_in tenant xs) ready above.0 (λ r e. newest_above tenant serial xs r above.1 e) is
-  where
-    by_head : (tenant serial n : ℕ) (state : State) (ready : FrameId × ℕ) → serial < n → ready_name tenant n state ≡ Some ready → serial < ready.0.serial
-    by_head tenant serial n (Ready home) ready lt is = let e : ready ≡ (record { tenant = tenant; serial = n }, home) = cc in rw e lt
-    by_head tenant serial n (Running worker) ready lt is = absurd (none-some ready is)
-    by_head tenant serial n (Computing worker) ready lt is = absurd (none-some ready is)
-    by_head tenant serial n Waiting ready lt is = absurd (none-some ready is)
-    by_head tenant serial n Returned ready lt is = absurd (none-some ready is)
-
-    by_tail : (tenant serial n : ℕ) (state : State) (tail : Option (FrameId × ℕ)) (ready : FrameId × ℕ) → serial < n → ((r : FrameId × ℕ) → tail ≡ Some r → serial < r.0.serial) → first_of_two tail (ready_name tenant n state) ≡ Some ready → serial < ready.0.serial
-    by_tail tenant serial n state None ready lt rest is = by_head tenant serial n state ready lt is
-    by_tail tenant serial n state (Some r) ready lt rest is = rest ready is
+newest_above tenant serial (x ∷ xs) ready above is = grind (arith, newest_above tenant serial xs ready)
 
 -- the newest ready frame is there, ready at its home
 pub newest_is_ready : {T : Type 0} (tenant : ℕ) (frames : List (Frame T)) (xs : List (Slot T)) (ready : FrameId × ℕ) → IsLinked frames xs → newest_in tenant xs ≡ Some ready → (ready.0.tenant ≡ tenant) × IsReadyAt (frame_at (frames_from frames xs) ready.0.serial) ready.1
@@ -224,12 +180,9 @@ newest_is_ready {T} tenant frames (x ∷ xs) ready l is =
         let lt = newest_above tenant x.serial xs ready above e in
         rw (ne_eqb x.serial ready.0.serial (λ q. omega (arith, lt, q))) (rest ready e)
 
--- a fact of each value that there may be
-pub if_some : {X : Type 0} (o : Option X) (P : X → Type 0) → ((x : X) → o ≡ Some x → P x) → IfSome o P
-if_some o P h3 = grind arith
-
+-- so is the one that was found
 pub newest_found_ready : {T : Type 0} (tenant : ℕ) (xs : List (Slot T)) (result : Option (FrameId × ℕ)) → IsLinked [] xs → result ≡ newest_in tenant xs → IfSome result (λ ready. (ready.0.tenant ≡ tenant) × IsReadyAt (frame_at (frames_from [] xs) ready.0.serial) ready.1)
-newest_found_ready tenant xs result l is = if_some result _ (λ ready e. newest_is_ready tenant [] xs ready l (sym is ∙ e))
+newest_found_ready tenant xs result l is = grind (arith, newest_is_ready)
 
 -- linked slots stand for a tree
 pub IsTree-linked : {T : Type 0} (frames : List (Frame T)) (xs : List (Slot T)) → AllEnd frames → IsLinked frames xs → IsTreeAfter frames (frames_from frames xs)
@@ -240,3 +193,92 @@ IsTree-linked frames (x ∷ xs) ends l = grind (arith, IsTree-linked (frames ++ 
 pub names_of-slots : {T : Type 0} (tenant : ℕ) (frames : List (Frame T)) (xs : List (Slot T)) → names_of tenant (frames_from frames xs) ≡ names_in tenant (slots_of None xs)
 names_of-slots tenant frames [] = refl
 names_of-slots tenant frames (x ∷ xs) = ap (λ ns. record { tenant = tenant; serial = x.serial } ∷ ns) (names_of-slots tenant (frames ++ frame_of_slot frames x ∷ []) xs)
+
+-- The counts of children and of ready frames, through each change.
+
+-- how many children a serial has among slots
+abbrev pub count_in : {T : Type 0} → List (Slot T) → ℕ → ℕ
+count_in xs serial = length (child_slots serial xs)
+
+-- the count in the slot that was read
+pub counted_at : {T : Type 0} (count : ℕ → ℕ) (xs : List (Slot T)) (i serial : ℕ) (slot : Slot T) → CountsAre count xs → i < length xs → slice_index (serials_of xs) i ≡ serial → slot ≡ get_or xs i slot → slot.children ≡ count serial
+counted_at count [] i serial slot c lt at is = absurd (omega arith)
+counted_at count (x ∷ xs) zero serial slot c lt at is = ap (λ s. s.children) is ∙ (c.0 ∙ ap count at)
+counted_at count (x ∷ xs) (suc i) serial slot c lt at is = counted_at count xs i serial slot c.1 (omega arith) at is
+
+-- no count is beyond all slots
+pub counts_below : {T : Type 0} (count : ℕ → ℕ) (limit : ℕ) (xs : List (Slot T)) → CountsAre count xs → ((n : ℕ) → count n < limit) → AllCountsBelow limit xs
+counts_below count limit [] c few = tt
+counts_below count limit (x ∷ xs) c few = (let h = few x.serial in omega (arith, c.0), counts_below count limit xs c.1 few)
+
+-- the same counts by another name
+pub CountsAre-same : {T : Type 0} (f g : ℕ → ℕ) (xs : List (Slot T)) → ((n : ℕ) → f n ≡ g n) → CountsAre f xs → CountsAre g xs
+CountsAre-same f g [] e c = tt
+CountsAre-same f g (x ∷ xs) e c = (c.0 ∙ e x.serial, CountsAre-same f g xs e c.1)
+
+pub CountsAre-append : {T : Type 0} (f : ℕ → ℕ) (xs ys : List (Slot T)) → CountsAre f xs → CountsAre f ys → CountsAre f (xs ++ ys)
+CountsAre-append f [] ys p q = q
+CountsAre-append f (x ∷ xs) ys p q = (p.0, CountsAre-append f xs ys p.1 q)
+
+-- with one slot changed
+pub CountsAre-with_slot : {T : Type 0} (f g : ℕ → ℕ) (p : ℕ) (change : Slot T → Slot T) (xs : List (Slot T)) → ((x : Slot T) → (change x).serial ≡ x.serial) → ((x : Slot T) → x.serial ≡ p → x.children ≡ f p → (change x).children ≡ g p) → ((n : ℕ) → n ≢ p → f n ≡ g n) → CountsAre f xs → CountsAre g (with_slot p change xs)
+CountsAre-with_slot f g p change [] serial here other c = tt
+CountsAre-with_slot f g p change (x ∷ xs) serial here other c = grind (arith, CountsAre-with_slot f g p change xs serial here other)
+
+-- of those that stay
+pub CountsAre-filter : {T : Type 0} (f g : ℕ → ℕ) (keep : ℕ → Bool) (xs : List (Slot T)) → ((n : ℕ) → keep n ≡ true → f n ≡ g n) → CountsAre f xs → CountsAre g (filter (λ x. keep x.serial) xs)
+CountsAre-filter f g keep [] e c = tt
+CountsAre-filter f g keep (x ∷ xs) e c = grind (arith, CountsAre-filter f g keep xs e)
+
+-- a change that keeps what a test sees
+pub length-filter_with_slot : {T : Type 0} (test : Slot T → Bool) (p : ℕ) (change : Slot T → Slot T) (xs : List (Slot T)) → ((x : Slot T) → test (change x) ≡ test x) → length (filter test (with_slot p change xs)) ≡ length (filter test xs)
+length-filter_with_slot test p change [] e = refl
+length-filter_with_slot test p change (x ∷ xs) e = grind (arith, length-filter_with_slot test p change xs e)
+
+-- a write changes a count of those that pass by the old one and the new one
+pub length-filter_set : {X : Type 0} (test : X → Bool) (xs : List X) (i : ℕ) (old new : X) → i < length xs → old ≡ get_or xs i old → length (filter test (set xs i new)) + cond (test old) 1 0 ≡ length (filter test xs) + cond (test new) 1 0
+length-filter_set test [] i old new lt is = absurd (omega arith)
+length-filter_set test (x ∷ xs) zero old new lt is = grind arith
+length-filter_set test (x ∷ xs) (suc i) old new lt is = grind (arith, length-filter_set test xs i old new)
+
+-- and a removal by the old one
+pub length-filter_remove : {X : Type 0} (test : X → Bool) (xs : List X) (i : ℕ) (old : X) → i < length xs → old ≡ get_or xs i old → length (filter test (remove xs i)) + cond (test old) 1 0 ≡ length (filter test xs)
+length-filter_remove test [] i old lt is = absurd (omega arith)
+length-filter_remove test (x ∷ xs) zero old lt is = grind arith
+length-filter_remove test (x ∷ xs) (suc i) old lt is = grind (arith, length-filter_remove test xs i old)
+
+-- one more child of a parent
+pub CountsAre-with_child : {T : Type 0} (f : ℕ → ℕ) (parent : Option ℕ) (xs : List (Slot T)) → CountsAre f xs → CountsAre (λ n. f n + cond (is_serial n parent) 1 0) (with_child parent xs)
+CountsAre-with_child f None xs c = CountsAre-same f (λ n. f n + 0) xs (λ n. omega arith) c
+CountsAre-with_child f (Some p) xs c =
+    CountsAre-with_slot f (λ n. f n + cond (eqb p n) 1 0) p (λ s. record s { children = s.children + 1 }) xs (λ x. refl)
+    (λ x e has. rw (eq-eqb p p refl) (omega (arith, has)))
+    (λ n ne. rw (ne_eqb p n (λ e. ne (sym e))) (omega arith)) c
+
+-- one child less, where there is one
+pub CountsAre-without_child : {T : Type 0} (f g : ℕ → ℕ) (parent : Option ℕ) (xs : List (Slot T)) → ((n : ℕ) → g n + cond (is_serial n parent) 1 0 ≡ f n) → CountsAre f xs → CountsAre g (without_child parent xs)
+CountsAre-without_child f g None xs e c = CountsAre-same f g xs (λ n. let h = e n in omega (arith, h)) c
+CountsAre-without_child f g (Some p) xs e c =
+    CountsAre-with_slot f g p (λ s. record s { children = s.children - 1 }) xs (λ x. refl)
+    (λ x at has. let h = rw (eq-eqb p p refl) at (e p) in omega (arith, has, h))
+    (λ n ne. let h = rw (ne_eqb p n (λ q. ne (sym q))) at (e n) in omega (arith, h)) c
+
+-- a new slot has no child
+pub no_child_of_new : {T : Type 0} (xs : List (Slot T)) (serial : ℕ) (parent : Option ℕ) → IsLinked [] xs → AllBelow serial (frames_from [] xs) → has_parent (frames_from [] xs) parent ≡ true → count_in xs serial + cond (is_serial serial parent) 1 0 ≡ 0
+no_child_of_new xs serial parent l below there =
+    let absent = has_frame-above (frames_from [] xs) serial below in
+    rw (no_children [] xs serial refl (sym (has_frame-frames_from [] xs serial) ∙ absent) l, none (frames_from [] xs) serial parent absent there) refl
+  where
+    none : {T : Type 0} (frames : List (Frame T)) (serial : ℕ) (parent : Option ℕ) → has_frame frames serial ≡ false → has_parent frames parent ≡ true → is_serial serial parent ≡ false
+    none frames serial None absent there = refl
+    none frames serial (Some p) absent there = ne_eqb p serial (λ e. false≢true (sym absent ∙ (ap (λ q. has_frame frames q) (sym e) ∙ there)))
+
+-- no child of the aborted frame stays
+pub no_child_stays : {T : Type 0} (keep : ℕ → Bool) (under : ℕ) (xs : List (Slot T)) → FollowsBy keep under xs → count_in (filter (λ x. keep x.serial) xs) under ≡ 0
+no_child_stays keep under [] f = refl
+no_child_stays keep under (x ∷ xs) f = grind (arith, no_child_stays keep under xs)
+
+-- each child of another frame that stays does
+pub children_stay : {T : Type 0} (keep : ℕ → Bool) (under serial : ℕ) (xs : List (Slot T)) → FollowsBy keep under xs → serial ≢ under → keep serial ≡ true → count_in (filter (λ x. keep x.serial) xs) serial ≡ count_in xs serial
+children_stay keep under serial [] f ne kept = refl
+children_stay keep under serial (x ∷ xs) f ne kept = grind (arith, children_stay keep under serial xs, eqb-true, ne_eqb)

@@ -1,26 +1,94 @@
--- The keys of an order are all keys of its slab: a key that is found stands in the order.
-use Rattle.std.proofs.Common.{◌≡◌, ◌≢◌, ℕ, zero, suc, ◌<◌, ◌≤◌, true, eqb, List, [], ◌∷◌, ◌++◌, Option, Some, None, is_some, count_by, cond, length, get_or, set, refl, ap, sym, subst, ◌∙◌, inl, inr, arith, slice_index}
-use Rattle.std.proofs.lemmas.Bool.{cases_eq, false≢true, eq-eqb, ne_eqb, or_right}
-use Rattle.std.proofs.lemmas.List.{get_or-set_other}
+-- The serials of slots as their index, and the keys of an order: a key that is found stands in the order.
+use Rattle.std.proofs.Common.{◌≡◌, ℕ, zero, suc, ◌<◌, true, false, ◌||◌, eqb, List, [], ◌∷◌, ◌++◌, length, take, drop, set, get_or, slice_index, cond, Option, is_some, IfSome, IfNone, refl, ap, sym, ◌∙◌, arith, ◌≢◌, ◌≤◌, Some, None, count_by, subst, inl, inr}
+use Rattle.frame_tree.proofs.Common.{State, remove, has_number, StoredSlot, common_steps, AreAbove, AreRising, Slot, Slot as TenantSlot, get_or-set_other}
+use Rattle.frame_tree.proofs.Common.{length-map, map-append, Slab, get, slab_len, ContainsKey, Updates, cases_eq, false≢true, eq-eqb, ne_eqb, or_right}
+use Rattle.frame_tree.proofs.Common.{AllAbove, Rises, serials_of, has_slot, IsLinked, with_slot, with_child, without_child, slots_in, AllHere, AreApartKeys}
+use Rattle.frame_tree.proofs.Common.{KnowsParent, IsSlotStore, AreKeys, IsKeyAt, IsSeenAt, ChangesSlot}
+use Rattle.frame_tree.proofs.Forest.{linked_rises, serial_read, has_slot-found}
 use Rattle.std.proofs.lemmas.List.Sums.{sum_by-set}
-use Rattle.std.proofs.lemmas.Grind.{common_steps}
-use Rattle.slab.specs.Slab.{Slab, get, slab_len, ContainsKey, Updates}
-use Rattle.frame_tree.specs.declared.slot.Slot.{Slot as TenantSlot}
-use Rattle.frame_tree.specs.declared.slot_store.StoredSlot.{StoredSlot}
-use Rattle.frame_tree.specs.Places.{has_number}
-use Rattle.frame_tree.specs.Slots.{serials_of}
-use Rattle.frame_tree.specs.SlotStores.{slots_in, AllHere, AreApartKeys, KnowsParent, IsSlotStore, AreKeys, IsKeyAt, IsSeenAt, ChangesSlot}
-use Rattle.frame_tree.specs.declared.names.State.{State}
-use Rattle.frame_tree.proofs.Search.{serial_read}
-use Rattle.frame_tree.proofs.Indexes.{length-serials_of}
+use Rattle.std.proofs.Math.Seq.{map-set_same}
 use Rattle.frame_tree.proofs.SlotStores.{here_contains, AreLike, updated_like, all_here_like, slots_in-put, slots_in-length, slot_read, knows_read, kept_read}
 
--- a slot that is filled is within, and counted
-filled_within : {X : Type 0} (slots : List (Option X)) (key : ℕ) → is_some (get_or slots key None) ≡ true → key < length slots
-filled_within slots key h1 = grind (arith, common_steps)
+pub has_number-serials_of : {T : Type 0} (xs : List (Slot T)) (n : ℕ) → has_number (serials_of xs) n ≡ has_slot xs n
+has_number-serials_of [] n = refl
+has_number-serials_of (x ∷ xs) n = ap (λ b. eqb x.serial n || b) (has_number-serials_of xs n)
 
-filled_counts : {X : Type 0} (slots : List (Option X)) (key : ℕ) → is_some (get_or slots key None) ≡ true → 1 ≤ count_by is_some slots
-filled_counts slots key h1 = grind (arith, common_steps)
+pub serials_of-rises : {T : Type 0} (xs : List (Slot T)) → Rises xs → AreRising (λ n. n) (serials_of xs)
+serials_of-rises [] r = tt
+serials_of-rises (x ∷ xs) r = (above x.serial xs r.0, serials_of-rises xs r.1)
+  where
+    above : {T : Type 0} (n : ℕ) (xs : List (Slot T)) → AllAbove n xs → AreAbove (λ n. n) n (serials_of xs)
+    above n [] a = tt
+    above n (x ∷ xs) a = (a.0, above n xs a.1)
+
+-- what a search of the serials has found, of the slots
+pub record IsFoundAt {T : Type 0} (xs : List (Slot T)) (at n : ℕ) : Type 0 where
+  pub within : at < length xs
+  pub found : slice_index (serials_of xs) at ≡ n
+
+module _ {T : Type 0} (xs : List (Slot T)) (serials : List ℕ) where
+  pub found_at : (at n : ℕ) → serials ≡ serials_of xs → at < length serials → slice_index serials at ≡ n → IsFoundAt xs at n
+  found_at at n is within found = record { within = omega (arith, within, ap length is, length-map xs (λ s. s.serial)); found = rw is at found }
+
+  pub none_at : (n : ℕ) → serials ≡ serials_of xs → has_number serials n ≡ false → has_slot xs n ≡ false
+  none_at n is none = sym (has_number-serials_of xs n) ∙ (rw is at none)
+
+  pub there_at : (n : ℕ) → serials ≡ serials_of xs → has_slot xs n ≡ true → has_number serials n ≡ true
+  there_at n is there = rw is (has_number-serials_of xs n ∙ there)
+
+  pub index_rises : serials ≡ serials_of xs → IsLinked [] xs → AreRising (λ n. n) serials
+  index_rises is l = rw is (serials_of-rises xs (linked_rises [] xs l))
+
+  -- whether a search has found a slot
+  pub found_there : (n : ℕ) (place : Option ℕ) → serials ≡ serials_of xs → IfSome place (λ at. (at < length serials) × (slice_index serials at ≡ n)) → IfNone place (has_number serials n ≡ false) → is_some place ≡ has_slot xs n
+  found_there n place h5 h6 h7 = grind (arith, none_at, found_at, has_slot-found)
+
+-- the serials through each change
+pub serials_of-with_slot : {T : Type 0} (p : ℕ) (change : Slot T → Slot T) (xs : List (Slot T)) → ((x : Slot T) → (change x).serial ≡ x.serial) → serials_of (with_slot p change xs) ≡ serials_of xs
+serials_of-with_slot p change [] same = refl
+serials_of-with_slot p change (x ∷ xs) same = grind (arith, serials_of-with_slot p change xs same)
+
+module _ {T : Type 0} where
+  pub serials_of-without_child : (parent : Option ℕ) (xs : List (Slot T)) → serials_of (without_child parent xs) ≡ serials_of xs
+  serials_of-without_child parent xs = grind (arith, serials_of-with_slot)
+
+  pub serials_of-remove : (xs : List (Slot T)) (i : ℕ) → serials_of (remove xs i) ≡ remove (serials_of xs) i
+  serials_of-remove [] zero = refl
+  serials_of-remove [] (suc i) = refl
+  serials_of-remove (x ∷ xs) zero = refl
+  serials_of-remove (x ∷ xs) (suc i) = ap (λ ns. x.serial ∷ ns) (serials_of-remove xs i)
+
+  pub serials_of-take : (xs : List (Slot T)) (i : ℕ) → serials_of (take i xs) ≡ take i (serials_of xs)
+  serials_of-take [] zero = refl
+  serials_of-take [] (suc i) = refl
+  serials_of-take (x ∷ xs) zero = refl
+  serials_of-take (x ∷ xs) (suc i) = ap (λ ns. x.serial ∷ ns) (serials_of-take xs i)
+
+  pub serials_of-split : (xs : List (Slot T)) (i : ℕ) → serials_of xs ≡ take i (serials_of xs) ++ serials_of (drop i xs)
+  serials_of-split [] zero = refl
+  serials_of-split [] (suc i) = refl
+  serials_of-split (x ∷ xs) zero = refl
+  serials_of-split (x ∷ xs) (suc i) = ap (λ ns. x.serial ∷ ns) (serials_of-split xs i)
+
+  pub added_index : (xs : List (Slot T)) (parent : Option ℕ) (slot : Slot T) (serials : List ℕ) → serials ≡ serials_of xs → serials ++ slot.serial ∷ [] ≡ serials_of (with_child parent xs ++ slot ∷ [])
+  added_index xs parent slot serials is = grind (arith, map-append, serials_of-with_slot)
+
+  pub index_set : (xs : List (Slot T)) (serials : List ℕ) (i n : ℕ) (slot new : Slot T) → serials ≡ serials_of xs → IsFoundAt xs i n → slot ≡ get_or xs i slot → new.serial ≡ slot.serial → serials ≡ serials_of (set xs i new)
+  index_set xs serials i n slot new is place read same = is ∙ sym (map-set_same (λ s. s.serial) xs i new slot (same ∙ ap (λ s. s.serial) read))
+
+  pub removed_index : (xs : List (Slot T)) (serials : List ℕ) (i : ℕ) → serials ≡ serials_of xs → remove serials i ≡ serials_of (remove xs i)
+  removed_index xs serials i is = ap (λ ns. remove ns i) is ∙ sym (serials_of-remove xs i)
+
+  pub cut_index : (xs zs : List (Slot T)) (serials : List ℕ) (i : ℕ) → serials ≡ serials_of xs → take i (serials_of zs) ≡ take i (serials_of xs) → take i serials ++ serials_of (drop i zs) ≡ serials_of zs
+  cut_index xs zs serials i is front = rw (is, ← front) (sym (serials_of-split zs i))
+
+-- a slot that is filled is within, and counted
+module _ {X : Type 0} (slots : List (Option X)) (key : ℕ) (h1 : is_some (get_or slots key None) ≡ true) where
+  filled_within : key < length slots
+  filled_within = grind (arith, common_steps)
+
+  filled_counts : 1 ≤ count_by is_some slots
+  filled_counts = grind (arith, common_steps)
 
 -- keys that are apart, each of a filled slot, and as many as the filled slots: each filled slot's is among them
 all_among : {X : Type 0} (slots : List (Option X)) (keys : List ℕ) (key : ℕ) → AreApartKeys keys → ((k : ℕ) → has_number keys k ≡ true → is_some (get_or slots k None) ≡ true) → count_by is_some slots ≡ length keys → is_some (get_or slots key None) ≡ true → has_number keys key ≡ true
@@ -58,28 +126,28 @@ all_filled slab before [] h k has = absurd (false≢true has)
 all_filled slab before (j ∷ keys) h k has = grind (arith, all_filled slab (before ++ j ∷ []) keys, here_contains)
 
 -- the key of a slot that was found by its serial
-pub key_found : {T : Type 0} (slab : Slab (StoredSlot T)) (keys : List ℕ) (serial key : ℕ) (kept : StoredSlot T) → AreKeys slab keys → get slab key ≡ Some kept → kept.slot.serial ≡ serial → (at : ℕ) × IsKeyAt slab keys serial at key
-key_found slab keys serial key kept are found named =
-    let there = all_among slab.slots keys key are.apart (all_filled slab [] keys are.here) are.counted (ap is_some found) in
-    let place = stands keys key there in
-    let lt : place.0 < length (slots_in slab keys) = rw (slots_in-length slab [] keys are.here) place.1 in
-    let read = slot_read slab keys place.0 key kept kept.slot are.here place.1 place.2 found in
-    (place.0, record { within = place.1; read = place.2; named = serial_read (slots_in slab keys) place.0 kept.slot lt (sym read) ∙ named })
+module _ {T : Type 0} (slab : Slab (StoredSlot T)) (keys : List ℕ) where
+  pub key_found : (serial key : ℕ) (kept : StoredSlot T) → AreKeys slab keys → get slab key ≡ Some kept → kept.slot.serial ≡ serial → (at : ℕ) × IsKeyAt slab keys serial at key
+  key_found serial key kept are found named =
+      let place = stands keys key (all_among slab.slots keys key are.apart (all_filled slab [] keys are.here) are.counted (ap is_some found)) in
+      let lt : place.0 < length (slots_in slab keys) = rw (slots_in-length slab [] keys are.here) place.1 in
+      let read = slot_read slab keys place.0 key kept kept.slot are.here place.1 place.2 found in
+      (place.0, record { within = place.1; read = place.2; named = serial_read (slots_in slab keys) place.0 kept.slot lt (sym read) ∙ named })
 
--- and of one that a search has found
-pub key_searched : {T : Type 0} (slab : Slab (StoredSlot T)) (keys serials : List ℕ) (serial at key : ℕ) → serials ≡ serials_of (slots_in slab keys) → at < length keys → key ≡ get_or keys at key → slice_index serials at ≡ serial → IsKeyAt slab keys serial at key
-key_searched slab keys serials serial at key is within read found = record { within = within; read = read; named = rw is at found }
+  -- and of one that a search has found
+  pub key_searched : (serials : List ℕ) (serial at key : ℕ) → serials ≡ serials_of (slots_in slab keys) → at < length keys → key ≡ get_or keys at key → slice_index serials at ≡ serial → IsKeyAt slab keys serial at key
+  key_searched serials serial at key is within read found = record { within = within; read = read; named = rw is at found }
 
--- as many serials as keys
-pub index_long : {T : Type 0} (slab : Slab (StoredSlot T)) (keys serials : List ℕ) → serials ≡ serials_of (slots_in slab keys) → AreKeys slab keys → length serials ≡ length keys
-index_long slab keys serials is are = ap length is ∙ (length-serials_of (slots_in slab keys) ∙ slots_in-length slab [] keys are.here)
+  -- as many serials as keys
+  pub index_long : (serials : List ℕ) → serials ≡ serials_of (slots_in slab keys) → AreKeys slab keys → length serials ≡ length keys
+  index_long serials is are = ap length is ∙ (length-map (slots_in slab keys) _ ∙ slots_in-length slab [] keys are.here)
 
-pub are_keys : {T : Type 0} (slab : Slab (StoredSlot T)) (keys : List ℕ) (room places : ℕ) → IsSlotStore slab keys room places → AreKeys slab keys
-are_keys slab keys room places s = record { here = s.here; apart = s.apart; counted = s.counted }
+  pub are_keys : (room places : ℕ) → IsSlotStore slab keys room places → AreKeys slab keys
+  are_keys room places s = record { here = s.here; apart = s.apart; counted = s.counted }
 
--- a slot under the key that a serial has
-pub seen_at : {T : Type 0} (slab : Slab (StoredSlot T)) (keys : List ℕ) (serial at key : ℕ) (kept : StoredSlot T) → AreKeys slab keys → IsKeyAt slab keys serial at key → get slab key ≡ Some kept → IsSeenAt (slots_in slab keys) serial at kept.slot
-seen_at slab keys serial at key kept are k found = grind (arith, slots_in-length, slot_read)
+  -- a slot under the key that a serial has
+  pub seen_at : (serial at key : ℕ) (kept : StoredSlot T) → AreKeys slab keys → IsKeyAt slab keys serial at key → get slab key ≡ Some kept → IsSeenAt (slots_in slab keys) serial at kept.slot
+  seen_at serial at key kept are k found = grind (arith, slots_in-length, slot_read)
 
 -- a change of a slot that keeps its name and its parent
 pub record Keeps {T : Type 0} (change : TenantSlot T → TenantSlot T) : Type 0 where
@@ -91,19 +159,20 @@ abbrev pub Puts : {T : Type 0} → Slab (StoredSlot T) → Slab (StoredSlot T) �
 Puts {T} old new key change = (kept : StoredSlot T) → get old key ≡ Some kept → Updates old new key (Some (record kept { slot = change kept.slot }))
 
 -- keys, slots and a slot store after such a change
-pub changed_like : {T : Type 0} (old new : Slab (StoredSlot T)) (key : ℕ) (change : TenantSlot T → TenantSlot T) (kept : StoredSlot T) → get old key ≡ Some kept → Keeps change → Puts old new key change → AreLike old new
-changed_like old new key change kept found keeps puts =
-    updated_like old new key kept (record kept { slot = change kept.slot }) found (puts kept found) (keeps.serial kept.slot, keeps.parent kept.slot, refl, refl)
+module _ {T : Type 0} (old new : Slab (StoredSlot T)) where
+  pub changed_like : (key : ℕ) (change : TenantSlot T → TenantSlot T) (kept : StoredSlot T) → get old key ≡ Some kept → Keeps change → Puts old new key change → AreLike old new
+  changed_like key change kept found keeps puts =
+      updated_like old new key kept (record kept { slot = change kept.slot }) found (puts kept found) (keeps.serial kept.slot, keeps.parent kept.slot, refl, refl)
 
-pub changed_keys : {T : Type 0} (old new : Slab (StoredSlot T)) (keys : List ℕ) (key : ℕ) (change : TenantSlot T → TenantSlot T) (kept : StoredSlot T) → AreKeys old keys → get old key ≡ Some kept → Keeps change → Puts old new key change → slab_len new ≡ slab_len old → AreKeys new keys
-changed_keys old new keys key change kept are found keeps puts len = grind (arith, all_here_like, changed_like)
+  pub changed_keys : (keys : List ℕ) (key : ℕ) (change : TenantSlot T → TenantSlot T) (kept : StoredSlot T) → AreKeys old keys → get old key ≡ Some kept → Keeps change → Puts old new key change → slab_len new ≡ slab_len old → AreKeys new keys
+  changed_keys keys key change kept are found keeps puts len = grind (arith, all_here_like, changed_like)
 
-pub changed_slots : {T : Type 0} (old new : Slab (StoredSlot T)) (keys : List ℕ) (serial at key : ℕ) (change : TenantSlot T → TenantSlot T) (kept : StoredSlot T) → AreKeys old keys → IsKeyAt old keys serial at key → get old key ≡ Some kept → Puts old new key change → slots_in new keys ≡ set (slots_in old keys) at (change kept.slot)
-changed_slots old new keys serial at key change kept are k found puts =
-    slots_in-put old new [] keys at key (record kept { slot = change kept.slot }) are.here are.apart k.within (subst (λ n. Updates old new n (Some (record kept { slot = change kept.slot }))) k.read (puts kept found))
+  pub changed_slots : (keys : List ℕ) (serial at key : ℕ) (change : TenantSlot T → TenantSlot T) (kept : StoredSlot T) → AreKeys old keys → IsKeyAt old keys serial at key → get old key ≡ Some kept → Puts old new key change → slots_in new keys ≡ set (slots_in old keys) at (change kept.slot)
+  changed_slots keys serial at key change kept are k found puts =
+      slots_in-put old new [] keys at key (record kept { slot = change kept.slot }) are.here are.apart k.within (subst (λ n. Updates old new n (Some (record kept { slot = change kept.slot }))) k.read (puts kept found))
 
-pub changed_store : {T : Type 0} (old new : Slab (StoredSlot T)) (keys : List ℕ) (room places key : ℕ) (change : TenantSlot T → TenantSlot T) (kept : StoredSlot T) → IsSlotStore old keys room places → get old key ≡ Some kept → Keeps change → Puts old new key change → slab_len new ≡ slab_len old → new.capacity ≡ old.capacity → IsSlotStore new keys room places
-changed_store old new keys room places key change kept s found keeps puts len capacity = grind (arith, changed_keys, are_keys)
+  pub changed_store : (keys : List ℕ) (room places key : ℕ) (change : TenantSlot T → TenantSlot T) (kept : StoredSlot T) → IsSlotStore old keys room places → get old key ≡ Some kept → Keeps change → Puts old new key change → slab_len new ≡ slab_len old → new.capacity ≡ old.capacity → IsSlotStore new keys room places
+  changed_store keys room places key change kept s found keeps puts len capacity = grind (arith, changed_keys, are_keys)
 
 -- a parent's key
 pub knows_key : {T : Type 0} (slab : Slab (StoredSlot T)) (keys : List ℕ) (parent : Option ℕ) (name at key : ℕ) → parent ≡ Some name → AreKeys slab keys → IsKeyAt slab keys name at key → KnowsParent slab keys parent (Some key)
@@ -116,14 +185,16 @@ pub record HasState {T : Type 0} (old new : Slab (StoredSlot T)) (key : ℕ) (wa
   pub len : slab_len new ≡ slab_len old
   pub capacity : new.capacity ≡ old.capacity
 
-pub state_store : {T : Type 0} (old new : Slab (StoredSlot T)) (keys : List ℕ) (room places serial at key : ℕ) (was state : State) → IsSlotStore old keys room places → IsKeyAt old keys serial at key → HasState old new key was state → IsSlotStore new keys room places
-state_store old new keys room places serial at key was state s k h =
-    let kept = kept_read old keys at key s.here k.within k.read in
-    changed_store old new keys room places key (λ slot. record slot { state = state }) kept.0 s kept.1 (record { serial = λ slot. refl; parent = λ slot. refl }) h.put h.len h.capacity
+module _ {T : Type 0} (old new : Slab (StoredSlot T)) (keys : List ℕ) (room places serial at key : ℕ) (was state : State)
+    (s : IsSlotStore old keys room places) (k : IsKeyAt old keys serial at key) (h : HasState old new key was state) where
+  pub state_store : IsSlotStore new keys room places
+  state_store =
+      let kept = kept_read old keys at key s.here k.within k.read in
+      changed_store old new keys room places key (λ slot. record slot { state = state }) kept.0 s kept.1 (record { serial = λ slot. refl; parent = λ slot. refl }) h.put h.len h.capacity
 
-pub state_changes : {T : Type 0} (old new : Slab (StoredSlot T)) (keys : List ℕ) (room places serial at key : ℕ) (was state : State) → IsSlotStore old keys room places → IsKeyAt old keys serial at key → HasState old new key was state → ChangesSlot (record { places = places; slots = slots_in old keys }) (record { places = places; slots = slots_in new keys }) serial (λ slot. record slot { state = state }) (λ slot. was ≡ slot.state)
-state_changes old new keys room places serial at key was state s k h =
-    let kept = kept_read old keys at key s.here k.within k.read in
-    let are = are_keys old keys room places s in
-    let slots = changed_slots old new keys serial at key (λ slot. record slot { state = state }) kept.0 are k kept.1 h.put in
-    record { at = at; slot = kept.0.slot; seen = seen_at old keys serial at key kept.0 are k kept.1; changed = ap (λ xs. record { places = places; slots = xs }) slots; told = h.told kept.0 kept.1 }
+  pub state_changes : ChangesSlot (record { places = places; slots = slots_in old keys }) (record { places = places; slots = slots_in new keys }) serial (λ slot. record slot { state = state }) (λ slot. was ≡ slot.state)
+  state_changes =
+      let kept = kept_read old keys at key s.here k.within k.read in
+      let are = are_keys old keys room places s in
+      let slots = changed_slots old new keys serial at key (λ slot. record slot { state = state }) kept.0 are k kept.1 h.put in
+      record { at = at; slot = kept.0.slot; seen = seen_at old keys serial at key kept.0 are k kept.1; changed = ap (λ xs. record { places = places; slots = xs }) slots; told = h.told kept.0 kept.1 }

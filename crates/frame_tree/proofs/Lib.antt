@@ -1,24 +1,14 @@
-pub mod Lengths
+mod Common
 pub mod Places
-pub mod Windows
-pub mod Search
 pub mod Forest
-pub mod Cuts
 pub mod Finds
-pub mod Counts
 pub mod Changes
 pub mod Readies
-pub mod Indexes
-pub mod Trees
 pub mod SlotStores
 pub mod Keys
-pub mod Marks
-pub mod Sweeps
 pub mod Cutting
-pub mod AbortChildless
-pub mod UpToAborted
+pub mod Aborts
 pub mod TreeLaws
 pub mod TreeChanges
 pub mod TreeValues
 pub mod Tenants
-mod FoundTree

@@ -1,12 +1,10 @@
--- Places in lists that rise by a number.
-use Rattle.std.proofs.Common.{◌≡◌, ◌≢◌, ℕ, zero, suc, ◌<◌, ◌≤◌, Bool, true, false, not, eqb, List, [], ◌∷◌, length, get_or, take, refl, ap, sym, subst, ◌∙◌, arith, nat_lt}
-use Rattle.std.specs.List.{filter, insert, remove}
+-- Places in lists: by a number that rises, in those that pass a test, and in a list that begins at a place of another.
+use Rattle.std.proofs.Common.{◌≡◌, ◌≢◌, ℕ, zero, suc, ◌<◌, ◌≤◌, Bool, true, false, not, eqb, List, [], ◌∷◌, length, get_or, take, refl, ap, sym, subst, ◌∙◌, arith, nat_lt, ◌+◌, ◌++◌, cond, ◌-◌, drop, append_assoc, append-nil, add-suc}
+use Rattle.frame_tree.proofs.Common.{common_steps, all-at, all-map, AreAbove, AreRising, inserted, has_number, AllFromBy, IsPlaceFor, filter, insert, remove}
+use Rattle.frame_tree.proofs.Common.{copy_within, ne_eqb, ltb-true, ltb-false, lt-ltb}
 use Rattle.std.specs.List.Sorted.{IsNonDecreasingBy, IsPartitionPoint}
-use Rattle.std.proofs.lemmas.Bool.{ne_eqb, ltb-true, ltb-false, lt-ltb}
-use Rattle.std.proofs.lemmas.Grind.{common_steps}
-use Rattle.number_index.specs.Places.{AreAbove, AreRising, inserted}
-use Rattle.number_index.proofs.Edits.{all-at, all-map}
-use Rattle.frame_tree.specs.Places.{has_number, AllFromBy, IsPlaceFor}
+use Rattle.std.proofs.lemmas.List.Sums.{length-filter, count_by-le-length}
+use Rattle.std.proofs.lemmas.List.{drop-take, drop-drop, drop_all, drop_at, drop-append-le, length-take-le, length-drop}
 
 -- what rises does not fall
 pub rises_by-not_falls : {X : Type 0} (number : X → ℕ) (xs : List X) → AreRising number xs → IsNonDecreasingBy number xs
@@ -28,89 +26,91 @@ place_from_point number (x ∷ xs) n (suc at) le p =
     (ltb-true (number x) n (p.0 0 x (omega arith) (omega arith)), place_from_point number xs n at (omega arith) (λ k d ge lt. p.0 (suc k) d (omega arith) (omega arith), λ k d ge lt. p.1 (suc k) d (omega arith) (omega arith)))
 
 -- what is above a number is not below it
-from_above : {X : Type 0} (number : X → ℕ) (n m : ℕ) (xs : List X) → n ≤ m → AreAbove number m xs → AllFromBy number n xs
-from_above number n m [] le above = tt
-from_above number n m (x ∷ xs) le above = (omega (arith, le, above.0), from_above number n m xs le above.1)
+module _ {X : Type 0} (number : X → ℕ) where
+  from_above : (n m : ℕ) (xs : List X) → n ≤ m → AreAbove number m xs → AllFromBy number n xs
+  from_above n m [] le above = tt
+  from_above n m (x ∷ xs) le above = (omega (arith, le, above.0), from_above n m xs le above.1)
 
--- an element stands at the place of its number
-pub place_of_element : {X : Type 0} (number : X → ℕ) (xs : List X) (n at : ℕ) (x : X) → AreRising number xs → at < length xs → x ≡ get_or xs at x → number x ≡ n → IsPlaceFor number xs n at
-place_of_element number [] n at x rise lt is same = absurd (omega arith)
-place_of_element number (y ∷ ys) n zero x rise lt is same = grind (arith, from_above)
-place_of_element number (y ∷ ys) n (suc at) x rise lt is same = grind (arith, place_of_element number ys n at x, all-at)
+  -- an element stands at the place of its number
+  pub place_of_element : (xs : List X) (n at : ℕ) (x : X) → AreRising number xs → at < length xs → x ≡ get_or xs at x → number x ≡ n → IsPlaceFor number xs n at
+  place_of_element [] n at x rise lt is same = absurd (omega arith)
+  place_of_element (y ∷ ys) n zero x rise lt is same = grind (arith, from_above)
+  place_of_element (y ∷ ys) n (suc at) x rise lt is same = grind (arith, place_of_element ys n at x, all-at)
 
--- the place among none, before all and behind all
-pub place_in_none : {X : Type 0} (number : X → ℕ) (xs : List X) (n : ℕ) → length xs ≡ 0 → IsPlaceFor number xs n 0
-place_in_none number [] n e = tt
-place_in_none number (x ∷ xs) n e = absurd (omega arith)
+  -- the place among none, before all and behind all
+  pub place_in_none : (xs : List X) (n : ℕ) → length xs ≡ 0 → IsPlaceFor number xs n 0
+  place_in_none [] n e = tt
+  place_in_none (x ∷ xs) n e = absurd (omega arith)
 
-pub place_before : {X : Type 0} (number : X → ℕ) (xs : List X) (n : ℕ) (x : X) → AreRising number xs → 0 < length xs → x ≡ get_or xs 0 x → n ≤ number x → IsPlaceFor number xs n 0
-place_before number [] n x rise some is le = absurd (omega arith)
-place_before number (y ∷ ys) n x rise some is le = grind (arith, from_above)
+  pub place_before : (xs : List X) (n : ℕ) (x : X) → AreRising number xs → 0 < length xs → x ≡ get_or xs 0 x → n ≤ number x → IsPlaceFor number xs n 0
+  place_before [] n x rise some is le = absurd (omega arith)
+  place_before (y ∷ ys) n x rise some is le = grind (arith, from_above)
 
-pub place_behind : {X : Type 0} (number : X → ℕ) (xs : List X) (n at count : ℕ) (x : X) → AreRising number xs → count ≡ length xs → suc at ≡ length xs → x ≡ get_or xs at x → number x < n → IsPlaceFor number xs n count
-place_behind number xs n at count x rise all e is lt = let P : ℕ → Type 0 = λ k. IsPlaceFor number xs n k in subst P (e ∙ sym all) (behind number xs n at x rise e is lt)
-  where
-    behind : {X : Type 0} (number : X → ℕ) (xs : List X) (n at : ℕ) (x : X) → AreRising number xs → suc at ≡ length xs → x ≡ get_or xs at x → number x < n → IsPlaceFor number xs n (suc at)
-    behind number [] n at x rise e is lt = absurd (omega arith)
-    behind number (y ∷ []) n zero x rise e is lt = let here : number x ≡ number y = ap number is in (omega (arith, here), tt)
-    behind number (y ∷ z ∷ zs) n zero x rise e is lt = absurd (omega arith)
-    behind number (y ∷ ys) n (suc at) x rise e is lt =
-        let above : number y < number (get_or ys at x) = all-at (λ z. number y < number z) ys at x rise.0 (omega arith) in
-        let here : number x ≡ number (get_or ys at x) = ap number is in
-        (omega (arith, above, here), behind number ys n at x rise.1 (omega arith) is lt)
+  pub place_behind : (xs : List X) (n at count : ℕ) (x : X) → AreRising number xs → count ≡ length xs → suc at ≡ length xs → x ≡ get_or xs at x → number x < n → IsPlaceFor number xs n count
+  place_behind xs n at count x rise all e is lt = let P : ℕ → Type 0 = λ k. IsPlaceFor number xs n k in subst P (e ∙ sym all) (behind number xs n at x rise e is lt)
+    where
+      behind : {X : Type 0} (number : X → ℕ) (xs : List X) (n at : ℕ) (x : X) → AreRising number xs → suc at ≡ length xs → x ≡ get_or xs at x → number x < n → IsPlaceFor number xs n (suc at)
+      behind number [] n at x rise e is lt = absurd (omega arith)
+      behind number (y ∷ []) n zero x rise e is lt = let here : number x ≡ number y = ap number is in (omega (arith, here), tt)
+      behind number (y ∷ z ∷ zs) n zero x rise e is lt = absurd (omega arith)
+      behind number (y ∷ ys) n (suc at) x rise e is lt =
+          let above : number y < number (get_or ys at x) = all-at (λ z. number y < number z) ys at x rise.0 (omega arith) in
+          let here : number x ≡ number (get_or ys at x) = ap number is in
+          (omega (arith, above, here), behind number ys n at x rise.1 (omega arith) is lt)
 
--- an element put at its place
-pub inserted-place : {X : Type 0} (number : X → ℕ) (new : X) (xs : List X) (at : ℕ) → IsPlaceFor number xs (number new) at → insert xs at new ≡ inserted number new xs
-inserted-place number new [] zero p = refl
-inserted-place number new (x ∷ xs) zero p = grind arith
-inserted-place number new [] (suc at) p = absurd p
-inserted-place number new (x ∷ xs) (suc at) p = rw (lt-ltb (number x) (number new) p.0) (ap (λ ys. x ∷ ys) (inserted-place number new xs at p.1))
+  -- an element put at its place
+  pub inserted-place : (new : X) (xs : List X) (at : ℕ) → IsPlaceFor number xs (number new) at → insert xs at new ≡ inserted number new xs
+  inserted-place new [] zero p = refl
+  inserted-place new (x ∷ xs) zero p = grind arith
+  inserted-place new [] (suc at) p = absurd p
+  inserted-place new (x ∷ xs) (suc at) p = rw (lt-ltb (number x) (number new) p.0) (ap (λ ys. x ∷ ys) (inserted-place new xs at p.1))
 
--- those below a number are those before its place
-none_below : {X : Type 0} (number : X → ℕ) (n : ℕ) (xs : List X) → AllFromBy number n xs → filter (λ x. nat_lt (number x) n) xs ≡ []
-none_below number n [] p = refl
-none_below number n (x ∷ xs) p = grind (arith, none_below number n xs)
+  -- those below a number are those before its place
+  none_below : (n : ℕ) (xs : List X) → AllFromBy number n xs → filter (λ x. nat_lt (number x) n) xs ≡ []
+  none_below n [] p = refl
+  none_below n (x ∷ xs) p = grind (arith, none_below n xs)
 
-pub filter_below-place : {X : Type 0} (number : X → ℕ) (xs : List X) (n at : ℕ) → IsPlaceFor number xs n at → take at xs ≡ filter (λ x. nat_lt (number x) n) xs
-filter_below-place number [] n zero p = refl
-filter_below-place number (x ∷ xs) n zero p = sym (none_below number n (x ∷ xs) p)
-filter_below-place number [] n (suc at) p = absurd p
-filter_below-place number (x ∷ xs) n (suc at) p = rw (lt-ltb (number x) n p.0) (ap (λ ys. x ∷ ys) (filter_below-place number xs n at p.1))
+  pub filter_below-place : (xs : List X) (n at : ℕ) → IsPlaceFor number xs n at → take at xs ≡ filter (λ x. nat_lt (number x) n) xs
+  filter_below-place [] n zero p = refl
+  filter_below-place (x ∷ xs) n zero p = sym (none_below n (x ∷ xs) p)
+  filter_below-place [] n (suc at) p = absurd p
+  filter_below-place (x ∷ xs) n (suc at) p = rw (lt-ltb (number x) n p.0) (ap (λ ys. x ∷ ys) (filter_below-place xs n at p.1))
 
-pub filter_below-above : {X : Type 0} (number : X → ℕ) (n : ℕ) (xs : List X) → AreAbove number n xs → filter (λ x. nat_lt (number x) n) xs ≡ []
-filter_below-above number n xs above = none_below number n xs (from_above number n n xs (omega arith) above)
+  pub filter_below-above : (n : ℕ) (xs : List X) → AreAbove number n xs → filter (λ x. nat_lt (number x) n) xs ≡ []
+  filter_below-above n xs above = none_below n xs (from_above n n xs (omega arith) above)
 
--- nothing is left out where all are above
-pub filter_not-above : {X : Type 0} (number : X → ℕ) (n : ℕ) (xs : List X) → AreAbove number n xs → filter (λ x. not (eqb (number x) n)) xs ≡ xs
-filter_not-above number n [] above = refl
-filter_not-above number n (x ∷ xs) above = rw (ne_eqb (number x) n (λ e. omega (arith, above.0, e))) (ap (λ ys. x ∷ ys) (filter_not-above number n xs above.1))
+  -- nothing is left out where all are above
+  pub filter_not-above : (n : ℕ) (xs : List X) → AreAbove number n xs → filter (λ x. not (eqb (number x) n)) xs ≡ xs
+  filter_not-above n [] above = refl
+  filter_not-above n (x ∷ xs) above = rw (ne_eqb (number x) n (λ e. omega (arith, above.0, e))) (ap (λ ys. x ∷ ys) (filter_not-above n xs above.1))
 
--- the element that stands at the place of its number goes
-pub filter_not-remove : {X : Type 0} (number : X → ℕ) (xs : List X) (n at : ℕ) (x : X) → AreRising number xs → IsPlaceFor number xs n at → at < length xs → x ≡ get_or xs at x → number x ≡ n → remove xs at ≡ filter (λ x. not (eqb (number x) n)) xs
-filter_not-remove number [] n at x rise p lt is same = absurd (omega arith)
-filter_not-remove number (y ∷ ys) n zero x rise p lt is same = grind (arith, filter_not-above)
-filter_not-remove number (y ∷ ys) n (suc at) x rise p lt is same =
-    rw (ne_eqb (number y) n (λ e. omega (arith, p.0, e))) (ap (λ zs. y ∷ zs) (filter_not-remove number ys n at x rise.1 p.1 (omega arith) is same))
+  -- the element that stands at the place of its number goes
+  pub filter_not-remove : (xs : List X) (n at : ℕ) (x : X) → AreRising number xs → IsPlaceFor number xs n at → at < length xs → x ≡ get_or xs at x → number x ≡ n → remove xs at ≡ filter (λ x. not (eqb (number x) n)) xs
+  filter_not-remove [] n at x rise p lt is same = absurd (omega arith)
+  filter_not-remove (y ∷ ys) n zero x rise p lt is same = grind (arith, filter_not-above)
+  filter_not-remove (y ∷ ys) n (suc at) x rise p lt is same =
+      rw (ne_eqb (number y) n (λ e. omega (arith, p.0, e))) (ap (λ zs. y ∷ zs) (filter_not-remove ys n at x rise.1 p.1 (omega arith) is same))
 
--- nothing is left out where another stands at the place, or nothing
-pub filter_not-absent : {X : Type 0} (number : X → ℕ) (xs : List X) (n at : ℕ) → AreRising number xs → IsPlaceFor number xs n at → ((x : X) → at < length xs → x ≡ get_or xs at x → number x ≢ n) → xs ≡ filter (λ x. not (eqb (number x) n)) xs
-filter_not-absent number [] n zero rise p other = refl
-filter_not-absent number (y ∷ ys) n zero rise p other = grind (arith, filter_not-above, all-map)
-filter_not-absent number [] n (suc at) rise p other = absurd p
-filter_not-absent number (y ∷ ys) n (suc at) rise p other = grind (arith, filter_not-absent number ys n at)
+  -- nothing is left out where another stands at the place, or nothing
+  pub filter_not-absent : (xs : List X) (n at : ℕ) → AreRising number xs → IsPlaceFor number xs n at → ((x : X) → at < length xs → x ≡ get_or xs at x → number x ≢ n) → xs ≡ filter (λ x. not (eqb (number x) n)) xs
+  filter_not-absent [] n zero rise p other = refl
+  filter_not-absent (y ∷ ys) n zero rise p other = grind (arith, filter_not-above, all-map)
+  filter_not-absent [] n (suc at) rise p other = absurd p
+  filter_not-absent (y ∷ ys) n (suc at) rise p other = grind (arith, filter_not-absent ys n at)
 
 -- what is read at a place is one element
 pub alike : {X : Type 0} (xs : List X) (i : ℕ) (x y : X) → i < length xs → x ≡ get_or xs i x → y ≡ get_or xs i y → x ≡ y
 alike xs i x y h1 h2 h3 = grind (arith, common_steps)
 
 -- what rises does so in part
-pub above_by-filter : {X : Type 0} (number : X → ℕ) (keep : X → Bool) (n : ℕ) (xs : List X) → AreAbove number n xs → AreAbove number n (filter keep xs)
-above_by-filter number keep n [] a = tt
-above_by-filter number keep n (x ∷ xs) a = grind (arith, above_by-filter number keep n xs)
+module _ {X : Type 0} (number : X → ℕ) (keep : X → Bool) where
+  pub above_by-filter : (n : ℕ) (xs : List X) → AreAbove number n xs → AreAbove number n (filter keep xs)
+  above_by-filter n [] a = tt
+  above_by-filter n (x ∷ xs) a = grind (arith, above_by-filter n xs)
 
-pub rises_by-filter : {X : Type 0} (number : X → ℕ) (keep : X → Bool) (xs : List X) → AreRising number xs → AreRising number (filter keep xs)
-rises_by-filter number keep [] r = tt
-rises_by-filter number keep (x ∷ xs) r = grind (arith, rises_by-filter number keep xs, above_by-filter)
+  pub rises_by-filter : (xs : List X) → AreRising number xs → AreRising number (filter keep xs)
+  rises_by-filter [] r = tt
+  rises_by-filter (x ∷ xs) r = grind (arith, rises_by-filter xs, above_by-filter)
 
 -- a number between those below a place and those from it on is not there
 pub absent_between : (xs : List ℕ) (n i : ℕ) → ((k : ℕ) → k < i → get_or xs k 0 < n) → ((k : ℕ) → i ≤ k → k < length xs → n < get_or xs k 0) → has_number xs n ≡ false
@@ -121,3 +121,37 @@ absent_between (x ∷ xs) n zero below above =
 absent_between (x ∷ xs) n (suc i) below above =
     let first = below 0 (omega arith) in
     rw (ne_eqb x n (λ e. omega (arith, first, e))) (absent_between xs n i (λ k lt. below (suc k) (omega arith)) (λ k ge lt. above (suc k) (omega arith) (omega arith)))
+
+-- lengths of lists in part and with one more
+pub length-filter-le : {X : Type 0} (p : X → Bool) (xs : List X) → length (filter p xs) ≤ length xs
+length-filter-le p xs = omega (arith, length-filter p xs, count_by-le-length p xs)
+
+-- how many pass a test, with one more
+pub length-filter_push : {X : Type 0} (p : X → Bool) (xs : List X) (x : X) → length (filter p (xs ++ x ∷ [])) ≡ length (filter p xs) + cond (p x) 1 0
+length-filter_push p xs x = grind (arith, common_steps)
+
+-- an element that goes with those after it moved
+pub removed_back : {X : Type 0} (items : List X) (start at : ℕ) → start + at < length items → drop start (remove items (start + at)) ≡ remove (drop start items) at
+removed_back items start at lt =
+    let long : start ≤ length (take (start + at) items) = rw (length-take-le (start + at) items (omega arith)) (omega arith) in
+    rw (drop-append-le start (take (start + at) items) (drop (suc (start + at)) items) long, drop-take start at items, drop-drop (suc at) start items, add-suc) refl
+
+-- an element that goes with those before it moved
+pub removed_front : {X : Type 0} (items : List X) (start at : ℕ) → start + at < length items → drop (start + 1) (copy_within items start (start + at) (start + 1)) ≡ remove (drop start items) at
+removed_front items start at lt =
+    let count : start + at - start ≡ at = omega arith in
+    let long : length (take (start + 1) items) ≡ start + 1 = length-take-le (start + 1) items (omega arith) in
+    let rest : start + 1 + at ≡ start + suc at = omega arith in
+    rw (count, append_assoc, drop_at (take (start + 1) items) (take at (drop start items) ++ drop (start + 1 + at) items) (start + 1) long, drop-drop (suc at) start items, rest) refl
+
+-- the last element
+pub removed_last : {X : Type 0} (xs : List X) (at : ℕ) → at + 1 ≡ length xs → take at xs ≡ remove xs at
+removed_last xs at e = rw (drop_all (suc at) xs (omega arith), append-nil) refl
+
+-- an element that is put at a place
+pub inserted_back : {X : Type 0} (items : List X) (start at : ℕ) (x : X) → start + at ≤ length items → drop start (insert items (start + at) x) ≡ insert (drop start items) at x
+inserted_back items start at x le = grind (arith, length-take-le, drop-append-le, drop-take, drop-drop)
+
+-- a place of the list is a place of all
+pub place_within : {X : Type 0} (items : List X) (start at : ℕ) → start ≤ length items → at < length (drop start items) → start + at < length items
+place_within items start at within lt = omega (arith, within, lt, length-drop start items)

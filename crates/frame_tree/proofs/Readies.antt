@@ -1,21 +1,12 @@
 -- The ready frames among slots, and what each change of the slots does to them.
-use Rattle.std.proofs.Common.{◌≡◌, ℕ, zero, suc, ◌-◌, ◌<◌, ◌≤◌, true, false, not, eqb, nat_lt, List, [], ◌∷◌, ◌++◌, Option, Some, None, length, take, get_or, set, slice_index, refl, ap, sym, ◌∙◌, inl, inr, arith, slice_get}
-use Rattle.std.specs.List.{filter, remove}
-use Rattle.std.proofs.lemmas.Bool.{cases_Bool, lt-ltb, ltb-true}
-use Rattle.frame_tree.specs.declared.names.FrameId.{FrameId}
-use Rattle.frame_tree.specs.declared.names.State.{State}
-use Rattle.frame_tree.specs.declared.names.State.TheVariants.{Ready, Running, Computing, Waiting, Returned}
-use Rattle.frame_tree.specs.declared.slot.Slot.{Slot}
-use Rattle.frame_tree.specs.declared.ready.ReadyFrame.{ReadyFrame}
-use Rattle.frame_tree.specs.Frames.{first_of_two, is_ready, ready_name}
-use Rattle.frame_tree.specs.Slots.{serials_of, AreSoundSlots, ready_slots, AllAbove, Rises, with_slot, with_child, without_child, serials_of, newest_in}
-use Rattle.number_index.specs.Places.{AreAbove, AreRising}
+use Rattle.frame_tree.proofs.Common.{◌≡◌, ℕ, zero, suc, ◌-◌, ◌<◌, ◌≤◌, true, false, not, eqb, nat_lt, List, [], ◌∷◌, ◌++◌, Option, Some, None, length, take}
+use Rattle.frame_tree.proofs.Common.{get_or, set, slice_index, refl, ap, sym, ◌∙◌, inl, inr, arith, slice_get, filter, remove, cases_Bool, lt-ltb, ltb-true}
+use Rattle.frame_tree.proofs.Common.{FrameId, State, Ready, Running, Computing, Waiting, Returned, Slot, ReadyFrame, first_of_two, is_ready, ready_name}
+use Rattle.frame_tree.proofs.Common.{serials_of, AreSoundSlots, ready_slots, AllAbove, Rises, with_slot, with_child, without_child, serials_of, newest_in}
+use Rattle.frame_tree.proofs.Common.{AreAbove, AreRising, IsTenant, with_ready, ready_in, without_ready, put_ready, last_ready}
 use Rattle.frame_tree.specs.Windows.{PlacedList}
-use Rattle.frame_tree.specs.Readies.{IsTenant, with_ready, ready_in, without_ready, put_ready, last_ready}
-use Rattle.frame_tree.proofs.Search.{above_at}
-use Rattle.frame_tree.proofs.Places.{rises_by-filter, filter_not-above, filter_below-above}
-use Rattle.frame_tree.proofs.Lengths.{length-filter-le}
-use Rattle.frame_tree.proofs.Forest.{linked_rises}
+use Rattle.frame_tree.proofs.Forest.{above_at, linked_rises}
+use Rattle.frame_tree.proofs.Places.{rises_by-filter, filter_not-above, filter_below-above, length-filter-le}
 use Rattle.frame_tree.proofs.Changes.{in_state}
 
 -- the last frame is the newest
@@ -105,9 +96,6 @@ pub ready_in-with_slot : {T : Type 0} (p : ℕ) (change : Slot T → Slot T) (xs
 ready_in-with_slot p change [] serial state = refl
 ready_in-with_slot p change (x ∷ xs) serial state = grind (arith, ready_in-with_slot p change xs serial state)
 
-pub ready_in-with_child : {T : Type 0} (parent : Option ℕ) (xs : List (Slot T)) → ready_in (with_child parent xs) ≡ ready_in xs
-ready_in-with_child parent xs = grind (arith, ready_in-with_slot)
-
 pub ready_in-without_child : {T : Type 0} (parent : Option ℕ) (xs : List (Slot T)) → ready_in (without_child parent xs) ≡ ready_in xs
 ready_in-without_child parent xs = grind (arith, ready_in-with_slot)
 
@@ -116,30 +104,31 @@ pub without_ready-rises : (serial : ℕ) (was : State) (frames : List ReadyFrame
 without_ready-rises serial was frames r = elim (cases_Bool (is_ready was)) [ inl ready ↦ rw ready (rises_by-filter (λ frame. frame.serial) (λ frame. not (eqb frame.serial serial)) frames r) | inr other ↦ rw other r ]
 
 -- a frame that leaves its state goes, and comes back where its new state is to be ready
-leave_here : (serial : ℕ) (was : State) (frames : List ReadyFrame) → AreAbove (λ frame. frame.serial) serial frames → without_ready serial was (with_ready serial was frames) ≡ frames
-leave_here serial was frames h4 = grind (arith, filter_not-above)
+module _ (serial : ℕ) where
+  leave_here : (was : State) (frames : List ReadyFrame) → AreAbove (λ frame. frame.serial) serial frames → without_ready serial was (with_ready serial was frames) ≡ frames
+  leave_here was frames h4 = grind (arith, filter_not-above)
 
-leave_other : (serial n : ℕ) (state was : State) (frames : List ReadyFrame) → serial < n → without_ready n was (with_ready serial state frames) ≡ with_ready serial state (without_ready n was frames)
-leave_other serial n state was frames lt = grind arith
+  leave_other : (n : ℕ) (state was : State) (frames : List ReadyFrame) → serial < n → without_ready n was (with_ready serial state frames) ≡ with_ready serial state (without_ready n was frames)
+  leave_other n state was frames lt = grind arith
 
-put_here : (serial : ℕ) (now : State) (frames : List ReadyFrame) → AreAbove (λ frame. frame.serial) serial frames → put_ready serial now frames ≡ with_ready serial now frames
-put_here serial (Ready home) [] a = refl
-put_here serial (Ready home) (f ∷ frames) a = grind (arith, ltb-true)
-put_here serial (Running worker) frames a = refl
-put_here serial (Computing worker) frames a = refl
-put_here serial Waiting frames a = refl
-put_here serial Returned frames a = refl
+  put_here : (now : State) (frames : List ReadyFrame) → AreAbove (λ frame. frame.serial) serial frames → put_ready serial now frames ≡ with_ready serial now frames
+  put_here (Ready home) [] a = refl
+  put_here (Ready home) (f ∷ frames) a = grind (arith, ltb-true)
+  put_here (Running worker) frames a = refl
+  put_here (Computing worker) frames a = refl
+  put_here Waiting frames a = refl
+  put_here Returned frames a = refl
 
-put_other : (serial n : ℕ) (state now : State) (frames : List ReadyFrame) → serial < n → put_ready n now (with_ready serial state frames) ≡ with_ready serial state (put_ready n now frames)
-put_other serial n (Ready home) (Ready to) frames lt = rw (lt-ltb serial n lt) refl
-put_other serial n (Ready home) (Running worker) frames lt = refl
-put_other serial n (Ready home) (Computing worker) frames lt = refl
-put_other serial n (Ready home) Waiting frames lt = refl
-put_other serial n (Ready home) Returned frames lt = refl
-put_other serial n (Running worker) now frames lt = refl
-put_other serial n (Computing worker) now frames lt = refl
-put_other serial n Waiting now frames lt = refl
-put_other serial n Returned now frames lt = refl
+  put_other : (n : ℕ) (state now : State) (frames : List ReadyFrame) → serial < n → put_ready n now (with_ready serial state frames) ≡ with_ready serial state (put_ready n now frames)
+  put_other n (Ready home) (Ready to) frames lt = rw (lt-ltb serial n lt) refl
+  put_other n (Ready home) (Running worker) frames lt = refl
+  put_other n (Ready home) (Computing worker) frames lt = refl
+  put_other n (Ready home) Waiting frames lt = refl
+  put_other n (Ready home) Returned frames lt = refl
+  put_other n (Running worker) now frames lt = refl
+  put_other n (Computing worker) now frames lt = refl
+  put_other n Waiting now frames lt = refl
+  put_other n Returned now frames lt = refl
 
 pub ready_in-state : {T : Type 0} (xs : List (Slot T)) (i n : ℕ) (slot : Slot T) (state : State) → Rises xs → i < length xs → slice_index (serials_of xs) i ≡ n → slot ≡ get_or xs i slot → put_ready n state (without_ready n slot.state (ready_in xs)) ≡ ready_in (set xs i (in_state state slot))
 ready_in-state [] i n slot state rise lt at is = absurd (omega arith)
@@ -178,7 +167,7 @@ ready_in-take (x ∷ xs) (suc i) n rise lt at =
 
 -- one more slot at the end, ready
 pub added_ready : {T : Type 0} (xs : List (Slot T)) (parent : Option ℕ) (slot : Slot T) (home : ℕ) (frames : List ReadyFrame) → frames ≡ ready_in xs → slot.state ≡ Ready home → frames ++ record { serial = slot.serial; home = home } ∷ [] ≡ ready_in (with_child parent xs ++ slot ∷ [])
-added_ready xs parent slot home frames e state = grind (arith, ready_in-append, ready_in-with_child)
+added_ready xs parent slot home frames e state = grind (arith, ready_in-append, ready_in-with_slot)
 
 -- a tenant, from slots that are sound by any count, their serials and the ready frames among them
 pub is_tenant : {T : Type 0} (slots : List (Slot T)) (count places : ℕ) (serials : PlacedList ℕ) (ready : PlacedList ReadyFrame) → AreSoundSlots slots count → serials.list ≡ serials_of slots → ready.list ≡ ready_in slots → length slots ≤ places → places ≤ 4096 → places ≤ serials.places → places ≤ ready.places → IsTenant slots places serials ready

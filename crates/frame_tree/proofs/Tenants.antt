@@ -1,19 +1,15 @@
 -- The trees of a table: look-ups, and what a change of one of them leaves.
-use Rattle.std.proofs.Common.{◌≡◌, ◌≢◌, ℕ, suc, ◌+◌, ◌*◌, ◌<◌, ◌≤◌, Bool, true, false, not, ◌||◌, eqb, List, [], ◌∷◌, ◌++◌, Option, Some, None, length, get_or, drop, refl, ap, sym, ◌∙◌, inl, inr, arith, IsNone, IfSome, IfNone}
+use Rattle.std.proofs.Common.{◌≡◌, ◌≢◌, ℕ, suc, ◌+◌, ◌*◌, ◌<◌, ◌≤◌, Bool, true, false, not, ◌||◌, eqb, List, [], ◌∷◌, ◌++◌, Option, Some, None, length, get_or, drop, refl, ap, sym, ◌∙◌, inl, inr, arith, IsNone, IfSome, IfNone, subst}
 use Rattle.std.specs.Prelude.{option_copied}
 use Rattle.std.specs.Borrow.{Bor}
-use Rattle.std.proofs.lemmas.Bool.{cases_eq, cases_Bool, false≢true, true≢false, eq-eqb, ne_eqb}
-use Rattle.std.proofs.lemmas.List.{at_drop_more}
+use Rattle.frame_tree.proofs.Common.{State, FrameId, at_drop_more, Ready, Running, Computing, Waiting, Returned, cases_eq, cases_Bool, false≢true, true≢false}
+use Rattle.frame_tree.proofs.Common.{eq-eqb, ne_eqb, find_by_number, read_by_number, remove_by_number, inserted, AreRising, change_by_number}
 use Rattle.std.proofs.lemmas.List.Sums.{sum_by-cons}
-use Rattle.frame_tree.specs.declared.names.FrameId.{FrameId}
-use Rattle.frame_tree.specs.declared.names.State.{State}
-use Rattle.frame_tree.specs.declared.names.State.TheVariants.{Ready, Running, Computing, Waiting, Returned}
-use Rattle.frame_tree.specs.Frames.{Frame, TenantTree, owner_of_tree, frames_in, frame_at, has_frame, ready_frames, is_ready, newest_ready_of, ready_name, first_of_two, IsReadyAt, has_parent, with_state, aborted, goes_under, frames_without}
-use Rattle.number_index.specs.Places.{find_by_number, read_by_number, remove_by_number, inserted, AreRising}
+use Rattle.frame_tree.specs.Frames.{Frame, TenantTree, owner_of_tree, frames_in, frame_at, has_frame, ready_frames, is_ready, newest_ready_of, ready_name, first_of_two, IsReadyAt, has_parent, with_state, aborted, goes_under}
 use Rattle.number_index.proofs.Places.{find_by_number-found}
-use Rattle.number_index.proofs.Edits.{all-map, all-of, thing-own, said-found, said-none, said-lacks, has-found, has-above, length-without, said-without_other, all-without, rising-without, sum_by-without, said-inserted_own, said-inserted_other, all-inserted, rising-inserted, length-inserted, sum_by-inserted}
-use Rattle.frame_tree.specs.Tables.{frames_of, places_of, KeepsOtherTenants, has_tenant, FitsPlaces, AllFitPlaces, total_ready, IsSoundTable, IsTreeOf, HasNoTree, first_ready_of, serial_of, IsParentIn}
-use Rattle.frame_tree.proofs.Lengths.{length-filter-le, length-filter_push}
+use Rattle.number_index.proofs.Edits.{all-map, all-of, thing-own, said-found, said-none, said-lacks, has-found, has-above, length-without, said-without_other, all-without, rising-without, sum_by-without, said-inserted_own, said-inserted_other, all-inserted, rising-inserted, length-inserted, sum_by-inserted, thing-with, said-with_other, length-with, rising-with, all-with, sum_by-with, put-same}
+use Rattle.frame_tree.specs.Tables.{frames_of, places_of, KeepsOtherTenants, has_tenant, FitsPlaces, AllFitPlaces, total_ready, IsSoundTable, IsTreeOf, HasNoTree, first_ready_of, serial_of, IsParentIn, KeepsOtherFrames}
+use Rattle.frame_tree.proofs.Places.{length-filter-le, length-filter_push}
 use Rattle.frame_tree.proofs.Forest.{has_frame-append}
 use Rattle.frame_tree.proofs.Finds.{none_of_length}
 
@@ -22,34 +18,35 @@ abbrev pub ready_of : {T : Type 0} → TenantTree T → ℕ
 ready_of tree = length (ready_frames tree.frames)
 
 -- a tenant that has no tree
-pub no_tree : {T : Type 0} (xs : List (TenantTree T)) (t : ℕ) → has_tenant xs t ≡ false → HasNoTree xs t
-no_tree xs t h = record { frames = said-lacks owner_of_tree (λ tree. tree.frames) [] t xs h; places = said-lacks owner_of_tree (λ tree. tree.places) 0 t xs h }
+module _ {T : Type 0} (xs : List (TenantTree T)) (t : ℕ) where
+  pub no_tree : has_tenant xs t ≡ false → HasNoTree xs t
+  no_tree h = record { frames = said-lacks owner_of_tree (λ tree. tree.frames) [] t xs h; places = said-lacks owner_of_tree (λ tree. tree.places) 0 t xs h }
 
--- a tenant that has places or a frame has a tree
-pub tree_by_places : {T : Type 0} (xs : List (TenantTree T)) (t : ℕ) → 0 < places_of xs t → has_tenant xs t ≡ true
-tree_by_places xs t h =
-    elim (cases_Bool (has_tenant xs t)) [ inl there ↦ there | inr gone ↦ absurd (let e = (no_tree xs t gone).places in omega (arith, h, e)) ]
+  -- a tenant that has places or a frame has a tree
+  pub tree_by_places : 0 < places_of xs t → has_tenant xs t ≡ true
+  tree_by_places h =
+      elim (cases_Bool (has_tenant xs t)) [ inl there ↦ there | inr gone ↦ absurd (let e = (no_tree gone).places in omega (arith, h, e)) ]
 
-pub tree_by_frame : {T : Type 0} (xs : List (TenantTree T)) (t serial : ℕ) → has_frame (frames_of xs t) serial ≡ true → has_tenant xs t ≡ true
-tree_by_frame xs t serial h =
-    elim (cases_Bool (has_tenant xs t)) [ inl there ↦ there | inr gone ↦ absurd (let e = (no_tree xs t gone).frames in false≢true (rw e at h)) ]
+  pub tree_by_frame : (serial : ℕ) → has_frame (frames_of xs t) serial ≡ true → has_tenant xs t ≡ true
+  tree_by_frame serial h =
+      elim (cases_Bool (has_tenant xs t)) [ inl there ↦ there | inr gone ↦ absurd (let e = (no_tree gone).frames in false≢true (rw e at h)) ]
 
--- the tree that was found is the tenant's
-pub tree_found : {T : Type 0} (xs : List (TenantTree T)) (t : ℕ) (x : TenantTree T) → find_by_number owner_of_tree t xs ≡ Some x → IsTreeOf xs t x
-tree_found xs t x is =
-    record { named = thing-own owner_of_tree t xs x is; frames = said-found owner_of_tree (λ tree. tree.frames) [] t xs x is; places = said-found owner_of_tree (λ tree. tree.places) 0 t xs x is }
+  -- the tree that was found is the tenant's
+  pub tree_found : (x : TenantTree T) → find_by_number owner_of_tree t xs ≡ Some x → IsTreeOf xs t x
+  tree_found x is =
+      record { named = thing-own owner_of_tree t xs x is; frames = said-found owner_of_tree (λ tree. tree.frames) [] t xs x is; places = said-found owner_of_tree (λ tree. tree.places) 0 t xs x is }
 
-pub found_some : {T : Type 0} (xs : List (TenantTree T)) (t : ℕ) (found : Option (Bor (TenantTree T))) → option_copied found ≡ find_by_number owner_of_tree t xs → IfSome found (λ tree. IsTreeOf xs t tree.now)
-found_some xs t None is = tt
-found_some xs t (Some tree) is = tree_found xs t tree.now (sym is)
+  pub found_some : (found : Option (Bor (TenantTree T))) → option_copied found ≡ find_by_number owner_of_tree t xs → IfSome found (λ tree. IsTreeOf xs t tree.now)
+  found_some None is = tt
+  found_some (Some tree) is = tree_found tree.now (sym is)
 
-pub guess_found : {T : Type 0} (xs : List (TenantTree T)) (t : ℕ) (found : Option (Bor (TenantTree T))) → IfSome found (λ x. find_by_number owner_of_tree t xs ≡ Some x.now) → IfSome found (λ tree. IsTreeOf xs t tree.now)
-guess_found xs t None is = tt
-guess_found xs t (Some tree) is = tree_found xs t tree.now is
+  pub guess_found : (found : Option (Bor (TenantTree T))) → IfSome found (λ x. find_by_number owner_of_tree t xs ≡ Some x.now) → IfSome found (λ tree. IsTreeOf xs t tree.now)
+  guess_found None is = tt
+  guess_found (Some tree) is = tree_found tree.now is
 
-pub found_none : {T : Type 0} (xs : List (TenantTree T)) (t : ℕ) (found : Option (Bor (TenantTree T))) → option_copied found ≡ find_by_number owner_of_tree t xs → IfNone found (HasNoTree xs t)
-found_none xs t None is = record { frames = said-none owner_of_tree (λ tree. tree.frames) [] t xs (sym is); places = said-none owner_of_tree (λ tree. tree.places) 0 t xs (sym is) }
-found_none xs t (Some tree) is = tt
+  pub found_none : (found : Option (Bor (TenantTree T))) → option_copied found ≡ find_by_number owner_of_tree t xs → IfNone found (HasNoTree xs t)
+  found_none None is = record { frames = said-none owner_of_tree (λ tree. tree.frames) [] t xs (sym is); places = said-none owner_of_tree (λ tree. tree.places) 0 t xs (sym is) }
+  found_none (Some tree) is = tt
 
 pub fit_more : {T : Type 0} (room more : ℕ) (xs : List (TenantTree T)) → room ≤ more → AllFitPlaces room xs → AllFitPlaces more xs
 fit_more room more xs le fit =
@@ -63,8 +60,7 @@ found_fits room xs t (Some tree) fit is = (all-of (λ z. FitsPlaces room z) owne
 pub total_bound : {T : Type 0} (room : ℕ) (xs : List (TenantTree T)) → AllFitPlaces room xs → total_ready xs ≤ 4096 * length xs
 total_bound room [] fit = omega arith
 total_bound room (x ∷ xs) fit =
-    let here = length-filter-le (λ f. is_ready f.state) x.frames in
-    omega (arith, sum_by-cons ready_of x xs, total_bound room xs fit.1, here, fit.0.few, fit.0.within)
+    omega (arith, sum_by-cons ready_of x xs, total_bound room xs fit.1, length-filter-le (λ f. is_ready f.state) x.frames, fit.0.few, fit.0.within)
 
 -- no places where nothing was reserved
 pub no_places : {T : Type 0} (room : ℕ) (xs : List (TenantTree T)) (t : ℕ) → AllFitPlaces room xs → places_of xs t ≡ 0 → has_tenant xs t ≡ false
@@ -252,9 +248,6 @@ is_none_from o h = rw h refl
 pub aborted_length : {T : Type 0} (serial : ℕ) (fs : List (Frame T)) → length (aborted serial fs) ≤ length fs
 aborted_length serial fs = length-filter-le (λ f. not (goes_under serial f.path)) fs
 
-pub without_length : {T : Type 0} (serial : ℕ) (fs : List (Frame T)) → length (frames_without serial fs) ≤ length fs
-without_length serial fs = length-filter-le (λ f. not (eqb f.serial serial)) fs
-
 -- a new frame is found under its own serial alone
 pub others_there : {T : Type 0} (old new : List (Frame T)) (f : Frame T) (serial : ℕ) → new ≡ old ++ f ∷ [] → f.serial ≢ serial → has_frame new serial ≡ has_frame old serial
 others_there old new f serial is other = rw (is, has_frame-append old (f ∷ []) serial, ne_eqb f.serial serial other) (or_false (has_frame old serial))
@@ -281,3 +274,79 @@ is_within trees room ready tenant x s is =
 pub frames_found : {T : Type 0} (xs : List (TenantTree T)) (t : ℕ) (tree : Option (Bor (TenantTree T))) → IfSome tree (λ x. IsTreeOf xs t x.now) → IfNone tree (HasNoTree xs t) → frames_in tree ≡ frames_of xs t
 frames_found xs t None found none = sym none.frames
 frames_found xs t (Some tree) found none = sym found.frames
+
+-- A tenant's tree that was looked up in a sound table, and what other frames or places in it leave.
+
+-- it is there, whose it is, and its bounds
+pub record HasTree {T : Type 0} (trees : List (TenantTree T)) (room ready tenant : ℕ) (x : TenantTree T) : Type 0 where
+  pub sound : IsSoundTable trees room ready
+  pub found : find_by_number owner_of_tree tenant trees ≡ Some x
+  pub own : IsTreeOf trees tenant x
+  pub within : IsWithin x room ready
+
+-- the trees with another in its place
+abbrev pub put : {T : Type 0} → List (TenantTree T) → ℕ → TenantTree T → List (TenantTree T)
+put trees tenant y = change_by_number owner_of_tree tenant (λ was. y) trees
+
+pub has_tree : {T : Type 0} {trees : List (TenantTree T)} {room ready tenant : ℕ} {x : TenantTree T} → IsSoundTable trees room ready → find_by_number owner_of_tree tenant trees ≡ Some x → HasTree trees room ready tenant x
+has_tree {trees = trees} {room = room} {ready = ready} {tenant = tenant} {x = x} sound found = record { sound = sound; found = found; own = tree_found trees tenant x found; within = is_within trees room ready tenant x sound found }
+
+-- another tree of the tenant's in its place: no other tenant's frames or places change
+others_keep : {T : Type 0} (trees : List (TenantTree T)) (tenant : ℕ) (y : TenantTree T) → y.tenant ≡ tenant → KeepsOtherTenants trees (put trees tenant y) tenant
+others_keep trees tenant y named = record {
+  frames = λ u other. said-with_other owner_of_tree (λ z. z.frames) [] u tenant (λ was. y) trees (λ e. other (sym e)) (λ z own. named);
+  places = λ u other. said-with_other owner_of_tree (λ z. z.places) 0 u tenant (λ was. y) trees (λ e. other (sym e)) (λ z own. named);
+}
+
+module _ {T : Type 0} {trees : List (TenantTree T)} {room ready tenant : ℕ} {x y : TenantTree T} where
+  -- the tree that has come into its place is the tenant's
+  here_now : HasTree trees room ready tenant x → y.tenant ≡ x.tenant → IsTreeOf (put trees tenant y) tenant y
+  here_now tree same = tree_found (put trees tenant y) tenant y (thing-with owner_of_tree tenant (λ was. y) trees x (λ z own. same ∙ tree.own.named) tree.found)
+
+  still_sound : {more after : ℕ} → HasTree trees room ready tenant x → y.tenant ≡ x.tenant → FitsPlaces more y → room ≤ more → after + ready_of x ≡ ready + ready_of y → IsSoundTable (put trees tenant y) more after
+  still_sound {more} {after} tree same fits wider count = record {
+    few = omega (arith, length-with owner_of_tree tenant (λ was. y) trees, tree.sound.few);
+    rise = rising-with owner_of_tree tenant (λ was. y) trees (λ z own. same ∙ tree.own.named) tree.sound.rise;
+    fit = all-with (λ z. FitsPlaces more z) owner_of_tree tenant (λ was. y) trees (fit_more room more trees wider tree.sound.fit) (λ z fit is. fits);
+    counted = omega (arith, sum_by-with ready_of owner_of_tree tenant (λ was. y) x trees tree.found, tree.sound.counted, count);
+  }
+
+  -- other frames in it: the tenant has those, and nothing else changes
+  pub new_frames : {frames : List (Frame T)} → HasTree trees room ready tenant x → y ≡ record x { frames = frames } → frames_of (put trees tenant y) tenant ≡ frames
+  new_frames tree now = (here_now tree (ap (λ z. z.tenant) now)).frames ∙ ap (λ z. z.frames) now
+
+  pub new_keeps : {frames : List (Frame T)} → HasTree trees room ready tenant x → y ≡ record x { frames = frames } → KeepsOtherFrames trees (put trees tenant y) tenant
+  new_keeps tree now =
+      let others = others_keep trees tenant y (ap (λ z. z.tenant) now ∙ tree.own.named) in
+      record {
+        frames = others.frames;
+        places = λ u. elim (cases_eq u tenant) [ inl e ↦ rw e ((here_now tree (ap (λ z. z.tenant) now)).places ∙ (ap (λ z. z.places) now ∙ sym tree.own.places)) | inr other ↦ others.places u other ];
+        count = length-with owner_of_tree tenant (λ was. y) trees;
+      }
+
+  pub new_sound : {frames : List (Frame T)} {after : ℕ} → HasTree trees room ready tenant x → y ≡ record x { frames = frames } → length frames ≤ x.places → after + ready_of x ≡ ready + length (ready_frames frames) → IsSoundTable (put trees tenant y) room after
+  new_sound {frames} {after} tree now within count =
+      let fits : FitsPlaces room (record x { frames = frames }) = record { within = within; some = tree.within.some; few = tree.within.few; room_left = tree.within.room_left } in
+      still_sound tree (ap (λ z. z.tenant) now) (subst (λ (z : TenantTree T). FitsPlaces room z) (sym now) fits) (omega arith) (rw now count)
+
+  -- other places for it: the tenant has those, and no other tenant's frames or places change
+  pub raised_places : {places : ℕ} → HasTree trees room ready tenant x → y ≡ record x { places = places } → places_of (put trees tenant y) tenant ≡ places
+  raised_places tree now = (here_now tree (ap (λ z. z.tenant) now)).places ∙ ap (λ z. z.places) now
+
+  pub raised_frames : {places : ℕ} → HasTree trees room ready tenant x → y ≡ record x { places = places } → frames_of (put trees tenant y) tenant ≡ frames_of trees tenant
+  raised_frames tree now = (here_now tree (ap (λ z. z.tenant) now)).frames ∙ (ap (λ z. z.frames) now ∙ sym tree.own.frames)
+
+  pub raised_keeps : {places : ℕ} → HasTree trees room ready tenant x → y ≡ record x { places = places } → KeepsOtherTenants trees (put trees tenant y) tenant
+  raised_keeps tree now = others_keep trees tenant y (ap (λ z. z.tenant) now ∙ tree.own.named)
+
+  pub raised_sound : {places more : ℕ} → HasTree trees room ready tenant x → y ≡ record x { places = places } → x.places ≤ places → places ≤ 4096 → places ≤ more → room ≤ more → IsSoundTable (put trees tenant y) more ready
+  raised_sound {places} {more} tree now above few enough wider =
+      let fits : FitsPlaces more (record x { places = places }) = record { within = omega (arith, tree.within.frames, above); some = omega (arith, tree.within.some, above); few = few; room_left = enough } in
+      still_sound tree (ap (λ z. z.tenant) now) (subst (λ (z : TenantTree T). FitsPlaces more z) (sym now) fits) wider (rw now refl)
+
+  -- the same tree put back: nothing has changed but the room
+  pub unraised : HasTree trees room ready tenant x → y ≡ x → put trees tenant y ≡ trees
+  unraised tree now = ap (put trees tenant) now ∙ put-same owner_of_tree tenant trees x tree.found
+
+  pub unraised_sound : {more : ℕ} → HasTree trees room ready tenant x → y ≡ x → room ≤ more → IsSoundTable (put trees tenant y) more ready
+  unraised_sound {more} tree now wider = subst (λ (xs : List (TenantTree T)). IsSoundTable xs more ready) (sym (unraised tree now)) (more_room trees room more ready wider tree.sound)

@@ -1,9 +1,8 @@
 -- What each change leaves of a tree: an abort, a leaf removed, a frame added, other states and values.
-use Rattle.std.proofs.Common.{◌≡◌, ◌≢◌, ℕ, ◌<◌, inl, inr, Bool, true, false, not, eqb, List, [], ◌∷◌, ◌++◌, Option, Some, None, refl, ap, sym, ◌∙◌, arith, append_assoc}
-use Rattle.std.specs.List.{filter}
-use Rattle.std.proofs.lemmas.Bool.{cases_Bool, false≢true, true≢false, eq-eqb, eqb-true, or_parts, not_from_true, not_from_false, not-true, or_right}
-use Rattle.frame_tree.specs.Frames.{Frame, frame_at, AllBelow, goes_under, children_of, aborted, frames_without, IsNextFrame, IsTree, IsTreeAfter}
-use Rattle.frame_tree.specs.TreeLaws.{is_child_of, AllAboveSerial, AreSerialsRising, Each, if_kept}
+use Rattle.frame_tree.proofs.Common.{◌≡◌, ◌≢◌, ℕ, ◌<◌, inl, inr, Bool, true, false, not, eqb, List, [], ◌∷◌, ◌++◌, Option, Some, None, refl, ap, sym, ◌∙◌}
+use Rattle.frame_tree.proofs.Common.{arith, append_assoc, filter, cases_Bool, false≢true, true≢false, eq-eqb, eqb-true, or_parts, not_from_true, not_from_false}
+use Rattle.frame_tree.proofs.Common.{not-true, or_right, Frame, frame_at, AllBelow, goes_under, children_of, aborted, frames_without, IsNextFrame, IsTree}
+use Rattle.frame_tree.proofs.Common.{IsTreeAfter, is_child_of, AllAboveSerial, AreSerialsRising, Each, if_kept}
 use Rattle.frame_tree.proofs.Places.{above_by-filter, rises_by-filter}
 use Rattle.frame_tree.proofs.TreeLaws.{found-there, found-serial, found-path, missing, frame_at-left, frame_at-right, tree-rising, above-missing, each-found, found-each, IsUnder, IsPlaced, placed, under-through, not-under-itself, children-by-paths}
 
@@ -36,48 +35,51 @@ pub tree-from : {T : Type 0} (frames : List (Frame T)) → AreSerialsRising fram
 tree-from frames rising each = tree-after [] frames rising each
 
 -- the frames that pass a test
-pub rising-filter : {T : Type 0} (keep : Frame T → Bool) (xs : List (Frame T)) → AreSerialsRising xs → AreSerialsRising (filter keep xs)
-rising-filter keep xs rising = rises_by-filter (λ frame. frame.serial) keep xs rising
+module _ {T : Type 0} (keep : Frame T → Bool) where
+  pub rising-filter : (xs : List (Frame T)) → AreSerialsRising xs → AreSerialsRising (filter keep xs)
+  rising-filter xs rising = rises_by-filter (λ frame. frame.serial) keep xs rising
 
-pub AllBelow-filter : {T : Type 0} (keep : Frame T → Bool) (s : ℕ) (xs : List (Frame T)) → AllBelow s xs → AllBelow s (filter keep xs)
-AllBelow-filter keep s [] below = tt
-AllBelow-filter keep s (x ∷ xs) below = grind (arith, AllBelow-filter keep s xs)
+  pub AllBelow-filter : (s : ℕ) (xs : List (Frame T)) → AllBelow s xs → AllBelow s (filter keep xs)
+  AllBelow-filter s [] below = tt
+  AllBelow-filter s (x ∷ xs) below = grind (arith, AllBelow-filter s xs)
 
-pub frame_at-filter : {T : Type 0} (keep : Frame T → Bool) (xs : List (Frame T)) (s : ℕ) → AreSerialsRising xs → frame_at (filter keep xs) s ≡ if_kept keep (frame_at xs s)
-frame_at-filter keep [] s rising = refl
-frame_at-filter keep (x ∷ xs) s rising = grind (arith, frame_at-filter keep xs s, missing, above-missing, above_by-filter)
+  pub frame_at-filter : (xs : List (Frame T)) (s : ℕ) → AreSerialsRising xs → frame_at (filter keep xs) s ≡ if_kept keep (frame_at xs s)
+  frame_at-filter [] s rising = refl
+  frame_at-filter (x ∷ xs) s rising = grind (arith, frame_at-filter xs s, missing, above-missing, above_by-filter)
 
 -- a frame that stays is found as before, and what is found was there and stays
-pub frame_at-stays : {T : Type 0} (keep : Frame T → Bool) (xs : List (Frame T)) (s : ℕ) (f : Frame T) → AreSerialsRising xs → frame_at xs s ≡ Some f → keep f ≡ true → frame_at (filter keep xs) s ≡ Some f
-frame_at-stays keep xs s f rising at is = frame_at-filter keep xs s rising ∙ ap (λ o. if_kept keep o) at ∙ (rw is refl)
+module _ {T : Type 0} (keep : Frame T → Bool) where
+  pub frame_at-stays : (xs : List (Frame T)) (s : ℕ) (f : Frame T) → AreSerialsRising xs → frame_at xs s ≡ Some f → keep f ≡ true → frame_at (filter keep xs) s ≡ Some f
+  frame_at-stays xs s f rising at is = frame_at-filter keep xs s rising ∙ ap (λ o. if_kept keep o) at ∙ (rw is refl)
 
-kept-found : {T : Type 0} (keep : Frame T → Bool) (o : Option (Frame T)) (f : Frame T) → if_kept keep o ≡ Some f → (o ≡ Some f) × (keep f ≡ true)
-kept-found keep o f h4 = grind arith
+  kept-found : (o : Option (Frame T)) (f : Frame T) → if_kept keep o ≡ Some f → (o ≡ Some f) × (keep f ≡ true)
+  kept-found o f h4 = grind arith
 
-pub filter-found : {T : Type 0} (keep : Frame T → Bool) (xs : List (Frame T)) (s : ℕ) (f : Frame T) → AreSerialsRising xs → frame_at (filter keep xs) s ≡ Some f → (frame_at xs s ≡ Some f) × (keep f ≡ true)
-filter-found keep xs s f rising at = kept-found keep (frame_at xs s) f (sym (frame_at-filter keep xs s rising) ∙ at)
+  pub filter-found : (xs : List (Frame T)) (s : ℕ) (f : Frame T) → AreSerialsRising xs → frame_at (filter keep xs) s ≡ Some f → (frame_at xs s ≡ Some f) × (keep f ≡ true)
+  filter-found xs s f rising at = kept-found (frame_at xs s) f (sym (frame_at-filter keep xs s rising) ∙ at)
 
--- a tree stays one where each frame that stays has a parent that stays
-placed-filter : {T : Type 0} (keep : Frame T → Bool) (xs : List (Frame T)) (f : Frame T) → AreSerialsRising xs → IsPlaced xs f → ((u : IsUnder xs f) → keep u.above ≡ true) → IsPlaced (filter keep xs) f
-placed-filter keep xs f rising (inl top) closed = inl top
-placed-filter keep xs f rising (inr u) closed =
-    inr (record { parent = u.parent; above = u.above; named = u.named; there = frame_at-stays keep xs u.parent u.above rising u.there (closed u); below = u.below; path = u.path })
+  -- a tree stays one where each frame that stays has a parent that stays
+  placed-filter : (xs : List (Frame T)) (f : Frame T) → AreSerialsRising xs → IsPlaced xs f → ((u : IsUnder xs f) → keep u.above ≡ true) → IsPlaced (filter keep xs) f
+  placed-filter xs f rising (inl top) closed = inl top
+  placed-filter xs f rising (inr u) closed =
+      inr (record { parent = u.parent; above = u.above; named = u.named; there = frame_at-stays xs u.parent u.above rising u.there (closed u); below = u.below; path = u.path })
 
 pub tree-filter : {T : Type 0} (keep : Frame T → Bool) (xs : List (Frame T)) → IsTree xs → ((s : ℕ) (f : Frame T) → frame_at xs s ≡ Some f → keep f ≡ true → (u : IsUnder xs f) → keep u.above ≡ true) → IsTree (filter keep xs)
 tree-filter keep xs t closed = grind (arith, tree-rising, rising-filter, tree-from, found-each, filter-found, placed-filter, placed)
 
 -- an abort leaves a tree, with the frame itself
-pub tree-aborted : {T : Type 0} (p : ℕ) (xs : List (Frame T)) → IsTree xs → IsTree (aborted p xs)
-tree-aborted p xs t =
-    tree-filter (λ x. not (goes_under p x.path)) xs t (λ s f at stays u.
-    let through = sym (under-through xs f p t u) ∙ not-true (goes_under p f.path) stays in
-    not_from_false (goes_under p u.above.path) (or_parts (eqb u.parent p) (goes_under p u.above.path) through).1)
+module _ {T : Type 0} (p : ℕ) (xs : List (Frame T)) where
+  pub tree-aborted : IsTree xs → IsTree (aborted p xs)
+  tree-aborted t =
+      tree-filter (λ x. not (goes_under p x.path)) xs t (λ s f at stays u.
+      let through = sym (under-through xs f p t u) ∙ not-true (goes_under p f.path) stays in
+      not_from_false (goes_under p u.above.path) (or_parts (eqb u.parent p) (goes_under p u.above.path) through).1)
 
-pub frame_at-aborted : {T : Type 0} (p : ℕ) (xs : List (Frame T)) (s : ℕ) → IsTree xs → frame_at (aborted p xs) s ≡ if_kept (λ x. not (goes_under p x.path)) (frame_at xs s)
-frame_at-aborted p xs s t = frame_at-filter (λ x. not (goes_under p x.path)) xs s (tree-rising xs t)
+  pub frame_at-aborted : (s : ℕ) → IsTree xs → frame_at (aborted p xs) s ≡ if_kept (λ x. not (goes_under p x.path)) (frame_at xs s)
+  frame_at-aborted s t = frame_at-filter (λ x. not (goes_under p x.path)) xs s (tree-rising xs t)
 
-pub aborted-itself : {T : Type 0} (p : ℕ) (xs : List (Frame T)) (f : Frame T) → IsTree xs → frame_at xs p ≡ Some f → frame_at (aborted p xs) p ≡ Some f
-aborted-itself p xs f t at = grind (arith, frame_at-stays, tree-rising, not_from_false, not-under-itself)
+  pub aborted-itself : (f : Frame T) → IsTree xs → frame_at xs p ≡ Some f → frame_at (aborted p xs) p ≡ Some f
+  aborted-itself f t at = grind (arith, frame_at-stays, tree-rising, not_from_false, not-under-itself)
 
 -- a child of a frame is under it, and one of a frame under p is under p
 pub child-under-parent : {T : Type 0} (xs : List (Frame T)) (p s : ℕ) (x : Frame T) → IsTree xs → frame_at xs s ≡ Some x → is_child_of p x.path ≡ true → goes_under p x.path ≡ true
@@ -132,3 +134,10 @@ frame_at_other-without p (x ∷ xs) s other = grind (arith, frame_at_other-witho
 -- a root with all that is below it is removed
 pub tree-without_job : {T : Type 0} (p : ℕ) (xs : List (Frame T)) → IsTree xs → IsTree (frames_without p (aborted p xs))
 tree-without_job p xs t = tree-without p (aborted p xs) (tree-aborted p xs t) (aborted-leaf p xs t)
+
+-- what the changes of a tree leave
+pub ruleset under_laws = (not-under-itself, child-under-parent, child-further-under)
+
+pub ruleset abort_laws = (tree-aborted, frame_at-aborted, aborted-itself, aborted-leaf)
+
+pub ruleset removal_laws = (tree-without, tree-without_job, frame_at-without, frame_at_other-without)

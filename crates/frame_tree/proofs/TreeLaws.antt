@@ -1,9 +1,8 @@
 -- A tree, frame by frame: each frame stands under its parent, and what follows for look-ups, paths and children.
-use Rattle.std.proofs.Common.{◌≡◌, ◌≢◌, ℕ, zero, suc, ◌<◌, ◌≤◌, ◌⊎◌, inl, inr, Bool, true, false, ◌||◌, eqb, List, [], ◌∷◌, ◌++◌, Option, Some, None, refl, ap, sym, ◌∙◌, arith, append_assoc}
-use Rattle.std.specs.List.{filter}
-use Rattle.std.proofs.lemmas.Bool.{cases_Bool, cases_eq, false≢true, true≢false, eq-eqb, ne_eqb, eqb-true, or_cases}
-use Rattle.frame_tree.specs.Frames.{Frame, frame_at, has_frame, has_parent, path_in, AllBelow, parent_of, path_under, goes_under, is_one_more, children_of, IsNextFrame, IsTree, IsTreeAfter}
-use Rattle.frame_tree.specs.TreeLaws.{is_that, is_child_of, AllAboveSerial, AreSerialsRising, Each}
+use Rattle.frame_tree.proofs.Common.{◌≡◌, ◌≢◌, ℕ, zero, suc, ◌<◌, ◌≤◌, ◌⊎◌, inl, inr, Bool, true, false, ◌||◌, eqb, List, [], ◌∷◌, ◌++◌, Option, Some, None}
+use Rattle.frame_tree.proofs.Common.{refl, ap, sym, ◌∙◌, arith, append_assoc, filter, cases_Bool, cases_eq, false≢true, true≢false, eq-eqb, ne_eqb, eqb-true}
+use Rattle.frame_tree.proofs.Common.{or_cases, Frame, frame_at, has_frame, has_parent, path_in, AllBelow, parent_of, path_under, goes_under, is_one_more}
+use Rattle.frame_tree.proofs.Common.{children_of, IsNextFrame, IsTree, IsTreeAfter, is_that, is_child_of, AllAboveSerial, AreSerialsRising, Each}
 pub use Rattle.frame_tree.proofs.Finds.{frame_at-none as missing, found-path}
 use Rattle.frame_tree.proofs.Finds.{one_more_same, one_more_is, EndsIn-unique}
 use Rattle.frame_tree.proofs.Forest.{AllBelow-left, AllBelow-right, has_frame-above, EndsIn, EndsIn-append, goes_under-append}
@@ -113,32 +112,30 @@ placed-after before [] t = tt
 placed-after {T} before (x ∷ xs) t = grind (arith, placed-after (before ++ x ∷ []) xs, placed-next, append_assoc)
 
 -- in a tree each frame is in its place
-pub placed : {T : Type 0} (frames : List (Frame T)) (serial : ℕ) (frame : Frame T) → IsTree frames → frame_at frames serial ≡ Some frame → IsPlaced frames frame
-placed frames serial frame t at = each-found (IsPlaced frames) frames serial frame (placed-after [] frames t) at
+module _ {T : Type 0} (frames : List (Frame T)) where
+  pub placed : (serial : ℕ) (frame : Frame T) → IsTree frames → frame_at frames serial ≡ Some frame → IsPlaced frames frame
+  placed serial frame t at = each-found (IsPlaced frames) frames serial frame (placed-after [] frames t) at
 
-pub placed-ends : {T : Type 0} (frames : List (Frame T)) (frame : Frame T) → IsPlaced frames frame → EndsIn frame.path frame.serial
-placed-ends frames frame h3 = grind (arith, EndsIn-append)
+  pub placed-ends : (frame : Frame T) → IsPlaced frames frame → EndsIn frame.path frame.serial
+  placed-ends frame h3 = grind (arith, EndsIn-append)
 
-pub found-ends : {T : Type 0} (frames : List (Frame T)) (serial : ℕ) (frame : Frame T) → IsTree frames → frame_at frames serial ≡ Some frame → EndsIn frame.path serial
-found-ends frames serial frame t at =
-    let is = found-serial frames serial frame at in
-    rw is at (placed-ends frames frame (placed frames serial frame t at))
+  pub found-ends : (serial : ℕ) (frame : Frame T) → IsTree frames → frame_at frames serial ≡ Some frame → EndsIn frame.path serial
+  found-ends serial frame t at =
+      rw (found-serial frames serial frame at) at (placed-ends frame (placed serial frame t at))
 
 -- a fact that each frame of a tree has where its parent has it
-by-parents : {T : Type 0} (P : Frame T → Type 0) (frames : List (Frame T)) → IsTree frames →
-    ((frame : Frame T) → IsTop frame → P frame) → ((frame : Frame T) → (u : IsUnder frames frame) → P u.above → P frame) →
-    (bound serial : ℕ) (frame : Frame T) → serial < bound → frame_at frames serial ≡ Some frame → P frame
-by-parents P frames t top under zero serial frame low at = absurd (omega arith)
-by-parents P frames t top under (suc bound) serial frame low at =
-    elim (placed frames serial frame t at) [
-      | inl is ↦ top frame is
-      | inr u ↦ grind (arith, by-parents P frames t top under bound u.parent u.above, found-serial)
-    ]
+module _ {T : Type 0} (P : Frame T → Type 0) (frames : List (Frame T)) (t : IsTree frames) (top : ((frame : Frame T) → IsTop frame → P frame))
+    (under : ((frame : Frame T) → (u : IsUnder frames frame) → P u.above → P frame)) where
+  by-parents : (bound serial : ℕ) (frame : Frame T) → serial < bound → frame_at frames serial ≡ Some frame → P frame
+  by-parents zero serial frame low at = absurd (omega arith)
+  by-parents (suc bound) serial frame low at =
+      elim (placed frames serial frame t at) [
+        | inl is ↦ top frame is
+        | inr u ↦ grind (arith, by-parents bound u.parent u.above, found-serial)
+      ]
 
-pub tree-induction : {T : Type 0} (P : Frame T → Type 0) (frames : List (Frame T)) → IsTree frames →
-    ((frame : Frame T) → IsTop frame → P frame) → ((frame : Frame T) → (u : IsUnder frames frame) → P u.above → P frame) →
-    (serial : ℕ) (frame : Frame T) → frame_at frames serial ≡ Some frame → P frame
-tree-induction P frames t top under serial frame at = by-parents P frames t top under (suc serial) serial frame (omega arith) at
+  pub tree-induction : (serial : ℕ) (frame : Frame T) → frame_at frames serial ≡ Some frame → P frame
+  tree-induction serial frame at = by-parents (suc serial) serial frame (omega arith) at
 
 -- a path goes under a frame through its parent, or where its parent goes
 pub under-through : {T : Type 0} (frames : List (Frame T)) (frame : Frame T) (p : ℕ) → IsTree frames → (u : IsUnder frames frame) →
@@ -152,23 +149,24 @@ top-under-none frame p top = rw top.1 refl
 abbrev pub GoesThrough : {T : Type 0} → List (Frame T) → Frame T → Type 0
 GoesThrough frames frame = (p : ℕ) → goes_under p frame.path ≡ true → (p < frame.serial) × (has_frame frames p ≡ true)
 
-pub goes-through : {T : Type 0} (frames : List (Frame T)) (serial : ℕ) (frame : Frame T) → IsTree frames → frame_at frames serial ≡ Some frame → GoesThrough frames frame
-goes-through {T} frames serial frame t at =
-    tree-induction (GoesThrough frames) frames t
-    (λ frame top p goes. absurd (false≢true (sym (top-under-none frame p top) ∙ goes)))
-    (λ frame u above p goes. elim (or_cases (eqb u.parent p) (goes_under p u.above.path) (sym (under-through frames frame p t u) ∙ goes)) [
-      | inl same ↦ grind (arith, eqb-true, found-there)
-      | inr through ↦ grind (arith, found-serial)
-    ])
-    serial frame at
+module _ {T : Type 0} (frames : List (Frame T)) (serial : ℕ) (frame : Frame T) (t : IsTree frames) (at : frame_at frames serial ≡ Some frame) where
+  pub goes-through : GoesThrough frames frame
+  goes-through =
+      tree-induction (GoesThrough frames) frames t
+      (λ frame top p goes. absurd (false≢true (sym (top-under-none frame p top) ∙ goes)))
+      (λ frame u above p goes. elim (or_cases (eqb u.parent p) (goes_under p u.above.path) (sym (under-through frames frame p t u) ∙ goes)) [
+        | inl same ↦ grind (arith, eqb-true, found-there)
+        | inr through ↦ grind (arith, found-serial)
+      ])
+      serial frame at
 
--- no frame is under itself
-pub not-under-itself : {T : Type 0} (frames : List (Frame T)) (serial : ℕ) (frame : Frame T) → IsTree frames → frame_at frames serial ≡ Some frame → goes_under serial frame.path ≡ false
-not-under-itself frames serial frame t at =
-    elim (cases_Bool (goes_under serial frame.path)) [
-      | inl goes ↦ (let low = (goes-through frames serial frame t at serial goes).0 in let e = found-serial frames serial frame at in absurd (omega (arith, low, e)))
-      | inr stays ↦ stays
-    ]
+  -- no frame is under itself
+  pub not-under-itself : goes_under serial frame.path ≡ false
+  not-under-itself =
+      elim (cases_Bool (goes_under serial frame.path)) [
+        | inl goes ↦ (let low = (goes-through serial goes).0 in let e = found-serial frames serial frame at in absurd (omega (arith, low, e)))
+        | inr stays ↦ stays
+      ]
 
 -- the children of a frame are those whose path has its serial as the last but one
 child-top : {T : Type 0} (above : List ℕ) (s : ℕ) (x : Frame T) → EndsIn above s → IsTop x → is_one_more above x.path ≡ is_child_of s x.path
@@ -199,37 +197,43 @@ filter-none : {T : Type 0} (p : Frame T → Bool) (frames : List (Frame T)) → 
 filter-none p [] each = refl
 filter-none p (x ∷ xs) each = rw each.0 (filter-none p xs each.1)
 
-not-child-missing : {T : Type 0} (frames : List (Frame T)) (s : ℕ) (x : Frame T) → has_frame frames s ≡ false → IsPlaced frames x → is_child_of s x.path ≡ false
-not-child-missing frames s x lacks (inl top) = rw top.0 refl
-not-child-missing frames s x lacks (inr u) = grind (arith, ne_eqb, true≢false, found-there)
+module _ {T : Type 0} (frames : List (Frame T)) (s : ℕ) where
+  not-child-missing : (x : Frame T) → has_frame frames s ≡ false → IsPlaced frames x → is_child_of s x.path ≡ false
+  not-child-missing x lacks (inl top) = rw top.0 refl
+  not-child-missing x lacks (inr u) = grind (arith, ne_eqb, true≢false, found-there)
 
-pub children-by-paths : {T : Type 0} (frames : List (Frame T)) (s : ℕ) → IsTree frames → children_of frames s ≡ filter (λ x. is_child_of s x.path) frames
-children-by-paths {T} frames s t =
-    elim (cases_Bool (has_frame frames s)) [
-      | inl there ↦ grind (arith, there-found, filter-alike, found-each, tree-rising, placed, child-top, found-ends, child-under)
-      | inr lacks ↦ grind (arith, missing, filter-none, found-each, tree-rising, not-child-missing, placed)
-    ]
+  pub children-by-paths : IsTree frames → children_of frames s ≡ filter (λ x. is_child_of s x.path) frames
+  children-by-paths t =
+      elim (cases_Bool (has_frame frames s)) [
+        | inl there ↦ grind (arith, there-found, filter-alike, found-each, tree-rising, placed, child-top, found-ends, child-under)
+        | inr lacks ↦ grind (arith, missing, filter-none, found-each, tree-rising, not-child-missing, placed)
+      ]
 
--- the same, part by part
-pub top-path : {T : Type 0} (frames : List (Frame T)) (s : ℕ) (frame : Frame T) → IsTree frames → frame_at frames s ≡ Some frame → parent_of frame.path ≡ None → frame.path ≡ s ∷ []
-top-path frames s frame t at none =
-    elim (placed frames s frame t at) [
-      | inl top ↦ top.1 ∙ ap (λ (n : ℕ). n ∷ []) (found-serial frames s frame at)
-      | inr u ↦ (let e = u.named in absurd cc)
-    ]
+  -- the same, part by part
+  pub top-path : (frame : Frame T) → IsTree frames → frame_at frames s ≡ Some frame → parent_of frame.path ≡ None → frame.path ≡ s ∷ []
+  top-path frame t at none =
+      elim (placed frames s frame t at) [
+        | inl top ↦ top.1 ∙ ap (λ (n : ℕ). n ∷ []) (found-serial frames s frame at)
+        | inr u ↦ (let e = u.named in absurd cc)
+      ]
 
-pub named-under : {T : Type 0} (frames : List (Frame T)) (s p : ℕ) (frame : Frame T) → IsTree frames → frame_at frames s ≡ Some frame → parent_of frame.path ≡ Some p → (u : IsUnder frames frame) × (u.parent ≡ p)
-named-under {T} frames s p frame t at named =
-    elim (placed frames s frame t at) [
-      | inl top ↦ (let e = top.0 in absurd cc)
-      | inr u ↦ (u, (let both : Some u.parent ≡ Some p = sym u.named ∙ named in cc))
-    ]
+module _ {T : Type 0} (frames : List (Frame T)) (s p : ℕ) (frame : Frame T) (t : IsTree frames) (at : frame_at frames s ≡ Some frame)
+    (named : parent_of frame.path ≡ Some p) where
+  pub named-under : (u : IsUnder frames frame) × (u.parent ≡ p)
+  named-under =
+      elim (placed frames s frame t at) [
+        | inl top ↦ (let e = top.0 in absurd cc)
+        | inr u ↦ (u, (let both : Some u.parent ≡ Some p = sym u.named ∙ named in cc))
+      ]
 
-pub under-path : {T : Type 0} (frames : List (Frame T)) (s p : ℕ) (frame : Frame T) → IsTree frames → frame_at frames s ≡ Some frame → parent_of frame.path ≡ Some p → frame.path ≡ path_in frames p ++ s ∷ []
-under-path frames s p frame t at named = grind (arith, named-under, found-path, found-serial)
+  pub under-path : frame.path ≡ path_in frames p ++ s ∷ []
+  under-path = grind (arith, named-under, found-path, found-serial)
 
-pub under-there : {T : Type 0} (frames : List (Frame T)) (s p : ℕ) (frame : Frame T) → IsTree frames → frame_at frames s ≡ Some frame → parent_of frame.path ≡ Some p → has_frame frames p ≡ true
-under-there frames s p frame t at named = let u = named-under frames s p frame t at named in rw (← u.1) (found-there frames u.0.parent u.0.above u.0.there)
+  pub under-there : has_frame frames p ≡ true
+  under-there = let u = named-under in rw (← u.1) (found-there frames u.0.parent u.0.above u.0.there)
 
-pub under-below : {T : Type 0} (frames : List (Frame T)) (s p : ℕ) (frame : Frame T) → IsTree frames → frame_at frames s ≡ Some frame → parent_of frame.path ≡ Some p → p < s
-under-below frames s p frame t at named = grind (arith, named-under, found-serial)
+  pub under-below : p < s
+  under-below = grind (arith, named-under, found-serial)
+
+-- what holds of each frame of a tree
+pub ruleset parent_laws = (tree-rising, found-serial, top-path, under-path, under-there, under-below, children-by-paths)

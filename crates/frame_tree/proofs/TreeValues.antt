@@ -1,14 +1,10 @@
 -- A tree with one frame more, with another state in a frame, and with other values: what is found, the children, and that it is a tree.
-use Rattle.std.proofs.Common.{◌≡◌, ◌≢◌, ℕ, zero, suc, ◌<◌, inl, inr, Bool, true, not, eqb, List, [], ◌∷◌, ◌++◌, Option, Some, None, refl, ap, sym, ◌∙◌, arith, append_assoc, append-nil}
+use Rattle.frame_tree.proofs.Common.{State, filter, cases_Bool, filter-append, is_child_of, map_value, map_values, AreAlike, ◌≡◌, ◌≢◌, ℕ, zero, suc, ◌<◌, inl}
+use Rattle.frame_tree.proofs.Common.{inr, Bool, true, not, eqb, List, [], ◌∷◌, ◌++◌, Option, Some, None, refl, ap, sym, ◌∙◌, arith, append_assoc, append-nil}
 use Rattle.std.specs.Prelude.{map, option_map}
-use Rattle.std.specs.List.{filter}
-use Rattle.std.proofs.lemmas.List.Elements.{filter-append}
-use Rattle.std.proofs.lemmas.Bool.{cases_Bool}
-use Rattle.frame_tree.specs.declared.names.State.{State}
 use Rattle.frame_tree.specs.Frames.{Frame, frame_at, has_frame, has_parent, path_in, AllBelow, parent_of, path_under, goes_under, root_of, is_one_more, children_under, children_of, frames_under, aborted, frames_without, with_state, values_of, IsNextFrame, IsTree, IsTreeAfter, new_frame}
-use Rattle.frame_tree.specs.TreeLaws.{is_child_of, map_value, map_values, AreAlike}
 use Rattle.frame_tree.proofs.Forest.{EndsIn, parent_of-append}
-use Rattle.frame_tree.proofs.TreeLaws.{there-found, found-serial, found-path, IsUnder, placed, found-ends, children-by-paths}
+use Rattle.frame_tree.proofs.TreeLaws.{there-found, found-serial, found-path, IsUnder, placed, found-ends, children-by-paths, frame_at-push, frame_at_other-push}
 
 -- one frame more
 tree-push-after : {T : Type 0} (before xs : List (Frame T)) (y : Frame T) → IsTreeAfter before xs → IsNextFrame (before ++ xs) y → IsTreeAfter before (xs ++ y ∷ [])
@@ -25,11 +21,13 @@ parent_of-path_under xs (Some p) serial t there =
     let f = there-found xs p there in
     parent_of-append (path_in xs p) p serial (rw (found-path xs p f.0 f.1) (found-ends xs p f.0 t f.1))
 
-pub new-frame-next : {T : Type 0} (xs : List (Frame T)) (serial : ℕ) (parent : Option ℕ) (home : ℕ) (value : T) → IsTree xs → AllBelow serial xs → has_parent xs parent ≡ true → IsNextFrame xs (new_frame xs serial parent home value)
-new-frame-next xs serial parent home value t below there = grind (arith, parent_of-path_under)
+module _ {T : Type 0} (xs : List (Frame T)) (serial : ℕ) (parent : Option ℕ) (home : ℕ) (value : T) (t : IsTree xs) (below : AllBelow serial xs)
+    (there : has_parent xs parent ≡ true) where
+  pub new-frame-next : IsNextFrame xs (new_frame xs serial parent home value)
+  new-frame-next = grind (arith, parent_of-path_under)
 
-pub tree-new_frame : {T : Type 0} (xs : List (Frame T)) (serial : ℕ) (parent : Option ℕ) (home : ℕ) (value : T) → IsTree xs → AllBelow serial xs → has_parent xs parent ≡ true → IsTree (xs ++ new_frame xs serial parent home value ∷ [])
-tree-new_frame xs serial parent home value t below there = tree-push xs (new_frame xs serial parent home value) t (new-frame-next xs serial parent home value t below there)
+  pub tree-new_frame : IsTree (xs ++ new_frame xs serial parent home value ∷ [])
+  tree-new_frame = tree-push xs (new_frame xs serial parent home value) t new-frame-next
 
 -- it is the last child of its parent, and nobody else's
 pub children_of-push : {T : Type 0} (xs : List (Frame T)) (y : Frame T) (s : ℕ) → IsTree xs → IsNextFrame xs y → children_of (xs ++ y ∷ []) s ≡ children_of xs s ++ filter (λ x. is_child_of s x.path) (y ∷ [])
@@ -65,132 +63,146 @@ pub under-root : (path : List ℕ) (p : ℕ) → parent_of path ≡ Some p → g
 under-root path p h3 = grind arith
 
 -- frames of the same serials and paths
-has_frame-alike : {T U : Type 0} (xs : List (Frame T)) (ys : List (Frame U)) (s : ℕ) → AreAlike xs ys → has_frame ys s ≡ has_frame xs s
-has_frame-alike [] [] s alike = refl
-has_frame-alike [] (y ∷ ys) s alike = absurd alike
-has_frame-alike (x ∷ xs) [] s alike = absurd alike
-has_frame-alike (x ∷ xs) (y ∷ ys) s alike = rw (alike.0, has_frame-alike xs ys s alike.2) refl
+module _ {T U : Type 0} where
+  has_frame-alike : (xs : List (Frame T)) (ys : List (Frame U)) (s : ℕ) → AreAlike xs ys → has_frame ys s ≡ has_frame xs s
+  has_frame-alike [] [] s alike = refl
+  has_frame-alike [] (y ∷ ys) s alike = absurd alike
+  has_frame-alike (x ∷ xs) [] s alike = absurd alike
+  has_frame-alike (x ∷ xs) (y ∷ ys) s alike = rw (alike.0, has_frame-alike xs ys s alike.2) refl
 
-pub path_in-alike : {T U : Type 0} (xs : List (Frame T)) (ys : List (Frame U)) (s : ℕ) → AreAlike xs ys → path_in ys s ≡ path_in xs s
-path_in-alike [] [] s alike = refl
-path_in-alike [] (y ∷ ys) s alike = absurd alike
-path_in-alike (x ∷ xs) [] s alike = absurd alike
-path_in-alike (x ∷ xs) (y ∷ ys) s alike = rw (alike.0, alike.1, path_in-alike xs ys s alike.2) refl
+  pub path_in-alike : (xs : List (Frame T)) (ys : List (Frame U)) (s : ℕ) → AreAlike xs ys → path_in ys s ≡ path_in xs s
+  path_in-alike [] [] s alike = refl
+  path_in-alike [] (y ∷ ys) s alike = absurd alike
+  path_in-alike (x ∷ xs) [] s alike = absurd alike
+  path_in-alike (x ∷ xs) (y ∷ ys) s alike = rw (alike.0, alike.1, path_in-alike xs ys s alike.2) refl
 
-pub AllBelow-alike : {T U : Type 0} (xs : List (Frame T)) (ys : List (Frame U)) (bound : ℕ) → AreAlike xs ys → AllBelow bound xs → AllBelow bound ys
-AllBelow-alike [] [] bound alike below = tt
-AllBelow-alike [] (y ∷ ys) bound alike below = absurd alike
-AllBelow-alike (x ∷ xs) [] bound alike below = absurd alike
-AllBelow-alike (x ∷ xs) (y ∷ ys) bound alike below = (rw alike.0 below.0, AllBelow-alike xs ys bound alike.2 below.1)
+  pub AllBelow-alike : (xs : List (Frame T)) (ys : List (Frame U)) (bound : ℕ) → AreAlike xs ys → AllBelow bound xs → AllBelow bound ys
+  AllBelow-alike [] [] bound alike below = tt
+  AllBelow-alike [] (y ∷ ys) bound alike below = absurd alike
+  AllBelow-alike (x ∷ xs) [] bound alike below = absurd alike
+  AllBelow-alike (x ∷ xs) (y ∷ ys) bound alike below = (rw alike.0 below.0, AllBelow-alike xs ys bound alike.2 below.1)
 
-alike-append : {T U : Type 0} (xs : List (Frame T)) (ys : List (Frame U)) (x : Frame T) (y : Frame U) → AreAlike xs ys → y.serial ≡ x.serial → y.path ≡ x.path → AreAlike (xs ++ x ∷ []) (ys ++ y ∷ [])
-alike-append [] [] x y alike s p = (s, p, tt)
-alike-append [] (z ∷ ys) x y alike s p = absurd alike
-alike-append (z ∷ xs) [] x y alike s p = absurd alike
-alike-append (z ∷ xs) (w ∷ ys) x y alike s p = (alike.0, alike.1, alike-append xs ys x y alike.2 s p)
+  alike-append : (xs : List (Frame T)) (ys : List (Frame U)) (x : Frame T) (y : Frame U) → AreAlike xs ys → y.serial ≡ x.serial → y.path ≡ x.path → AreAlike (xs ++ x ∷ []) (ys ++ y ∷ [])
+  alike-append [] [] x y alike s p = (s, p, tt)
+  alike-append [] (z ∷ ys) x y alike s p = absurd alike
+  alike-append (z ∷ xs) [] x y alike s p = absurd alike
+  alike-append (z ∷ xs) (w ∷ ys) x y alike s p = (alike.0, alike.1, alike-append xs ys x y alike.2 s p)
 
-path_under-alike : {T U : Type 0} (xs : List (Frame T)) (ys : List (Frame U)) (parent : Option ℕ) (s : ℕ) → AreAlike xs ys → path_under ys parent s ≡ path_under xs parent s
-path_under-alike xs ys parent s h5 = grind (arith, path_in-alike)
+  path_under-alike : (xs : List (Frame T)) (ys : List (Frame U)) (parent : Option ℕ) (s : ℕ) → AreAlike xs ys → path_under ys parent s ≡ path_under xs parent s
+  path_under-alike xs ys parent s h5 = grind (arith, path_in-alike)
 
-has_parent-alike : {T U : Type 0} (xs : List (Frame T)) (ys : List (Frame U)) (parent : Option ℕ) → AreAlike xs ys → has_parent ys parent ≡ has_parent xs parent
-has_parent-alike xs ys parent h4 = grind (arith, has_frame-alike)
+  has_parent-alike : (xs : List (Frame T)) (ys : List (Frame U)) (parent : Option ℕ) → AreAlike xs ys → has_parent ys parent ≡ has_parent xs parent
+  has_parent-alike xs ys parent h4 = grind (arith, has_frame-alike)
 
-tree-alike-after : {T U : Type 0} (before xs : List (Frame T)) (others ys : List (Frame U)) → AreAlike before others → AreAlike xs ys → IsTreeAfter before xs → IsTreeAfter others ys
-tree-alike-after before [] others [] all alike t = tt
-tree-alike-after before [] others (y ∷ ys) all alike t = absurd alike
-tree-alike-after before (x ∷ xs) others [] all alike t = absurd alike
-tree-alike-after {T} {U} before (x ∷ xs) others (y ∷ ys) all alike t = grind (arith, tree-alike-after (before ++ x ∷ []) xs (others ++ y ∷ []) ys, AllBelow-alike, has_parent-alike, path_under-alike, alike-append)
+  tree-alike-after : (before xs : List (Frame T)) (others ys : List (Frame U)) → AreAlike before others → AreAlike xs ys → IsTreeAfter before xs → IsTreeAfter others ys
+  tree-alike-after before [] others [] all alike t = tt
+  tree-alike-after before [] others (y ∷ ys) all alike t = absurd alike
+  tree-alike-after before (x ∷ xs) others [] all alike t = absurd alike
+  tree-alike-after before (x ∷ xs) others (y ∷ ys) all alike t = grind (arith, tree-alike-after (before ++ x ∷ []) xs (others ++ y ∷ []) ys, AllBelow-alike, has_parent-alike, path_under-alike, alike-append)
 
-pub tree-alike : {T U : Type 0} (xs : List (Frame T)) (ys : List (Frame U)) → AreAlike xs ys → IsTree xs → IsTree ys
-tree-alike xs ys alike t = tree-alike-after [] xs [] ys tt alike t
+  pub tree-alike : (xs : List (Frame T)) (ys : List (Frame U)) → AreAlike xs ys → IsTree xs → IsTree ys
+  tree-alike xs ys alike t = tree-alike-after [] xs [] ys tt alike t
 
 -- another state in a frame
-pub with_state-alike : {T : Type 0} (n : ℕ) (state : State) (xs : List (Frame T)) → AreAlike xs (with_state n state xs)
-with_state-alike n state [] = tt
-with_state-alike {T} n state (x ∷ xs) = grind (arith, with_state-alike n state xs)
+module _ {T : Type 0} (n : ℕ) (state : State) where
+  pub with_state-alike : (xs : List (Frame T)) → AreAlike xs (with_state n state xs)
+  with_state-alike [] = tt
+  with_state-alike (x ∷ xs) = grind (arith, with_state-alike xs)
 
-pub tree-with_state : {T : Type 0} (n : ℕ) (state : State) (xs : List (Frame T)) → IsTree xs → IsTree (with_state n state xs)
-tree-with_state n state xs t = tree-alike xs (with_state n state xs) (with_state-alike n state xs) t
+  pub tree-with_state : (xs : List (Frame T)) → IsTree xs → IsTree (with_state n state xs)
+  tree-with_state xs t = tree-alike xs (with_state n state xs) (with_state-alike xs) t
 
-pub frame_at-with_state : {T : Type 0} (n : ℕ) (state : State) (xs : List (Frame T)) (f : Frame T) → frame_at xs n ≡ Some f → frame_at (with_state n state xs) n ≡ Some (record f { state = state })
-frame_at-with_state n state [] f at = absurd cc
-frame_at-with_state {T} n state (x ∷ xs) f at = grind (arith, frame_at-with_state n state xs f)
+  pub frame_at-with_state : (xs : List (Frame T)) (f : Frame T) → frame_at xs n ≡ Some f → frame_at (with_state n state xs) n ≡ Some (record f { state = state })
+  frame_at-with_state [] f at = absurd cc
+  frame_at-with_state (x ∷ xs) f at = grind (arith, frame_at-with_state xs f)
 
-pub frame_at_other-with_state : {T : Type 0} (n : ℕ) (state : State) (xs : List (Frame T)) (s : ℕ) → n ≢ s → frame_at (with_state n state xs) s ≡ frame_at xs s
-frame_at_other-with_state n state [] s other = refl
-frame_at_other-with_state n state (x ∷ xs) s other = grind (arith, frame_at_other-with_state n state xs s other)
+  pub frame_at_other-with_state : (xs : List (Frame T)) (s : ℕ) → n ≢ s → frame_at (with_state n state xs) s ≡ frame_at xs s
+  frame_at_other-with_state [] s other = refl
+  frame_at_other-with_state (x ∷ xs) s other = grind (arith, frame_at_other-with_state xs s other)
 
--- the frames that pass a test on paths
-paths-with_state : {T : Type 0} (n : ℕ) (state : State) (p : List ℕ → Bool) (xs : List (Frame T)) → filter (λ x. p x.path) (with_state n state xs) ≡ with_state n state (filter (λ x. p x.path) xs)
-paths-with_state n state p [] = refl
-paths-with_state {T} n state p (x ∷ xs) = grind (arith, paths-with_state n state p xs)
+  -- the frames that pass a test on paths
+  paths-with_state : (p : List ℕ → Bool) (xs : List (Frame T)) → filter (λ x. p x.path) (with_state n state xs) ≡ with_state n state (filter (λ x. p x.path) xs)
+  paths-with_state p [] = refl
+  paths-with_state p (x ∷ xs) = grind (arith, paths-with_state p xs)
 
-pub values_of-with_state : {T : Type 0} (n : ℕ) (state : State) (xs : List (Frame T)) → values_of (with_state n state xs) ≡ values_of xs
-values_of-with_state n state [] = refl
-values_of-with_state {T} n state (x ∷ xs) = grind (arith, values_of-with_state n state xs)
+  pub values_of-with_state : (xs : List (Frame T)) → values_of (with_state n state xs) ≡ values_of xs
+  values_of-with_state [] = refl
+  values_of-with_state (x ∷ xs) = grind (arith, values_of-with_state xs)
 
-pub children_of-with_state : {T : Type 0} (n : ℕ) (state : State) (xs : List (Frame T)) (s : ℕ) → IsTree xs → children_of (with_state n state xs) s ≡ with_state n state (children_of xs s)
-children_of-with_state n state xs s t =
-    children-by-paths (with_state n state xs) s (tree-with_state n state xs t) ∙ paths-with_state n state (is_child_of s) xs ∙ sym (ap (with_state n state) (children-by-paths xs s t))
+  pub children_of-with_state : (xs : List (Frame T)) (s : ℕ) → IsTree xs → children_of (with_state n state xs) s ≡ with_state n state (children_of xs s)
+  children_of-with_state xs s t =
+      children-by-paths (with_state n state xs) s (tree-with_state xs t) ∙ paths-with_state (is_child_of s) xs ∙ sym (ap (with_state n state) (children-by-paths xs s t))
 
 -- other values: everything is as before, with the values changed
-pub map_values-alike : {T U : Type 0} (change : T → U) (xs : List (Frame T)) → AreAlike xs (map_values change xs)
-map_values-alike change [] = tt
-map_values-alike change (x ∷ xs) = (refl, refl, map_values-alike change xs)
+module _ {T U : Type 0} (change : T → U) where
+  pub map_values-alike : (xs : List (Frame T)) → AreAlike xs (map_values change xs)
+  map_values-alike [] = tt
+  map_values-alike (x ∷ xs) = (refl, refl, map_values-alike xs)
 
-back-alike : {T U : Type 0} (change : T → U) (xs : List (Frame T)) → AreAlike (map_values change xs) xs
-back-alike change [] = tt
-back-alike change (x ∷ xs) = (refl, refl, back-alike change xs)
+  back-alike : (xs : List (Frame T)) → AreAlike (map_values change xs) xs
+  back-alike [] = tt
+  back-alike (x ∷ xs) = (refl, refl, back-alike xs)
 
-pub tree-map_values : {T U : Type 0} (change : T → U) (xs : List (Frame T)) → IsTree xs → IsTree (map_values change xs)
-tree-map_values change xs t = tree-alike xs (map_values change xs) (map_values-alike change xs) t
+  pub tree-map_values : (xs : List (Frame T)) → IsTree xs → IsTree (map_values change xs)
+  tree-map_values xs t = tree-alike xs (map_values change xs) (map_values-alike xs) t
 
-pub tree-from-map_values : {T U : Type 0} (change : T → U) (xs : List (Frame T)) → IsTree (map_values change xs) → IsTree xs
-tree-from-map_values change xs t = tree-alike (map_values change xs) xs (back-alike change xs) t
+  pub tree-from-map_values : (xs : List (Frame T)) → IsTree (map_values change xs) → IsTree xs
+  tree-from-map_values xs t = tree-alike (map_values change xs) xs (back-alike xs) t
 
-pub path_in-map_values : {T U : Type 0} (change : T → U) (xs : List (Frame T)) (s : ℕ) → path_in (map_values change xs) s ≡ path_in xs s
-path_in-map_values change xs s = path_in-alike xs (map_values change xs) s (map_values-alike change xs)
+  pub path_in-map_values : (xs : List (Frame T)) (s : ℕ) → path_in (map_values change xs) s ≡ path_in xs s
+  path_in-map_values xs s = path_in-alike xs (map_values change xs) s (map_values-alike xs)
 
-pub has_frame-map_values : {T U : Type 0} (change : T → U) (xs : List (Frame T)) (s : ℕ) → has_frame (map_values change xs) s ≡ has_frame xs s
-has_frame-map_values change xs s = has_frame-alike xs (map_values change xs) s (map_values-alike change xs)
+  pub has_frame-map_values : (xs : List (Frame T)) (s : ℕ) → has_frame (map_values change xs) s ≡ has_frame xs s
+  has_frame-map_values xs s = has_frame-alike xs (map_values change xs) s (map_values-alike xs)
 
-pub frame_at-map_values : {T U : Type 0} (change : T → U) (xs : List (Frame T)) (s : ℕ) → frame_at (map_values change xs) s ≡ option_map (map_value change) (frame_at xs s)
-frame_at-map_values change [] s = refl
-frame_at-map_values change (x ∷ xs) s = elim (cases_Bool (eqb x.serial s)) [ inl same ↦ rw same refl | inr other ↦ rw other (frame_at-map_values change xs s) ]
+  pub frame_at-map_values : (xs : List (Frame T)) (s : ℕ) → frame_at (map_values change xs) s ≡ option_map (map_value change) (frame_at xs s)
+  frame_at-map_values [] s = refl
+  frame_at-map_values (x ∷ xs) s = elim (cases_Bool (eqb x.serial s)) [ inl same ↦ rw same refl | inr other ↦ rw other (frame_at-map_values xs s) ]
 
 pub append-map_values : {T U : Type 0} (change : T → U) (xs ys : List (Frame T)) → map_values change (xs ++ ys) ≡ map_values change xs ++ map_values change ys
 append-map_values change [] ys = refl
 append-map_values {T} {U} change (x ∷ xs) ys = ap (λ (zs : List (Frame U)). map_value change x ∷ zs) (append-map_values change xs ys)
 
-paths-map_values : {T U : Type 0} (change : T → U) (p : List ℕ → Bool) (xs : List (Frame T)) → filter (λ x. p x.path) (map_values change xs) ≡ map_values change (filter (λ x. p x.path) xs)
-paths-map_values change p [] = refl
-paths-map_values {T} {U} change p (x ∷ xs) = grind (arith, paths-map_values change p xs)
+module _ {T U : Type 0} (change : T → U) where
+  paths-map_values : (p : List ℕ → Bool) (xs : List (Frame T)) → filter (λ x. p x.path) (map_values change xs) ≡ map_values change (filter (λ x. p x.path) xs)
+  paths-map_values p [] = refl
+  paths-map_values p (x ∷ xs) = grind (arith, paths-map_values p xs)
 
-pub aborted-map_values : {T U : Type 0} (change : T → U) (s : ℕ) (xs : List (Frame T)) → aborted s (map_values change xs) ≡ map_values change (aborted s xs)
-aborted-map_values change s xs = paths-map_values change (λ path. not (goes_under s path)) xs
+  pub aborted-map_values : (s : ℕ) (xs : List (Frame T)) → aborted s (map_values change xs) ≡ map_values change (aborted s xs)
+  aborted-map_values s xs = paths-map_values (λ path. not (goes_under s path)) xs
 
-pub frames_under-map_values : {T U : Type 0} (change : T → U) (s : ℕ) (xs : List (Frame T)) → frames_under s (map_values change xs) ≡ map_values change (frames_under s xs)
-frames_under-map_values change s xs = paths-map_values change (λ path. goes_under s path) xs
+  pub frames_under-map_values : (s : ℕ) (xs : List (Frame T)) → frames_under s (map_values change xs) ≡ map_values change (frames_under s xs)
+  frames_under-map_values s xs = paths-map_values (λ path. goes_under s path) xs
 
-pub frames_without-map_values : {T U : Type 0} (change : T → U) (s : ℕ) (xs : List (Frame T)) → frames_without s (map_values change xs) ≡ map_values change (frames_without s xs)
-frames_without-map_values change s [] = refl
-frames_without-map_values {T} {U} change s (x ∷ xs) = grind (arith, frames_without-map_values change s xs)
+module _ {T U : Type 0} (change : T → U) where
+  pub frames_without-map_values : (s : ℕ) (xs : List (Frame T)) → frames_without s (map_values change xs) ≡ map_values change (frames_without s xs)
+  frames_without-map_values s [] = refl
+  frames_without-map_values s (x ∷ xs) = grind (arith, frames_without-map_values s xs)
 
-pub children_of-map_values : {T U : Type 0} (change : T → U) (xs : List (Frame T)) (s : ℕ) → children_of (map_values change xs) s ≡ map_values change (children_of xs s)
-children_of-map_values {T} {U} change xs s = ap (λ o. children_under o (map_values change xs)) (frame_at-map_values change xs s) ∙ by (frame_at xs s)
-  where
-    by : (o : Option (Frame T)) → children_under (option_map (map_value change) o) (map_values change xs) ≡ map_values change (children_under o xs)
-    by None = refl
-    by (Some f) = paths-map_values change (is_one_more f.path) xs
+  pub children_of-map_values : (xs : List (Frame T)) (s : ℕ) → children_of (map_values change xs) s ≡ map_values change (children_of xs s)
+  children_of-map_values xs s = ap (λ o. children_under o (map_values change xs)) (frame_at-map_values change xs s) ∙ by (frame_at xs s)
+    where
+      by : (o : Option (Frame T)) → children_under (option_map (map_value change) o) (map_values change xs) ≡ map_values change (children_under o xs)
+      by None = refl
+      by (Some f) = paths-map_values change (is_one_more f.path) xs
 
-pub with_state-map_values : {T U : Type 0} (change : T → U) (n : ℕ) (state : State) (xs : List (Frame T)) → with_state n state (map_values change xs) ≡ map_values change (with_state n state xs)
-with_state-map_values change n state [] = refl
-with_state-map_values {T} {U} change n state (x ∷ xs) = grind (arith, with_state-map_values change n state xs)
+  pub with_state-map_values : (n : ℕ) (state : State) (xs : List (Frame T)) → with_state n state (map_values change xs) ≡ map_values change (with_state n state xs)
+  with_state-map_values n state [] = refl
+  with_state-map_values n state (x ∷ xs) = grind (arith, with_state-map_values n state xs)
 
-pub new_frame-map_values : {T U : Type 0} (change : T → U) (xs : List (Frame T)) (serial : ℕ) (parent : Option ℕ) (home : ℕ) (value : T) →
-    new_frame (map_values change xs) serial parent home (change value) ≡ map_value change (new_frame xs serial parent home value)
-new_frame-map_values change xs serial parent home value = grind (arith, path_under-alike, map_values-alike)
+  pub new_frame-map_values : (xs : List (Frame T)) (serial : ℕ) (parent : Option ℕ) (home : ℕ) (value : T) →
+      new_frame (map_values change xs) serial parent home (change value) ≡ map_value change (new_frame xs serial parent home value)
+  new_frame-map_values xs serial parent home value = grind (arith, path_under-alike, map_values-alike)
 
 pub values_of-map_values : {T U : Type 0} (change : T → U) (xs : List (Frame T)) → values_of (map_values change xs) ≡ map change (values_of xs)
 values_of-map_values change [] = refl
 values_of-map_values {T} {U} change (x ∷ xs) = ap (λ (vs : List U). change x.value ∷ vs) (values_of-map_values change xs)
+
+-- what a frame more, another state and other values leave
+pub ruleset root_laws = (root-there, under-root)
+
+pub ruleset push_laws = (frame_at-push, frame_at_other-push, tree-new_frame, new-frame-next, parent_of-path_under, children_of-push)
+
+pub ruleset state_laws = (tree-with_state, frame_at-with_state, frame_at_other-with_state, children_of-with_state, values_of-with_state)
+
+pub ruleset value_laws = (tree-map_values, tree-from-map_values, frame_at-map_values, has_frame-map_values, path_in-map_values, children_of-map_values, frames_under-map_values, aborted-map_values, frames_without-map_values, with_state-map_values, append-map_values, new_frame-map_values, values_of-map_values)

@@ -9,6 +9,7 @@ ghost use Rattle.frame_tree.specs.declared.names.State.{State};
 /// What holds of each frame of a tree: no other has its serial; its path is its parent's path and its serial,
 /// or for a root its serial alone; its parent is there, with a lower serial, and so is its root; and its
 /// children are the frames in whose paths its serial is the last but one.
+#[tactic(auto, using(crate::proofs::TreeLaws::parent_laws, crate::proofs::TreeValues::root_laws))]
 pub fn frames_stand_under_parents<T>()
     ensures rising { (frames : List (Frame T)) → IsTree frames → AreSerialsRising frames }
     ensures serial { (frames : List (Frame T)) (s : ℕ) (frame : Frame T) → frame_at frames s ≡ Some frame → frame.serial ≡ s }
@@ -22,6 +23,7 @@ pub fn frames_stand_under_parents<T>()
 
 /// No frame is under itself. A child is under its parent, under all frames that its parent is under, and under
 /// its root.
+#[tactic(auto, using(crate::proofs::TreeChanges::under_laws, crate::proofs::TreeValues::root_laws))]
 pub fn children_go_where_parents_go<T>()
     ensures itself { (frames : List (Frame T)) (s : ℕ) (frame : Frame T) → IsTree frames → frame_at frames s ≡ Some frame → goes_under s frame.path ≡ false }
     ensures child { (frames : List (Frame T)) (p s : ℕ) (frame : Frame T) → IsTree frames → frame_at frames s ≡ Some frame → is_child_of p frame.path ≡ true → goes_under p frame.path ≡ true }
@@ -31,6 +33,7 @@ pub fn children_go_where_parents_go<T>()
 
 /// An abort at a frame leaves a tree: the frame stays, without a child, and each frame that isn't under it
 /// stays as it was.
+#[tactic(auto, using(crate::proofs::TreeChanges::abort_laws))]
 pub fn aborts_leave_a_leaf<T>()
     ensures tree { (frames : List (Frame T)) (p : ℕ) → IsTree frames → IsTree (aborted p frames) }
     ensures found { (frames : List (Frame T)) (p s : ℕ) → IsTree frames → frame_at (aborted p frames) s ≡ if_kept (λ frame. not (goes_under p frame.path)) (frame_at frames s) }
@@ -40,6 +43,7 @@ pub fn aborts_leave_a_leaf<T>()
 
 /// A tree stays a tree where a frame without a child is removed, and where a frame is removed with all that are
 /// under it. The frame is gone then; without it the others are found as before.
+#[tactic(auto, using(crate::proofs::TreeChanges::removal_laws))]
 pub fn leaves_and_jobs_can_be_removed<T>()
     ensures leaf { (frames : List (Frame T)) (p : ℕ) → IsTree frames → children_of frames p ≡ [] → IsTree (frames_without p frames) }
     ensures with_all { (frames : List (Frame T)) (p : ℕ) → IsTree frames → IsTree (frames_without p (aborted p frames)) }
@@ -49,6 +53,7 @@ pub fn leaves_and_jobs_can_be_removed<T>()
 
 /// A tree stays a tree where a frame is added whose serial is above all, as a root or under a frame that is
 /// there: it is then the last child of its parent, and the others are found as before.
+#[tactic(auto, using(crate::proofs::TreeValues::push_laws))]
 pub fn frames_can_be_added<T>()
     ensures tree { (frames : List (Frame T)) (serial : ℕ) (parent : Option ℕ) (home : ℕ) (value : T) → IsTree frames → AllBelow serial frames → has_parent frames parent ≡ true →
         IsTree (frames ++ new_frame frames serial parent home value ∷ []) }
@@ -61,6 +66,7 @@ pub fn frames_can_be_added<T>()
 
 /// Putting a frame into another state changes nothing but that state: not the tree, the other frames, who is
 /// whose child, nor any value.
+#[tactic(auto, using(crate::proofs::TreeValues::state_laws))]
 pub fn states_change_alone<T>()
     ensures tree { (frames : List (Frame T)) (n : ℕ) (state : State) → IsTree frames → IsTree (with_state n state frames) }
     ensures itself { (frames : List (Frame T)) (n : ℕ) (state : State) (frame : Frame T) → frame_at frames n ≡ Some frame → frame_at (with_state n state frames) n ≡ Some (record frame { state = state }) }
@@ -71,6 +77,7 @@ pub fn states_change_alone<T>()
 
 /// Applying a function to the value of each frame leaves the tree as it is, and may be done before or after a
 /// look-up or a change of the tree, with the same result.
+#[tactic(auto, using(crate::proofs::TreeValues::value_laws))]
 pub fn values_change_alone<T, U>()
     ensures tree { (change : T → U) (frames : List (Frame T)) → IsTree frames → IsTree (map_values change frames) }
     ensures from_tree { (change : T → U) (frames : List (Frame T)) → IsTree (map_values change frames) → IsTree frames }

@@ -1,9 +1,13 @@
 -- Where the thing of a number stands in a list that rises.
-use Rattle.std.proofs.Common.{◌≡◌, ◌≢◌, ℕ, zero, suc, ◌<◌, ◌≤◌, true, false, ltb, List, [], ◌∷◌, length, get_or, Some, None, refl, ap, arith}
+use Rattle.std.proofs.Common.{◌≡◌, ◌≢◌, ℕ, zero, suc, ◌<◌, ◌≤◌, true, false, ltb, List, [], ◌∷◌, length, get_or, Some, None, refl, ap, arith, ◌+◌, ◌-◌, ◌%◌, ◌^◌, bit_and, length-set}
 use Rattle.std.proofs.lemmas.Bool.{ltb-true, ltb-false, lt-ltb, eq-eqb, ne_eqb}
-use Rattle.std.proofs.lemmas.List.{get_or_default}
+use Rattle.std.proofs.lemmas.List.{get_or_default, get_or-set_same}
 use Rattle.std.specs.List.Sorted.{IsPartitionedBy, IsPartitionPoint}
 use Rattle.number_index.specs.Places.{count_below, find_by_number, AreAbove, AreRising}
+use Rattle.std.specs.Int.{IsPowerOfTwo}
+use Rattle.std.proofs.Math.Nat.{mod-lt, mod-eq_of_lt}
+use Rattle.std.proofs.lemmas.Nat.{and_mask}
+use Rattle.number_index.specs.Guesses.{guess_of, with_guess}
 
 pub above-at : {X : Type 0} (number_of : X → ℕ) (n : ℕ) (xs : List X) (k : ℕ) (d : X) → AreAbove number_of n xs → k < length xs → n < number_of (get_or xs k d)
 above-at number_of n [] k d above lt = absurd (omega arith)
@@ -11,12 +15,13 @@ above-at number_of n (x ∷ xs) zero d above lt = above.0
 above-at number_of n (x ∷ xs) (suc k) d above lt = above-at number_of n xs k d above.1 (omega arith)
 
 -- the first number is below this one, or it is not
-pub count_below-cases : {X : Type 0} (number_of : X → ℕ) (n : ℕ) (x : X) (xs : List X) (P : ℕ → Type 0) → (number_of x < n → P (suc (count_below number_of n xs))) → (n ≤ number_of x → P 0) → P (count_below number_of n (x ∷ xs))
-count_below-cases number_of n x xs P below above = grind (arith, ltb-true, ltb-false)
+module _ {X : Type 0} (number_of : X → ℕ) (n : ℕ) where
+  pub count_below-cases : (x : X) (xs : List X) (P : ℕ → Type 0) → (number_of x < n → P (suc (count_below number_of n xs))) → (n ≤ number_of x → P 0) → P (count_below number_of n (x ∷ xs))
+  count_below-cases x xs P below above = grind (arith, ltb-true, ltb-false)
 
-pub count_below-le-length : {X : Type 0} (number_of : X → ℕ) (n : ℕ) (xs : List X) → count_below number_of n xs ≤ length xs
-count_below-le-length number_of n [] = omega arith
-count_below-le-length number_of n (x ∷ xs) = count_below-cases number_of n x xs (λ i. i ≤ suc (length xs)) (λ _. omega (arith, count_below-le-length number_of n xs)) (λ _. omega arith)
+  pub count_below-le-length : (xs : List X) → count_below number_of n xs ≤ length xs
+  count_below-le-length [] = omega arith
+  count_below-le-length (x ∷ xs) = count_below-cases x xs (λ i. i ≤ suc (length xs)) (λ _. omega (arith, count_below-le-length xs)) (λ _. omega arith)
 
 -- where a later number is below this one, so are those before it
 pub partitioned-rising : {X : Type 0} (number_of : X → ℕ) (n : ℕ) (xs : List X) → AreRising number_of xs → IsPartitionedBy (λ x. ltb (number_of x) n) xs
@@ -47,31 +52,52 @@ count_below-found number_of n (x ∷ xs) zero d rising within own = count_below-
 count_below-found number_of n (x ∷ xs) (suc i) d rising within own = grind (arith, count_below-found number_of n xs i d rising.1, above-at, count_below-cases)
 
 -- a thing of this number that stands there is the one that is found
-pub find_by_number-found : {X : Type 0} (number_of : X → ℕ) (n : ℕ) (xs : List X) (i : ℕ) (x : X) → AreRising number_of xs → i < length xs → x ≡ get_or xs i x → number_of x ≡ n → find_by_number number_of n xs ≡ Some x
-find_by_number-found number_of n [] i x rising within at own = absurd (omega arith)
-find_by_number-found number_of n (y ∷ ys) zero x rising within at own = grind (arith, eq-eqb)
-find_by_number-found number_of n (y ∷ ys) (suc i) x rising within at own = grind (arith, find_by_number-found number_of n ys i x rising.1, above-at, ne_eqb)
+module _ {X : Type 0} (number_of : X → ℕ) (n : ℕ) where
+  pub find_by_number-found : (xs : List X) (i : ℕ) (x : X) → AreRising number_of xs → i < length xs → x ≡ get_or xs i x → number_of x ≡ n → find_by_number number_of n xs ≡ Some x
+  find_by_number-found [] i x rising within at own = absurd (omega arith)
+  find_by_number-found (y ∷ ys) zero x rising within at own = grind (arith, eq-eqb)
+  find_by_number-found (y ∷ ys) (suc i) x rising within at own = grind (arith, find_by_number-found ys i x rising.1, above-at, ne_eqb)
 
--- what is above a number is not of it
-find_by_number-above : {X : Type 0} (number_of : X → ℕ) (n m : ℕ) (xs : List X) → n ≤ m → AreAbove number_of m xs → find_by_number number_of n xs ≡ None
-find_by_number-above number_of n m [] le above = refl
-find_by_number-above number_of n m (x ∷ xs) le above = grind (arith, find_by_number-above number_of n m xs le above.1, ne_eqb)
+  -- what is above a number is not of it
+  find_by_number-above : (m : ℕ) (xs : List X) → n ≤ m → AreAbove number_of m xs → find_by_number number_of n xs ≡ None
+  find_by_number-above m [] le above = refl
+  find_by_number-above m (x ∷ xs) le above = grind (arith, find_by_number-above m xs le above.1, ne_eqb)
 
--- where another thing stands at the place, or none, there is none of this number
-pub find_by_number-absent : {X : Type 0} (number_of : X → ℕ) (n : ℕ) (xs : List X) → AreRising number_of xs → ((d : X) → count_below number_of n xs < length xs → number_of (get_or xs (count_below number_of n xs) d) ≢ n) → find_by_number number_of n xs ≡ None
-find_by_number-absent number_of n [] rising other = refl
-find_by_number-absent number_of n (x ∷ xs) rising other =
-    count_below-cases number_of n x xs (λ i. ((d : _) → i < suc (length xs) → number_of (get_or (x ∷ xs) i d) ≢ n) → find_by_number number_of n (x ∷ xs) ≡ None)
-    (λ below others. rw (ne_eqb (number_of x) n (omega arith)) (find_by_number-absent number_of n xs rising.1 (λ d within. others d (omega arith))))
-    (λ above others. rw (ne_eqb (number_of x) n (others x (omega arith))) (find_by_number-above number_of n (number_of x) xs above rising.0)) other
+  -- where another thing stands at the place, or none, there is none of this number
+  pub find_by_number-absent : (xs : List X) → AreRising number_of xs → ((d : X) → count_below number_of n xs < length xs → number_of (get_or xs (count_below number_of n xs) d) ≢ n) → find_by_number number_of n xs ≡ None
+  find_by_number-absent [] rising other = refl
+  find_by_number-absent (x ∷ xs) rising other =
+      count_below-cases number_of n x xs (λ i. ((d : _) → i < suc (length xs) → number_of (get_or (x ∷ xs) i d) ≢ n) → find_by_number number_of n (x ∷ xs) ≡ None)
+      (λ below others. rw (ne_eqb (number_of x) n (omega arith)) (find_by_number-absent xs rising.1 (λ d within. others d (omega arith))))
+      (λ above others. rw (ne_eqb (number_of x) n (others x (omega arith))) (find_by_number-above (number_of x) xs above rising.0)) other
 
 -- what was read at the place
 
-pub find_by_number-read : {X : Type 0} (number_of : X → ℕ) (n : ℕ) (xs : List X) (i : ℕ) (x again : X) → AreRising number_of xs → i < length xs → x ≡ get_or xs i x → again ≡ get_or xs i again → number_of x ≡ n → Some again ≡ find_by_number number_of n xs
-find_by_number-read number_of n xs i x again rising within at at_again own = grind (arith, get_or_default, find_by_number-found)
+module _ {X : Type 0} (number_of : X → ℕ) (n : ℕ) (xs : List X) (i : ℕ) where
+  pub find_by_number-read : (x again : X) → AreRising number_of xs → i < length xs → x ≡ get_or xs i x → again ≡ get_or xs i again → number_of x ≡ n → Some again ≡ find_by_number number_of n xs
+  find_by_number-read x again rising within at at_again own = grind (arith, get_or_default, find_by_number-found)
 
-pub find_by_number-other : {X : Type 0} (number_of : X → ℕ) (n : ℕ) (xs : List X) (i : ℕ) (x : X) → AreRising number_of xs → i ≡ count_below number_of n xs → i < length xs → x ≡ get_or xs i x → number_of x ≢ n → find_by_number number_of n xs ≡ None
-find_by_number-other number_of n xs i x rising place within at other = grind (arith, find_by_number-absent, get_or_default)
+  pub find_by_number-other : (x : X) → AreRising number_of xs → i ≡ count_below number_of n xs → i < length xs → x ≡ get_or xs i x → number_of x ≢ n → find_by_number number_of n xs ≡ None
+  find_by_number-other x rising place within at other = grind (arith, find_by_number-absent, get_or_default)
 
-pub find_by_number-past : {X : Type 0} (number_of : X → ℕ) (n : ℕ) (xs : List X) (i : ℕ) → AreRising number_of xs → i ≡ count_below number_of n xs → length xs ≤ i → find_by_number number_of n xs ≡ None
-find_by_number-past number_of n xs i rising place past = find_by_number-absent number_of n xs rising (λ d below own. absurd (omega arith))
+  pub find_by_number-past : AreRising number_of xs → i ≡ count_below number_of n xs → length xs ≤ i → find_by_number number_of n xs ≡ None
+  find_by_number-past rising place past = find_by_number-absent number_of n xs rising (λ d below own. absurd (omega arith))
+
+-- a mask of ones takes the remainder
+pub masked : (number mask count : ℕ) → mask + 1 ≡ count → IsPowerOfTwo count → bit_and number mask ≡ number % count
+masked number mask count h (k, e) =
+    let m : mask ≡ 2 ^ k - 1 = omega arith in
+    rw (m, e) (and_mask number k)
+
+-- the lowest 32 bits
+pub low_bits : (place : ℕ) → bit_and place 4294967295 ≡ place % 2 ^ 32
+low_bits place = and_mask place 32
+
+-- what stands at the remainder is the guess
+pub guessed : (places : List ℕ) (number found : ℕ) → 0 < length places → found ≡ get_or places (number % length places) found → found ≡ guess_of places number
+guessed places number found some h = grind (arith, get_or_default, mod-lt)
+
+-- what is put down for a number is its guess
+pub found_again : (places : List ℕ) (number place : ℕ) → 0 < length places → place < 2 ^ 32 → guess_of (with_guess places number place) number ≡ place
+found_again places number place some small =
+    rw (length-set, mod-eq_of_lt small) (get_or-set_same places (number % length places) place 0 (mod-lt number some))

@@ -1,24 +1,18 @@
 -- A tenant is admitted: an account, places and a ledger of its own, after all others, and nothing else.
-use Rattle.std.proofs.Common.{◌≡◌, ◌≢◌, ℕ, ◌+◌, ◌^◌, ◌<◌, ◌≤◌, inl, inr, false, List, [], ◌∷◌, ◌++◌, length, Some, None, refl, ap, sym, ◌∙◌, subst, arith}
-use Rattle.std.proofs.Math.Dec.{ltb, leb}
-use Rattle.std.proofs.lemmas.Bool.{cases_eq, ne_eqb, leb-false, ltb-false, or_parts, lt-ltb}
-use Rattle.cactus_stack.specs.Nodes.{Nodes}
-use Rattle.tenant_quota.specs.Quota.{Quota}
-use Rattle.tenant_quota.specs.Accounts.{owner_of_account, account_of, fresh, with_new}
-use Rattle.tenant_quota.specs.Reservations.{Reservations, IsSoundBook, HasRoom, Admits, KeepsOtherAccounts}
-use Rattle.tenant_quota.specs.declared.account.Account.{Account}
-use Rattle.frame_tree.specs.Frames.{Frame, frame_at, AllBelow, TenantTree}
-use Rattle.frame_tree.specs.Tables.{frames_of, places_of, tenant_count, KeepsOtherTenants}
-use Rattle.sched_rules.specs.Trees.{Tenant, admitted_with, charged_for}
-use Rattle.sched_rules.specs.Cores.{CoreState, is_full, reservations_in}
-use Rattle.sched_store.specs.Changes.{with_admitted}
-use Rattle.sched_store.specs.Ledgers.{JobLedger, owner_of_ledger, jobs_of, numbers_of, is_there}
-use Rattle.sched_store.specs.Parts.{Parts, with_words_of_nodes, tenant_from, tenants_from, shared_of}
-use Rattle.sched_store.specs.Stored.{IsStored, IsAccountFor, AreFramesNodes, IsFrameNode, numbers_in, AreAtMost, frame_in_trees, node_of}
-use Rattle.number_index.specs.Places.{inserted}
+use Rattle.std.proofs.Common.{◌≡◌, ◌≢◌, ℕ, ◌+◌, ◌^◌, ◌<◌, ◌≤◌, inl, inr, false, List, [], ◌∷◌, ◌++◌, length, Some, None, refl, ap, sym, ◌∙◌, subst, arith, Option, option_map, zero, suc, replicate, sum_by, IsSome}
+use Rattle.sched_store.proofs.Common.{Account, FrameId, ltb, leb, inserted, IsAboveOwn, sum_by-cons, with_admitted, AllEntries-of, Quota, IsAbove}
+use Rattle.sched_store.proofs.Common.{length-replicate, on_tenant, with_reserve, Tenant, admitted_with, charged_for, Nodes, node_at, charge_of, total_charge}
+use Rattle.sched_store.proofs.Common.{Frame, frame_at, AllBelow, TenantTree, IsTree, frames_of, places_of, tenant_count, KeepsOtherTenants, JobLedger}
+use Rattle.sched_store.proofs.Common.{owner_of_ledger, jobs_of, numbers_of, is_there, Parts, with_words_of_nodes, tenant_from, tenants_from, shared_of}
+use Rattle.sched_store.proofs.Common.{cases_eq, ne_eqb, leb-false, ltb-false, or_parts, lt-ltb, false≢true, CoreState, is_full, reservations_in, tenant_in}
+use Rattle.sched_store.proofs.Common.{reserved_by, is_beyond, owner_of_account, account_of, fresh, with_new, raised_to, IsWithinReserve, IsStored, IsAccountFor}
+use Rattle.sched_store.proofs.Common.{AreFramesNodes, IsFrameNode, numbers_in, AreAtMost, frame_in_trees, node_of, Reservations, IsSoundBook, HasRoom, Admits}
+use Rattle.sched_store.proofs.Common.{KeepsOtherAccounts, HasRoomFor, CanRaise, Raises, empty_of}
 use Rattle.number_index.proofs.Edits.{said-inserted_own, said-inserted_other}
-use Rattle.sched_store.proofs.Lookups.{reservations-found}
-use Rattle.sched_store.proofs.Numbers.{length-numbers, numbers-inserted, no-ledger}
+use Rattle.sched_store.proofs.Lookups.{reservations-found, tenant-found, length-numbers, numbers-inserted, no-ledger}
+use Rattle.std.proofs.lemmas.Bool.Decides.{nat_tests}
+use Rattle.sched_rules.specs.Lone.{is_lower}
+use Rattle.sched_store.proofs.Steps.{TenantStep, step-stored, step-shared}
 
 abbrev Entries : Type 0
 Entries = List (ℕ × Account)
@@ -70,12 +64,14 @@ new-last : (newest number : ℕ) (account : Account) (entries : Entries) → Are
 new-last newest number account [] most newer = refl
 new-last newest number account (entry ∷ entries) most newer = grind (arith, new-last newest number account entries most.1 newer, lt-ltb)
 
-accounts-after : (parts : Parts) (trees : List (TenantTree ℕ)) (ledger : JobLedger) (book : Reservations) (number : ℕ) (quota : Quota) → IsStored parts → IsAdmitted parts trees ledger book number quota → book.accounts ≡ parts.book.accounts ++ (number, fresh quota) ∷ []
-accounts-after parts trees ledger book number quota stored is = grind (arith, new-last)
+module _ (parts : Parts) (trees : List (TenantTree ℕ)) (ledger : JobLedger) (book : Reservations) (number : ℕ) (quota : Quota) (stored : IsStored parts)
+    (is : IsAdmitted parts trees ledger book number quota) where
+  accounts-after : book.accounts ≡ parts.book.accounts ++ (number, fresh quota) ∷ []
+  accounts-after = grind (arith, new-last)
 
--- no tenant's frames change
-same-frames : (parts : Parts) (trees : List (TenantTree ℕ)) (ledger : JobLedger) (book : Reservations) (number : ℕ) (quota : Quota) → IsStored parts → IsAdmitted parts trees ledger book number quota → (other : ℕ) → frames_of trees other ≡ frames_of parts.trees other
-same-frames parts trees ledger book number quota stored is other = grind (arith, newer-missing)
+  -- no tenant's frames change
+  same-frames : (other : ℕ) → frames_of trees other ≡ frames_of parts.trees other
+  same-frames other = grind (arith, newer-missing)
 
 pub same-belongs : (nodes : Nodes) (trees after : List (TenantTree ℕ)) → ((other : ℕ) → frames_of after other ≡ frames_of trees other) → AreFramesNodes nodes trees → AreFramesNodes nodes after
 same-belongs nodes trees after same belong = record {
@@ -158,9 +154,167 @@ admit-shared parts trees ledger book number quota stored is =
     let mine : tenant_from after number (fresh quota) ≡ admitted_with quota = rw (jobs, is.frames) refl in
     let tenants = tenants-pushed parts after parts.newest number (fresh quota) parts.book.accounts stored.taken is.newer others ∙ ap (λ (t : Tenant). tenants_from parts parts.book.accounts ++ (number, t) ∷ []) mine in
     let whole = ap (tenants_from after) (accounts-after parts trees ledger book number quota stored is) ∙ tenants in
-    let segments = is.others.segments in
-    let nodes = is.others.nodes in
-    rw (segments, nodes) (ap (λ (entries : List (ℕ × Tenant)). with-entries entries) whole)
+    rw (is.others.segments, is.others.nodes) (ap (λ (entries : List (ℕ × Tenant)). with-entries entries) whole)
   where
     with-entries : List (ℕ × Tenant) → CoreState
     with-entries entries = record { totals = record { segments = parts.book.segments; nodes = parts.book.nodes }; newest = number; tenants = entries }
+
+-- A tenant's reservation is raised: its account and its places, and nothing else.
+
+-- a reservation that isn't lower is above
+not-lower : (own quota : Quota) → is_lower own quota ≡ false → IsAbove own quota
+not-lower own quota is = grind (arith, nat_tests)
+
+-- and one that isn't beyond has room
+not-beyond : (book : Reservations) (own quota : Quota) → is_beyond book own quota ≡ false → HasRoomFor book own quota
+not-beyond book own quota is = grind (arith, nat_tests)
+
+-- what can be raised
+pub record CanBeRaised (parts : Parts) (number : ℕ) (quota : Quota) : Type 0 where
+  pub account : Account
+  pub there : account_of number parts.book.accounts ≡ Some account
+  pub above : IsAbove account.reserve quota
+  pub room : HasRoomFor parts.book account.reserve quota
+  pub places : places_of parts.trees number ≡ account.reserve.segments
+  pub some : 1 ≤ account.reserve.segments
+
+pub can-be-raised : (parts : Parts) (number : ℕ) (quota : Quota) {core : CoreState} → IsStored parts → shared_of parts ≡ core → IsAboveOwn (tenant_in core.tenants number) quota →
+    is_beyond (reservations_in core) (reserved_by (tenant_in core.tenants number)) quota ≡ false → CanBeRaised parts number quota
+can-be-raised parts number quota stored is own_above own_room = by (account_of number parts.book.accounts) refl
+  where
+    above : IsAboveOwn (tenant_in (shared_of parts).tenants number) quota
+    above = grind arith
+
+    room : is_beyond (reservations_in (shared_of parts)) (reserved_by (tenant_in (shared_of parts).tenants number)) quota ≡ false
+    room = grind arith
+
+    by : (own : Option Account) → account_of number parts.book.accounts ≡ own → CanBeRaised parts number quota
+    by None none = absurd (let nobody = tenant-found parts number ∙ ap (λ (o : Option Account). option_map (tenant_from parts number) o) none in rw nobody at above)
+    by (Some account) there =
+        let found = tenant-found parts number ∙ ap (λ (o : Option Account). option_map (tenant_from parts number) o) there in
+        let not_lower : is_lower account.reserve quota ≡ false = rw found at above in
+        let few : is_beyond (reservations_in (shared_of parts)) account.reserve quota ≡ false = rw found at room in
+        let enough : is_beyond parts.book account.reserve quota ≡ false = subst (λ (b : Reservations). is_beyond b account.reserve quota ≡ false) (reservations-found parts stored) few in
+        let within : IsWithinReserve account = AllEntries-of (λ (e : ℕ × Account). IsWithinReserve e.1) number account parts.book.accounts there (IsSoundBook.within stored.book) in
+        record {
+          account = account;
+          there = there;
+          above = not-lower account.reserve quota not_lower;
+          room = not-beyond parts.book account.reserve quota enough;
+          places = (stored.accounts number account there).places;
+          some = within.some_segments;
+        }
+
+-- so the book allows it
+pub book-raises : (parts : Parts) (number : ℕ) (quota : Quota) → CanBeRaised parts number quota → CanRaise parts.book number quota
+book-raises parts number quota can = rw can.there (can.above, can.room)
+
+-- what was told by the table and the book
+pub record IsRaised (parts : Parts) (trees : List (TenantTree ℕ)) (book : Reservations) (number : ℕ) (quota : Quota) : Type 0 where
+  pub can : CanBeRaised parts number quota
+  pub places : places_of trees number ≡ quota.segments
+  pub frames : frames_of trees number ≡ frames_of parts.trees number
+  pub kept : KeepsOtherTenants parts.trees trees number
+  pub count : tenant_count trees ≡ tenant_count parts.trees
+  pub raises : Raises parts.book book number quota can.account.reserve
+  pub sound : IsSoundBook book
+
+-- the parts after it
+abbrev pub with_more : Parts → List (TenantTree ℕ) → Reservations → Parts
+with_more parts trees book = record parts { trees = trees; book = book }
+
+module _ (parts : Parts) (trees : List (TenantTree ℕ)) (book : Reservations) (number : ℕ) (quota : Quota) (stored : IsStored parts) where
+  raise-step : (is : IsRaised parts trees book number quota) → TenantStep parts (with_more parts trees book) number (raised_to quota) is.can.account
+  raise-step is =
+      let account = is.can.account in
+      let own = stored.accounts number account is.can.there in
+      record {
+        there = is.can.there;
+        sound = is.sound;
+        book = is.raises.whole;
+        trees = is.kept;
+        count = is.count;
+        tree = rw is.frames (stored.forest number);
+        frames_nodes = same-belongs parts.nodes parts.trees trees frames stored.frames_nodes;
+        sized = stored.sized;
+        segments = refl;
+        charges = stored.charges ∙ sym is.raises.charged;
+        own = grind arith;
+        words = λ other differs. refl;
+        ledgers = refl;
+        jobs = λ other differs. refl;
+        workers = stored.workers;
+        places = λ worker owner serial frame at held. stored.places worker owner serial frame (sym (ap (λ (xs : List (Frame ℕ)). frame_at xs serial) (frames owner)) ∙ at) held;
+        newest = refl;
+      }
+    where
+      frames : (other : ℕ) → frames_of trees other ≡ frames_of parts.trees other
+      frames other = elim (cases_eq other number) [
+        | inl here ↦ rw here is.frames
+        | inr differs ↦ is.kept.frames other differs
+      ]
+
+  -- what a store keeps true is true after it
+  pub raise-stored : IsRaised parts trees book number quota → IsStored (with_more parts trees book)
+  raise-stored is =
+      step-stored parts (with_more parts trees book) number (raised_to quota) is.can.account stored (raise-step is)
+
+  -- and the core is the one before with more reserved by that tenant
+  pub raise-shared : IsRaised parts trees book number quota → shared_of (with_more parts trees book) ≡ on_tenant number (with_reserve quota) (shared_of parts)
+  raise-shared is =
+      step-shared parts (with_more parts trees book) number (raised_to quota) is.can.account (with_reserve quota) stored (raise-step is) (rw is.frames refl)
+
+-- A new store: no tenant, no frame, no open node.
+
+none-open : (count node : ℕ) → node_at (replicate count None) node ≡ None
+none-open zero node = refl
+none-open (suc count) zero = refl
+none-open (suc count) (suc node) = none-open count node
+
+none-charged : (count : ℕ) → total_charge (replicate count None) ≡ 0
+none-charged zero = refl
+none-charged (suc count) = omega (arith, sum_by-cons charge_of None (replicate count None), none-charged count)
+
+-- the parts of a new store
+pub record AreNew (nodes : Nodes) (trees : List (TenantTree ℕ)) (ledgers : List JobLedger) (book : Reservations) (segments nodes_in_all : ℕ) : Type 0 where
+  pub stack : nodes ≡ replicate segments None
+  pub empty : book ≡ empty_of segments nodes_in_all
+  pub sound : IsSoundBook book
+  pub count : tenant_count trees ≡ 0
+  pub frames : (tenant : ℕ) → frames_of trees tenant ≡ []
+  pub places : (tenant : ℕ) → places_of trees tenant ≡ 0
+  pub jobs : ledgers ≡ []
+
+pub new-stored : (nodes : Nodes) (trees : List (TenantTree ℕ)) (ledgers : List JobLedger) (book : Reservations) (places : List (Option FrameId)) (segments nodes_in_all : ℕ) → AreNew nodes trees ledgers book segments nodes_in_all → length places ≡ 33 →
+    IsStored (record { nodes = nodes; book = book; trees = trees; ledgers = ledgers; places = places; newest = 0 })
+new-stored nodes trees ledgers book places segments nodes_in_all is workers =
+    let no_accounts : book.accounts ≡ [] = ap (λ (b : Reservations). b.accounts) is.empty in
+    let count = is.count in
+    let many = ap length no_accounts in
+    record {
+      book = is.sound;
+      frames_nodes = record {
+        nodes_of_frames = λ owner serial frame at. absurd (let none = missing owner serial in cc (none, at));
+        once = λ owner serial other_owner other_serial node these those. absurd (let none = ap node_of (missing owner serial) in cc (none, these));
+        no_other = λ node open_one. absurd (closed node open_one);
+      };
+      sized = record { some = λ node open_one. absurd (closed node open_one); most = λ node open_one. absurd (closed node open_one) };
+      accounts = λ number account there. absurd (let none : ◌≡◌ {A = Option Account} None (Some account) = rw no_accounts at there in cc none);
+      nobody = λ number none. is.places number;
+      nothing = λ number none. is.frames number;
+      forest = λ number. subst (λ (xs : List (Frame ℕ)). IsTree xs) (sym (is.frames number)) tt;
+      tenants = omega (arith, count, many);
+      charges = ap total_charge is.stack ∙ none-charged segments ∙ sym (ap (λ (b : Reservations). sum_by (λ (e : ℕ × Account). Account.charged e.1) b.accounts) is.empty);
+      segments = ap length is.stack ∙ length-replicate segments None ∙ sym (ap (λ (b : Reservations). b.segments) is.empty);
+      ledgers = ap numbers_of is.jobs ∙ sym (ap numbers_in no_accounts);
+      workers = workers;
+      places = λ worker owner serial frame at held. absurd (let none = missing owner serial in cc (none, at));
+      taken = subst (λ (es : List (ℕ × Account)). AreAtMost 0 es) (sym no_accounts) tt;
+      newest = omega arith;
+    }
+  where
+    missing : (owner serial : ℕ) → frame_in_trees trees owner serial ≡ None
+    missing owner serial = ap (λ (xs : List (Frame ℕ)). frame_at xs serial) (is.frames owner)
+
+    closed : (node : ℕ) → IsSome (node_at nodes node) → ⊥
+    closed node open_one = false≢true (subst IsSome (ap (λ (ns : Nodes). node_at ns node) is.stack ∙ none-open segments node) open_one)

@@ -1,12 +1,12 @@
 -- The jobs of one tenant: found by number, begun and ended.
-use Rattle.std.proofs.Common.{◌≡◌, ◌≢◌, ℕ, zero, suc, ◌<◌, ◌≤◌, ◌+◌, ◌-◌, true, false, List, [], ◌∷◌, ◌++◌, length, get_or, drop, Some, None, refl, ap, sym, ◌∙◌, arith, inl, inr}
-use Rattle.std.proofs.Math.ListN.{set}
+use Rattle.sched_store.proofs.Common.{◌≡◌, ◌≢◌, ℕ, zero, suc, ◌<◌, ◌≤◌, ◌+◌, ◌-◌, true, false, List, [], ◌∷◌, ◌++◌, length, get_or, drop, Some, None, refl, ap}
+use Rattle.sched_store.proofs.Common.{sym, ◌∙◌, arith, inl, inr, set, cases_Bool, false≢true, true≢false, ne_eqb, or_parts, or_from, Job, Live, Done, Spent}
+use Rattle.sched_store.proofs.Common.{Cancelled, is_live_at, job_at, number_from, job_under, with_ended, is_live, is_live_in, AreLiveOnce, JobLedger}
+use Rattle.sched_store.proofs.Common.{owner_of_ledger, jobs_of, with_jobs, find_by_number, change_by_number, AreRising}
 use Rattle.std.proofs.Math.Bool.{or-true}
-use Rattle.std.proofs.lemmas.Bool.{cases_Bool, false≢true, true≢false, ne_eqb, or_parts, or_from}
-use Rattle.sched_rules.specs.declared.job.Job.{Job}
-use Rattle.sched_rules.specs.declared.job.Job.TheVariants.{Live, Done, Spent, Cancelled}
-use Rattle.sched_rules.specs.Trees.{is_live_at, job_at, number_from, job_under, with_ended}
-use Rattle.sched_store.specs.Ledgers.{is_live, is_live_in, AreLiveOnce}
+use Rattle.std.specs.Prelude.{Option, IfSome, IfNone, option_copied}
+use Rattle.std.specs.Borrow.{Bor}
+use Rattle.number_index.proofs.Edits.{said-found, put-changed, found-said, found-none, rising-with}
 
 abbrev pub Jobs : Type 0
 Jobs = List Job
@@ -43,10 +43,6 @@ none-number_from first root (job ∷ jobs) some is =
       | inl live ↦ (let zero_is : first ≡ 0 = rw live at is in absurd (omega arith))
       | inr other ↦ or_from (is_live_at root job) (is_live_in root jobs) other (none-number_from (first + 1) root jobs (omega arith) (rw other at is))
     ]
-
-pub number_from-range : (first root : ℕ) (jobs : Jobs) → number_from first root jobs ≤ first + length jobs
-number_from-range first root [] = omega arith
-number_from-range first root (job ∷ jobs) = grind (arith, number_from-range (first + 1) root jobs)
 
 live-there : (root at : ℕ) (jobs : Jobs) (d : Job) → at < length jobs → is_live_at root (get_or jobs at d) ≡ true → is_live_in root jobs ≡ true
 live-there root at [] d within live = absurd (omega arith)
@@ -146,3 +142,28 @@ job-read jobs number job some within is = grind (arith, job_at-there)
 
 pub job-past : (jobs : Jobs) (number : ℕ) → number ≢ 0 → length jobs ≤ number - 1 → None ≡ job_at jobs number
 job-past jobs number some past = sym (job_at-past jobs number (omega arith))
+
+-- A tenant's ledger that was found, and what other jobs in it leave.
+
+abbrev All : Type 0
+All = List JobLedger
+
+-- the ledger that was found, with other jobs
+pub found-changed : (n : ℕ) (ledgers : All) (ledger changed : JobLedger) (change : List Job → List Job) → find_by_number owner_of_ledger n ledgers ≡ Some ledger → changed ≡ (ledger.0, change ledger.1) → change_by_number owner_of_ledger n (λ was. changed) ledgers ≡ with_jobs n change ledgers
+found-changed n ledgers ledger changed change is new = put-changed owner_of_ledger n (λ (l : JobLedger). (l.0, change l.1)) ledgers ledger changed is new
+
+pub jobs-found : (n : ℕ) (ledgers : All) (ledger : JobLedger) → find_by_number owner_of_ledger n ledgers ≡ Some ledger → jobs_of ledgers n ≡ ledger.1
+jobs-found n ledgers ledger is = said-found owner_of_ledger (λ (l : JobLedger). l.1) [] n ledgers ledger is
+
+-- ledgers still rise
+pub rising-with_jobs : (n : ℕ) (change : List Job → List Job) (ledgers : All) → AreRising owner_of_ledger ledgers → AreRising owner_of_ledger (with_jobs n change ledgers)
+rising-with_jobs n change ledgers rising = rising-with owner_of_ledger n (λ (l : JobLedger). (l.0, change l.1)) ledgers (λ l own. own) rising
+
+-- the jobs of the ledger that is looked for
+
+module _ (n : ℕ) (ledgers : All) (found : Option (Bor JobLedger)) (is : option_copied found ≡ find_by_number owner_of_ledger n ledgers) where
+  pub found-jobs : IfSome found (λ ledger. jobs_of ledgers n ≡ ledger.now.1)
+  found-jobs = found-said owner_of_ledger (λ (l : JobLedger). l.1) [] n ledgers found is
+
+  pub none-found : IfNone found (jobs_of ledgers n ≡ [])
+  none-found = found-none owner_of_ledger (λ (l : JobLedger). l.1) [] n ledgers found is

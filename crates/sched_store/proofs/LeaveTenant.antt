@@ -1,27 +1,15 @@
 -- A tenant leaves: its frames go with their nodes, its places, its jobs and its account, and nothing of any other tenant.
-use Rattle.std.proofs.Common.{◌≡◌, ◌≢◌, ℕ, ◌+◌, ◌<◌, ◌≤◌, inl, inr, Bool, false, eqb, List, [], ◌∷◌, length, Some, refl, ap, sym, ◌∙◌, subst, arith}
-use Rattle.std.specs.List.{filter}
-use Rattle.std.proofs.lemmas.Bool.{cases_Bool, ne_eqb, eqb-true, eqb-false}
-use Rattle.cactus_stack.specs.Nodes.{Nodes, without, total_charge}
+use Rattle.sched_store.proofs.Common.{◌≡◌, ◌≢◌, ℕ, ◌+◌, ◌<◌, ◌≤◌, inl, inr, Bool, false, eqb, List, [], ◌∷◌, length, Some, refl, ap, sym, ◌∙◌, subst, arith}
+use Rattle.sched_store.proofs.Common.{filter, cases_Bool, ne_eqb, eqb-true, eqb-false, Nodes, without, total_charge, Reservations, IsSoundBook, Releases}
+use Rattle.sched_store.proofs.Common.{KeepsOtherAccounts, Account, AllEntries-of, Frame, values_of, AllBelow, TenantTree, frames_of, places_of, tenant_count}
+use Rattle.sched_store.proofs.Common.{Tenant, charged_for, CoreState, without_tenant, with_departed, JobLedger, owner_of_ledger, jobs_of, numbers_of}
+use Rattle.sched_store.proofs.Common.{without_ledger, Parts, with_words_of_nodes, tenant_from, tenants_from, shared_of, IsStored, IsAccountFor, numbers_in}
+use Rattle.sched_store.proofs.Common.{AreAtMost, remove_by_number}
 use Rattle.tenant_quota.specs.Accounts.{owner_of_account, account_of, without as without_account, AllEntries, IsRising, IsWithinReserve, charged_segments}
-use Rattle.tenant_quota.specs.Reservations.{Reservations, IsSoundBook, Releases, KeepsOtherAccounts}
-use Rattle.tenant_quota.specs.declared.account.Account.{Account}
-use Rattle.tenant_quota.proofs.Edits.{AllEntries-of}
-use Rattle.frame_tree.specs.Frames.{Frame, values_of, AllBelow, TenantTree}
-use Rattle.frame_tree.specs.Tables.{frames_of, places_of, tenant_count}
-use Rattle.sched_rules.specs.Trees.{Tenant, charged_for}
-use Rattle.sched_rules.specs.Cores.{CoreState, without_tenant}
-use Rattle.sched_store.specs.Changes.{with_departed}
 use Rattle.number_index.proofs.Edits.{said-without_other, all-without}
-use Rattle.sched_store.specs.Ledgers.{JobLedger, owner_of_ledger, jobs_of, numbers_of, without_ledger}
-use Rattle.sched_store.specs.Parts.{Parts, with_words_of_nodes, tenant_from, tenants_from, shared_of}
-use Rattle.sched_store.specs.Stored.{IsStored, IsAccountFor, numbers_in, AreAtMost}
-use Rattle.number_index.specs.Places.{remove_by_number}
-use Rattle.sched_store.proofs.Numbers.{numbers-without}
-use Rattle.sched_store.proofs.Cut.{IsCut, closed, closing, cut-belongs, cut-sized, cut-places, cut-words, cut-trees}
-use Rattle.sched_store.proofs.Closing.{TakesChildren, closing-open, closing-once, closing-children, cut-frees}
-use Rattle.sched_store.proofs.Removing.{length-without}
-use Rattle.sched_store.proofs.Aborting.{AreClosable}
+use Rattle.sched_store.proofs.Lookups.{numbers-without}
+use Rattle.sched_store.proofs.Closing.{IsCut, closed, closing, cut-belongs, cut-sized, cut-places, cut-words, cut-trees, TakesChildren, closing-open, closing-once, closing-children, cut-frees}
+use Rattle.sched_store.proofs.Removing.{length-without, AreClosable}
 
 -- no frame stays
 abbrev pub none_stays : Frame ℕ → Bool
@@ -39,9 +27,7 @@ closed-whole (x ∷ xs) = ap (λ (ns : List ℕ). x.value ∷ ns) (closed-whole 
 pub has-places : (parts : Parts) → IsStored parts → (number : ℕ) (account : Account) → account_of number parts.book.accounts ≡ Some account → 0 < places_of parts.trees number
 has-places parts stored number account there =
     let within : IsWithinReserve account = AllEntries-of (λ (e : ℕ × Account). IsWithinReserve e.1) number account parts.book.accounts there (IsSoundBook.within stored.book) in
-    let some = within.some_segments in
-    let places = IsAccountFor.places (stored.accounts number account there) in
-    omega (arith, some, places)
+    omega (arith, within.some_segments, IsAccountFor.places (stored.accounts number account there))
 
 -- the nodes of all frames of a tenant: open, once, with their children
 pub leave-closes : (parts : Parts) (number : ℕ) (numbers : List ℕ) → IsStored parts → numbers ≡ values_of (frames_of parts.trees number) → AreClosable parts.nodes numbers
@@ -74,12 +60,6 @@ pub record IsDeparture (parts : Parts) (nodes : Nodes) (trees : List (TenantTree
 abbrev pub departed : Parts → Nodes → List (TenantTree ℕ) → List JobLedger → Reservations → Parts
 departed parts nodes trees ledgers book = record parts { nodes = nodes; trees = trees; ledgers = ledgers; book = book }
 
-most-without : (most number : ℕ) (entries : List (ℕ × Account)) → AreAtMost most entries → AreAtMost most (without_account number entries)
-most-without most number entries all = all-without (λ (e : ℕ × Account). e.0 ≤ most) owner_of_account number entries all
-
-jobs-without : (number other : ℕ) (ledgers : List JobLedger) → other ≢ number → jobs_of (without_ledger number ledgers) other ≡ jobs_of ledgers other
-jobs-without number other ledgers differs = said-without_other owner_of_ledger (λ (l : JobLedger). l.1) [] other number ledgers (λ e. differs (sym e))
-
 -- the cut that takes all frames
 leave-cut : (parts : Parts) (nodes : Nodes) (trees : List (TenantTree ℕ)) (ledgers : List JobLedger) (book : Reservations) (number : ℕ) (numbers : List ℕ) (account : Account) → IsStored parts →
     IsDeparture parts nodes trees ledgers book number numbers account → IsCut parts.trees trees number none_stays
@@ -89,25 +69,22 @@ closed-same : (parts : Parts) (nodes : Nodes) (number : ℕ) (numbers : List ℕ
 closed-same parts nodes number numbers values closed_all = ap (without parts.nodes) (closed-whole (frames_of parts.trees number) ∙ sym values) ∙ sym closed_all
 
 -- another tenant's words
-leave-words : (parts : Parts) (nodes : Nodes) (trees : List (TenantTree ℕ)) (ledgers : List JobLedger) (book : Reservations) (number : ℕ) (numbers : List ℕ) (account : Account) → IsStored parts →
-    IsDeparture parts nodes trees ledgers book number numbers account → (other : ℕ) → other ≢ number → with_words_of_nodes nodes (frames_of trees other) ≡ with_words_of_nodes parts.nodes (frames_of parts.trees other)
-leave-words parts nodes trees ledgers book number numbers account stored is other differs =
-    let cut = leave-cut parts nodes trees ledgers book number numbers account stored is in
-    let same = closed-same parts nodes number numbers is.values is.closed_all in
-    ap (λ (n : Nodes). with_words_of_nodes n (frames_of trees other)) (sym same)
-    ∙ cut-words parts.nodes parts.trees trees number none_stays stored.frames_nodes cut other (cut-trees parts.trees trees number none_stays cut other)
-    ∙ ap (with_words_of_nodes parts.nodes) (is.other_frames other differs)
+module _ (parts : Parts) (nodes : Nodes) (trees : List (TenantTree ℕ)) (ledgers : List JobLedger) (book : Reservations) (number : ℕ) (numbers : List ℕ)
+    (account : Account) (stored : IsStored parts) (is : IsDeparture parts nodes trees ledgers book number numbers account) where
+  leave-words : (other : ℕ) → other ≢ number → with_words_of_nodes nodes (frames_of trees other) ≡ with_words_of_nodes parts.nodes (frames_of parts.trees other)
+  leave-words other differs =
+      let cut = leave-cut parts nodes trees ledgers book number numbers account stored is in
+      ap (λ (n : Nodes). with_words_of_nodes n (frames_of trees other)) (sym (closed-same parts nodes number numbers is.values is.closed_all))
+      ∙ cut-words parts.nodes parts.trees trees number none_stays stored.frames_nodes cut other (cut-trees parts.trees trees number none_stays cut other)
+      ∙ ap (with_words_of_nodes parts.nodes) (is.other_frames other differs)
 
-leave-charges : (parts : Parts) (nodes : Nodes) (trees : List (TenantTree ℕ)) (ledgers : List JobLedger) (book : Reservations) (number : ℕ) (numbers : List ℕ) (account : Account) → IsStored parts →
-    IsDeparture parts nodes trees ledgers book number numbers account → total_charge nodes ≡ charged_segments book.accounts
-leave-charges parts nodes trees ledgers book number numbers account stored is =
-    let frees = cut-frees parts.nodes parts.trees number none_stays stored.frames_nodes (stored.forest number) in
-    let none : charged_for (with_words_of_nodes parts.nodes (filter none_stays (frames_of parts.trees number))) ≡ 0 = ap (λ (xs : List (Frame ℕ)). charged_for (with_words_of_nodes parts.nodes xs)) (filter-none (frames_of parts.trees number)) in
-    let same = ap total_charge (closed-same parts nodes number numbers is.values is.closed_all) in
-    let charged = IsAccountFor.charged (stored.accounts number account is.there) in
-    let whole = stored.charges in
-    let back = is.released.charged in
-    omega (arith, frees, none, same, charged, whole, back)
+  leave-charges : total_charge nodes ≡ charged_segments book.accounts
+  leave-charges =
+      let frees = cut-frees parts.nodes parts.trees number none_stays stored.frames_nodes (stored.forest number) in
+      let none : charged_for (with_words_of_nodes parts.nodes (filter none_stays (frames_of parts.trees number))) ≡ 0 = ap (λ (xs : List (Frame ℕ)). charged_for (with_words_of_nodes parts.nodes xs)) (filter-none (frames_of parts.trees number)) in
+      let same = ap total_charge (closed-same parts nodes number numbers is.values is.closed_all) in
+      let charged = IsAccountFor.charged (stored.accounts number account is.there) in
+      omega (arith, frees, none, same, charged, stored.charges, is.released.charged)
 
 -- what a store keeps true is true after it
 pub leave-stored : (parts : Parts) (nodes : Nodes) (trees : List (TenantTree ℕ)) (ledgers : List JobLedger) (book : Reservations) (number : ℕ) (numbers : List ℕ) (account : Account) → IsStored parts →
@@ -132,7 +109,7 @@ leave-stored parts nodes trees ledgers book number numbers account stored is =
       ledgers = ap numbers_of is.jobs ∙ (numbers-without owner_of_ledger number parts.ledgers ∙ ap (remove_by_number (λ k. k) number) stored.ledgers) ∙ sym (ap (λ (b : Reservations). numbers_in b.accounts) is.released.whole ∙ numbers-without owner_of_account number parts.book.accounts);
       workers = stored.workers;
       places = cut-places parts.nodes parts.trees trees parts.places number none_stays stored.frames_nodes cut stored.places;
-      taken = subst (λ (b : Reservations). AreAtMost parts.newest b.accounts) (sym is.released.whole) (most-without parts.newest number parts.book.accounts stored.taken);
+      taken = subst (λ (b : Reservations). AreAtMost parts.newest b.accounts) (sym is.released.whole) (all-without (λ (e : ℕ × Account). e.0 ≤ parts.newest) owner_of_account number parts.book.accounts stored.taken);
       newest = stored.newest;
     }
   where
@@ -149,22 +126,25 @@ leave-stored parts nodes trees ledgers book number numbers account stored is =
         }
 
 -- the tenants of accounts above the one that leaves
-above-stay : (parts after : Parts) (number : ℕ) (entries : List (ℕ × Account)) → AllEntries (λ later. number < later.0) entries →
-    ((other : ℕ) (a : Account) → other ≢ number → tenant_from after other a ≡ tenant_from parts other a) → tenants_from after entries ≡ without_tenant number (tenants_from parts entries)
-above-stay parts after number [] above others = refl
-above-stay parts after number (entry ∷ entries) above others =
-    let low : number < entry.0 = above.0 in
-    let differs : entry.0 ≢ number = λ e. omega (arith, e, low) in
-    rw (ne_eqb entry.0 number differs, others entry.0 entry.1 differs, above-stay parts after number entries above.1 others) refl
+module _ (parts after : Parts) (number : ℕ) where
+  above-stay : (entries : List (ℕ × Account)) → AllEntries (λ later. number < later.0) entries →
+      ((other : ℕ) (a : Account) → other ≢ number → tenant_from after other a ≡ tenant_from parts other a) →
+      tenants_from after entries ≡ without_tenant number (tenants_from parts entries)
+  above-stay [] above others = refl
+  above-stay (entry ∷ entries) above others =
+      let low : number < entry.0 = above.0 in
+      let differs : entry.0 ≢ number = λ e. omega (arith, e, low) in
+      rw (ne_eqb entry.0 number differs, others entry.0 entry.1 differs, above-stay entries above.1 others) refl
 
-tenants-without : (parts after : Parts) (number : ℕ) (entries : List (ℕ × Account)) → IsRising entries →
-    ((other : ℕ) (a : Account) → other ≢ number → tenant_from after other a ≡ tenant_from parts other a) → tenants_from after (without_account number entries) ≡ without_tenant number (tenants_from parts entries)
-tenants-without parts after number [] rising others = refl
-tenants-without parts after number (entry ∷ entries) rising others =
-    elim (cases_Bool (eqb entry.0 number)) [
-      | inl same ↦ (let above : AllEntries (λ later. number < later.0) entries = subst (λ (n : ℕ). AllEntries (λ later. n < later.0) entries) (eqb-true entry.0 number same) rising.0 in rw same (above-stay parts after number entries above others))
-      | inr other ↦ rw (other, others entry.0 entry.1 (eqb-false entry.0 number other), tenants-without parts after number entries rising.1 others) refl
-    ]
+  tenants-without : (entries : List (ℕ × Account)) → IsRising entries →
+      ((other : ℕ) (a : Account) → other ≢ number → tenant_from after other a ≡ tenant_from parts other a) →
+      tenants_from after (without_account number entries) ≡ without_tenant number (tenants_from parts entries)
+  tenants-without [] rising others = refl
+  tenants-without (entry ∷ entries) rising others =
+      elim (cases_Bool (eqb entry.0 number)) [
+        | inl same ↦ (let above : AllEntries (λ later. number < later.0) entries = subst (λ (n : ℕ). AllEntries (λ later. n < later.0) entries) (eqb-true entry.0 number same) rising.0 in rw same (above-stay entries above others))
+        | inr other ↦ rw (other, others entry.0 entry.1 (eqb-false entry.0 number other), tenants-without entries rising.1 others) refl
+      ]
 
 -- and the core is the one before without that tenant
 pub leave-shared : (parts : Parts) (nodes : Nodes) (trees : List (TenantTree ℕ)) (ledgers : List JobLedger) (book : Reservations) (number : ℕ) (numbers : List ℕ) (account : Account) → IsStored parts →
@@ -173,9 +153,8 @@ leave-shared parts nodes trees ledgers book number numbers account stored is =
     let after = departed parts nodes trees ledgers book in
     let others : (other : ℕ) (a : Account) → other ≢ number → tenant_from after other a ≡ tenant_from parts other a =
     λ other a differs. (
-    let words = leave-words parts nodes trees ledgers book number numbers account stored is other differs in
-    let jobs : jobs_of ledgers other ≡ jobs_of parts.ledgers other = ap (λ (ls : List JobLedger). jobs_of ls other) is.jobs ∙ jobs-without number other parts.ledgers differs in
-    rw (jobs, words) refl) in
+    let jobs : jobs_of ledgers other ≡ jobs_of parts.ledgers other = ap (λ (ls : List JobLedger). jobs_of ls other) is.jobs ∙ said-without_other owner_of_ledger (λ (l : JobLedger). l.1) [] other number parts.ledgers (λ e. differs (sym e)) in
+    rw (jobs, leave-words parts nodes trees ledgers book number numbers account stored is other differs) refl) in
     let tenants = tenants-without parts after number parts.book.accounts stored.book.rising others in
     rw is.released.whole (ap (λ (entries : List (ℕ × Tenant)). with-entries entries) tenants)
   where

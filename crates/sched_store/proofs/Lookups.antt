@@ -1,29 +1,78 @@
--- What is found in the core that a store stands for.
-use Rattle.std.proofs.Common.{◌≡◌, ℕ, ◌<◌, ◌≤◌, ◌+◌, List, [], ◌∷◌, length, Option, Some, None, IfSome, is_some, option_map, option_and_then, refl, ap, sym, ◌∙◌, arith}
-use Rattle.std.proofs.lemmas.Bool.{eqb-true}
-use Rattle.std.proofs.lemmas.List.Sums.{sum_by-cons}
-use Rattle.cactus_stack.specs.Nodes.{node_words, total_charge}
-use Rattle.tenant_quota.specs.Accounts.{account_of, AllEntries, IsRising, left_in, charged_segments}
-use Rattle.tenant_quota.specs.declared.account.Account.{Account}
-use Rattle.tenant_quota.specs.declared.account.Left.{Left}
-use Rattle.tenant_quota.specs.Reservations.{left_in_book}
-use Rattle.frame_tree.specs.declared.names.FrameId.{FrameId}
-use Rattle.frame_tree.specs.Frames.{frame_at}
-use Rattle.frame_tree.specs.TreeLaws.{map_value}
-use Rattle.frame_tree.specs.Tables.{frames_of}
-use Rattle.frame_tree.proofs.TreeValues.{frame_at-map_values}
-use Rattle.sched_rules.specs.declared.job.Job.{Job}
-use Rattle.sched_rules.specs.Trees.{Tenant, charged_for, account_in, job_at}
-use Rattle.sched_rules.specs.Cores.{tenant_in, accounts_in, charged_in, reservations_in}
+-- What is found in the core that a store stands for: tenants, jobs, frames and what they see.
+use Rattle.std.proofs.Common.{◌≡◌, ℕ, ◌<◌, eqb, List, [], ◌∷◌, Some, None, refl, subst, arith, inl, inr, suc, true, false, ◌||◌, Bool, length, ap, sym, ◌∙◌, ◌≤◌, ◌+◌, Option, IfSome, is_some, option_map, option_and_then, ◌-◌, ltb, IsSome, ◌++◌, map, reverse}
+use Rattle.sched_store.proofs.Common.{cases_Bool, eq-eqb, eqb-true, le-leb, lt-leb, lt-ltb, le-ltb, ltb-true, ltb-false, or_left, or_right, false≢true}
+use Rattle.sched_store.proofs.Common.{owner_of_account, account_of, AllEntries, IsRising, charged_segments, Account, has_by_number, change_by_number}
+use Rattle.sched_store.proofs.Common.{remove_by_number, inserted, JobLedger, owner_of_ledger, numbers_by, numbers_of, is_there, jobs_of, numbers_in, IsStored}
+use Rattle.sched_store.proofs.Common.{frame_in_trees, AreAtMost, node_above, sum_by-cons, node_words, total_charge, Nodes, IsOpen, IsSight, node_parent, Left}
+use Rattle.sched_store.proofs.Common.{left_in_book, Reservations, IsSoundBook, unreserved_of, FrameId, frame_at, Frame, has_frame, parent_of, name_of}
+use Rattle.sched_store.proofs.Common.{entry_of_frame, ready_name, first_of_two, newest_ready_of, IsTree, map_value, frames_of, Job, Tenant, charged_for}
+use Rattle.sched_store.proofs.Common.{account_in, job_at, sight, words_in, tenant_in, accounts_in, charged_in, reservations_in, is_full, is_beyond, Parts}
+use Rattle.sched_store.proofs.Common.{with_words_of_nodes, tenant_from, tenants_from, shared_of, tree_of, jobs_kept, frames_in_core, jobs_in, AreAfter}
+use Rattle.sched_store.proofs.Common.{AreTenantsRising, path_of, sight_of, Quota, Entry, found-there, IsTop, IsUnder, tree-induction, found-serial}
+use Rattle.sched_store.proofs.Common.{reverse-append, map-append}
+use Rattle.number_index.proofs.Edits.{said-lacks, has-above, has-found, lacks-said}
+use Rattle.tenant_quota.proofs.Places.{entry-of}
+use Rattle.frame_tree.proofs.TreeValues.{frame_at-map_values, tree-map_values}
 use Rattle.sched_rules.specs.Headline.{AreNumbersTaken, AreNumbersGiven}
-use Rattle.sched_rules.specs.Views.{left_in_core, job_of, named, free_in}
-use Rattle.sched_store.specs.Ledgers.{JobLedger, owner_of_ledger, jobs_of}
-use Rattle.sched_store.specs.Parts.{Parts, with_words_of_nodes, tenant_from, tenants_from, shared_of}
-use Rattle.sched_store.specs.Reads.{tree_of, jobs_kept, frames_in_core, jobs_in, AreAfter, AreTenantsRising}
-use Rattle.sched_store.specs.Stored.{IsStored, frame_in_trees, AreAtMost}
-use Rattle.number_index.proofs.Edits.{said-lacks}
-use Rattle.sched_store.proofs.Entries.{each-entry}
-use Rattle.sched_store.proofs.Numbers.{no-ledger}
+use Rattle.sched_rules.specs.Views.{left_in_core, job_of, named, free_in, frame_in_core, newest_ready_in}
+use Rattle.tenant_quota.specs.declared.book.Rest.{Rest}
+use Rattle.cactus_stack.proofs.LawFacts.{one-sight}
+
+-- what is true of each account, along the list of accounts
+pub lower-missing : (number : ℕ) (entries : List (ℕ × Account)) → AllEntries (λ later. number < later.0) entries → account_of number entries ≡ None
+lower-missing number entries all = said-lacks owner_of_account (λ e. Some e.1) None number entries (has-above owner_of_account number number entries (omega arith) all)
+
+pub account-tail : (number : ℕ) (account : Account) (entry : ℕ × Account) (entries : List (ℕ × Account)) → IsRising (entry ∷ entries) → account_of number entries ≡ Some account → account_of number (entry ∷ entries) ≡ Some account
+account-tail number account entry entries rising there =
+    elim (cases_Bool (eqb entry.0 number)) [
+      | inl same ↦
+          (let e = eqb-true entry.0 number same in
+          let P : ℕ → Type 0 = λ n. account_of n entries ≡ None in
+          let gone : account_of number entries ≡ None = subst P e (lower-missing entry.0 entries rising.0) in absurd (cc (gone, there)))
+      | inr other ↦ rw other there
+    ]
+
+pub each-entry : (P : ℕ → Account → Type 0) (entries : List (ℕ × Account)) → IsRising entries → ((number : ℕ) (account : Account) → account_of number entries ≡ Some account → P number account) → AllEntries (λ entry. P entry.0 entry.1) entries
+each-entry P [] rising all = tt
+each-entry P (entry ∷ entries) rising all =
+    (all entry.0 entry.1 (rw (eq-eqb entry.0 entry.0 refl) refl), each-entry P entries rising.1 (λ number account there. all number account (account-tail number account entry entries rising there)))
+
+-- The numbers of things in a list that changes, and lists whose things have the same numbers.
+
+module _ {X : Type 0} (number_of : X → ℕ) where
+  pub length-numbers : (xs : List X) → length (numbers_by number_of xs) ≡ length xs
+  length-numbers [] = refl
+  length-numbers (x ∷ xs) = ap suc (length-numbers xs)
+
+  pub numbers-with : (n : ℕ) (change : X → X) (xs : List X) → ((x : X) → number_of (change x) ≡ number_of x) → numbers_by number_of (change_by_number number_of n change xs) ≡ numbers_by number_of xs
+  numbers-with n change [] keeps = refl
+  numbers-with n change (x ∷ xs) keeps = grind (arith, numbers-with n change xs keeps)
+
+  pub numbers-without : (n : ℕ) (xs : List X) → numbers_by number_of (remove_by_number number_of n xs) ≡ remove_by_number (λ k. k) n (numbers_by number_of xs)
+  numbers-without n [] = refl
+  numbers-without n (x ∷ xs) = grind (arith, numbers-without n xs)
+
+  pub numbers-inserted : (new : X) (xs : List X) → numbers_by number_of (inserted number_of new xs) ≡ inserted (λ k. k) (number_of new) (numbers_by number_of xs)
+  numbers-inserted new [] = refl
+  numbers-inserted new (x ∷ xs) = grind (arith, numbers-inserted new xs)
+
+  has-numbers : (n : ℕ) (xs : List X) → has_by_number number_of n xs ≡ has_by_number (λ k. k) n (numbers_by number_of xs)
+  has-numbers n [] = refl
+  has-numbers n (x ∷ xs) = ap (λ (b : Bool). eqb (number_of x) n || b) (has-numbers n xs)
+
+-- a tenant has a ledger exactly where it has an account
+
+module _ (n : ℕ) (ledgers : List JobLedger) (entries : List (ℕ × Account)) where
+  there-same : numbers_of ledgers ≡ numbers_in entries → is_there n ledgers ≡ has_by_number owner_of_account n entries
+  there-same same = has-numbers owner_of_ledger n ledgers ∙ ap (has_by_number (λ k. k) n) same ∙ sym (has-numbers owner_of_account n entries)
+
+  pub ledger-there : (a : Account) → numbers_of ledgers ≡ numbers_in entries → account_of n entries ≡ Some a → is_there n ledgers ≡ true
+  ledger-there a same there = there-same same ∙ has-found owner_of_account n entries (n, a) (entry-of n a entries there)
+
+  pub no-ledger : numbers_of ledgers ≡ numbers_in entries → account_of n entries ≡ None → is_there n ledgers ≡ false
+  no-ledger same none = there-same same ∙ lacks-said owner_of_account (λ e. Some e.1) None n entries (λ e is. cc) none
+
+-- What is found in the core that a store stands for.
 
 abbrev Entries : Type 0
 Entries = List (ℕ × Account)
@@ -37,26 +86,14 @@ pub tenant-found : (parts : Parts) (number : ℕ) → tenant_in (shared_of parts
 tenant-found parts number = tenant_in-tenants_from parts parts.book.accounts number
 
 pub tenant-there : (parts : Parts) (number : ℕ) → is_some (tenant_in (shared_of parts).tenants number) ≡ is_some (account_of number parts.book.accounts)
-tenant-there parts number = ap is_some (tenant-found parts number) ∙ some-map (account_of number parts.book.accounts)
-  where
-    some-map : (account : Option Account) → is_some (option_map (tenant_from parts number) account) ≡ is_some account
-    some-map None = refl
-    some-map (Some account) = refl
+tenant-there parts number = grind (arith, tenant-found)
 
 -- its frames are those of the table, each with the words of its node
 pub frames-found : (parts : Parts) → IsStored parts → (number : ℕ) → frames_in_core (shared_of parts) number ≡ with_words_of_nodes parts.nodes (frames_of parts.trees number)
-frames-found parts stored number = ap tree_of (tenant-found parts number) ∙ by (account_of number parts.book.accounts) refl
-  where
-    by : (account : Option Account) → account_of number parts.book.accounts ≡ account → tree_of (option_map (tenant_from parts number) account) ≡ with_words_of_nodes parts.nodes (frames_of parts.trees number)
-    by None is = rw (stored.nothing number is) refl
-    by (Some account) is = refl
+frames-found parts stored number = grind (arith, tenant-found)
 
 named-frames : (parts : Parts) (name : FrameId) → named (shared_of parts) name ≡ frame_at (frames_in_core (shared_of parts) name.tenant) name.serial
-named-frames parts name = by (tenant_in (shared_of parts).tenants name.tenant)
-  where
-    by : (tenant : Option Tenant) → option_and_then (λ (t : Tenant). frame_at t.frames name.serial) tenant ≡ frame_at (tree_of tenant) name.serial
-    by None = refl
-    by (Some tenant) = refl
+named-frames parts name = grind arith
 
 -- a frame is that of the table, with the words of its node
 pub named-found : (parts : Parts) → IsStored parts → (name : FrameId) → named (shared_of parts) name ≡ option_map (map_value (node_words parts.nodes)) (frame_in_trees parts.trees name.tenant name.serial)
@@ -77,36 +114,31 @@ pub account-found : (parts : Parts) → IsStored parts → (number : ℕ) (accou
 account-found parts stored number account is = rw (← (stored.accounts number account is).charged) refl
 
 pub left-found : (parts : Parts) → IsStored parts → (number : ℕ) → left_in_core (shared_of parts) number ≡ left_in_book number parts.book
-left-found parts stored number =
-    ap (λ (tenant : Option Tenant). option_map (λ (t : Tenant). left_in (account_in t)) tenant) (tenant-found parts number) ∙ by (account_of number parts.book.accounts) refl
-  where
-    by : (account : Option Account) → account_of number parts.book.accounts ≡ account →
-        option_map (λ (t : Tenant). left_in (account_in t)) (option_map (tenant_from parts number) account) ≡ option_map left_in account
-    by None is = refl
-    by (Some account) is = ap (λ (a : Account). Some (left_in a)) (account-found parts stored number account is)
+left-found parts stored number = grind (arith, tenant-found, account-found)
 
 abbrev ChargesFrames : Parts → ℕ → Account → Type 0
 ChargesFrames parts number account = account_in (tenant_from parts number account) ≡ account
 
-all-charged : (parts : Parts) → IsStored parts → AllEntries (λ entry. ChargesFrames parts entry.0 entry.1) parts.book.accounts
-all-charged parts stored = each-entry (ChargesFrames parts) parts.book.accounts stored.book.rising (λ number account is. account-found parts stored number account is)
+module _ (parts : Parts) where
+  all-charged : IsStored parts → AllEntries (λ entry. ChargesFrames parts entry.0 entry.1) parts.book.accounts
+  all-charged stored = each-entry (ChargesFrames parts) parts.book.accounts stored.book.rising (λ number account is. account-found parts stored number account is)
 
-accounts_in-tenants_from : (parts : Parts) (entries : Entries) → AllEntries (λ entry. ChargesFrames parts entry.0 entry.1) entries → accounts_in (tenants_from parts entries) ≡ entries
-accounts_in-tenants_from parts [] all = refl
-accounts_in-tenants_from parts (entry ∷ entries) all = rw (all.0, accounts_in-tenants_from parts entries all.1) refl
+  accounts_in-tenants_from : (entries : Entries) → AllEntries (λ entry. ChargesFrames parts entry.0 entry.1) entries → accounts_in (tenants_from parts entries) ≡ entries
+  accounts_in-tenants_from [] all = refl
+  accounts_in-tenants_from (entry ∷ entries) all = rw (all.0, accounts_in-tenants_from entries all.1) refl
 
--- all reservations are the book's
-pub reservations-found : (parts : Parts) → IsStored parts → reservations_in (shared_of parts) ≡ parts.book
-reservations-found parts stored = rw (accounts_in-tenants_from parts parts.book.accounts (all-charged parts stored)) refl
+  -- all reservations are the book's
+  pub reservations-found : IsStored parts → reservations_in (shared_of parts) ≡ parts.book
+  reservations-found stored = rw (accounts_in-tenants_from parts.book.accounts (all-charged stored)) refl
 
-charged_in-tenants_from : (parts : Parts) (entries : Entries) → AllEntries (λ entry. ChargesFrames parts entry.0 entry.1) entries → charged_in (tenants_from parts entries) ≡ charged_segments entries
-charged_in-tenants_from parts [] all = refl
-charged_in-tenants_from parts (entry ∷ entries) all =
-    let own : charged_for (with_words_of_nodes parts.nodes (frames_of parts.trees entry.0)) ≡ entry.1.charged = ap (λ (a : Account). a.charged) all.0 in
-    rw (own, charged_in-tenants_from parts entries all.1) (sym (sum_by-cons (λ (e : ℕ × Account). e.1.charged) entry entries))
+  charged_in-tenants_from : (entries : Entries) → AllEntries (λ entry. ChargesFrames parts entry.0 entry.1) entries → charged_in (tenants_from parts entries) ≡ charged_segments entries
+  charged_in-tenants_from [] all = refl
+  charged_in-tenants_from (entry ∷ entries) all =
+      let own : charged_for (with_words_of_nodes parts.nodes (frames_of parts.trees entry.0)) ≡ entry.1.charged = ap (λ (a : Account). a.charged) all.0 in
+      rw (own, charged_in-tenants_from entries all.1) (sym (sum_by-cons (λ (e : ℕ × Account). e.1.charged) entry entries))
 
-pub charged-found : (parts : Parts) → IsStored parts → charged_in (shared_of parts).tenants ≡ charged_segments parts.book.accounts
-charged-found parts stored = charged_in-tenants_from parts parts.book.accounts (all-charged parts stored)
+  pub charged-found : IsStored parts → charged_in (shared_of parts).tenants ≡ charged_segments parts.book.accounts
+  charged-found stored = charged_in-tenants_from parts.book.accounts (all-charged stored)
 
 -- the free segments are those that no node takes
 pub free-found : (parts : Parts) → IsStored parts → (free taken : ℕ) → free + taken ≡ length parts.nodes → taken ≡ total_charge parts.nodes → free ≡ free_in (shared_of parts)
@@ -114,33 +146,192 @@ free-found parts stored free taken counted is = grind (arith, charged-found)
 
 -- the tenants' numbers were taken, and rise
 
-taken-tenants_from : (parts : Parts) (newest : ℕ) (entries : Entries) → AreAtMost newest entries → AreNumbersTaken newest (tenants_from parts entries)
-taken-tenants_from parts newest [] all = tt
-taken-tenants_from parts newest (entry ∷ entries) all = (all.0, taken-tenants_from parts newest entries all.1)
+module _ (parts : Parts) where
+  taken-tenants_from : (newest : ℕ) (entries : Entries) → AreAtMost newest entries → AreNumbersTaken newest (tenants_from parts entries)
+  taken-tenants_from newest [] all = tt
+  taken-tenants_from newest (entry ∷ entries) all = (all.0, taken-tenants_from newest entries all.1)
 
-pub known-found : (parts : Parts) → IsStored parts → AreNumbersGiven (shared_of parts)
-known-found parts stored = taken-tenants_from parts parts.newest parts.book.accounts stored.taken
+  pub known-found : IsStored parts → AreNumbersGiven (shared_of parts)
+  known-found stored = taken-tenants_from parts.newest parts.book.accounts stored.taken
 
-after-tenants_from : (parts : Parts) (number : ℕ) (entries : Entries) → AllEntries (λ later. number < later.0) entries → AreAfter number (tenants_from parts entries)
-after-tenants_from parts number [] all = tt
-after-tenants_from parts number (entry ∷ entries) all = (omega (arith, all.0), after-tenants_from parts number entries all.1)
+  after-tenants_from : (number : ℕ) (entries : Entries) → AllEntries (λ later. number < later.0) entries → AreAfter number (tenants_from parts entries)
+  after-tenants_from number [] all = tt
+  after-tenants_from number (entry ∷ entries) all = (omega (arith, all.0), after-tenants_from number entries all.1)
 
-rising-tenants_from : (parts : Parts) (entries : Entries) → IsRising entries → AreTenantsRising (tenants_from parts entries)
-rising-tenants_from parts [] rising = tt
-rising-tenants_from parts (entry ∷ entries) rising = (after-tenants_from parts entry.0 entries rising.0, rising-tenants_from parts entries rising.1)
+  rising-tenants_from : (entries : Entries) → IsRising entries → AreTenantsRising (tenants_from parts entries)
+  rising-tenants_from [] rising = tt
+  rising-tenants_from (entry ∷ entries) rising = (after-tenants_from entry.0 entries rising.0, rising-tenants_from entries rising.1)
 
-pub rising-found : (parts : Parts) → IsStored parts → AreTenantsRising (shared_of parts).tenants
-rising-found parts stored = rising-tenants_from parts parts.book.accounts stored.book.rising
+  pub rising-found : IsStored parts → AreTenantsRising (shared_of parts).tenants
+  rising-found stored = rising-tenants_from parts.book.accounts stored.book.rising
 
--- what a tenant has left is free
-pub left-free : (parts : Parts) → IsStored parts → (left : Option Left) → IfSome left (λ l. charged_segments parts.book.accounts + l.segments ≤ parts.book.segments) → IfSome left (λ l. l.segments ≤ free_in (shared_of parts))
-left-free parts stored None there = tt
-left-free parts stored (Some left) there = rw (charged-found parts stored) (omega (arith, there))
+  -- what a tenant has left is free
+  pub left-free : IsStored parts → (left : Option Left) → IfSome left (λ l. charged_segments parts.book.accounts + l.segments ≤ parts.book.segments) → IfSome left (λ l. l.segments ≤ free_in (shared_of parts))
+  left-free stored None there = tt
+  left-free stored (Some left) there = rw (charged-found parts stored) (omega (arith, there))
 
--- a job is that of the ledger
-pub job-found : (parts : Parts) → IsStored parts → (number job : ℕ) → job_of (shared_of parts) number job ≡ job_at (jobs_of parts.ledgers number) job
-job-found parts stored number job = by (tenant_in (shared_of parts).tenants number) ∙ ap (λ (jobs : List Job). job_at jobs job) (jobs-found parts stored number)
+  -- a job is that of the ledger
+  pub job-found : IsStored parts → (number job : ℕ) → job_of (shared_of parts) number job ≡ job_at (jobs_of parts.ledgers number) job
+  job-found stored number job = by (tenant_in (shared_of parts).tenants number) ∙ ap (λ (jobs : List Job). job_at jobs job) (jobs-found parts stored number)
+    where
+      by : (tenant : Option Tenant) → option_and_then (λ (t : Tenant). job_at t.jobs job) tenant ≡ job_at (jobs_kept tenant) job
+      by None = refl
+      by (Some tenant) = refl
+
+-- Whether a reservation has room, from what isn't reserved yet.
+
+module _ (book : Reservations) (rest : Rest) (quota : Quota) where
+  pub full-tenants : rest ≡ unreserved_of book → rest.tenants ≡ 0 → true ≡ is_full book quota
+  full-tenants is none = grind (arith, le-leb, or_left)
+
+  pub full-segments : (segments : ℕ) → IsSoundBook book → rest ≡ unreserved_of book → segments ≡ quota.segments → rest.segments < segments → true ≡ is_full book quota
+  full-segments segments sound is same short = grind (arith, lt-ltb, or_left, or_right)
+
+  pub full-nodes : (segments nodes : ℕ) → IsSoundBook book → rest ≡ unreserved_of book → segments ≡ quota.segments → nodes ≡ quota.nodes → (rest.tenants ≡ 0 → ⊥) → segments ≤ rest.segments → ltb rest.nodes nodes ≡ is_full book quota
+  full-nodes segments nodes sound is same same_nodes some enough = grind (arith, lt-leb, le-ltb, lt-ltb, ltb-true, ltb-false)
+
+-- whether a further reservation has room in the place of a tenant's own
+beyond-less : (total all own asked : ℕ) → all ≤ total → total - all + own < asked → total + own < all + asked
+beyond-less total all own asked within short = omega arith
+
+beyond-enough : (total all own asked : ℕ) → all ≤ total → asked ≤ total - all + own → all + asked ≤ total + own
+beyond-enough total all own asked within enough = omega arith
+
+module _ (book : Reservations) (rest : Rest) (own quota : Quota) (sound : IsSoundBook book) (is : rest ≡ unreserved_of book) where
+  pub beyond-segments : rest.segments + own.segments < quota.segments → true ≡ is_beyond book own quota
+  beyond-segments short = grind (arith, beyond-less, or_left, lt-ltb)
+
+  pub beyond-nodes : quota.segments ≤ rest.segments + own.segments → ltb (rest.nodes + own.nodes) quota.nodes ≡ is_beyond book own quota
+  beyond-nodes enough = grind (arith, beyond-enough, le-ltb, ltb-true, lt-ltb, beyond-less, ltb-false)
+
+-- What is asked of frames with words is what is asked of the table's frames.
+
+-- what the table tells of a frame
+entry-is : (tenant : ℕ) (frame : Option (Frame ℕ)) (entry : Entry ℕ) → Some entry ≡ entry_of_frame tenant frame → (f : Frame ℕ) × (frame ≡ Some f) × (entry ≡ record { parent = name_of tenant (parent_of f.path); state = f.state; value = f.value })
+entry-is tenant None entry is = absurd (cc is)
+entry-is tenant (Some f) entry is = (f, refl, cc is)
+
+pub entry-none : (tenant : ℕ) (frame : Option (Frame ℕ)) → None ≡ entry_of_frame tenant frame → frame ≡ None
+entry-none tenant None is = refl
+entry-none tenant (Some f) is = absurd (cc is)
+
+-- the frame that the table found
+pub record HasFound (parts : Parts) (name : FrameId) (entry : Entry ℕ) : Type 0 where
+  pub frame : Frame ℕ
+  pub there : frame_in_trees parts.trees name.tenant name.serial ≡ Some frame
+  pub named : named (shared_of parts) name ≡ Some (map_value (node_words parts.nodes) frame)
+  pub is : entry ≡ record { parent = name_of name.tenant (parent_of frame.path); state = frame.state; value = frame.value }
+
+module _ (parts : Parts) (stored : IsStored parts) (name : FrameId) (entry : Entry ℕ)
+    (is : Some entry ≡ entry_of_frame name.tenant (frame_in_trees parts.trees name.tenant name.serial)) where
+  pub found : HasFound parts name entry
+  found = grind (arith, entry-is, named-found)
+
+  pub frame-found : Some (entry.parent, entry.state) ≡ frame_in_core (shared_of parts) name
+  frame-found =
+      let f = found in
+      ap (λ (e : Entry ℕ). Some (e.parent, e.state)) f.is
+      ∙ sym (ap (λ (o : Option (Frame (List ℕ))). option_map (λ (frame : Frame (List ℕ)). (name_of name.tenant (parent_of frame.path), frame.state)) o) f.named)
+
+module _ (parts : Parts) (stored : IsStored parts) (name : FrameId)
+    (is : None ≡ entry_of_frame name.tenant (frame_in_trees parts.trees name.tenant name.serial)) where
+  pub nothing-found : named (shared_of parts) name ≡ None
+  nothing-found = grind (arith, entry-none, named-found)
+
+  pub no-frame-found : None ≡ frame_in_core (shared_of parts) name
+  no-frame-found = rw nothing-found refl
+
+pub tree-found : (parts : Parts) → IsStored parts → (number : ℕ) → IsTree (frames_in_core (shared_of parts) number)
+tree-found parts stored number = rw (frames-found parts stored number) (tree-map_values (node_words parts.nodes) (frames_of parts.trees number) (stored.forest number))
+
+-- the newest ready frame
+
+newest-with_words_of_nodes : (nodes : Nodes) (tenant : ℕ) (frames : List (Frame ℕ)) → newest_ready_of tenant (with_words_of_nodes nodes frames) ≡ newest_ready_of tenant frames
+newest-with_words_of_nodes nodes tenant [] = refl
+newest-with_words_of_nodes nodes tenant (frame ∷ frames) = ap (λ (o : Option (FrameId × ℕ)). first_of_two o (ready_name tenant frame.serial frame.state)) (newest-with_words_of_nodes nodes tenant frames)
+
+pub newest-ready-found : (parts : Parts) → IsStored parts → (number : ℕ) → newest_ready_in (shared_of parts) number ≡ newest_ready_of number (frames_of parts.trees number)
+newest-ready-found parts stored number =
+    by (tenant_in (shared_of parts).tenants number)
+    ∙ ap (newest_ready_of number) (frames-found parts stored number)
+    ∙ newest-with_words_of_nodes parts.nodes number (frames_of parts.trees number)
   where
-    by : (tenant : Option Tenant) → option_and_then (λ (t : Tenant). job_at t.jobs job) tenant ≡ job_at (jobs_kept tenant) job
+    by : (tenant : Option Tenant) → option_and_then (λ (t : Tenant). newest_ready_of number t.frames) tenant ≡ newest_ready_of number (tree_of tenant)
     by None = refl
     by (Some tenant) = refl
+
+-- a frame that is there
+module _ (parts : Parts) (stored : IsStored parts) (name : FrameId) (is : IsSome (named (shared_of parts) name)) where
+  pub there-frame : (frame : Frame ℕ) × (frame_in_trees parts.trees name.tenant name.serial ≡ Some frame)
+  there-frame = by (frame_in_trees parts.trees name.tenant name.serial) refl
+    where
+      by : (frame : Option (Frame ℕ)) → frame_in_trees parts.trees name.tenant name.serial ≡ frame → (f : Frame ℕ) × (frame_in_trees parts.trees name.tenant name.serial ≡ Some f)
+      by None none = absurd (
+          let there : IsSome (named (shared_of parts) name) = is in
+          cc (rw (named-found parts stored name ∙ ap (λ (o : Option (Frame ℕ)). option_map (map_value (node_words parts.nodes)) o) none) at there))
+      by (Some frame) found = (frame, found)
+
+  pub there-has : has_frame (frames_of parts.trees name.tenant) name.serial ≡ true
+  there-has = grind (arith, there-frame, found-there)
+
+-- What a frame sees: the stack's way from node to node is the frame's path.
+
+-- the words that a serial stands for are those of its frame's node
+words-at : (parts : Parts) (number serial : ℕ) (frame : Frame ℕ) → frame_in_trees parts.trees number serial ≡ Some frame → words_in (with_words_of_nodes parts.nodes (frames_of parts.trees number)) serial ≡ node_words parts.nodes frame.value
+words-at parts number serial frame at = grind (arith, frame_at-map_values)
+
+-- the stack's sight of a node is the sight along its frame's path
+abbrev Sees : Parts → ℕ → Frame ℕ → Type 0
+Sees parts number frame = (serial : ℕ) → frame_in_trees parts.trees number serial ≡ Some frame → IsSight parts.nodes (Some frame.value) (sight (with_words_of_nodes parts.nodes (frames_of parts.trees number)) frame.path)
+
+module _ (parts : Parts) (stored : IsStored parts) (number : ℕ) where
+  top-sees : (frame : Frame ℕ) → IsTop frame → Sees parts number frame
+  top-sees frame top serial at =
+      let T = with_words_of_nodes parts.nodes (frames_of parts.trees number) in
+      let belongs = stored.frames_nodes.nodes_of_frames number serial frame at in
+      let here = found-serial (frames_of parts.trees number) serial frame at in
+      let words : node_words parts.nodes frame.value ≡ words_in T frame.serial = sym (words-at parts number serial frame at) ∙ ap (words_in T) (sym here) in
+      let parent : node_parent parts.nodes frame.value ≡ None = belongs.parent ∙ ap (node_above (frames_of parts.trees number)) top.0 in
+      subst (λ (path : List ℕ). IsSight parts.nodes (Some frame.value) (sight T path)) (sym top.1)
+      (belongs.is_open, words, subst (λ (p : Option ℕ). IsSight parts.nodes p []) (sym parent) tt)
+
+  under-sees : (frame : Frame ℕ) → (u : IsUnder (frames_of parts.trees number) frame) → Sees parts number u.above → Sees parts number frame
+  under-sees frame u above_sees serial at =
+      let F = frames_of parts.trees number in
+      let T = with_words_of_nodes parts.nodes F in
+      let g : ℕ → List ℕ = λ s. words_in T s in
+      let belongs = stored.frames_nodes.nodes_of_frames number serial frame at in
+      let here = found-serial F serial frame at in
+      let words : node_words parts.nodes frame.value ≡ words_in T frame.serial = sym (words-at parts number serial frame at) ∙ ap (words_in T) (sym here) in
+      let parent : node_parent parts.nodes frame.value ≡ Some u.above.value = belongs.parent ∙ ap (node_above F) u.named ∙ above-node u.parent u.above u.there in
+      let further : sight T (u.above.path ++ frame.serial ∷ []) ≡ words_in T frame.serial ∷ sight T u.above.path = ap reverse (map-append g u.above.path (frame.serial ∷ [])) ∙ reverse-append (map g u.above.path) (map g (frame.serial ∷ [])) in
+      let whole : sight T frame.path ≡ words_in T frame.serial ∷ sight T u.above.path = ap (sight T) u.path ∙ further in
+      subst (λ (levels : List (List ℕ)). IsSight parts.nodes (Some frame.value) levels) (sym whole)
+      (belongs.is_open, words, subst (λ (p : Option ℕ). IsSight parts.nodes p (sight T u.above.path)) (sym parent) (above_sees u.parent u.there))
+    where
+      above-node : (p : ℕ) (f : Frame ℕ) → frame_at (frames_of parts.trees number) p ≡ Some f → node_above (frames_of parts.trees number) (Some p) ≡ Some f.value
+      above-node p f there = rw there refl
+
+  sees : (serial : ℕ) (frame : Frame ℕ) → frame_in_trees parts.trees number serial ≡ Some frame → IsSight parts.nodes (Some frame.value) (sight (with_words_of_nodes parts.nodes (frames_of parts.trees number)) frame.path)
+  sees serial frame at =
+      tree-induction (Sees parts number) (frames_of parts.trees number) (stored.forest number) top-sees under-sees serial frame at serial at
+
+-- so what the stack shows is what the frame sees
+module _ (parts : Parts) (stored : IsStored parts) (name : FrameId) where
+  pub sight-found : (entry : Entry ℕ) (levels : List (List ℕ)) → Some entry ≡ entry_of_frame name.tenant (frame_in_trees parts.trees name.tenant name.serial) → IsSight parts.nodes (Some entry.value) levels → levels ≡ sight_of (shared_of parts) name
+  sight-found entry levels is seen =
+      let f = found parts stored name entry is in
+      let value : entry.value ≡ f.frame.value = ap (λ (e : Entry ℕ). e.value) f.is in
+      let own = sees parts stored name.tenant name.serial f.frame f.there in
+      let same = one-sight parts.nodes (Some f.frame.value) levels (sight (with_words_of_nodes parts.nodes (frames_of parts.trees name.tenant)) f.frame.path) (subst (λ (v : ℕ). IsSight parts.nodes (Some v) levels) value seen) own in
+      let path : path_of (named (shared_of parts) name) ≡ f.frame.path = ap path_of f.named in
+      same ∙ sym (ap (λ (fs : List (Frame (List ℕ))). sight fs (path_of (named (shared_of parts) name))) (frames-found parts stored name.tenant) ∙ ap (sight (with_words_of_nodes parts.nodes (frames_of parts.trees name.tenant))) path)
+
+  pub entry-open : (entry : Entry ℕ) → Some entry ≡ entry_of_frame name.tenant (frame_in_trees parts.trees name.tenant name.serial) → IsOpen parts.nodes entry.value
+  entry-open entry is =
+      let f = found parts stored name entry is in
+      let value : entry.value ≡ f.frame.value = ap (λ (e : Entry ℕ). e.value) f.is in
+      subst (λ (n : ℕ). IsOpen parts.nodes n) (sym value) (stored.frames_nodes.nodes_of_frames name.tenant name.serial f.frame f.there).is_open
+
+  pub there-not-missing : IsSome (named (shared_of parts) name) → None ≡ entry_of_frame name.tenant (frame_in_trees parts.trees name.tenant name.serial) → ⊥
+  there-not-missing some is = false≢true (subst IsSome (nothing-found parts stored name is) some)

@@ -1,26 +1,19 @@
 -- A frame is opened.
-use Rattle.std.proofs.Common.{◌≡◌, ◌≢◌, ℕ, ◌<◌, ◌≤◌, ◌+◌, ◌-◌, true, false, List, [], ◌∷◌, ◌++◌, length, replicate, Option, Some, None, refl, ap, sym, subst, ◌∙◌, arith, inl, inr, ◌⊎◌, get_or-set_other, get_or-set_same}
-use Rattle.std.proofs.lemmas.List.{length-set, length-append, length-replicate}
-use Rattle.std.proofs.lemmas.Bool.{cases_eq, false≢true}
-use Rattle.cactus_stack.specs.Nodes.{Nodes, Node, node_at, node_words, words_of_node, parent_of_node as node_parent_of, with_node, IsOpen, IsUnused, padded, charge, charge_of, total_charge}
-use Rattle.tenant_quota.specs.Accounts.{account_of, charged_by, charged_segments}
-use Rattle.tenant_quota.specs.Reservations.{Reservations, ChangesOnly, IsSoundBook}
-use Rattle.tenant_quota.specs.declared.account.Account.{Account}
-use Rattle.frame_tree.specs.declared.names.State.TheVariants.{Ready}
-use Rattle.frame_tree.specs.Frames.{Frame, frame_at, has_parent, parent_of, path_under, AllBelow, IsTree, TenantTree, new_frame}
-use Rattle.frame_tree.specs.TreeLaws.{map_value}
-use Rattle.frame_tree.specs.Tables.{frames_of, KeepsOtherFrames}
-use Rattle.frame_tree.proofs.TreeLaws.{found-each, tree-rising, found-there, below-found, frame_at-push, frame_at_other-push, frame_at-left, under-there}
-use Rattle.frame_tree.proofs.TreeValues.{tree-new_frame, parent_of-path_under, append-map_values, path_in-map_values}
-use Rattle.sched_rules.specs.Trees.{Tree, charged_for, is_held_by}
-use Rattle.sched_rules.specs.Lone.{opened}
-use Rattle.sched_rules.specs.Changes.{on_tenant}
-use Rattle.sched_store.specs.Parts.{Parts, with_words_of_nodes, shared_of}
-use Rattle.sched_store.specs.Stored.{IsStored, AreFramesNodes, AreSized, frame_in_trees, node_of, node_above}
-use Rattle.sched_store.proofs.Nodes.{charge-set}
-use Rattle.sched_store.proofs.Words.{with_words_of_nodes-same}
+use Rattle.std.proofs.Common.{◌≡◌, ◌≢◌, ℕ, ◌<◌, ◌≤◌, ◌+◌, ◌-◌, true, false, List, [], ◌∷◌, ◌++◌, length, replicate, Option, Some, None, refl, ap, sym, subst, ◌∙◌, arith, inl, inr, ◌⊎◌, get_or-set_other, get_or-set_same, IfSome}
+use Rattle.sched_store.proofs.Common.{Ready, Account, FrameId, on_tenant, CoreState, map_value, Each, Tree, charged_for, is_held_by, Parts, with_words_of_nodes}
+use Rattle.sched_store.proofs.Common.{shared_of, cases_eq, false≢true, and_parts, leb-true, frames_in_core, serials_in, TenantHasLeft, length-set}
+use Rattle.sched_store.proofs.Common.{length-append, length-replicate, account_of, charged_by, charged_segments, left_in, Reservations, ChangesOnly}
+use Rattle.sched_store.proofs.Common.{IsSoundBook, opened_of, frames_of, KeepsOtherFrames, places_of, IsParentIn, serial_of, IsStored, AreFramesNodes, AreSized}
+use Rattle.sched_store.proofs.Common.{frame_in_trees, node_of, node_above, Frame, frame_at, has_parent, parent_of, path_under, AllBelow, IsTree, TenantTree}
+use Rattle.sched_store.proofs.Common.{new_frame, name_of, found-each, tree-rising, found-there, below-found, frame_at-push, frame_at_other-push, frame_at-left}
+use Rattle.sched_store.proofs.Common.{under-there, there-found, Nodes, Node, node_at, node_words, words_of_node, parent_of_node as node_parent_of, with_node}
+use Rattle.sched_store.proofs.Common.{IsOpen, IsUnused, padded, charge, charge_of, total_charge}
+use Rattle.frame_tree.proofs.TreeValues.{tree-new_frame, parent_of-path_under, append-map_values, path_in-map_values, has_frame-map_values}
+use Rattle.sched_rules.specs.Lone.{opened, is_frame_size}
+use Rattle.sched_store.proofs.Words.{charge-set, with_words_of_nodes-same}
 use Rattle.sched_store.proofs.States.{charged-cons}
-use Rattle.sched_store.proofs.Steps.{TenantStep, other-tenants, step-stored, step-shared}
+use Rattle.sched_store.proofs.Steps.{TenantStep, other-tenants, step-stored, step-shared, left-account}
+use Rattle.sched_store.proofs.Lookups.{frames-found, tenant-found}
 
 -- what is opened: the tenant's next serial, under a parent, with these words
 pub record OpensFrame (old : Parts) (nodes : Nodes) (trees : List (TenantTree ℕ)) (book : Reservations) (number : ℕ) (parent : Option ℕ) (above : Option ℕ) (words : List ℕ) (size home node : ℕ) (account : Account) : Type 0 where
@@ -43,35 +36,37 @@ padded-length words size room = omega (arith, length-append words (replicate (si
 
 -- the nodes after one was opened
 
-opened-here : (nodes : Nodes) (n : ℕ) (entry : Node) → n < length nodes → node_at (with_node nodes n (Some entry)) n ≡ Some entry
-opened-here nodes n entry within = get_or-set_same nodes n (Some entry) None within
+module _ (nodes : Nodes) (n : ℕ) where
+  opened-here : (entry : Node) → n < length nodes → node_at (with_node nodes n (Some entry)) n ≡ Some entry
+  opened-here entry within = get_or-set_same nodes n (Some entry) None within
 
-opened-other : (nodes : Nodes) (n m : ℕ) (entry : Node) → m ≢ n → node_at (with_node nodes n (Some entry)) m ≡ node_at nodes m
-opened-other nodes n m entry differs = get_or-set_other nodes n m (Some entry) None differs
+  opened-other : (m : ℕ) (entry : Node) → m ≢ n → node_at (with_node nodes n (Some entry)) m ≡ node_at nodes m
+  opened-other m entry differs = get_or-set_other nodes n m (Some entry) None differs
 
-open-not-unused : (nodes : Nodes) (n m : ℕ) → IsUnused nodes n → IsOpen nodes m → m ≢ n
-open-not-unused nodes n m unused is same =
-    let P : ℕ → Type 0 = λ k. IsOpen nodes k in
-    let here : IsOpen nodes n = subst P same is in cc (unused.1, here)
+  open-not-unused : (m : ℕ) → IsUnused nodes n → IsOpen nodes m → m ≢ n
+  open-not-unused m unused is same =
+      let P : ℕ → Type 0 = λ k. IsOpen nodes k in
+      let here : IsOpen nodes n = subst P same is in cc (unused.1, here)
 
-still-open : (nodes : Nodes) (n m : ℕ) (entry : Node) → IsUnused nodes n → IsOpen nodes m → IsOpen (with_node nodes n (Some entry)) m
-still-open nodes n m entry unused is = rw (opened-other nodes n m entry (open-not-unused nodes n m unused is)) is
+  still-open : (m : ℕ) (entry : Node) → IsUnused nodes n → IsOpen nodes m → IsOpen (with_node nodes n (Some entry)) m
+  still-open m entry unused is = rw (opened-other m entry (open-not-unused m unused is)) is
 
-opened-sized : (nodes : Nodes) (n : ℕ) (entry : Node) → AreSized nodes → IsUnused nodes n → 1 ≤ length entry.words → length entry.words ≤ 128 → AreSized (with_node nodes n (Some entry))
-opened-sized nodes n entry sized unused some most = grind (arith, opened-here, opened-other)
+  opened-sized : (entry : Node) → AreSized nodes → IsUnused nodes n → 1 ≤ length entry.words → length entry.words ≤ 128 → AreSized (with_node nodes n (Some entry))
+  opened-sized entry sized unused some most = grind (arith, opened-here, opened-other)
 
 -- the frames after one was added: either it is the new one, or it was there
 
-added-cases : (old new : List (TenantTree ℕ)) (added : Frame ℕ) (number : ℕ) → frames_of new number ≡ frames_of old number ++ added ∷ [] → KeepsOtherFrames old new number → AllBelow added.serial (frames_of old number) → (m s : ℕ) →
-    ((m ≡ number) × (s ≡ added.serial)) ⊎ (frame_in_trees new m s ≡ frame_in_trees old m s)
-added-cases old new added number frames kept above m s = grind (arith, frame_at_other-push)
+module _ (old new : List (TenantTree ℕ)) (added : Frame ℕ) (number : ℕ) (frames : frames_of new number ≡ frames_of old number ++ added ∷ []) where
+  added-cases : KeepsOtherFrames old new number → AllBelow added.serial (frames_of old number) → (m s : ℕ) →
+      ((m ≡ number) × (s ≡ added.serial)) ⊎ (frame_in_trees new m s ≡ frame_in_trees old m s)
+  added-cases kept above m s = grind (arith, frame_at_other-push)
 
-added-here : (old new : List (TenantTree ℕ)) (added : Frame ℕ) (number : ℕ) → frames_of new number ≡ frames_of old number ++ added ∷ [] → AllBelow added.serial (frames_of old number) → frame_in_trees new number added.serial ≡ Some added
-added-here old new added number frames above = rw frames (frame_at-push (frames_of old number) added above)
+  added-here : AllBelow added.serial (frames_of old number) → frame_in_trees new number added.serial ≡ Some added
+  added-here above = rw frames (frame_at-push (frames_of old number) added above)
 
--- a frame that was there is there
-added-keeps : (old new : List (TenantTree ℕ)) (added : Frame ℕ) (number : ℕ) → frames_of new number ≡ frames_of old number ++ added ∷ [] → KeepsOtherFrames old new number → AllBelow added.serial (frames_of old number) → (m s : ℕ) (frame : Frame ℕ) → frame_in_trees old m s ≡ Some frame → frame_in_trees new m s ≡ Some frame
-added-keeps old new added number frames kept above m s frame is = grind (arith, added-cases, below-found, found-there)
+  -- a frame that was there is there
+  added-keeps : KeepsOtherFrames old new number → AllBelow added.serial (frames_of old number) → (m s : ℕ) (frame : Frame ℕ) → frame_in_trees old m s ≡ Some frame → frame_in_trees new m s ≡ Some frame
+  added-keeps kept above m s frame is = grind (arith, added-cases, below-found, found-there)
 
 pub node-frame : (frame : Option (Frame ℕ)) (n : ℕ) → node_of frame ≡ Some n → (f : Frame ℕ) × ((frame ≡ Some f) × (f.value ≡ n))
 node-frame None n is = absurd (cc is)
@@ -112,69 +107,72 @@ path_under-with_words_of_nodes nodes frames (Some p) serial = ap (λ (path : Lis
 abbrev added_to : Parts → ℕ → Option ℕ → ℕ → ℕ → Account → Frame ℕ
 added_to old number parent home node account = new_frame (frames_of old.trees number) (account.opened + 1) parent home node
 
-opened-nodes : (old : Parts) (nodes : Nodes) (trees : List (TenantTree ℕ)) (book : Reservations) (number : ℕ) (parent above : Option ℕ) (words : List ℕ) (size home node : ℕ) (account : Account) → IsStored old → OpensFrame old nodes trees book number parent above words size home node account → AreFramesNodes nodes trees
-opened-nodes old nodes trees book number parent above words size home node account stored opens =
-    let frames = frames_of old.trees number in
-    let added = added_to old number parent home node account in
-    let entry : Node = record { parent = above; words = padded words size } in
-    let below = (stored.accounts number account opens.there).serials in
-    let P : Nodes → Type 0 = λ ns. AreFramesNodes ns trees in
-    let here = opened-here old.nodes node entry opens.unused.0 in
-    let cases = added-cases old.trees trees added number opens.frames opens.kept below in
-    let new_is = added-here old.trees trees added number opens.frames below in
-    subst P (sym opens.nodes_is) (record {
-      nodes_of_frames = λ m s frame is. elim (cases m s) [
-        | inl (same, at) ↦ grind (arith, above-kept, parent_of-path_under)
-        | inr was ↦
-            (let at = sym was ∙ is in
-            let own = stored.frames_nodes.nodes_of_frames m s frame at in
-            let differs = open-not-unused old.nodes node frame.value opens.unused own.is_open in
-            let above_m = above-there (frames_of old.trees m) s frame (stored.forest m) at in
-            record {
-              is_open = still-open old.nodes node frame.value entry opens.unused own.is_open;
-              parent = ap node_parent_of (opened-other old.nodes node frame.value entry differs) ∙ own.parent ∙ sym (tree-above old.trees trees added number opens.frames opens.kept m (parent_of frame.path) above_m);
-            })
-      ];
-      once = λ m s other_m other_s n one two.
-          let first = node-frame (frame_in_trees trees m s) n one in
-          let second = node-frame (frame_in_trees trees other_m other_s) n two in
-          elim (cases m s) [
-            | inl (same, at) ↦ elim (cases other_m other_s) [
-              | inl (other_same, other_at) ↦ (same ∙ sym other_same, at ∙ sym other_at)
-              | inr was ↦ absurd (unused-apart old node number added m s n (frame_in_trees trees m s) second.0.value (ap (λ (k : ℕ). frame_in_trees trees k s) same ∙ ap (frame_in_trees trees number) at ∙ new_is) refl one (stored.frames_nodes.nodes_of_frames other_m other_s second.0 (sym was ∙ second.1.0)).is_open second.1.1 opens.unused)
-            ]
-            | inr was ↦ elim (cases other_m other_s) [
-              | inl (other_same, other_at) ↦ absurd (unused-apart old node number added other_m other_s n (frame_in_trees trees other_m other_s) first.0.value (ap (λ (k : ℕ). frame_in_trees trees k other_s) other_same ∙ ap (frame_in_trees trees number) other_at ∙ new_is) refl two (stored.frames_nodes.nodes_of_frames m s first.0 (sym was ∙ first.1.0)).is_open first.1.1 opens.unused)
-              | inr other_was ↦ stored.frames_nodes.once m s other_m other_s n (ap node_of (sym was) ∙ one) (ap node_of (sym other_was) ∙ two)
-            ]
-          ];
-      no_other = λ n is. elim (cases_eq n node) [
-        | inl same ↦ record { number = number; serial = added.serial; there = ap node_of new_is ∙ ap (λ (k : ℕ). Some k) (sym same) }
-        | inr differs ↦ grind (arith, opened-other, node-frame, added-keeps)
-      ];
-    })
+module _ (old : Parts) (nodes : Nodes) (trees : List (TenantTree ℕ)) (book : Reservations) (number : ℕ) (parent above : Option ℕ) (words : List ℕ)
+    (size home node : ℕ) (account : Account) (stored : IsStored old)
+    (opens : OpensFrame old nodes trees book number parent above words size home node account) where
+  opened-nodes : AreFramesNodes nodes trees
+  opened-nodes =
+      let frames = frames_of old.trees number in
+      let added = added_to old number parent home node account in
+      let entry : Node = record { parent = above; words = padded words size } in
+      let below = (stored.accounts number account opens.there).serials in
+      let P : Nodes → Type 0 = λ ns. AreFramesNodes ns trees in
+      let here = opened-here old.nodes node entry opens.unused.0 in
+      let cases = added-cases old.trees trees added number opens.frames opens.kept below in
+      let new_is = added-here old.trees trees added number opens.frames below in
+      subst P (sym opens.nodes_is) (record {
+        nodes_of_frames = λ m s frame is. elim (cases m s) [
+          | inl (same, at) ↦ grind (arith, above-kept, parent_of-path_under)
+          | inr was ↦
+              (let at = sym was ∙ is in
+              let own = stored.frames_nodes.nodes_of_frames m s frame at in
+              let differs = open-not-unused old.nodes node frame.value opens.unused own.is_open in
+              let above_m = above-there (frames_of old.trees m) s frame (stored.forest m) at in
+              record {
+                is_open = still-open old.nodes node frame.value entry opens.unused own.is_open;
+                parent = ap node_parent_of (opened-other old.nodes node frame.value entry differs) ∙ own.parent ∙ sym (tree-above old.trees trees added number opens.frames opens.kept m (parent_of frame.path) above_m);
+              })
+        ];
+        once = λ m s other_m other_s n one two.
+            let first = node-frame (frame_in_trees trees m s) n one in
+            let second = node-frame (frame_in_trees trees other_m other_s) n two in
+            elim (cases m s) [
+              | inl (same, at) ↦ elim (cases other_m other_s) [
+                | inl (other_same, other_at) ↦ (same ∙ sym other_same, at ∙ sym other_at)
+                | inr was ↦ absurd (unused-apart old node number added m s n (frame_in_trees trees m s) second.0.value (ap (λ (k : ℕ). frame_in_trees trees k s) same ∙ ap (frame_in_trees trees number) at ∙ new_is) refl one (stored.frames_nodes.nodes_of_frames other_m other_s second.0 (sym was ∙ second.1.0)).is_open second.1.1 opens.unused)
+              ]
+              | inr was ↦ elim (cases other_m other_s) [
+                | inl (other_same, other_at) ↦ absurd (unused-apart old node number added other_m other_s n (frame_in_trees trees other_m other_s) first.0.value (ap (λ (k : ℕ). frame_in_trees trees k other_s) other_same ∙ ap (frame_in_trees trees number) other_at ∙ new_is) refl two (stored.frames_nodes.nodes_of_frames m s first.0 (sym was ∙ first.1.0)).is_open first.1.1 opens.unused)
+                | inr other_was ↦ stored.frames_nodes.once m s other_m other_s n (ap node_of (sym was) ∙ one) (ap node_of (sym other_was) ∙ two)
+              ]
+            ];
+        no_other = λ n is. elim (cases_eq n node) [
+          | inl same ↦ record { number = number; serial = added.serial; there = ap node_of new_is ∙ ap (λ (k : ℕ). Some k) (sym same) }
+          | inr differs ↦ grind (arith, opened-other, node-frame, added-keeps)
+        ];
+      })
 
--- no frame that was there has the new node
-opened-others : (old : Parts) (nodes : Nodes) (trees : List (TenantTree ℕ)) (book : Reservations) (number : ℕ) (parent above : Option ℕ) (words : List ℕ) (size home node : ℕ) (account : Account) → IsStored old → OpensFrame old nodes trees book number parent above words size home node account → (m : ℕ) → with_words_of_nodes nodes (frames_of old.trees m) ≡ with_words_of_nodes old.nodes (frames_of old.trees m)
-opened-others old nodes trees book number parent above words size home node account stored opens m =
-    let entry : Node = record { parent = above; words = padded words size } in
-    with_words_of_nodes-same old.nodes nodes (frames_of old.trees m) (found-each (λ x. node_words nodes x.value ≡ node_words old.nodes x.value) (frames_of old.trees m) (tree-rising (frames_of old.trees m) (stored.forest m))
-    (λ s x at.
-    let own = stored.frames_nodes.nodes_of_frames m s x at in
-    ap (λ (ns : Nodes). node_words ns x.value) opens.nodes_is ∙ ap words_of_node (opened-other old.nodes node x.value entry (open-not-unused old.nodes node x.value opens.unused own.is_open))))
+  -- no frame that was there has the new node
+  opened-others : (m : ℕ) → with_words_of_nodes nodes (frames_of old.trees m) ≡ with_words_of_nodes old.nodes (frames_of old.trees m)
+  opened-others m =
+      let entry : Node = record { parent = above; words = padded words size } in
+      with_words_of_nodes-same old.nodes nodes (frames_of old.trees m) (found-each (λ x. node_words nodes x.value ≡ node_words old.nodes x.value) (frames_of old.trees m) (tree-rising (frames_of old.trees m) (stored.forest m))
+      (λ s x at.
+      let own = stored.frames_nodes.nodes_of_frames m s x at in
+      ap (λ (ns : Nodes). node_words ns x.value) opens.nodes_is ∙ ap words_of_node (opened-other old.nodes node x.value entry (open-not-unused old.nodes node x.value opens.unused own.is_open))))
 
-opened-frames : (old : Parts) (nodes : Nodes) (trees : List (TenantTree ℕ)) (book : Reservations) (number : ℕ) (parent above : Option ℕ) (words : List ℕ) (size home node : ℕ) (account : Account) → IsStored old → OpensFrame old nodes trees book number parent above words size home node account → with_words_of_nodes nodes (frames_of trees number) ≡ with_words_of_nodes old.nodes (frames_of old.trees number) ++ new_frame (with_words_of_nodes old.nodes (frames_of old.trees number)) (account.opened + 1) parent home (padded words size) ∷ []
-opened-frames old nodes trees book number parent above words size home node account stored opens =
-    let frames = frames_of old.trees number in
-    let added = added_to old number parent home node account in
-    let entry : Node = record { parent = above; words = padded words size } in
-    let own : node_words nodes node ≡ padded words size = ap (λ (ns : Nodes). node_words ns node) opens.nodes_is ∙ ap words_of_node (opened-here old.nodes node entry opens.unused.0) in
-    let new : map_value (node_words nodes) added ≡ new_frame (with_words_of_nodes old.nodes frames) (account.opened + 1) parent home (padded words size) =
-    (λ i. record { serial = account.opened + 1; path = path_under-with_words_of_nodes old.nodes frames parent (account.opened + 1) i; state = Ready home; value = own i }) in
-    ap (with_words_of_nodes nodes) opens.frames
-    ∙ append-map_values (node_words nodes) frames (added ∷ [])
-    ∙ ap (λ (fs : Tree). fs ++ map_value (node_words nodes) added ∷ []) (opened-others old nodes trees book number parent above words size home node account stored opens number)
-    ∙ ap (λ (f : Frame (List ℕ)). with_words_of_nodes old.nodes frames ++ f ∷ []) new
+  opened-frames : with_words_of_nodes nodes (frames_of trees number) ≡ with_words_of_nodes old.nodes (frames_of old.trees number) ++ new_frame (with_words_of_nodes old.nodes (frames_of old.trees number)) (account.opened + 1) parent home (padded words size) ∷ []
+  opened-frames =
+      let frames = frames_of old.trees number in
+      let added = added_to old number parent home node account in
+      let entry : Node = record { parent = above; words = padded words size } in
+      let own : node_words nodes node ≡ padded words size = ap (λ (ns : Nodes). node_words ns node) opens.nodes_is ∙ ap words_of_node (opened-here old.nodes node entry opens.unused.0) in
+      let new : map_value (node_words nodes) added ≡ new_frame (with_words_of_nodes old.nodes frames) (account.opened + 1) parent home (padded words size) =
+      (λ i. record { serial = account.opened + 1; path = path_under-with_words_of_nodes old.nodes frames parent (account.opened + 1) i; state = Ready home; value = own i }) in
+      ap (with_words_of_nodes nodes) opens.frames
+      ∙ append-map_values (node_words nodes) frames (added ∷ [])
+      ∙ ap (λ (fs : Tree). fs ++ map_value (node_words nodes) added ∷ []) (opened-others number)
+      ∙ ap (λ (f : Frame (List ℕ)). with_words_of_nodes old.nodes frames ++ f ∷ []) new
 
 pub record Opened (old : Parts) (nodes : Nodes) (trees : List (TenantTree ℕ)) (book : Reservations) (number : ℕ) (parent : Option ℕ) (words : List ℕ) (size home : ℕ) : Type 0 where
   pub stored : IsStored (record old { nodes = nodes; trees = trees; book = book })
@@ -228,3 +226,66 @@ open-step old nodes trees book number parent above words size home node account 
       stored = step-stored old (record old { nodes = nodes; trees = trees; book = book }) number (charged_by (charge size) 1) account stored step;
       shared = step-shared old (record old { nodes = nodes; trees = trees; book = book }) number (charged_by (charge size) 1) account (opened parent words size home) stored step (rw own_frames refl);
     }
+
+-- What an opening asks of the parts of a store.
+
+-- the serials that were given are the nodes that were opened
+pub serials-found : (parts : Parts) (number : ℕ) (account : Account) → account_of number parts.book.accounts ≡ Some account → serials_in (shared_of parts) number ≡ account.opened
+serials-found parts number account there = rw (tenant-found parts number, there) refl
+
+-- the account of a tenant that has left what an opening takes
+pub left-for : (parts : Parts) (number size : ℕ) {core : CoreState} → IsStored parts → shared_of parts ≡ core → TenantHasLeft core number (charge size) 1 →
+    (a : Account) × ((account_of number parts.book.accounts ≡ Some a) × ((charge size ≤ (left_in a).segments) × (1 ≤ (left_in a).nodes)))
+left-for parts number size stored is left = grind (arith, left-account)
+
+-- a parent among frames with words is one of the table's
+pub parent-found : (parts : Parts) → IsStored parts → (number : ℕ) (parent : Option ℕ) → has_parent (frames_in_core (shared_of parts) number) parent ≡ true → has_parent (frames_of parts.trees number) parent ≡ true
+parent-found parts stored number None there = refl
+parent-found parts stored number (Some p) there = grind (arith, has_frame-map_values, frames-found)
+
+-- the same of a core that the parts show
+pub parent-for : (parts : Parts) (number : ℕ) (parent : Option ℕ) {core : CoreState} → IsStored parts → shared_of parts ≡ core → has_parent (frames_in_core core number) parent ≡ true → has_parent (frames_of parts.trees number) parent ≡ true
+parent-for parts number parent stored is there = parent-found parts stored number parent (subst (λ (s : CoreState). has_parent (frames_in_core s number) parent ≡ true) (sym is) there)
+
+pub parent-open : (parts : Parts) → IsStored parts → (number : ℕ) (parent above : Option ℕ) → has_parent (frames_of parts.trees number) parent ≡ true → above ≡ node_above (frames_of parts.trees number) parent → IfSome above (IsOpen parts.nodes)
+parent-open parts stored number None above there is = let P : Option ℕ → Type 0 = λ o. IfSome o (IsOpen parts.nodes) in subst P (sym is) tt
+parent-open parts stored number (Some p) above there is =
+    let f = there-found (frames_of parts.trees number) p there in
+    let P : Option ℕ → Type 0 = λ o. IfSome o (IsOpen parts.nodes) in
+    let e : node_above (frames_of parts.trees number) (Some p) ≡ Some f.0.value = ap node_of f.1 in
+    subst P (sym (is ∙ e)) (stored.frames_nodes.nodes_of_frames number p f.0 f.1).is_open
+
+pub parent-in : (frames : List (Frame ℕ)) (tenant : ℕ) (parent : Option ℕ) (name : Option FrameId) → has_parent frames parent ≡ true → name ≡ name_of tenant parent → IsParentIn frames tenant name
+parent-in frames tenant None name there is = let P : Option FrameId → Type 0 = λ o. IsParentIn frames tenant o in subst P (sym is) tt
+parent-in frames tenant (Some p) name there is = let P : Option FrameId → Type 0 = λ o. IsParentIn frames tenant o in subst P (sym is) (refl, there)
+
+pub serial-of-name : (tenant : ℕ) (parent : Option ℕ) (name : Option FrameId) → name ≡ name_of tenant parent → serial_of name ≡ parent
+serial-of-name tenant None name is = ap serial_of is
+serial-of-name tenant (Some p) name is = ap serial_of is
+
+-- there are no more frames than segments that they are charged
+
+frames-few : (nodes : Nodes) (frames : List (Frame ℕ)) → Each (λ frame. 1 ≤ length (node_words nodes frame.value)) frames → length frames ≤ charged_for (with_words_of_nodes nodes frames)
+frames-few nodes [] all = omega arith
+frames-few nodes (frame ∷ frames) all =
+    let some : 1 ≤ charge (length (node_words nodes frame.value)) = (let h : 1 ≤ length (node_words nodes frame.value) = all.0 in omega arith) in
+    omega (arith, some, charged-cons (map_value (node_words nodes) frame) (with_words_of_nodes nodes frames), frames-few nodes frames all.1)
+
+pub place-left : (parts : Parts) → IsStored parts → (number size : ℕ) (account : Account) → account_of number parts.book.accounts ≡ Some account → 1 ≤ size → charge size ≤ (left_in account).segments → length (frames_of parts.trees number) < places_of parts.trees number
+place-left parts stored number size account there some enough =
+    let is = stored.accounts number account there in
+    let frames = frames_of parts.trees number in
+    let few = frames-few parts.nodes frames (found-each (λ x. 1 ≤ length (node_words parts.nodes x.value)) frames (tree-rising frames (stored.forest number))
+    (λ s x at. stored.sized.some x.value (stored.frames_nodes.nodes_of_frames number s x at).is_open)) in
+    let one : 1 ≤ charge size = omega arith in
+    let left : charge size ≤ account.reserve.segments - account.charged = enough in
+    omega (arith, few, one, left, is.charged, is.places)
+
+-- a size that is a frame's
+
+pub size-some : (words : List ℕ) (size : ℕ) → is_frame_size words size ≡ true → (1 ≤ size) × ((size ≤ 128) × (length words ≤ size))
+size-some words size is = grind (arith, and_parts, leb-true)
+
+-- the next serial is one more than the nodes that were opened
+pub opened-next : (parts : Parts) (number before : ℕ) (account : Account) → account_of number parts.book.accounts ≡ Some account → opened_of number parts.book ≡ Some before → before + 1 ≡ account.opened + 1
+opened-next parts number before account there is = grind arith

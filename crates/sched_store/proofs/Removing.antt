@@ -1,21 +1,21 @@
 -- Frames of one tenant are removed, their nodes closed and their segments given back: what the store keeps true stays so.
-use Rattle.std.proofs.Common.{◌≡◌, ◌≢◌, ℕ, ◌+◌, Bool, List, [], ◌∷◌, length, Some, None, refl, ap, sym, ◌∙◌, subst, arith}
-use Rattle.std.specs.List.{filter}
-use Rattle.std.proofs.lemmas.List.{length-set}
-use Rattle.cactus_stack.specs.Nodes.{Nodes, with_node, without, total_charge}
-use Rattle.tenant_quota.specs.Accounts.{account_of, credited_by, charged_segments}
-use Rattle.tenant_quota.specs.Reservations.{Reservations, IsSoundBook, ChangesOnly, KeepsOtherAccounts, HasChargedAtLeast}
-use Rattle.tenant_quota.specs.declared.account.Account.{Account}
-use Rattle.frame_tree.specs.Frames.{Frame, AllBelow, TenantTree}
-use Rattle.frame_tree.specs.Tables.{frames_of, KeepsOtherFrames}
-use Rattle.frame_tree.proofs.TreeChanges.{AllBelow-filter}
-use Rattle.sched_rules.specs.Trees.{Tenant, charged_for}
-use Rattle.sched_rules.specs.Changes.{on_tenant}
-use Rattle.sched_store.specs.Parts.{Parts, with_words_of_nodes, tenant_from, shared_of}
-use Rattle.sched_store.specs.Stored.{IsStored, IsAccountFor}
-use Rattle.sched_store.proofs.Cut.{IsCut, closing, cut-belongs, cut-sized, cut-places, cut-words, cut-trees}
-use Rattle.sched_store.proofs.Closing.{cut-frees}
+use Rattle.std.proofs.Common.{◌≡◌, ◌≢◌, ℕ, ◌+◌, Bool, List, [], ◌∷◌, length, Some, None, refl, ap, sym, ◌∙◌, subst, arith, ◌≤◌, inl, inr, true, false, not, eqb, nat_lt, Option, ◌-◌, IsSome, All, AllPairs, option_map, suc, ◌<◌, IsTrue, is_some}
+use Rattle.sched_store.proofs.Common.{filter, length-set, length-append, Nodes, with_node, without, total_charge, HasNoChild, node_at, node_words, node_parent}
+use Rattle.sched_store.proofs.Common.{IsOpen, HasAllChildren, account_of, credited_by, charged_segments, Reservations, IsSoundBook, ChangesOnly}
+use Rattle.sched_store.proofs.Common.{KeepsOtherAccounts, HasChargedAtLeast, Account, Frame, AllBelow, TenantTree, frame_at, parent_of, children_of}
+use Rattle.sched_store.proofs.Common.{frames_without, HasValue, has_frame, goes_under, aborted, frames_under, values_of, IsTree, entry_of_frame, path_in}
+use Rattle.sched_store.proofs.Common.{name_of, frames_of, KeepsOtherFrames, AllBelow-filter, tree-without, frame_at-stays, tree-aborted, child-further-under}
+use Rattle.sched_store.proofs.Common.{Tenant, charged_for, has_child, is_root, frame_words, on_tenant, Parts, with_words_of_nodes, tenant_from, shared_of}
+use Rattle.sched_store.proofs.Common.{IsStored, IsAccountFor, frame_in_trees, node_of, node_above, cases_Bool, eq-eqb, eqb-true, ne_eqb, ltb-false, true≢false}
+use Rattle.sched_store.proofs.Common.{false≢true, lt-ltb, le-ltb, FrameId, map_values, is_child_of, AllAboveSerial, AreSerialsRising, map_value, tree-rising}
+use Rattle.sched_store.proofs.Common.{children-by-paths, found-there, found-path, placed, IsPlaced, frames_in_core, path_of, words_under, jobs_of, ltb, Entry}
+use Rattle.sched_store.proofs.Closing.{IsCut, closing, cut-belongs, cut-sized, cut-places, cut-words, cut-trees, cut-frees, closed, found-node, parent-open, above-found, TakesChildren, closing-open, closing-once, closing-children}
 use Rattle.sched_store.proofs.Steps.{TenantStep, other-tenants, step-stored, step-shared}
+use Rattle.frame_tree.proofs.TreeValues.{frames_without-map_values, children_of-map_values, aborted-map_values, frames_under-map_values}
+use Rattle.sched_store.proofs.Lookups.{frames-found, named-found, found, nothing-found}
+use Rattle.cactus_stack.proofs.LawFacts.{charge-without}
+use Rattle.sched_rules.specs.Views.{named, words_of_frame}
+use Rattle.std.specs.Option.{is_none}
 
 pub length-without : (nodes : Nodes) (numbers : List ℕ) → length (without nodes numbers) ≡ length nodes
 length-without nodes [] = refl
@@ -38,76 +38,378 @@ abbrev pub removed : Parts → List (TenantTree ℕ) → Reservations → ℕ �
 removed parts trees book number keep = record parts { nodes = without parts.nodes (closing parts.trees number keep); trees = trees; book = book }
 
 -- the words of a tenant that isn't the one
-other-words : (parts : Parts) (trees : List (TenantTree ℕ)) (book : Reservations) (number freed : ℕ) (keep : Frame ℕ → Bool) → IsStored parts → IsRemoval parts trees book number freed keep → (other : ℕ) → other ≢ number →
-    with_words_of_nodes (without parts.nodes (closing parts.trees number keep)) (frames_of trees other) ≡ with_words_of_nodes parts.nodes (frames_of parts.trees other)
-other-words parts trees book number freed keep stored is other differs =
-    cut-words parts.nodes parts.trees trees number keep stored.frames_nodes is.cut other (cut-trees parts.trees trees number keep is.cut other)
-    ∙ ap (with_words_of_nodes parts.nodes) (is.cut.others other differs)
+module _ (parts : Parts) (trees : List (TenantTree ℕ)) (book : Reservations) (number freed : ℕ) (keep : Frame ℕ → Bool) (stored : IsStored parts)
+    (is : IsRemoval parts trees book number freed keep) where
+  other-words : (other : ℕ) → other ≢ number →
+      with_words_of_nodes (without parts.nodes (closing parts.trees number keep)) (frames_of trees other) ≡ with_words_of_nodes parts.nodes (frames_of parts.trees other)
+  other-words other differs =
+      cut-words parts.nodes parts.trees trees number keep stored.frames_nodes is.cut other (cut-trees parts.trees trees number keep is.cut other)
+      ∙ ap (with_words_of_nodes parts.nodes) (is.cut.others other differs)
 
--- the words of the one: those of its frames that stay
-pub own-words : (parts : Parts) (trees : List (TenantTree ℕ)) (book : Reservations) (number freed : ℕ) (keep : Frame ℕ → Bool) → IsStored parts → IsRemoval parts trees book number freed keep →
-    with_words_of_nodes (without parts.nodes (closing parts.trees number keep)) (frames_of trees number) ≡ with_words_of_nodes parts.nodes (filter keep (frames_of parts.trees number))
-own-words parts trees book number freed keep stored is =
-    cut-words parts.nodes parts.trees trees number keep stored.frames_nodes is.cut number (cut-trees parts.trees trees number keep is.cut number)
-    ∙ ap (with_words_of_nodes parts.nodes) is.cut.cut
+  -- the words of the one: those of its frames that stay
+  pub own-words : with_words_of_nodes (without parts.nodes (closing parts.trees number keep)) (frames_of trees number) ≡ with_words_of_nodes parts.nodes (filter keep (frames_of parts.trees number))
+  own-words =
+      cut-words parts.nodes parts.trees trees number keep stored.frames_nodes is.cut number (cut-trees parts.trees trees number keep is.cut number)
+      ∙ ap (with_words_of_nodes parts.nodes) is.cut.cut
 
 -- what the frames that go were charged is what was freed
-pub charge-left : (parts : Parts) (number freed : ℕ) (keep : Frame ℕ → Bool) → IsStored parts → (account : Account) → account_of number parts.book.accounts ≡ Some account →
-    total_charge (without parts.nodes (closing parts.trees number keep)) + freed ≡ total_charge parts.nodes →
-    account.charged ≡ freed + charged_for (with_words_of_nodes parts.nodes (filter keep (frames_of parts.trees number)))
-charge-left parts number freed keep stored account there frees = grind (arith, cut-frees)
+module _ (parts : Parts) (number freed : ℕ) (keep : Frame ℕ → Bool) (stored : IsStored parts) (account : Account)
+    (there : account_of number parts.book.accounts ≡ Some account)
+    (frees : total_charge (without parts.nodes (closing parts.trees number keep)) + freed ≡ total_charge parts.nodes) where
+  pub charge-left : account.charged ≡ freed + charged_for (with_words_of_nodes parts.nodes (filter keep (frames_of parts.trees number)))
+  charge-left = grind (arith, cut-frees)
 
--- so the tenant is charged as much
-pub can-give-back : (parts : Parts) (number freed : ℕ) (keep : Frame ℕ → Bool) → IsStored parts → (account : Account) → account_of number parts.book.accounts ≡ Some account →
-    total_charge (without parts.nodes (closing parts.trees number keep)) + freed ≡ total_charge parts.nodes → HasChargedAtLeast parts.book number freed
-can-give-back parts number freed keep stored account there frees =
-    let left = charge-left parts number freed keep stored account there frees in
-    rw there (omega (arith, left))
+  -- so the tenant is charged as much
+  pub can-give-back : HasChargedAtLeast parts.book number freed
+  can-give-back =
+      rw there (omega (arith, charge-left))
 
-removed-own : (parts : Parts) (trees : List (TenantTree ℕ)) (book : Reservations) (number freed : ℕ) (keep : Frame ℕ → Bool) → IsStored parts → (is : IsRemoval parts trees book number freed keep) →
-    IsAccountFor (without parts.nodes (closing parts.trees number keep)) trees number (credited_by freed is.account)
-removed-own parts trees book number freed keep stored is =
-    let was = stored.accounts number is.account is.there in
-    let left = charge-left parts number freed keep stored is.account is.there is.frees in
-    let words = ap charged_for (own-words parts trees book number freed keep stored is) in
+module _ (parts : Parts) (trees : List (TenantTree ℕ)) (book : Reservations) (number freed : ℕ) (keep : Frame ℕ → Bool) where
+  removed-own : IsStored parts → (is : IsRemoval parts trees book number freed keep) →
+      IsAccountFor (without parts.nodes (closing parts.trees number keep)) trees number (credited_by freed is.account)
+  removed-own stored is =
+      let was = stored.accounts number is.account is.there in
+      let words = ap charged_for (own-words parts trees book number freed keep stored is) in
+      record {
+        charged = omega (arith, charge-left parts number freed keep stored is.account is.there is.frees, words);
+        places = is.table.places number ∙ was.places;
+        serials = subst (λ (xs : List (Frame ℕ)). AllBelow (Account.opened is.account + 1) xs) (sym is.cut.cut) (AllBelow-filter keep (Account.opened is.account + 1) (frames_of parts.trees number) was.serials);
+      }
+
+  -- one tenant changes by it, and no other
+  pub removal-step : IsStored parts → (is : IsRemoval parts trees book number freed keep) →
+      TenantStep parts (removed parts trees book number keep) number (credited_by freed) is.account
+  removal-step stored is = record {
+    there = is.there;
+    sound = is.sound;
+    book = is.credited.whole;
+    trees = other-tenants is.table;
+    count = is.table.count;
+    tree = is.cut.tree_after;
+    frames_nodes = cut-belongs parts.nodes parts.trees trees number keep stored.frames_nodes is.cut;
+    sized = cut-sized parts.nodes (closing parts.trees number keep) stored.sized;
+    segments = length-without parts.nodes (closing parts.trees number keep);
+    charges = omega (arith, is.frees, is.sum, stored.charges);
+    own = removed-own stored is;
+    words = λ other differs. ap (with_words_of_nodes (without parts.nodes (closing parts.trees number keep))) (sym (is.cut.others other differs)) ∙ other-words parts trees book number freed keep stored is other differs;
+    ledgers = refl;
+    jobs = λ other differs. refl;
+    workers = stored.workers;
+    places = cut-places parts.nodes parts.trees trees parts.places number keep stored.frames_nodes is.cut stored.places;
+    newest = refl;
+  }
+
+  -- what the store keeps true stays so
+  pub removed-stored : IsStored parts → IsRemoval parts trees book number freed keep → IsStored (removed parts trees book number keep)
+  removed-stored stored is =
+      step-stored parts (removed parts trees book number keep) number (credited_by freed) is.account stored (removal-step stored is)
+
+  -- and the core is the one before, that tenant without those frames
+  pub removed-shared : (change : Tenant → Tenant) → IsStored parts → (is : IsRemoval parts trees book number freed keep) →
+      tenant_from (removed parts trees book number keep) number (credited_by freed is.account) ≡ change (tenant_from parts number is.account) →
+      shared_of (removed parts trees book number keep) ≡ on_tenant number change (shared_of parts)
+  removed-shared change stored is changes =
+      step-shared parts (removed parts trees book number keep) number (credited_by freed) is.account change stored (removal-step stored is) changes
+
+-- A frame without a child is removed, with its node and what it was charged.
+
+-- the frames that stay
+abbrev pub others_stay : ℕ → Frame ℕ → Bool
+others_stay serial frame = not (eqb frame.serial serial)
+
+-- none of the frames above goes
+nothing-above : (serial : ℕ) (xs : List (Frame ℕ)) → AllAboveSerial serial xs → closed (others_stay serial) xs ≡ []
+nothing-above serial [] above = refl
+nothing-above serial (x ∷ xs) above = grind (arith, nothing-above serial xs above.1, ne_eqb)
+
+-- one node is closed: the frame's
+pub closing-one : (serial : ℕ) (xs : List (Frame ℕ)) (frame : Frame ℕ) → AreSerialsRising xs → frame_at xs serial ≡ Some frame → closed (others_stay serial) xs ≡ frame.value ∷ []
+closing-one serial [] frame rising at = absurd cc
+closing-one serial (x ∷ xs) frame rising at =
+    elim (cases_Bool (eqb x.serial serial)) [
+      | inl same ↦ grind (arith, eqb-true, nothing-above)
+      | inr other ↦ rw other (closing-one serial xs frame rising.1 (rw other at at))
+    ]
+
+-- a frame without a child in the core has none in the table
+pub no-children : (parts : Parts) → IsStored parts → (name : FrameId) → has_child (frames_in_core (shared_of parts) name.tenant) name.serial ≡ false → children_of (frames_of parts.trees name.tenant) name.serial ≡ []
+no-children parts stored name none =
+    let F = frames_of parts.trees name.tenant in
+    let frames = frames-found parts stored name.tenant in
+    let kids = children_of-map_values (node_words parts.nodes) F name.serial in
+    let lacks : nat_lt 0 (length (map_values (node_words parts.nodes) (children_of F name.serial))) ≡ false = sym (ap (λ (fs : List (Frame (List ℕ))). has_child fs name.serial) frames ∙ ap (λ (fs : List (Frame (List ℕ))). nat_lt 0 (length fs)) kids) ∙ none in
+    empty (children_of F name.serial) (ltb-false 0 (length (map_values (node_words parts.nodes) (children_of F name.serial))) lacks)
+  where
+    empty : (xs : List (Frame ℕ)) → length (map_values (node_words parts.nodes) xs) ≤ 0 → xs ≡ []
+    empty [] is = refl
+    empty (x ∷ xs) is = absurd (omega arith)
+
+-- so no open node has its node as a parent
+pub leaf-node : (parts : Parts) (name : FrameId) (frame : Frame ℕ) → IsStored parts → frame_in_trees parts.trees name.tenant name.serial ≡ Some frame → children_of (frames_of parts.trees name.tenant) name.serial ≡ [] → HasNoChild parts.nodes frame.value
+leaf-node parts name frame stored at leaf child up =
+    let belong = stored.frames_nodes in
+    let F = frames_of parts.trees name.tenant in
+    let has = belong.no_other child (parent-open parts.nodes child frame.value (node_at parts.nodes child) refl up) in
+    let mine = found-node (frame_in_trees parts.trees has.number has.serial) child has.there in
+    let belongs = belong.nodes_of_frames has.number has.serial mine.0 mine.1 in
+    let above_is : node_above (frames_of parts.trees has.number) (parent_of (Frame.path mine.0)) ≡ Some frame.value = sym belongs.parent ∙ ap (λ (n : ℕ). node_parent parts.nodes n) mine.2 ∙ up in
+    let above = above-found (frames_of parts.trees has.number) (parent_of (Frame.path mine.0)) frame.value above_is in
+    let its : node_of (frame_in_trees parts.trees has.number above.0) ≡ Some frame.value = ap node_of above.3 ∙ ap (λ (v : ℕ). Some v) above.4 in
+    let own : node_of (frame_in_trees parts.trees name.tenant name.serial) ≡ Some frame.value = ap node_of at in
+    let one = belong.once has.number above.0 name.tenant name.serial frame.value its own in
+    let child_here : frame_at F has.serial ≡ Some mine.0 = ap (λ (n : ℕ). frame_in_trees parts.trees n has.serial) (sym one.0) ∙ mine.1 in
+    let is_child : is_child_of name.serial (Frame.path mine.0) ≡ true = rw (above.2, one.1) (eq-eqb name.serial name.serial refl) in
+    let found = frame_at-stays (λ (f : Frame ℕ). is_child_of name.serial f.path) F has.serial mine.0 (tree-rising F (stored.forest name.tenant)) child_here is_child in
+    let none : filter (λ (f : Frame ℕ). is_child_of name.serial f.path) F ≡ [] = sym (children-by-paths F name.serial (stored.forest name.tenant)) ∙ leaf in
+    let gone : frame_at (filter (λ (f : Frame ℕ). is_child_of name.serial f.path) F) has.serial ≡ None = ap (λ (xs : List (Frame ℕ)). frame_at xs has.serial) none in
+    absurd cc
+
+pub has-value : (o : Option (Frame ℕ)) (node : ℕ) → HasValue o node → (f : Frame ℕ) × (o ≡ Some f) × (f.value ≡ node)
+has-value None node is = absurd is
+has-value (Some f) node is = (f, refl, is)
+
+closes-one : (parts : Parts) (name : FrameId) (node : ℕ) → IsStored parts → HasValue (frame_in_trees parts.trees name.tenant name.serial) node → closing parts.trees name.tenant (others_stay name.serial) ≡ node ∷ []
+closes-one parts name node stored value = grind (arith, has-value, closing-one, tree-rising)
+
+-- the node that a removal closes is that of the frame that goes
+pub leaf-gone : (parts : Parts) (nodes : Nodes) (name : FrameId) (node : ℕ) → IsStored parts → HasValue (frame_in_trees parts.trees name.tenant name.serial) node → nodes ≡ with_node parts.nodes node None →
+    without parts.nodes (closing parts.trees name.tenant (others_stay name.serial)) ≡ nodes
+leaf-gone parts nodes name node stored value closed_one = ap (without parts.nodes) (closes-one parts name node stored value) ∙ sym closed_one
+
+-- the cut that it makes
+pub leaf-cut : (parts : Parts) (trees : List (TenantTree ℕ)) (name : FrameId) → IsStored parts → children_of (frames_of parts.trees name.tenant) name.serial ≡ [] →
+    frames_of trees name.tenant ≡ frames_without name.serial (frames_of parts.trees name.tenant) → KeepsOtherFrames parts.trees trees name.tenant → IsCut parts.trees trees name.tenant (others_stay name.serial)
+leaf-cut parts trees name stored leaf frames keeps = grind (arith, tree-without)
+
+pub leaf-words : (parts : Parts) (name : FrameId) → with_words_of_nodes parts.nodes (filter (others_stay name.serial) (frames_of parts.trees name.tenant)) ≡ frames_without name.serial (with_words_of_nodes parts.nodes (frames_of parts.trees name.tenant))
+leaf-words parts name = sym (frames_without-map_values (node_words parts.nodes) name.serial (frames_of parts.trees name.tenant))
+
+-- An abort at a frame: the frames under it go, with their nodes and what they were charged.
+
+-- a frame that is there
+pub record IsThere (parts : Parts) (name : FrameId) : Type 0 where
+  pub frame : Frame ℕ
+  pub at : frame_in_trees parts.trees name.tenant name.serial ≡ Some frame
+  pub account : Account
+  pub there : account_of name.tenant parts.book.accounts ≡ Some account
+
+mapped-some : (nodes : Nodes) (o : Option (Frame ℕ)) → IsSome (option_map (map_value (node_words nodes)) o) → (f : Frame ℕ) × (o ≡ Some f)
+mapped-some nodes None is = absurd (false≢true is)
+mapped-some nodes (Some f) is = (f, refl)
+
+has-account : (parts : Parts) → IsStored parts → (number serial : ℕ) (frame : Frame ℕ) → frame_in_trees parts.trees number serial ≡ Some frame → (o : Option Account) → account_of number parts.book.accounts ≡ o → (a : Account) × (account_of number parts.book.accounts ≡ Some a)
+has-account parts stored number serial frame at None none = grind arith
+has-account parts stored number serial frame at (Some a) some = (a, some)
+
+module _ (parts : Parts) (stored : IsStored parts) (name : FrameId) (some : IsSome (named (shared_of parts) name)) where
+  pub is-there : IsThere parts name
+  is-there = grind (arith, mapped-some, named-found, has-account)
+
+  pub has-frame : has_frame (frames_of parts.trees name.tenant) name.serial ≡ true
+  has-frame = (let is = is-there in found-there (frames_of parts.trees name.tenant) name.serial is.frame is.at)
+
+-- what a list of nodes gives back, from what was free before and is free then
+pub freed-is : (nodes : Nodes) (numbers : List ℕ) (before later : ℕ) → AllPairs ◌≢◌ numbers → length (without nodes numbers) ≡ length nodes → before + total_charge nodes ≡ length nodes → later + total_charge (without nodes numbers) ≡ length (without nodes numbers) →
+    (before ≤ later) × (total_charge (without nodes numbers) + (later - before) ≡ total_charge nodes)
+freed-is nodes numbers before later once long was is = grind (arith, charge-without)
+
+-- no less is free, it is what the nodes of the frames that don't stay gave back, and the tenant was charged as much
+pub record AreFreed (parts : Parts) (name : FrameId) (stay : Frame ℕ → Bool) (before later : ℕ) : Type 0 where
+  pub more : before ≤ later
+  pub few : later ≤ 65536
+  pub frees : total_charge (without parts.nodes (closing parts.trees name.tenant stay)) + (later - before) ≡ total_charge parts.nodes
+  pub charged : HasChargedAtLeast parts.book name.tenant (later - before)
+
+pub nodes-free : (parts : Parts) (nodes : Nodes) (name : FrameId) (stay : Frame ℕ → Bool) (before later : ℕ) → IsStored parts → IsSome (named (shared_of parts) name) → without parts.nodes (closing parts.trees name.tenant stay) ≡ nodes →
+    before + total_charge parts.nodes ≡ length parts.nodes → later + total_charge nodes ≡ length nodes → AreFreed parts name stay before later
+nodes-free parts nodes name stay before later stored some gone was_free is_free =
+    let numbers = closing parts.trees name.tenant stay in
+    let long = length-without parts.nodes numbers in
+    let free : later + total_charge (without parts.nodes numbers) ≡ length (without parts.nodes numbers) = subst (λ (n : Nodes). later + total_charge n ≡ length n) (sym gone) is_free in
+    let once = closing-once parts.nodes parts.trees name.tenant stay stored.frames_nodes (stored.forest name.tenant) in
+    let freed = freed-is parts.nodes numbers before later once long was_free free in
+    let there = is-there parts stored name some in
     record {
-      charged = omega (arith, left, words);
-      places = is.table.places number ∙ was.places;
-      serials = subst (λ (xs : List (Frame ℕ)). AllBelow (Account.opened is.account + 1) xs) (sym is.cut.cut) (AllBelow-filter keep (Account.opened is.account + 1) (frames_of parts.trees number) was.serials);
+      more = freed.0;
+      few = omega (arith, free, long, stored.segments, IsSoundBook.segments_within stored.book);
+      frees = freed.1;
+      charged = can-give-back parts name.tenant (later - before) stay stored there.account there.there freed.1;
     }
 
--- one tenant changes by it, and no other
-pub removal-step : (parts : Parts) (trees : List (TenantTree ℕ)) (book : Reservations) (number freed : ℕ) (keep : Frame ℕ → Bool) → IsStored parts → (is : IsRemoval parts trees book number freed keep) →
-    TenantStep parts (removed parts trees book number keep) number (credited_by freed) is.account
-removal-step parts trees book number freed keep stored is = record {
-  there = is.there;
-  sound = is.sound;
-  book = is.credited.whole;
-  trees = other-tenants is.table;
-  count = is.table.count;
-  tree = is.cut.tree_after;
-  frames_nodes = cut-belongs parts.nodes parts.trees trees number keep stored.frames_nodes is.cut;
-  sized = cut-sized parts.nodes (closing parts.trees number keep) stored.sized;
-  segments = length-without parts.nodes (closing parts.trees number keep);
-  charges = omega (arith, is.frees, is.sum, stored.charges);
-  own = removed-own parts trees book number freed keep stored is;
-  words = λ other differs. ap (with_words_of_nodes (without parts.nodes (closing parts.trees number keep))) (sym (is.cut.others other differs)) ∙ other-words parts trees book number freed keep stored is other differs;
-  ledgers = refl;
-  jobs = λ other differs. refl;
-  workers = stored.workers;
-  places = cut-places parts.nodes parts.trees trees parts.places number keep stored.frames_nodes is.cut stored.places;
-  newest = refl;
-}
+-- what the table, the stack and the book told of frames that went
+pub record AreGone (parts : Parts) (nodes : Nodes) (trees : List (TenantTree ℕ)) (book : Reservations) (name : FrameId) (stay : Frame ℕ → Bool) (before later : ℕ) : Type 0 where
+  pub some : IsSome (named (shared_of parts) name)
+  pub gone : without parts.nodes (closing parts.trees name.tenant stay) ≡ nodes
+  pub was_free : before + total_charge parts.nodes ≡ length parts.nodes
+  pub is_free : later + total_charge nodes ≡ length nodes
+  pub cut : IsCut parts.trees trees name.tenant stay
+  pub keeps : KeepsOtherFrames parts.trees trees name.tenant
+  pub credited : ChangesOnly parts.book book name.tenant (credited_by (later - before))
+  pub sum : charged_segments book.accounts + (later - before) ≡ charged_segments parts.book.accounts
+  pub others : KeepsOtherAccounts parts.book book name.tenant
+  pub sound : IsSoundBook book
 
--- what the store keeps true stays so
-pub removed-stored : (parts : Parts) (trees : List (TenantTree ℕ)) (book : Reservations) (number freed : ℕ) (keep : Frame ℕ → Bool) → IsStored parts → IsRemoval parts trees book number freed keep →
-    IsStored (removed parts trees book number keep)
-removed-stored parts trees book number freed keep stored is =
-    step-stored parts (removed parts trees book number keep) number (credited_by freed) is.account stored (removal-step parts trees book number freed keep stored is)
+gone-removal : (parts : Parts) (nodes : Nodes) (trees : List (TenantTree ℕ)) (book : Reservations) (name : FrameId) (stay : Frame ℕ → Bool) (before later : ℕ) → IsStored parts →
+    AreGone parts nodes trees book name stay before later → IsRemoval parts trees book name.tenant (later - before) stay
+gone-removal parts nodes trees book name stay before later stored is = grind (arith, is-there, nodes-free)
 
--- and the core is the one before, that tenant without those frames
-pub removed-shared : (parts : Parts) (trees : List (TenantTree ℕ)) (book : Reservations) (number freed : ℕ) (keep : Frame ℕ → Bool) (change : Tenant → Tenant) → IsStored parts → (is : IsRemoval parts trees book number freed keep) →
-    tenant_from (removed parts trees book number keep) number (credited_by freed is.account) ≡ change (tenant_from parts number is.account) →
-    shared_of (removed parts trees book number keep) ≡ on_tenant number change (shared_of parts)
-removed-shared parts trees book number freed keep change stored is changes =
-    step-shared parts (removed parts trees book number keep) number (credited_by freed) is.account change stored (removal-step parts trees book number freed keep stored is) changes
+-- the parts after it
+abbrev pub with_parts : Parts → Nodes → List (TenantTree ℕ) → Reservations → Parts
+with_parts parts nodes trees book = record parts { nodes = nodes; trees = trees; book = book }
+
+module _ (parts : Parts) (nodes : Nodes) (trees : List (TenantTree ℕ)) (book : Reservations) (name : FrameId) (stay : Frame ℕ → Bool) (before later : ℕ) where
+  pub gone-stored : IsStored parts → AreGone parts nodes trees book name stay before later → IsStored (with_parts parts nodes trees book)
+  gone-stored stored is =
+      subst (λ (n : Nodes). IsStored (with_parts parts n trees book)) is.gone
+      (removed-stored parts trees book name.tenant (later - before) stay stored (gone-removal parts nodes trees book name stay before later stored is))
+
+  -- the core after it, where the tenant's frames with their words are changed so
+  pub gone-shared : (change : List (Frame (List ℕ)) → List (Frame (List ℕ))) → IsStored parts → AreGone parts nodes trees book name stay before later →
+      with_words_of_nodes parts.nodes (filter stay (frames_of parts.trees name.tenant)) ≡ change (with_words_of_nodes parts.nodes (frames_of parts.trees name.tenant)) → shared_of (with_parts parts nodes trees book) ≡ on_tenant name.tenant (λ tenant. record tenant { frames = change tenant.frames }) (shared_of parts)
+  gone-shared change stored is words =
+      let removal = gone-removal parts nodes trees book name stay before later stored is in
+      let frames = own-words parts trees book name.tenant (later - before) stay stored removal ∙ words in
+      subst (λ (n : Nodes). shared_of (with_parts parts n trees book) ≡ on_tenant name.tenant (λ tenant. record tenant { frames = change tenant.frames }) (shared_of parts)) is.gone
+      (removed-shared parts trees book name.tenant (later - before) stay (λ tenant. record tenant { frames = change tenant.frames }) stored removal (ap (with-frames removal.account) frames))
+    where
+      with-frames : Account → List (Frame (List ℕ)) → Tenant
+      with-frames account frames = record { reserve = account.reserve; serials = account.opened; steps = account.ticks; jobs = jobs_of parts.ledgers name.tenant; frames = frames }
+
+-- the frames that an abort leaves
+abbrev pub stays : ℕ → Frame ℕ → Bool
+stays serial frame = not (goes_under serial frame.path)
+
+pub closing-under : (serial : ℕ) (frames : List (Frame ℕ)) → closed (stays serial) frames ≡ values_of (frames_under serial frames)
+closing-under serial [] = refl
+closing-under serial (x ∷ xs) = grind (arith, closing-under serial xs)
+
+not-stays : (b : Bool) → not b ≡ false → b ≡ true
+not-stays true is = refl
+not-stays false is = absurd (true≢false is)
+
+pub takes-under : (serial : ℕ) (frames : List (Frame ℕ)) → IsTree frames → TakesChildren frames (stays serial)
+takes-under p frames tree serial parent frame above at up at_above out = grind (arith, not-stays, eq-eqb, child-further-under)
+
+-- the cut that an abort makes
+pub abort-cut : (parts : Parts) (trees : List (TenantTree ℕ)) (name : FrameId) → IsStored parts → frames_of trees name.tenant ≡ aborted name.serial (frames_of parts.trees name.tenant) → KeepsOtherFrames parts.trees trees name.tenant →
+    IsCut parts.trees trees name.tenant (stays name.serial)
+abort-cut parts trees name stored frames keeps = grind (arith, tree-aborted)
+
+-- the nodes that an abort closes: open, once, with their children
+pub record AreClosable (nodes : Nodes) (numbers : List ℕ) : Type 0 where
+  pub are_open : All (IsOpen nodes) numbers
+  pub once : AllPairs ◌≢◌ numbers
+  pub with_children : HasAllChildren nodes numbers
+
+pub abort-closes : (parts : Parts) (name : FrameId) (numbers : List ℕ) → IsStored parts → numbers ≡ values_of (frames_under name.serial (frames_of parts.trees name.tenant)) → AreClosable parts.nodes numbers
+abort-closes parts name numbers stored is =
+    let tree = stored.forest name.tenant in
+    let same : closing parts.trees name.tenant (stays name.serial) ≡ numbers = closing-under name.serial (frames_of parts.trees name.tenant) ∙ sym is in
+    subst (AreClosable parts.nodes) same (record {
+      are_open = closing-open parts.nodes parts.trees name.tenant (stays name.serial) stored.frames_nodes tree;
+      once = closing-once parts.nodes parts.trees name.tenant (stays name.serial) stored.frames_nodes tree;
+      with_children = closing-children parts.nodes parts.trees name.tenant (stays name.serial) stored.frames_nodes tree (takes-under name.serial (frames_of parts.trees name.tenant) tree);
+    })
+
+-- they are those of the frames that go
+pub abort-gone : (parts : Parts) (nodes : Nodes) (name : FrameId) (numbers : List ℕ) → numbers ≡ values_of (frames_under name.serial (frames_of parts.trees name.tenant)) → nodes ≡ without parts.nodes numbers →
+    without parts.nodes (closing parts.trees name.tenant (stays name.serial)) ≡ nodes
+abort-gone parts nodes name numbers values closed_all = grind (arith, closing-under)
+
+pub abort-words : (parts : Parts) (name : FrameId) → with_words_of_nodes parts.nodes (filter (stays name.serial) (frames_of parts.trees name.tenant)) ≡ aborted name.serial (with_words_of_nodes parts.nodes (frames_of parts.trees name.tenant))
+abort-words parts name = sym (aborted-map_values (node_words parts.nodes) name.serial (frames_of parts.trees name.tenant))
+
+-- as many go as are under the frame
+pub abort-count : (parts : Parts) → IsStored parts → (name : FrameId) (numbers : List ℕ) → numbers ≡ values_of (frames_under name.serial (frames_of parts.trees name.tenant)) →
+    length numbers ≡ length (frames_under name.serial (frames_in_core (shared_of parts) name.tenant))
+abort-count parts stored name numbers values =
+    let frames = frames-found parts stored name.tenant in
+    let worded_under = ap (frames_under name.serial) frames ∙ frames_under-map_values (node_words parts.nodes) name.serial (frames_of parts.trees name.tenant) in
+    ap length values ∙ length-values (frames_under name.serial (frames_of parts.trees name.tenant)) ∙ sym (ap length worded_under ∙ length-with_words_of_nodes (frames_under name.serial (frames_of parts.trees name.tenant)))
+  where
+    length-values : (xs : List (Frame ℕ)) → length (values_of xs) ≡ length xs
+    length-values [] = refl
+    length-values (x ∷ xs) = omega (arith, length-values xs)
+
+    length-with_words_of_nodes : (xs : List (Frame ℕ)) → length (map_values (node_words parts.nodes) xs) ≡ length xs
+    length-with_words_of_nodes [] = refl
+    length-with_words_of_nodes (x ∷ xs) = omega (arith, length-with_words_of_nodes xs)
+
+-- What a frame's words are, seen through its node.
+
+module _ (parts : Parts) (stored : IsStored parts) (name : FrameId) (entry : Entry ℕ) (words : List ℕ)
+    (is : Some entry ≡ entry_of_frame name.tenant (frame_in_trees parts.trees name.tenant name.serial)) (own : words ≡ node_words parts.nodes entry.value) where
+  pub words-shown : Some words ≡ words_of_frame (shared_of parts) name
+  words-shown =
+      let f = found parts stored name entry is in
+      let value : entry.value ≡ f.frame.value = ap (λ (e : Entry ℕ). e.value) f.is in
+      ap (λ (ws : List ℕ). Some ws) (own ∙ ap (node_words parts.nodes) value)
+      ∙ sym (ap (λ (o : Option (Frame (List ℕ))). option_map (λ (frame : Frame (List ℕ)). frame.value) o) f.named)
+
+  pub own-words-shown : words ≡ words_under (shared_of parts) name
+  own-words-shown =
+      let f = found parts stored name entry is in
+      let value : entry.value ≡ f.frame.value = ap (λ (e : Entry ℕ). e.value) f.is in
+      own ∙ ap (node_words parts.nodes) value ∙ sym (ap frame_words f.named)
+
+pub no-words-shown : (parts : Parts) → IsStored parts → (name : FrameId) → None ≡ entry_of_frame name.tenant (frame_in_trees parts.trees name.tenant name.serial) → None ≡ words_of_frame (shared_of parts) name
+no-words-shown parts stored name is = sym (ap (λ (o : Option (Frame (List ℕ))). option_map (λ (frame : Frame (List ℕ)). frame.value) o) (nothing-found parts stored name is))
+
+-- the path of a frame that is there
+pub path-shown : (parts : Parts) → IsStored parts → (name : FrameId) → IsSome (named (shared_of parts) name) → path_of (named (shared_of parts) name) ≡ path_in (frames_of parts.trees name.tenant) name.serial
+path-shown parts stored name some = grind (arith, is-there, named-found, found-path)
+
+nobody-above : (tenant : ℕ) (parent : Option ℕ) → is_none (name_of tenant parent) ≡ is_none parent
+nobody-above tenant None = refl
+nobody-above tenant (Some parent) = refl
+
+some-length : (frames : List (Frame ℕ)) (frame : Frame ℕ) → IsPlaced frames frame → 1 ≤ length frame.path
+some-length frames frame (inl top) = (let long = ap length top.1 in omega (arith, long))
+some-length frames frame (inr under) = (let long = ap length under.path ∙ length-append under.above.path (frame.serial ∷ []) in omega (arith, long))
+
+-- a frame has no parent exactly where its path has one serial
+root-by-length : (frames : List (Frame ℕ)) (frame : Frame ℕ) → IsTree frames → IsPlaced frames frame → is_none (parent_of frame.path) ≡ is_root frame.path
+root-by-length frames frame tree (inl top) = rw (top.0, top.1) refl
+root-by-length frames frame tree (inr under) =
+    let above = some-length frames under.above (placed frames under.parent under.above tree under.there) in
+    let long = ap length under.path ∙ length-append under.above.path (frame.serial ∷ []) in
+    let differs : length frame.path ≢ 1 = λ e. omega (arith, e, above, long) in
+    rw (under.named, ne_eqb (length frame.path) 1 differs) refl
+
+module _ (parts : Parts) (stored : IsStored parts) (name : FrameId) (entry : Entry ℕ)
+    (is : Some entry ≡ entry_of_frame name.tenant (frame_in_trees parts.trees name.tenant name.serial)) where
+  pub root-shown : is_none entry.parent ≡ is_root (path_of (named (shared_of parts) name))
+  root-shown =
+      let f = found parts stored name entry is in
+      let F = frames_of parts.trees name.tenant in
+      let parent : entry.parent ≡ name_of name.tenant (parent_of f.frame.path) = ap (λ (e : Entry ℕ). e.parent) f.is in
+      ap is_none parent ∙ nobody-above name.tenant (parent_of f.frame.path)
+      ∙ root-by-length F f.frame (stored.forest name.tenant) (placed F name.serial f.frame (stored.forest name.tenant) f.there)
+      ∙ sym (ap (λ (o : Option (Frame (List ℕ))). is_root (path_of o)) f.named)
+
+  -- so it has one where it is no root
+  pub child-or-root : is_some entry.parent ≡ not (is_root (path_of (named (shared_of parts) name)))
+  child-or-root = some-not-none entry.parent ∙ ap not root-shown
+    where
+      some-not-none : (parent : Option FrameId) → is_some parent ≡ not (is_none parent)
+      some-not-none None = refl
+      some-not-none (Some parent) = refl
+
+-- a frame has a child exactly where it has one in the table
+pub child-shown : (parts : Parts) → IsStored parts → (name : FrameId) (has : Bool) → (IsTrue has → 0 < length (children_of (frames_of parts.trees name.tenant) name.serial)) × (0 < length (children_of (frames_of parts.trees name.tenant) name.serial) → IsTrue has) →
+    has ≡ has_child (frames_in_core (shared_of parts) name.tenant) name.serial
+child-shown parts stored name has is =
+    let F = frames_of parts.trees name.tenant in
+    let frames = frames-found parts stored name.tenant in
+    let kids = children_of-map_values (node_words parts.nodes) F name.serial in
+    let long = count (children_of F name.serial) in
+    let whole = ap (λ (fs : List (Frame (List ℕ))). has_child fs name.serial) frames ∙ ap (λ (fs : List (Frame (List ℕ))). ltb 0 (length fs)) kids ∙ ap (ltb 0) long in
+    same has (length (children_of F name.serial)) is ∙ sym whole
+  where
+    count : (xs : List (Frame ℕ)) → length (map_values (node_words parts.nodes) xs) ≡ length xs
+    count [] = refl
+    count (x ∷ xs) = ap suc (count xs)
+
+    same : (b : Bool) (n : ℕ) → (IsTrue b → 0 < n) × (0 < n → IsTrue b) → b ≡ ltb 0 n
+    same true n is = sym (lt-ltb 0 n (is.0 refl))
+    same false n is = sym (le-ltb 0 n (let none : ¬ (0 < n) = λ some. false≢true (is.1 some) in omega (arith, none)))

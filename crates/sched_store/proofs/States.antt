@@ -1,31 +1,144 @@
--- A frame in another state.
-use Rattle.std.proofs.Common.{◌≡◌, ℕ, ◌≤◌, ◌+◌, true, false, eqb, List, [], ◌∷◌, length, get_or, Option, Some, None, IsSome, refl, ap, sym, subst, ◌∙◌, arith, inl, inr, ◌⊎◌, get_or-set_other, get_or-set_same}
-use Rattle.std.proofs.Math.ListN.{set}
-use Rattle.std.proofs.lemmas.List.{length-set}
-use Rattle.std.proofs.lemmas.List.Sums.{sum_by-cons}
-use Rattle.std.proofs.lemmas.Bool.{cases_Bool, cases_eq, eqb-true, false≢true}
-use Rattle.cactus_stack.specs.Nodes.{Nodes, node_words, charge}
-use Rattle.tenant_quota.specs.Accounts.{account_of}
-use Rattle.tenant_quota.specs.Reservations.{Reservations}
-use Rattle.tenant_quota.specs.declared.account.Account.{Account}
-use Rattle.frame_tree.specs.declared.names.FrameId.{FrameId}
-use Rattle.frame_tree.specs.declared.names.State.{State}
-use Rattle.frame_tree.specs.declared.names.State.TheVariants.{Ready, Running, Computing, Waiting, Returned}
-use Rattle.frame_tree.specs.Frames.{Frame, with_state, TenantTree}
-use Rattle.frame_tree.specs.TreeLaws.{map_value}
-use Rattle.frame_tree.specs.Tables.{frames_of, KeepsOtherFrames}
-use Rattle.frame_tree.proofs.TreeValues.{tree-with_state, with_state-alike, AllBelow-alike, with_state-map_values, frame_at-with_state, frame_at_other-with_state}
-use Rattle.sched_rules.specs.Trees.{Tree, charged_for, is_held_by}
-use Rattle.sched_rules.specs.Lone.{in_state}
-use Rattle.sched_rules.specs.Cores.{CoreState}
+-- Workers and the frames that they hold: whether a worker is busy is one look at its place.
+use Rattle.std.proofs.Common.{◌≡◌, ℕ, true, false, eqb, List, [], ◌∷◌, get_or, Option, Some, None, option_map, refl, ap, sym, ◌∙◌, arith, inl, inr, ◌≤◌, ◌+◌, length, IsSome, subst, ◌⊎◌, get_or-set_other, get_or-set_same}
+use Rattle.sched_store.proofs.Common.{set, Entry, Account, FrameId, CoreState, on_tenant, account_of, length-set, sum_by-cons, Reservations, Nodes, node_words}
+use Rattle.sched_store.proofs.Common.{charge, map_value, AreSerialsRising, frames_of, KeepsOtherFrames, found-there, tree-rising, above-missing, is_busy_among}
+use Rattle.sched_store.proofs.Common.{holds, may_hold, is_held, is_held_by, is_busy_in, Tree, charged_for, Ready, Running, Computing, Waiting, Returned, Parts}
+use Rattle.sched_store.proofs.Common.{with_words_of_nodes, tenants_from, shared_of, Frame, frame_at, entry_of_frame, with_state, TenantTree, IsStored}
+use Rattle.sched_store.proofs.Common.{frame_in_trees, AreFramesNodes, ArePlaces, node_of, node_above, cases_Bool, true≢false, false≢true, eq-eqb, eqb-true}
+use Rattle.sched_store.proofs.Common.{or_cases, or_left, or_right, false_from_ne_true, cases_eq}
 use Rattle.sched_rules.specs.Views.{named}
-use Rattle.sched_rules.specs.Changes.{on_tenant}
-use Rattle.sched_store.specs.Parts.{Parts, with_words_of_nodes, shared_of}
-use Rattle.sched_store.specs.Reads.{is_held, may_hold}
-use Rattle.sched_store.specs.Stored.{IsStored, AreFramesNodes, ArePlaces, frame_in_trees, node_of, node_above}
-use Rattle.sched_store.proofs.Frames.{there-frame}
-use Rattle.sched_store.proofs.Holders.{frame-account, holds-no-other}
+use Rattle.sched_store.proofs.Lookups.{named-found, found, nothing-found, there-frame}
+use Rattle.frame_tree.specs.declared.names.State.{State}
+use Rattle.frame_tree.proofs.TreeValues.{tree-with_state, with_state-alike, AllBelow-alike, with_state-map_values, frame_at-with_state, frame_at_other-with_state}
+use Rattle.sched_rules.specs.Lone.{in_state}
 use Rattle.sched_store.proofs.Steps.{TenantStep, other-tenants, changed-same, step-stored, step-shared}
+
+-- a frame that a worker holds makes it busy
+
+frames-busy : (nodes : Nodes) (frames : List (Frame ℕ)) (worker serial : ℕ) (frame : Frame ℕ) → frame_at frames serial ≡ Some frame → is_held_by worker frame.state ≡ true → is_busy_in worker (with_words_of_nodes nodes frames) ≡ true
+frames-busy nodes [] worker serial frame there held = absurd (cc there)
+frames-busy nodes (first ∷ frames) worker serial frame there held =
+    elim (cases_Bool (eqb first.serial serial)) [
+      | inl same ↦ grind (arith, or_left)
+      | inr other ↦ or_right (is_held_by worker first.state) (is_busy_in worker (with_words_of_nodes nodes frames)) (frames-busy nodes frames worker serial frame (rw other at there) held)
+    ]
+
+entries-busy : (parts : Parts) (entries : List (ℕ × Account)) (worker number : ℕ) (account : Account) → account_of number entries ≡ Some account → is_busy_in worker (with_words_of_nodes parts.nodes (frames_of parts.trees number)) ≡ true → is_busy_among worker (tenants_from parts entries) ≡ true
+entries-busy parts [] worker number account there busy = absurd (cc there)
+entries-busy parts (entry ∷ entries) worker number account there busy = grind (arith, entries-busy parts entries worker number account, eqb-true, or_left, or_right)
+
+-- a tenant with a frame has an account
+pub frame-account : (parts : Parts) → IsStored parts → (number serial : ℕ) (frame : Frame ℕ) → frame_in_trees parts.trees number serial ≡ Some frame → (a : Account) × (account_of number parts.book.accounts ≡ Some a)
+frame-account parts stored number serial frame there = by (account_of number parts.book.accounts) refl
+  where
+    by : (account : Option Account) → account_of number parts.book.accounts ≡ account → (a : Account) × (account_of number parts.book.accounts ≡ Some a)
+    by None is = absurd (let found = rw (stored.nothing number is) at there in cc found)
+    by (Some a) is = (a, is)
+
+pub held-busy : (parts : Parts) → IsStored parts → (worker number serial : ℕ) (frame : Frame ℕ) → frame_in_trees parts.trees number serial ≡ Some frame → is_held_by worker frame.state ≡ true → is_busy_among worker (shared_of parts).tenants ≡ true
+held-busy parts stored worker number serial frame there held = grind (arith, frame-account, entries-busy, frames-busy)
+
+-- a busy worker holds a frame
+
+pub record Holds (frames : List (Frame ℕ)) (worker : ℕ) : Type 0 where
+  pub serial : ℕ
+  pub frame : Frame ℕ
+  pub there : frame_at frames serial ≡ Some frame
+  pub held : is_held_by worker frame.state ≡ true
+
+busy-frames : (nodes : Nodes) (frames : List (Frame ℕ)) (worker : ℕ) → AreSerialsRising frames → is_busy_in worker (with_words_of_nodes nodes frames) ≡ true → Holds frames worker
+busy-frames nodes [] worker rising busy = absurd (false≢true busy)
+busy-frames nodes (first ∷ frames) worker rising busy =
+    elim (or_cases (is_held_by worker first.state) (is_busy_in worker (with_words_of_nodes nodes frames)) busy) [
+      | inl held ↦ record { serial = first.serial; frame = first; there = rw (eq-eqb first.serial first.serial refl) refl; held = held }
+      | inr rest ↦ (let found = busy-frames nodes frames worker rising.1 rest in
+          record {
+            serial = found.serial;
+            frame = found.frame;
+            there = grind (arith, eqb-true, above-missing, false≢true, found-there);
+            held = found.held;
+          })
+    ]
+
+pub record HoldsSome (parts : Parts) (worker : ℕ) : Type 0 where
+  pub number : ℕ
+  pub serial : ℕ
+  pub frame : Frame ℕ
+  pub there : frame_in_trees parts.trees number serial ≡ Some frame
+  pub held : is_held_by worker frame.state ≡ true
+
+busy-entries : (parts : Parts) → IsStored parts → (entries : List (ℕ × Account)) (worker : ℕ) → is_busy_among worker (tenants_from parts entries) ≡ true → HoldsSome parts worker
+busy-entries parts stored [] worker busy = absurd (false≢true busy)
+busy-entries parts stored (entry ∷ entries) worker busy =
+    elim (or_cases (is_busy_in worker (with_words_of_nodes parts.nodes (frames_of parts.trees entry.0))) (is_busy_among worker (tenants_from parts entries)) busy) [
+      | inl own ↦ grind (arith, busy-frames, tree-rising)
+      | inr rest ↦ busy-entries parts stored entries worker rest
+    ]
+
+pub busy-holds : (parts : Parts) → IsStored parts → (worker : ℕ) → is_busy_among worker (shared_of parts).tenants ≡ true → HoldsSome parts worker
+busy-holds parts stored worker busy = busy-entries parts stored parts.book.accounts worker busy
+
+-- a frame with words is held where the table's frame is
+holds-found : (parts : Parts) → IsStored parts → (worker : ℕ) (name : FrameId) (frame : Frame ℕ) → frame_in_trees parts.trees name.tenant name.serial ≡ Some frame → holds worker (named (shared_of parts) name) ≡ is_held_by worker frame.state
+holds-found parts stored worker name frame there = grind (arith, named-found)
+
+pub record HeldThere (parts : Parts) (worker : ℕ) (name : FrameId) : Type 0 where
+  pub frame : Frame ℕ
+  pub there : frame_in_trees parts.trees name.tenant name.serial ≡ Some frame
+  pub held : is_held_by worker frame.state ≡ true
+
+module _ (parts : Parts) (stored : IsStored parts) (worker : ℕ) where
+  pub holds-there : (name : FrameId) → holds worker (named (shared_of parts) name) ≡ true → HeldThere parts worker name
+  holds-there name held = by (frame_in_trees parts.trees name.tenant name.serial) refl
+    where
+      by : (frame : Option (Frame ℕ)) → frame_in_trees parts.trees name.tenant name.serial ≡ frame → HeldThere parts worker name
+      by None is = absurd (let none = ap (holds worker) (named-found parts stored name ∙ ap (λ (o : Option (Frame ℕ)). option_map (map_value (node_words parts.nodes)) o) is) in false≢true (sym none ∙ held))
+      by (Some frame) is = record { frame = frame; there = is; held = sym (holds-found parts stored worker name frame is) ∙ held }
+
+  -- a worker is busy where it holds the frame at its place
+  pub busy-place : (name : FrameId) → get_or parts.places worker None ≡ Some name → holds worker (named (shared_of parts) name) ≡ is_busy_among worker (shared_of parts).tenants
+  busy-place name place =
+      elim (cases_Bool (holds worker (named (shared_of parts) name))) [
+        | inl held ↦ (let own = holds-there name held in
+            held ∙ sym (held-busy parts stored worker name.tenant name.serial own.frame own.there own.held))
+        | inr not_held ↦ not_held ∙ sym (false_from_ne_true (is_busy_among worker (shared_of parts).tenants) (λ busy.
+            let some = busy-holds parts stored worker busy in
+            let at = (stored.places worker some.number some.serial some.frame some.there some.held).2 in
+            let same : name ≡ record { tenant = some.number; serial = some.serial } = cc (place, at) in
+            let own : holds worker (named (shared_of parts) name) ≡ true = rw same (holds-found parts stored worker (record { tenant = some.number; serial = some.serial }) some.frame some.there ∙ some.held) in
+            true≢false (sym own ∙ not_held)))
+      ]
+
+  pub busy-nothing : get_or parts.places worker None ≡ None → false ≡ is_busy_among worker (shared_of parts).tenants
+  busy-nothing place =
+      sym (false_from_ne_true (is_busy_among worker (shared_of parts).tenants) (λ busy.
+      let some = busy-holds parts stored worker busy in
+      let at = (stored.places worker some.number some.serial some.frame some.there some.held).2 in
+      cc (place, at)))
+
+  -- where a worker may hold a frame, it holds no other
+  pub holds-no-other : (name : FrameId) → may_hold (shared_of parts) worker name ≡ true → (number serial : ℕ) (frame : Frame ℕ) →
+      frame_in_trees parts.trees number serial ≡ Some frame → is_held_by worker frame.state ≡ true → (number ≡ name.tenant) × (serial ≡ name.serial)
+  holds-no-other name may number serial frame there held =
+      let busy = held-busy parts stored worker number serial frame there held in
+      let own : holds worker (named (shared_of parts) name) ≡ true = rw busy at may in
+      let here = holds-there name own in
+      let first = (stored.places worker number serial frame there held).2 in
+      let second = (stored.places worker name.tenant name.serial here.frame here.there here.held).2 in
+      (cc (first, second), cc (first, second))
+
+-- what the table tells of a frame, and whether a worker holds it
+
+module _ (parts : Parts) (stored : IsStored parts) (worker : ℕ) (name : FrameId) where
+  pub entry-holds : (entry : Entry ℕ) → Some entry ≡ entry_of_frame name.tenant (frame_in_trees parts.trees name.tenant name.serial) → is_held_by worker entry.state ≡ holds worker (named (shared_of parts) name)
+  entry-holds entry is =
+      let f = found parts stored name entry is in
+      ap (λ (e : Entry ℕ). is_held_by worker e.state) f.is ∙ sym (ap (holds worker) f.named)
+
+  pub nothing-holds : None ≡ entry_of_frame name.tenant (frame_in_trees parts.trees name.tenant name.serial) → false ≡ holds worker (named (shared_of parts) name)
+  nothing-holds is = sym (ap (holds worker) (nothing-found parts stored name is))
+
+-- A frame in another state.
 
 -- frames under the same numbers and serials, with the same nodes and paths
 
@@ -67,11 +180,13 @@ pub state-cases : (old new : List (TenantTree ℕ)) (name : FrameId) (state : St
     ((number ≡ name.tenant) × (serial ≡ name.serial)) ⊎ (frame_in_trees new number serial ≡ frame_in_trees old number serial)
 state-cases old new name state sets number serial = grind (arith, frame_at_other-with_state)
 
-state-here : (old new : List (TenantTree ℕ)) (name : FrameId) (state : State) (frame : Frame ℕ) → SetsState old new name state → frame_in_trees old name.tenant name.serial ≡ Some frame → frame_in_trees new name.tenant name.serial ≡ Some (record frame { state = state })
-state-here old new name state frame sets there = rw sets.frames (frame_at-with_state name.serial state (frames_of old name.tenant) frame there)
+module _ (old new : List (TenantTree ℕ)) (name : FrameId) (state : State) (frame : Frame ℕ) (sets : SetsState old new name state)
+    (there : frame_in_trees old name.tenant name.serial ≡ Some frame) where
+  state-here : frame_in_trees new name.tenant name.serial ≡ Some (record frame { state = state })
+  state-here = rw sets.frames (frame_at-with_state name.serial state (frames_of old name.tenant) frame there)
 
-state-like : (old new : List (TenantTree ℕ)) (name : FrameId) (state : State) (frame : Frame ℕ) → SetsState old new name state → frame_in_trees old name.tenant name.serial ≡ Some frame → AreLike old new
-state-like old new name state frame sets there = grind (arith, state-here, state-cases)
+  state-like : AreLike old new
+  state-like = grind (arith, state-here, state-cases)
 
 -- charges of frames, one by one
 pub charged-cons : (frame : Frame (List ℕ)) (frames : Tree) → charged_for (frame ∷ frames) ≡ charge (length frame.value) + charged_for frames
@@ -170,8 +285,7 @@ let-go-set old trees worker name state frame stored sets there holds nobody =
           elim (cases_eq other worker) [
             | inl w ↦ absurd (
                 let own = stored.places worker name.tenant name.serial frame there holds in
-                let place = rw w at at.2 in
-                let e : record { tenant = number; serial = serial } ≡ name = cc (own.2, place) in
+                let e : record { tenant = number; serial = serial } ≡ name = cc (own.2, (rw w at at.2)) in
                 let m : number ≡ name.tenant = ap (λ (n : FrameId). n.tenant) e in
                 let s : serial ≡ name.serial = ap (λ (n : FrameId). n.serial) e in
                 not-here other f (rw (← m, ← s) is) held)
@@ -194,32 +308,34 @@ named-once worker other (Computing holder) names held = sym (eqb-true holder oth
 named-once worker other Waiting names held = absurd (false≢true names)
 named-once worker other Returned names held = absurd (false≢true names)
 
-pub held-set : (old : Parts) (trees : List (TenantTree ℕ)) (worker : ℕ) (name : FrameId) (state : State) (frame : Frame ℕ) → IsStored old → SetsState old.trees trees name state → frame_in_trees old.trees name.tenant name.serial ≡ Some frame →
-    1 ≤ worker → worker ≤ 32 → may_hold (shared_of old) worker name ≡ true → is_held_by worker state ≡ true → StateSet old trees (set old.places worker (Some name)) name state
-held-set old trees worker name state frame stored sets there some most may names =
-    state-set old trees (set old.places worker (Some name)) name state frame stored sets there (length-set old.places worker (Some name) ∙ stored.workers) (λ other number serial f is held.
-    elim (state-cases old.trees trees name state sets number serial) [
-      | inl (m, s) ↦
-          (let now : frame_in_trees trees name.tenant name.serial ≡ Some f = rw (← m, ← s) is in
-          let e : record frame { state = state } ≡ f = cc (state-here old.trees trees name state frame sets there, now) in
-          let w : other ≡ worker = named-once worker other state names (ap (λ (x : Frame ℕ). is_held_by other x.state) e ∙ held) in
-          let place : get_or (set old.places worker (Some name)) worker None ≡ Some name = get_or-set_same old.places worker (Some name) None (omega (arith, stored.workers)) in
-          rw (w, m, s) (some, most, place))
-      | inr same ↦
-          (let was : frame_in_trees old.trees number serial ≡ Some f = sym same ∙ is in
-          let at = stored.places other number serial f was held in
-          elim (cases_eq other worker) [
-            | inl w ↦
-                (let here = holds-no-other old stored worker name may number serial f was (rw (← w) held) in
-                let place : get_or (set old.places worker (Some name)) worker None ≡ Some name = get_or-set_same old.places worker (Some name) None (omega (arith, stored.workers)) in
-                rw (w, here.0, here.1) (some, most, place))
-            | inr differs ↦ (at.0, at.1, get_or-set_other old.places worker other (Some name) None differs ∙ at.2)
-          ])
-    ])
+module _ (old : Parts) (trees : List (TenantTree ℕ)) (worker : ℕ) (name : FrameId) (state : State) where
+  pub held-set : (frame : Frame ℕ) → IsStored old → SetsState old.trees trees name state → frame_in_trees old.trees name.tenant name.serial ≡ Some frame →
+      1 ≤ worker → worker ≤ 32 → may_hold (shared_of old) worker name ≡ true → is_held_by worker state ≡ true →
+      StateSet old trees (set old.places worker (Some name)) name state
+  held-set frame stored sets there some most may names =
+      state-set old trees (set old.places worker (Some name)) name state frame stored sets there (length-set old.places worker (Some name) ∙ stored.workers) (λ other number serial f is held.
+      elim (state-cases old.trees trees name state sets number serial) [
+        | inl (m, s) ↦
+            (let now : frame_in_trees trees name.tenant name.serial ≡ Some f = rw (← m, ← s) is in
+            let e : record frame { state = state } ≡ f = cc (state-here old.trees trees name state frame sets there, now) in
+            let w : other ≡ worker = named-once worker other state names (ap (λ (x : Frame ℕ). is_held_by other x.state) e ∙ held) in
+            let place : get_or (set old.places worker (Some name)) worker None ≡ Some name = get_or-set_same old.places worker (Some name) None (omega (arith, stored.workers)) in
+            rw (w, m, s) (some, most, place))
+        | inr same ↦
+            (let was : frame_in_trees old.trees number serial ≡ Some f = sym same ∙ is in
+            let at = stored.places other number serial f was held in
+            elim (cases_eq other worker) [
+              | inl w ↦
+                  (let here = holds-no-other old stored worker name may number serial f was (rw (← w) held) in
+                  let place : get_or (set old.places worker (Some name)) worker None ≡ Some name = get_or-set_same old.places worker (Some name) None (omega (arith, stored.workers)) in
+                  rw (w, here.0, here.1) (some, most, place))
+              | inr differs ↦ (at.0, at.1, get_or-set_other old.places worker other (Some name) None differs ∙ at.2)
+            ])
+      ])
 
--- a worker takes a frame of the core that the parts show
-pub takes-set : (old : Parts) (trees : List (TenantTree ℕ)) (worker : ℕ) (name : FrameId) (state : State) {core : CoreState} → IsStored old → shared_of old ≡ core → SetsState old.trees trees name state → IsSome (named core name) →
-    1 ≤ worker → worker ≤ 32 → may_hold core worker name ≡ true → is_held_by worker state ≡ true → StateSet old trees (set old.places worker (Some name)) name state
-takes-set old trees worker name state stored is sets there some most may names =
-    let own = there-frame old stored name (subst (λ (s : CoreState). IsSome (named s name)) (sym is) there) in
-    held-set old trees worker name state own.0 stored sets own.1 some most (subst (λ (s : CoreState). may_hold s worker name ≡ true) (sym is) may) names
+  -- a worker takes a frame of the core that the parts show
+  pub takes-set : {core : CoreState} → IsStored old → shared_of old ≡ core → SetsState old.trees trees name state → IsSome (named core name) → 1 ≤ worker →
+      worker ≤ 32 → may_hold core worker name ≡ true → is_held_by worker state ≡ true → StateSet old trees (set old.places worker (Some name)) name state
+  takes-set stored is sets there some most may names =
+      let own = there-frame old stored name (subst (λ (s : CoreState). IsSome (named s name)) (sym is) there) in
+      held-set own.0 stored sets own.1 some most (subst (λ (s : CoreState). may_hold s worker name ≡ true) (sym is) may) names

@@ -1,20 +1,18 @@
 -- A change of one tenant: what a store keeps true, and the core that it stands for.
-use Rattle.std.proofs.Common.{◌≡◌, ◌≢◌, ℕ, ◌<◌, ◌≤◌, eqb, List, [], ◌∷◌, length, Some, None, option_map, refl, ap, sym, ◌∙◌, arith, inl, inr}
-use Rattle.std.proofs.lemmas.Bool.{cases_Bool, cases_eq, eqb-true, eqb-false}
-use Rattle.cactus_stack.specs.Nodes.{total_charge}
+use Rattle.std.proofs.Common.{◌≡◌, ◌≢◌, ℕ, ◌<◌, ◌≤◌, eqb, List, [], ◌∷◌, length, Some, None, option_map, refl, ap, sym, ◌∙◌, arith, inl, inr, true, Option, IsSome, IsSomeAnd, subst, suc, ◌*◌, sum_by, IfSome, is_some}
+use Rattle.sched_store.proofs.Common.{Job, Left, Account, FrameId, sum_by-cons, AllEntries-of, map_value, Each, CoreState, tenant_in, with_change, on_tenant}
+use Rattle.sched_store.proofs.Common.{words_under, IsReadyIn, left_in_core, ready_count, live_of, tree-rising, found-each, found-serial, Tenant, Tree}
+use Rattle.sched_store.proofs.Common.{charged_for, frame_words, total_charge, Nodes, node_words, charge, cases_Bool, cases_eq, eqb-true, eqb-false, false≢true}
+use Rattle.sched_store.proofs.Common.{IsTree, TenantTree, Frame, names_of, ready_frames, IsReadyAt, frames_of, tenant_count, KeepsOtherFrames}
+use Rattle.sched_store.proofs.Common.{KeepsOtherTenants, Reservations, changed, IsSoundBook, ChangesOnly, left_in_book, Parts, with_words_of_nodes, tenant_from}
+use Rattle.sched_store.proofs.Common.{tenants_from, shared_of, jobs_of, numbers_of, JobLedger, owner_of_ledger, is_there, with_jobs, IsStored, IsAccountFor}
+use Rattle.sched_store.proofs.Common.{AreFramesNodes, AreSized, ArePlaces, numbers_in, frame_in_trees, owner_of_account, account_of, with_changed}
+use Rattle.sched_store.proofs.Common.{charged_segments, AllEntries, IsRising, ticked, left_in, IsWithinReserve}
 use Rattle.number_index.proofs.Edits.{with-same, said-with_own, said-with_other, length-with, all-with}
-use Rattle.tenant_quota.specs.Accounts.{owner_of_account, account_of, with_changed, charged_segments, AllEntries, IsRising}
-use Rattle.tenant_quota.specs.Reservations.{Reservations, changed, IsSoundBook}
-use Rattle.tenant_quota.specs.declared.account.Account.{Account}
-use Rattle.frame_tree.specs.Frames.{IsTree, TenantTree}
-use Rattle.frame_tree.specs.Tables.{frames_of, tenant_count, KeepsOtherFrames, KeepsOtherTenants}
-use Rattle.sched_rules.specs.Trees.{Tenant}
-use Rattle.sched_rules.specs.Cores.{CoreState}
-use Rattle.sched_rules.specs.Changes.{with_change, on_tenant}
-use Rattle.sched_store.specs.Ledgers.{jobs_of, numbers_of}
-use Rattle.sched_store.proofs.Numbers.{numbers-with}
-use Rattle.sched_store.specs.Parts.{Parts, with_words_of_nodes, tenant_from, tenants_from, shared_of}
-use Rattle.sched_store.specs.Stored.{IsStored, IsAccountFor, AreFramesNodes, AreSized, ArePlaces, numbers_in, AreAtMost}
+use Rattle.sched_store.proofs.Lookups.{numbers-with, ledger-there, tenant-there, left-found, named-found, tenant-found}
+use Rattle.sched_rules.specs.Lone.{counted}
+use Rattle.tenant_quota.proofs.Standing.{some_of}
+use Rattle.frame_tree.proofs.Finds.{none_of_length}
 
 abbrev Entries : Type 0
 Entries = List (ℕ × Account)
@@ -27,12 +25,6 @@ account-changed n f entries =
 
 account-changed_other : (m n : ℕ) (f : Account → Account) (entries : Entries) → m ≢ n → account_of m (with_changed n f entries) ≡ account_of m entries
 account-changed_other m n f entries differs = grind (arith, said-with_other)
-
-length-changed : (n : ℕ) (f : Account → Account) (entries : Entries) → length (with_changed n f entries) ≡ length entries
-length-changed n f entries = length-with owner_of_account n (λ (e : ℕ × Account). (e.0, f e.1)) entries
-
-most-changed : (most n : ℕ) (f : Account → Account) (entries : Entries) → AreAtMost most entries → AreAtMost most (with_changed n f entries)
-most-changed most n f entries all = all-with (λ (e : ℕ × Account). e.0 ≤ most) owner_of_account n (λ (e : ℕ × Account). (e.0, f e.1)) entries all (λ e le is. le)
 
 pub changed-same : (n : ℕ) (entries : Entries) → with_changed n (λ a. a) entries ≡ entries
 changed-same n entries = with-same owner_of_account n entries
@@ -61,76 +53,78 @@ pub record TenantStep (old new : Parts) (number : ℕ) (f : Account → Account)
   pub places : ArePlaces new.trees new.places
   pub newest : new.newest ≡ old.newest
 
-account-after : (old new : Parts) (number : ℕ) (f : Account → Account) (account : Account) → TenantStep old new number f account → account_of number new.book.accounts ≡ Some (f account)
-account-after old new number f account step = grind (arith, account-changed)
+module _ (old new : Parts) (number : ℕ) where
+  account-after : (f : Account → Account) (account : Account) → TenantStep old new number f account → account_of number new.book.accounts ≡ Some (f account)
+  account-after f account step = grind (arith, account-changed)
 
-other-after : (old new : Parts) (number : ℕ) (f : Account → Account) (account : Account) → TenantStep old new number f account → (other : ℕ) → other ≢ number → account_of other new.book.accounts ≡ account_of other old.book.accounts
-other-after old new number f account step other differs = grind (arith, account-changed_other)
+  other-after : (f : Account → Account) (account : Account) → TenantStep old new number f account → (other : ℕ) → other ≢ number → account_of other new.book.accounts ≡ account_of other old.book.accounts
+  other-after f account step other differs = grind (arith, account-changed_other)
 
-keeps-account : (old new : Parts) (number : ℕ) (other : ℕ) (account : Account) → KeepsOtherTenants old.trees new.trees number → other ≢ number → with_words_of_nodes new.nodes (frames_of old.trees other) ≡ with_words_of_nodes old.nodes (frames_of old.trees other) →
-    IsAccountFor old.nodes old.trees other account → IsAccountFor new.nodes new.trees other account
-keeps-account old new number other account kept differs words is = grind arith
+  keeps-account : (other : ℕ) (account : Account) → KeepsOtherTenants old.trees new.trees number → other ≢ number →
+      with_words_of_nodes new.nodes (frames_of old.trees other) ≡ with_words_of_nodes old.nodes (frames_of old.trees other) →
+      IsAccountFor old.nodes old.trees other account → IsAccountFor new.nodes new.trees other account
+  keeps-account other account kept differs words is = grind arith
 
--- what a store keeps true is true after such a change
-pub step-stored : (old new : Parts) (number : ℕ) (f : Account → Account) (account : Account) → IsStored old → TenantStep old new number f account → IsStored new
-step-stored old new number f account stored step =
-    record {
-      book = step.sound;
-      frames_nodes = step.frames_nodes;
-      sized = step.sized;
-      accounts = λ other a is. elim (cases_eq other number) [
-        | inl same ↦ (let now : account_of number new.book.accounts ≡ Some a = rw (← same) is in
-            let own : f account ≡ a = cc (account-after old new number f account step, now) in
-            rw (same, ← own) step.own)
-        | inr differs ↦ keeps-account old new number other a step.trees differs (step.words other differs) (stored.accounts other a (sym (other-after old new number f account step other differs) ∙ is))
-      ];
-      nobody = λ other none. elim (cases_eq other number) [
-        | inl same ↦ absurd (let now : account_of number new.book.accounts ≡ None = rw (← same) none in cc (account-after old new number f account step, now))
-        | inr differs ↦ step.trees.places other differs ∙ stored.nobody other (sym (other-after old new number f account step other differs) ∙ none)
-      ];
-      nothing = λ other none. elim (cases_eq other number) [
-        | inl same ↦ absurd (let now : account_of number new.book.accounts ≡ None = rw (← same) none in cc (account-after old new number f account step, now))
-        | inr differs ↦ step.trees.frames other differs ∙ stored.nothing other (sym (other-after old new number f account step other differs) ∙ none)
-      ];
-      forest = λ other. elim (cases_eq other number) [
-        | inl same ↦ rw same step.tree
-        | inr differs ↦ rw (step.trees.frames other differs) (stored.forest other)
-      ];
-      tenants = step.count ∙ stored.tenants ∙ sym (ap (λ (book : Reservations). length book.accounts) step.book ∙ length-changed number f old.book.accounts);
-      charges = step.charges;
-      segments = step.segments ∙ stored.segments ∙ sym (ap (λ (book : Reservations). book.segments) step.book);
-      ledgers = step.ledgers ∙ stored.ledgers ∙ sym (ap (λ (book : Reservations). numbers_in book.accounts) step.book ∙ numbers-with owner_of_account number (λ (e : ℕ × Account). (e.0, f e.1)) old.book.accounts (λ e. refl));
-      workers = step.workers;
-      places = step.places;
-      taken = rw (step.newest, step.book) (most-changed old.newest number f old.book.accounts stored.taken);
-      newest = rw step.newest stored.newest;
-    }
+  -- what a store keeps true is true after such a change
+  pub step-stored : (f : Account → Account) (account : Account) → IsStored old → TenantStep old new number f account → IsStored new
+  step-stored f account stored step =
+      record {
+        book = step.sound;
+        frames_nodes = step.frames_nodes;
+        sized = step.sized;
+        accounts = λ other a is. elim (cases_eq other number) [
+          | inl same ↦ (let now : account_of number new.book.accounts ≡ Some a = rw (← same) is in
+              let own : f account ≡ a = cc (account-after f account step, now) in
+              rw (same, ← own) step.own)
+          | inr differs ↦ keeps-account other a step.trees differs (step.words other differs) (stored.accounts other a (sym (other-after f account step other differs) ∙ is))
+        ];
+        nobody = λ other none. elim (cases_eq other number) [
+          | inl same ↦ absurd (let now : account_of number new.book.accounts ≡ None = rw (← same) none in cc (account-after f account step, now))
+          | inr differs ↦ step.trees.places other differs ∙ stored.nobody other (sym (other-after f account step other differs) ∙ none)
+        ];
+        nothing = λ other none. elim (cases_eq other number) [
+          | inl same ↦ absurd (let now : account_of number new.book.accounts ≡ None = rw (← same) none in cc (account-after f account step, now))
+          | inr differs ↦ step.trees.frames other differs ∙ stored.nothing other (sym (other-after f account step other differs) ∙ none)
+        ];
+        forest = λ other. elim (cases_eq other number) [
+          | inl same ↦ rw same step.tree
+          | inr differs ↦ rw (step.trees.frames other differs) (stored.forest other)
+        ];
+        tenants = step.count ∙ stored.tenants ∙ sym (ap (λ (book : Reservations). length book.accounts) step.book ∙ length-with owner_of_account number (λ (e : ℕ × Account). (e.0, f e.1)) old.book.accounts);
+        charges = step.charges;
+        segments = step.segments ∙ stored.segments ∙ sym (ap (λ (book : Reservations). book.segments) step.book);
+        ledgers = step.ledgers ∙ stored.ledgers ∙ sym (ap (λ (book : Reservations). numbers_in book.accounts) step.book ∙ numbers-with owner_of_account number (λ (e : ℕ × Account). (e.0, f e.1)) old.book.accounts (λ e. refl));
+        workers = step.workers;
+        places = step.places;
+        taken = rw (step.newest, step.book) (all-with (λ (e : ℕ × Account). e.0 ≤ old.newest) owner_of_account number (λ (e : ℕ × Account). (e.0, f e.1)) old.book.accounts stored.taken (λ e le is. le));
+        newest = rw step.newest stored.newest;
+      }
 
 -- the tenants after such a change
 
-others-same : (old new : Parts) (number : ℕ) (entries : Entries) → ((other : ℕ) (a : Account) → other ≢ number → tenant_from new other a ≡ tenant_from old other a) → AllEntries (λ later. number < later.0) entries → tenants_from new entries ≡ tenants_from old entries
-others-same old new number [] others all = refl
-others-same old new number (entry ∷ entries) others all =
-    let first : tenant_from new entry.0 entry.1 ≡ tenant_from old entry.0 entry.1 = others entry.0 entry.1 (λ e. omega (arith, all.0, e)) in
-    rw (first, others-same old new number entries others all.1) refl
+module _ (old new : Parts) (number : ℕ) where
+  others-same : (entries : Entries) → ((other : ℕ) (a : Account) → other ≢ number → tenant_from new other a ≡ tenant_from old other a) → AllEntries (λ later. number < later.0) entries → tenants_from new entries ≡ tenants_from old entries
+  others-same [] others all = refl
+  others-same (entry ∷ entries) others all =
+      let first : tenant_from new entry.0 entry.1 ≡ tenant_from old entry.0 entry.1 = others entry.0 entry.1 (λ e. omega (arith, all.0, e)) in
+      rw (first, others-same entries others all.1) refl
 
-tenants-changed : (old new : Parts) (number : ℕ) (f : Account → Account) (change : Tenant → Tenant) (entries : Entries) → IsRising entries →
-    ((other : ℕ) (a : Account) → other ≢ number → tenant_from new other a ≡ tenant_from old other a) →
-    ((a : Account) → account_of number entries ≡ Some a → tenant_from new number (f a) ≡ change (tenant_from old number a)) →
-    tenants_from new (with_changed number f entries) ≡ with_change number change (tenants_from old entries)
-tenants-changed old new number f change [] rising others own = refl
-tenants-changed old new number f change (entry ∷ entries) rising others own =
-    elim (cases_Bool (eqb entry.0 number)) [
-      | inl same ↦
-          (let e = eqb-true entry.0 number same in
-          let first : tenant_from new entry.0 (f entry.1) ≡ change (tenant_from old entry.0 entry.1) = rw e (own entry.1 (rw same refl)) in
-          let above : AllEntries (λ later. number < later.0) entries = rw (← e) rising.0 in
-          rw same (rw (first, others-same old new number entries others above) refl))
-      | inr other ↦
-          (let first : tenant_from new entry.0 entry.1 ≡ tenant_from old entry.0 entry.1 = others entry.0 entry.1 (eqb-false entry.0 number other) in
-          let rest = tenants-changed old new number f change entries rising.1 others (λ a there. own a (rw other there)) in
-          rw other (rw (first, rest) refl))
-    ]
+  tenants-changed : (f : Account → Account) (change : Tenant → Tenant) (entries : Entries) → IsRising entries →
+      ((other : ℕ) (a : Account) → other ≢ number → tenant_from new other a ≡ tenant_from old other a) →
+      ((a : Account) → account_of number entries ≡ Some a → tenant_from new number (f a) ≡ change (tenant_from old number a)) →
+      tenants_from new (with_changed number f entries) ≡ with_change number change (tenants_from old entries)
+  tenants-changed f change [] rising others own = refl
+  tenants-changed f change (entry ∷ entries) rising others own =
+      elim (cases_Bool (eqb entry.0 number)) [
+        | inl same ↦
+            (let e = eqb-true entry.0 number same in
+            let first : tenant_from new entry.0 (f entry.1) ≡ change (tenant_from old entry.0 entry.1) = rw e (own entry.1 (rw same refl)) in
+            let above : AllEntries (λ later. number < later.0) entries = rw (← e) rising.0 in
+            rw same (rw (first, others-same entries others above) refl))
+        | inr other ↦
+            (let first : tenant_from new entry.0 entry.1 ≡ tenant_from old entry.0 entry.1 = others entry.0 entry.1 (eqb-false entry.0 number other) in
+            rw other (rw (first, tenants-changed f change entries rising.1 others (λ a there. own a (rw other there))) refl))
+      ]
 
 -- the core that a store stands for has that one tenant changed
 pub step-shared : (old new : Parts) (number : ℕ) (f : Account → Account) (account : Account) (change : Tenant → Tenant) → IsStored old → TenantStep old new number f account →
@@ -144,3 +138,180 @@ step-shared old new number f account change stored step own =
   where
     on_entries : List (ℕ × Tenant) → CoreState
     on_entries entries = record { totals = record { segments = old.book.segments; nodes = old.book.nodes }; newest = old.newest; tenants = entries }
+
+-- Steps that are counted, and jobs that begin and end: no frame changes.
+
+-- the account of a tenant that is there
+
+pub there-account : (parts : Parts) (number : ℕ) → IsSome (tenant_in (shared_of parts).tenants number) → (a : Account) × (account_of number parts.book.accounts ≡ Some a)
+there-account parts number is = some_of (account_of number parts.book.accounts) (sym (tenant-there parts number) ∙ is)
+
+-- the same of a core that the parts show
+pub there-account-in : (parts : Parts) (number : ℕ) {core : CoreState} → shared_of parts ≡ core → IsSome (tenant_in core.tenants number) → (a : Account) × (account_of number parts.book.accounts ≡ Some a)
+there-account-in parts number is there = there-account parts number (subst (λ (s : CoreState). IsSome (tenant_in s.tenants number)) (sym is) there)
+
+module _ (parts : Parts) (stored : IsStored parts) (number : ℕ) (P : Left → Type 0) (is : IsSomeAnd (left_in_core (shared_of parts) number) P) where
+  pub left-account : (a : Account) × ((account_of number parts.book.accounts ≡ Some a) × P (left_in a))
+  left-account =
+      let Q : Option Left → Type 0 = λ left. IsSomeAnd left P in
+      by (account_of number parts.book.accounts) refl (subst Q (left-found parts stored number) is)
+    where
+      by : (account : Option Account) → account_of number parts.book.accounts ≡ account → IsSomeAnd (option_map left_in account) P → (a : Account) × ((account_of number parts.book.accounts ≡ Some a) × P (left_in a))
+      by None e h = absurd h
+      by (Some a) e h = (a, (e, h))
+
+  -- what the book says it has left
+  pub book-left : IsSomeAnd (left_in_book number parts.book) P
+  book-left = let Q : Option Left → Type 0 = λ left. IsSomeAnd left P in subst Q (left-found parts stored number) is
+
+-- a step that leaves the trees and the nodes as they are
+steady-step : (old : Parts) (book : Reservations) (ledgers : List JobLedger) (number : ℕ) (change : Account → Account) (account : Account) → IsStored old → account_of number old.book.accounts ≡ Some account →
+    IsSoundBook book → book ≡ changed old.book number change → charged_segments book.accounts ≡ charged_segments old.book.accounts → IsAccountFor old.nodes old.trees number (change account) →
+    numbers_of ledgers ≡ numbers_of old.ledgers → ((other : ℕ) → other ≢ number → jobs_of ledgers other ≡ jobs_of old.ledgers other) → TenantStep old (record old { book = book; ledgers = ledgers }) number change account
+steady-step old book ledgers number change account stored there sound is sum own numbers jobs = grind arith
+
+-- a step is counted
+
+ticked-step : (old : Parts) (book : Reservations) (number : ℕ) (account : Account) → IsStored old → account_of number old.book.accounts ≡ Some account → IsSoundBook book → ChangesOnly old.book book number ticked → charged_segments book.accounts ≡ charged_segments old.book.accounts →
+    TenantStep old (record old { book = book }) number ticked account
+ticked-step old book number account stored there sound changes sum = grind (arith, steady-step)
+
+pub record Counted (old : Parts) (book : Reservations) (number : ℕ) : Type 0 where
+  pub stored : IsStored (record old { book = book })
+  pub shared : shared_of (record old { book = book }) ≡ on_tenant number counted (shared_of old)
+
+pub count-step : (old : Parts) (book : Reservations) (number : ℕ) (account : Account) → IsStored old → account_of number old.book.accounts ≡ Some account → IsSoundBook book → ChangesOnly old.book book number ticked → charged_segments book.accounts ≡ charged_segments old.book.accounts → Counted old book number
+count-step old book number account stored there sound changes sum =
+    let step = ticked-step old book number account stored there sound changes sum in
+    record {
+      stored = step-stored old (record old { book = book }) number ticked account stored step;
+      shared = step-shared old (record old { book = book }) number ticked account counted stored step refl;
+    }
+
+-- jobs begin and end
+
+jobs-with_jobs : (n : ℕ) (change : List Job → List Job) (ledgers : List JobLedger) → is_there n ledgers ≡ true → jobs_of (with_jobs n change ledgers) n ≡ change (jobs_of ledgers n)
+jobs-with_jobs n change ledgers there =
+    said-with_own owner_of_ledger (λ (l : JobLedger). l.1) [] change n (λ (l : JobLedger). (l.0, change l.1)) ledgers (λ l own. own) (λ l. refl) (λ lacks. absurd (false≢true (sym lacks ∙ there)))
+
+jobs_other-with_jobs : (n m : ℕ) (change : List Job → List Job) (ledgers : List JobLedger) → m ≢ n → jobs_of (with_jobs n change ledgers) m ≡ jobs_of ledgers m
+jobs_other-with_jobs n m change ledgers differs = said-with_other owner_of_ledger (λ (l : JobLedger). l.1) [] m n (λ (l : JobLedger). (l.0, change l.1)) ledgers (λ e. differs (sym e)) (λ l own. own)
+
+-- the tenant with its jobs changed so
+abbrev pub jobs_changed : (List Job → List Job) → Tenant → Tenant
+jobs_changed change tenant = record tenant { jobs = change tenant.jobs }
+
+jobs-step : (old : Parts) (number : ℕ) (account : Account) (change : List Job → List Job) → IsStored old → account_of number old.book.accounts ≡ Some account → TenantStep old (record old { ledgers = with_jobs number change old.ledgers }) number (λ a. a) account
+jobs-step old number account change stored there =
+    steady-step old old.book (with_jobs number change old.ledgers) number (λ a. a) account stored there stored.book (ap (λ (entries : List (ℕ × Account)). at_entries entries) (sym (changed-same number old.book.accounts))) refl
+    (stored.accounts number account there) (numbers-with owner_of_ledger number (λ (l : JobLedger). (l.0, change l.1)) old.ledgers (λ l. refl)) (λ other differs. jobs_other-with_jobs number other change old.ledgers differs)
+  where
+    at_entries : List (ℕ × Account) → Reservations
+    at_entries entries = record old.book { accounts = entries }
+
+pub record JobsChanged (old : Parts) (number : ℕ) (change : List Job → List Job) (ledgers : List JobLedger) : Type 0 where
+  pub stored : IsStored (record old { ledgers = ledgers })
+  pub shared : shared_of (record old { ledgers = ledgers }) ≡ on_tenant number (jobs_changed change) (shared_of old)
+
+pub jobs-change : (old : Parts) (number : ℕ) (account : Account) (change : List Job → List Job) (ledgers : List JobLedger) → IsStored old → account_of number old.book.accounts ≡ Some account → ledgers ≡ with_jobs number change old.ledgers → JobsChanged old number change ledgers
+jobs-change old number account change ledgers stored there is =
+    let step = jobs-step old number account change stored there in
+    let new : Parts = record old { ledgers = with_jobs number change old.ledgers } in
+    let jobs = jobs-with_jobs number change old.ledgers (ledger-there number old.ledgers old.book.accounts account stored.ledgers there) in
+    let P : List JobLedger → Type 0 = λ l. JobsChanged old number change l in
+    subst P (sym is) (record {
+      stored = step-stored old new number (λ a. a) account stored step;
+      shared = step-shared old new number (λ a. a) account (jobs_changed change) stored step (rw jobs refl);
+    })
+
+-- What is counted over a tenant's frames and over all tenants: words, and frames that are ready.
+
+-- a frame that the table says is ready is ready in the core
+ready-with_words_of_nodes : (nodes : Nodes) (o : Option (Frame ℕ)) (home : ℕ) → IsReadyAt o home → IsReadyAt (option_map (map_value (node_words nodes)) o) home
+ready-with_words_of_nodes nodes None home is = is
+ready-with_words_of_nodes nodes (Some frame) home is = is
+
+pub ready-found : (parts : Parts) → IsStored parts → (result : Option (FrameId × ℕ)) → IfSome result (λ ready. IsReadyAt (frame_in_trees parts.trees ready.0.tenant ready.0.serial) ready.1) → IfSome result (λ ready. IsReadyIn (shared_of parts) ready.0 ready.1)
+ready-found parts stored None is = tt
+ready-found parts stored (Some ready) is = grind (arith, named-found, ready-with_words_of_nodes)
+
+count-with_words_of_nodes : (nodes : Nodes) (frames : List (Frame ℕ)) → length (ready_frames (with_words_of_nodes nodes frames)) ≡ length (ready_frames frames)
+count-with_words_of_nodes nodes [] = refl
+count-with_words_of_nodes nodes (x ∷ xs) = grind (arith, count-with_words_of_nodes nodes xs)
+
+-- where no tenant has a ready frame none is counted
+pub none-counted : (parts : Parts) (entries : List (ℕ × Account)) → ((tenant : ℕ) → ready_frames (frames_of parts.trees tenant) ≡ []) → ready_count (tenants_from parts entries) ≡ 0
+none-counted parts [] none = refl
+none-counted parts (entry ∷ entries) none =
+    let empty = ap length (none entry.0) in
+    omega (arith, count-with_words_of_nodes parts.nodes (frames_of parts.trees entry.0), empty, none-counted parts entries none)
+
+counted-none : (parts : Parts) (entries : List (ℕ × Account)) → ready_count (tenants_from parts entries) ≡ 0 → (tenant : ℕ) (account : Account) → account_of tenant entries ≡ Some account → length (ready_frames (frames_of parts.trees tenant)) ≡ 0
+counted-none parts [] none tenant account there = absurd cc
+counted-none parts (entry ∷ entries) none tenant account there = grind (arith, counted-none parts entries, count-with_words_of_nodes, eqb-true)
+
+-- where none is counted no tenant has one
+pub nobody-ready : (parts : Parts) → IsStored parts → ready_count (tenants_from parts parts.book.accounts) ≡ 0 → (tenant : ℕ) → ready_frames (frames_of parts.trees tenant) ≡ []
+nobody-ready parts stored none tenant = by (account_of tenant parts.book.accounts) refl
+  where
+    by : (o : Option Account) → account_of tenant parts.book.accounts ≡ o → ready_frames (frames_of parts.trees tenant) ≡ []
+    by None missing = ap ready_frames (stored.nothing tenant missing)
+    by (Some account) there = none_of_length (ready_frames (frames_of parts.trees tenant)) (counted-none parts parts.book.accounts none tenant account there)
+
+-- the words of all frames are at most 16 for each segment that is charged
+words-charged : (tree : Tree) → sum_by (λ frame. length frame.value) tree ≤ 16 * charged_for tree
+words-charged [] = omega arith
+words-charged (frame ∷ tree) =
+    let words = sum_by-cons (λ (f : Frame (List ℕ)). length f.value) frame tree in
+    omega (arith, words, sum_by-cons (λ (f : Frame (List ℕ)). charge (length f.value)) frame tree, words-charged tree)
+
+-- how many words a frame of this name has
+abbrev pub words_counted : Parts → FrameId → ℕ
+words_counted parts name = length (words_under (shared_of parts) name)
+
+-- the words counted name by name are those of the tree
+named-words : (parts : Parts) (tenant : ℕ) (xs : List (Frame ℕ)) → Each (λ f. words_under (shared_of parts) (record { tenant = tenant; serial = f.serial }) ≡ node_words parts.nodes f.value) xs →
+    sum_by (words_counted parts) (names_of tenant xs) ≡ sum_by (λ frame. length frame.value) (with_words_of_nodes parts.nodes xs)
+named-words parts tenant [] each = refl
+named-words parts tenant (x ∷ xs) each =
+    let names = sum_by-cons (words_counted parts) (record { tenant = tenant; serial = x.serial }) (names_of tenant xs) in
+    let words = sum_by-cons (λ (f : Frame (List ℕ)). length f.value) (map_value (node_words parts.nodes) x) (with_words_of_nodes parts.nodes xs) in
+    let first = ap length each.0 in
+    omega (arith, names, words, first, named-words parts tenant xs each.1)
+
+words-at : (parts : Parts) → IsStored parts → (tenant serial : ℕ) (frame : Frame ℕ) → frame_in_trees parts.trees tenant serial ≡ Some frame → words_under (shared_of parts) (record { tenant = tenant; serial = frame.serial }) ≡ node_words parts.nodes frame.value
+words-at parts stored tenant serial frame at =
+    let here = found-serial (frames_of parts.trees tenant) serial frame at in
+    let found : frame_in_trees parts.trees tenant frame.serial ≡ Some frame = ap (λ (s : ℕ). frame_in_trees parts.trees tenant s) here ∙ at in
+    ap frame_words (named-found parts stored (record { tenant = tenant; serial = frame.serial }) ∙ ap (λ (o : Option (Frame ℕ)). option_map (map_value (node_words parts.nodes)) o) found)
+
+pub words-named : (parts : Parts) → IsStored parts → (tenant : ℕ) → sum_by (words_counted parts) (names_of tenant (frames_of parts.trees tenant)) ≡ sum_by (λ frame. length frame.value) (with_words_of_nodes parts.nodes (frames_of parts.trees tenant))
+words-named parts stored tenant = grind (arith, named-words, found-each, tree-rising, words-at)
+
+-- they are few
+pub words-few : (parts : Parts) → IsStored parts → (tenant : ℕ) → sum_by (words_counted parts) (names_of tenant (frames_of parts.trees tenant)) ≤ 65536
+words-few parts stored tenant = by (account_of tenant parts.book.accounts) refl
+  where
+    by : (o : Option Account) → account_of tenant parts.book.accounts ≡ o → sum_by (words_counted parts) (names_of tenant (frames_of parts.trees tenant)) ≤ 65536
+    by None missing = (let none = ap (λ (xs : List (Frame ℕ)). sum_by (words_counted parts) (names_of tenant xs)) (stored.nothing tenant missing) in omega (arith, none))
+    by (Some account) there =
+        let within : IsWithinReserve account = AllEntries-of (λ (e : ℕ × Account). IsWithinReserve e.1) tenant account parts.book.accounts there (IsSoundBook.within stored.book) in
+        let most = within.charged_within in
+        let charged = IsAccountFor.charged (stored.accounts tenant account there) in
+        let words = words-named parts stored tenant in
+        omega (arith, most, within.segments_within, charged, words, words-charged (with_words_of_nodes parts.nodes (frames_of parts.trees tenant)))
+
+length-with_words_of_nodes : (nodes : Nodes) (xs : List (Frame ℕ)) → length (with_words_of_nodes nodes xs) ≡ length xs
+length-with_words_of_nodes nodes [] = refl
+length-with_words_of_nodes nodes (x ∷ xs) = ap suc (length-with_words_of_nodes nodes xs)
+
+-- what a tenant that is there has alive
+pub live-found : (parts : Parts) → IsStored parts → (tenant count words : ℕ) → is_some (tenant_in (shared_of parts).tenants tenant) ≡ true → count ≡ length (frames_of parts.trees tenant) → words ≡ sum_by (words_counted parts) (names_of tenant (frames_of parts.trees tenant)) → Some (count, words) ≡ live_of (shared_of parts) tenant
+live-found parts stored tenant count words some counted summed = by (account_of tenant parts.book.accounts) refl
+  where
+    by : (o : Option Account) → account_of tenant parts.book.accounts ≡ o → Some (count, words) ≡ live_of (shared_of parts) tenant
+    by None missing = absurd (false≢true (sym (ap is_some missing) ∙ sym (tenant-there parts tenant) ∙ some))
+    by (Some account) there =
+        let found = tenant-found parts tenant ∙ ap (λ (o : Option Account). option_map (tenant_from parts tenant) o) there in
+        let long = counted ∙ sym (length-with_words_of_nodes parts.nodes (frames_of parts.trees tenant)) in
+        rw (found, long, summed ∙ words-named parts stored tenant) refl

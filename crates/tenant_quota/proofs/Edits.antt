@@ -1,10 +1,7 @@
 -- What an entered account leaves, and what the account of a tenant has.
-use Rattle.std.proofs.Common.{◌≡◌, ℕ, ◌+◌, ◌-◌, ◌≤◌, List, Some}
-use Rattle.std.specs.Prelude.{sum_by}
+use Rattle.tenant_quota.proofs.Common.{◌≡◌, ℕ, ◌+◌, ◌-◌, ◌≤◌, List, Some, sum_by, Account, owner_of_account, account_of, AllEntries}
 use Rattle.number_index.proofs.Edits as edits
 use Rattle.tenant_quota.proofs.Places.{entry-of}
-use Rattle.tenant_quota.specs.declared.account.Account.{Account}
-use Rattle.tenant_quota.specs.Accounts.{owner_of_account, account_of, AllEntries}
 
 abbrev Entries : Type 0
 Entries = List (ℕ × Account)

@@ -1,4 +1,4 @@
+mod Common
 pub mod Places
 pub mod Edits
-pub mod Effects
 pub mod Standing

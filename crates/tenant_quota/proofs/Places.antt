@@ -1,10 +1,6 @@
 -- Where a tenant's account stands in a list that rises.
-use Rattle.std.proofs.Common.{◌≡◌, ℕ, true, false, cond, eqb, List, [], ◌∷◌, Option, Some, None, refl, ap, sym, ◌∙◌}
-use Rattle.std.specs.Prelude.{option_map}
-use Rattle.number_index.specs.Places.{find_by_number}
-use Rattle.number_index.proofs.Edits.{thing-own}
-use Rattle.tenant_quota.specs.declared.account.Account.{Account}
-use Rattle.tenant_quota.specs.Accounts.{owner_of_account, account_of}
+use Rattle.tenant_quota.proofs.Common.{◌≡◌, ℕ, true, false, cond, eqb, List, [], ◌∷◌, Option, Some, None, refl, ap, sym, ◌∙◌, option_map, find_by_number}
+use Rattle.tenant_quota.proofs.Common.{thing-own, Account, owner_of_account, account_of}
 
 -- the account of the entry that the index finds
 account_of-entry : (t : ℕ) (es : List (ℕ × Account)) → account_of t es ≡ option_map (λ e. e.1) (find_by_number owner_of_account t es)

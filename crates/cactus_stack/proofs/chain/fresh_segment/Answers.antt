@@ -1,4 +1,4 @@
-use Rattle.cactus_stack.proofs.Fresh.{fresh_segment_is_filled}
+use Rattle.cactus_stack.proofs.Grown.{fresh_segment_is_filled}
 use Rattle.cactus_stack.proofs.chain.fresh_segment.Goals as goal
 
 pub returns-clause-after : goal.returns-clause-after

@@ -1,7 +1,6 @@
 use Rattle.std.proofs.Common.{refl, ◌∙◌, rules}
 use Rattle.cactus_stack.specs.Places.{place_at, resized}
-use Rattle.cactus_stack.proofs.Changes.{IsChange, changed, still_stored}
-use Rattle.cactus_stack.proofs.Steps.{kept_node, is_read, close_change}
+use Rattle.cactus_stack.proofs.Steps.{IsChange, changed, still_stored, kept_node, is_read, close_change}
 use Rattle.cactus_stack.proofs.stack.free.Given.{Over}
 use Rattle.cactus_stack.proofs.stack.free.Goals.{After-give_chain}
 use Rattle.cactus_stack.proofs.stack.free.Goals as goal

@@ -1,5 +1,4 @@
-use Rattle.std.proofs.Common.{refl, ap, ◌∙◌, arith}
-use Rattle.frame_tree.specs.declared.ready.ReadyFrame.{ReadyFrame}
+use Rattle.frame_tree.proofs.Common.{refl, ap, ◌∙◌, arith, ReadyFrame}
 use Rattle.frame_tree.proofs.Places.{filter_not-remove, filter_not-absent, alike}
 use Rattle.frame_tree.proofs.ready.forget.Goals as goal
 use Rattle.frame_tree.proofs.ready.forget.Goals.{else-at-len-via-then-at-len+else-at-serial, else-at-len-via-else-at-len}

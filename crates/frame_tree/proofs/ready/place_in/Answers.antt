@@ -1,7 +1,5 @@
-use Rattle.std.proofs.Common.{◌-◌, ◌<◌, length, get_or, nat_lt, refl, arith, rules}
+use Rattle.frame_tree.proofs.Common.{◌-◌, ◌<◌, length, get_or, nat_lt, refl, arith, rules, get_or_default, ReadyFrame}
 use Rattle.std.proofs.lemmas.List.Sorted.{IsPartitionPoint-from_clause, IsPartitionedBy-ltb}
-use Rattle.std.proofs.lemmas.List.{get_or_default}
-use Rattle.frame_tree.specs.declared.ready.ReadyFrame.{ReadyFrame}
 use Rattle.frame_tree.proofs.Places.{rises_by-not_falls, place_from_point, place_of_element, place_in_none, place_before, place_behind}
 use Rattle.frame_tree.proofs.ready.place_in.Goals as goal
 

@@ -1,5 +1,4 @@
-use Rattle.std.proofs.Common.{refl}
-use Rattle.frame_tree.specs.declared.ready.ReadyFrame.{ReadyFrame}
+use Rattle.frame_tree.proofs.Common.{refl, ReadyFrame}
 use Rattle.frame_tree.proofs.Places.{inserted-place}
 use Rattle.frame_tree.proofs.ready.put.Goals as goal
 

@@ -1,5 +1,4 @@
-use Rattle.frame_tree.proofs.Indexes.{serials_of-rises, there_at}
-use Rattle.frame_tree.proofs.Keys.{index_long}
+use Rattle.frame_tree.proofs.Keys.{serials_of-rises, there_at, index_long}
 use Rattle.frame_tree.proofs.slot_store.adopt.Goals as goal
 
 pub search_key-key-requires-clause-rise : goal.search_key-key-requires-clause-rise

@@ -1,5 +1,5 @@
 use Rattle.std.proofs.Common.{◌-◌, refl, ◌∙◌}
-use Rattle.frame_tree.proofs.Search.{children_at-found, without_child-set}
+use Rattle.frame_tree.proofs.Forest.{children_at-found, without_child-set}
 use Rattle.frame_tree.proofs.SlotStores.{contains_read}
 use Rattle.frame_tree.proofs.Keys.{seen_at, changed_keys, changed_slots}
 use Rattle.frame_tree.proofs.Cutting.{parent_key, no_parent_key}

@@ -1,5 +1,5 @@
 use Rattle.std.proofs.Common.{◌+◌, Some, refl, ◌∙◌}
-use Rattle.frame_tree.proofs.Search.{with_child-set, root_under-found, count_at}
+use Rattle.frame_tree.proofs.Forest.{with_child-set, root_under-found, count_at}
 use Rattle.frame_tree.proofs.SlotStores.{contains_read, knows_like}
 use Rattle.frame_tree.proofs.Keys.{seen_at, changed_like, changed_keys, changed_slots, knows_key}
 use Rattle.frame_tree.proofs.slot_store.enroll.Goals as goal

@@ -1,7 +1,5 @@
-use Rattle.std.proofs.Common.{◌<◌, length, get_or, refl, sym, ◌∙◌, arith}
-use Rattle.frame_tree.specs.SlotStores.{slots_in}
-use Rattle.frame_tree.proofs.SlotStores.{here_read}
-use Rattle.frame_tree.proofs.Marks.{link_marked, read_key, read_any, marks_taken, marks_stays}
+use Rattle.frame_tree.proofs.Common.{◌<◌, length, get_or, refl, sym, ◌∙◌, arith, slots_in}
+use Rattle.frame_tree.proofs.SlotStores.{here_read, link_marked, read_key, read_any, marks_taken, marks_stays}
 use Rattle.frame_tree.proofs.slot_store.mark_under.Goals as goal
 use Rattle.frame_tree.proofs.slot_store.mark_under.Goals.{then-is_taken, else-is_taken}
 

@@ -1,7 +1,4 @@
-use Rattle.std.proofs.Common.{◌≡◌, take}
-use Rattle.slab.specs.Slab.{slab_len}
-use Rattle.frame_tree.specs.SlotStores.{slots_in}
-use Rattle.frame_tree.specs.SlotStores.{Marks}
+use Rattle.frame_tree.proofs.Common.{◌≡◌, take, slab_len, slots_in, Marks}
 use Rattle.frame_tree.proofs.slot_store.mark_under.Given as goal
 
 abbrev pub invariant-loop-at : goal.invariant-loop-at

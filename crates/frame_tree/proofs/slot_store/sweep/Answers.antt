@@ -1,7 +1,5 @@
-use Rattle.std.proofs.Common.{◌≡◌, ◌<◌, length, refl, ap, sym, ◌∙◌, arith}
-use Rattle.slab.specs.Slab.{get}
-use Rattle.frame_tree.specs.SlotStores.{is_marked}
-use Rattle.frame_tree.proofs.Sweeps.{swept_early, slot_is, slot_contains, swept_stays, swept_goes}
+use Rattle.frame_tree.proofs.Common.{◌≡◌, ◌<◌, length, refl, ap, sym, ◌∙◌, arith, get, is_marked}
+use Rattle.frame_tree.proofs.SlotStores.{swept_early, slot_is, slot_contains, swept_stays, swept_goes}
 use Rattle.frame_tree.proofs.slot_store.sweep.Goals as goal
 use Rattle.frame_tree.proofs.slot_store.sweep.Goals.{then-index, else-index}
 

@@ -1,5 +1,5 @@
 use Rattle.std.proofs.Common.{◌≡◌, vec_capacity}
-use Rattle.frame_tree.proofs.Sweeps.{HasSwept}
+use Rattle.frame_tree.proofs.SlotStores.{HasSwept}
 use Rattle.frame_tree.proofs.slot_store.sweep.Given as goal
 
 abbrev pub invariant-loop-at : goal.invariant-loop-at

@@ -1,5 +1,4 @@
-use Rattle.std.proofs.Common.{◌≡◌, ◌-◌, length, drop}
-use Rattle.frame_tree.specs.Slots.{slots_of}
+use Rattle.frame_tree.proofs.Common.{◌≡◌, ◌-◌, length, drop, slots_of}
 use Rattle.frame_tree.proofs.walk.next_serial.Given as goal
 
 abbrev pub invariant-loop-at : goal.invariant-loop-at

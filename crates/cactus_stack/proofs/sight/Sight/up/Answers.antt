@@ -1,7 +1,7 @@
 use Rattle.std.proofs.Common.{◌≡◌, ◌+◌, suc, [], length, Some, None, sym, ◌∙◌, arith}
 use Rattle.std.proofs.lemmas.Option.{slice_get-get_or}
 use Rattle.cactus_stack.specs.Nodes.{node_parent}
-use Rattle.cactus_stack.proofs.Trees.{sight-level, no-sight}
+use Rattle.cactus_stack.proofs.LawFacts.{sight-level, no-sight}
 use Rattle.cactus_stack.proofs.sight.Sight.up.Goals as goal
 
 pub parent-requires : goal.parent-requires

@@ -1,5 +1,5 @@
 use Rattle.std.proofs.Common.{[], ◌∷◌, refl, ◌∙◌}
-use Rattle.cactus_stack.proofs.Trees.{alone}
+use Rattle.cactus_stack.proofs.LawFacts.{alone}
 use Rattle.cactus_stack.proofs.Steps.{closed, depths-stay}
 use Rattle.cactus_stack.proofs.stack.Stack.close.Goals as goal
 

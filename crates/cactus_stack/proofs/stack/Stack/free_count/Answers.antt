@@ -1,4 +1,4 @@
-use Rattle.cactus_stack.proofs.Changes.{all-taken}
+use Rattle.cactus_stack.proofs.Steps.{all-taken}
 use Rattle.cactus_stack.proofs.stack.Stack.free_count.Goals as goal
 
 pub returns : goal.returns

@@ -1,5 +1,5 @@
 use Rattle.std.proofs.Common.{sym, arith, ◌<◌, ◌∙◌}
-use Rattle.cactus_stack.proofs.Sound.{front_of_sound, place_of_sound, place_is_taken, word_of_sound}
+use Rattle.cactus_stack.proofs.Content.{front_of_sound, place_of_sound, place_is_taken, word_of_sound}
 use Rattle.cactus_stack.proofs.words.Words.get.Goals as goal
 
 pub segment_after-segment-requires : goal.segment_after-segment-requires

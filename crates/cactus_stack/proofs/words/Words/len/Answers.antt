@@ -1,5 +1,5 @@
 use Rattle.std.proofs.Common.{sym}
-use Rattle.cactus_stack.proofs.Sound.{length-words_in}
+use Rattle.cactus_stack.proofs.Content.{length-words_in}
 use Rattle.cactus_stack.proofs.words.Words.len.Goals as goal
 
 pub returns-clause-value : goal.returns-clause-value

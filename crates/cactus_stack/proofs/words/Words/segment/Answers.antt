@@ -1,6 +1,6 @@
 use Rattle.std.proofs.Common.{arith, ◌<◌, ◌∙◌}
 use Rattle.cactus_stack.specs.Nodes.{charge}
-use Rattle.cactus_stack.proofs.Blocks.{front_of_block, place_of_block, block_is_taken, words_of_block}
+use Rattle.cactus_stack.proofs.Content.{front_of_block, place_of_block, block_is_taken, words_of_block}
 use Rattle.cactus_stack.proofs.words.Words.segment.Goals as goal
 
 pub segment_after-segment-requires : goal.segment_after-segment-requires

@@ -1,5 +1,4 @@
-use Rattle.std.proofs.Common.{◌≡◌, ◌+◌, ◌≤◌, ◌++◌, length, drop}
-use Rattle.frame_tree.specs.Readies.{ready_in}
+use Rattle.frame_tree.proofs.Common.{◌≡◌, ◌+◌, ◌≤◌, ◌++◌, length, drop, ready_in}
 use Rattle.frame_tree.proofs.slot_store.SlotStore.add_ready.Given as goal
 
 abbrev pub invariant-loop-at : goal.invariant-loop-at

@@ -1,5 +1,4 @@
-use Rattle.std.proofs.Common.{◌≡◌, ◌+◌, ◌≤◌, ◌++◌, length, drop}
-use Rattle.frame_tree.specs.Slots.{serials_of}
+use Rattle.frame_tree.proofs.Common.{◌≡◌, ◌+◌, ◌≤◌, ◌++◌, length, drop, serials_of}
 use Rattle.frame_tree.proofs.slot_store.SlotStore.add_serials.Given as goal
 
 abbrev pub invariant-loop-at : goal.invariant-loop-at

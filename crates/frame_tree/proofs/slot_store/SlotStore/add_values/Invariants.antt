@@ -1,5 +1,4 @@
-use Rattle.std.proofs.Common.{◌≡◌, ◌+◌, ◌++◌, take, vec_len, vec_capacity}
-use Rattle.frame_tree.specs.Slots.{slot_values}
+use Rattle.frame_tree.proofs.Common.{◌≡◌, ◌+◌, ◌++◌, take, vec_len, vec_capacity, slot_values}
 use Rattle.frame_tree.proofs.slot_store.SlotStore.add_values.Given as goal
 
 abbrev pub invariant-loop-at : goal.invariant-loop-at

@@ -4,9 +4,7 @@ use Rattle.frame_tree.proofs.slot_store.SlotStore.at.Goals as goal
 
 pub at-key-requires : goal.at-key-requires
 at-key-requires g c =
-    let within = rw (← c.self.view_is) at c.requires in
-    let long = slots_in-length c.self.inside.slab [] c.self.inside.order.list c.self.invariant.here in
-    omega (arith, within, long)
+    omega (arith, (rw (← c.self.view_is) at c.requires), slots_in-length c.self.inside.slab [] c.self.inside.order.list c.self.invariant.here)
 
 pub index-requires : goal.index-requires
 index-requires g c =

@@ -1,8 +1,7 @@
-use Rattle.std.proofs.Common.{[], refl, ◌∙◌, arith}
-use Rattle.frame_tree.specs.SlotStores.{slots_in}
+use Rattle.frame_tree.proofs.Common.{[], refl, ◌∙◌, arith, slots_in}
 use Rattle.frame_tree.proofs.SlotStores.{slots_in-length}
 use Rattle.frame_tree.proofs.Cutting.{HasCut, all_there, marked_there, cut_store, cut_slots, cut_values}
-use Rattle.frame_tree.proofs.UpToAborted.{marks_early, none_marked_early}
+use Rattle.frame_tree.proofs.Aborts.{marks_early, none_marked_early}
 use Rattle.frame_tree.proofs.slot_store.SlotStore.cut.Given.{Over}
 use Rattle.frame_tree.proofs.slot_store.SlotStore.cut.Goals.{After-sweep}
 use Rattle.frame_tree.proofs.slot_store.SlotStore.cut.Goals as goal
@@ -16,8 +15,7 @@ was_cut g c =
 pub mark_under-requires-clause-within : goal.mark_under-requires-clause-within
 mark_under-requires-clause-within g c =
     let within = rw (← c.self.view_is) at c.requires.within in
-    let long = slots_in-length c.self.inside.slab [] c.self.inside.order.list c.self.invariant.here in
-    rw c.as_slice.ensures.value (omega (arith, within, long))
+    rw c.as_slice.ensures.value (omega (arith, within, slots_in-length c.self.inside.slab [] c.self.inside.order.list c.self.invariant.here))
 
 pub mark_under-requires-clause-early : goal.mark_under-requires-clause-early
 mark_under-requires-clause-early g c =
@@ -28,9 +26,7 @@ mark_under-requires-clause-early g c =
 
 pub sweep-requires-clause-within : goal.sweep-requires-clause-within
 sweep-requires-clause-within g c =
-    let within = rw (← c.self.view_is) at c.requires.within in
-    let long = slots_in-length c.self.inside.slab [] c.self.inside.order.list c.self.invariant.here in
-    omega (arith, within, long)
+    omega (arith, (rw (← c.self.view_is) at c.requires.within), slots_in-length c.self.inside.slab [] c.self.inside.order.list c.self.invariant.here)
 
 pub sweep-requires-clause-early : goal.sweep-requires-clause-early
 sweep-requires-clause-early g c =
@@ -49,9 +45,7 @@ sweep-requires-clause-there g c =
 
 pub sweep-requires-clause-room : goal.sweep-requires-clause-room
 sweep-requires-clause-room g c =
-    let room = rw (← c.self.view_is) at c.requires.room in
-    let long = slots_in-length c.self.inside.slab [] c.self.inside.order.list c.self.invariant.here in
-    omega (arith, room, long)
+    omega (arith, (rw (← c.self.view_is) at c.requires.room), slots_in-length c.self.inside.slab [] c.self.inside.order.list c.self.invariant.here)
 
 pub invariant_of-self : goal.invariant_of-self
 invariant_of-self g c =
@@ -61,8 +55,7 @@ invariant_of-self g c =
 
 pub returns-clause-kept : goal.returns-clause-kept
 returns-clause-kept g c =
-    let cut = was_cut g (goal.at.returns-clause-kept g c).After-sweep in
-    rw (← c.self.view_is, cut_slots _ _ _ _ _ _ cut c.self.invariant.here) refl
+    rw (← c.self.view_is, cut_slots _ _ _ _ _ _ (was_cut g (goal.at.returns-clause-kept g c).After-sweep) c.self.invariant.here) refl
 
 pub returns-clause-values : goal.returns-clause-values
 returns-clause-values g c =

@@ -1,6 +1,5 @@
 use Rattle.std.proofs.Common.{sym}
-use Rattle.frame_tree.proofs.Indexes.{serials_of-rises, none_at}
-use Rattle.frame_tree.proofs.Keys.{are_keys, key_found, seen_at}
+use Rattle.frame_tree.proofs.Keys.{serials_of-rises, none_at, are_keys, key_found, seen_at}
 use Rattle.frame_tree.proofs.slot_store.SlotStore.find.Goals as goal
 
 pub returns-then-kept-serial-clause-found : goal.returns-then-kept-serial-clause-found

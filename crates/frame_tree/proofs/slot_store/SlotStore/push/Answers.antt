@@ -1,6 +1,4 @@
-use Rattle.std.proofs.Common.{[], refl, arith}
-use Rattle.frame_tree.specs.declared.names.State.TheVariants.{Ready}
-use Rattle.frame_tree.specs.SlotStores.{IsSlotStore}
+use Rattle.frame_tree.proofs.Common.{[], refl, arith, Ready, IsSlotStore}
 use Rattle.frame_tree.proofs.SlotStores.{slots_in-length, push_store, push_slots}
 use Rattle.frame_tree.proofs.slot_store.SlotStore.push.Goals as goal
 
@@ -13,8 +11,7 @@ insert_reserved-key-requires g c =
 pub push-requires : goal.push-requires
 push-requires g c =
     let less = rw (← c.self.view_is) at c.requires.room in
-    let long = slots_in-length c.self.inside.slab [] c.self.inside.order.list c.self.invariant.here in
-    omega (arith, less, long, c.self.invariant.order_room)
+    omega (arith, less, slots_in-length c.self.inside.slab [] c.self.inside.order.list c.self.invariant.here, c.self.invariant.order_room)
 
 pub invariant_of-self : goal.invariant_of-self
 invariant_of-self g c =

@@ -1,6 +1,5 @@
-use Rattle.frame_tree.proofs.Indexes.{serials_of-rises, there_at}
+use Rattle.frame_tree.proofs.Keys.{serials_of-rises, there_at, are_keys, index_long, key_searched, HasState, state_store, state_changes}
 use Rattle.frame_tree.proofs.SlotStores.{contains_read}
-use Rattle.frame_tree.proofs.Keys.{are_keys, index_long, key_searched, HasState, state_store, state_changes}
 use Rattle.frame_tree.proofs.slot_store.SlotStore.set_state.Goals as goal
 
 pub guessed_key-requires : goal.guessed_key-requires

@@ -1,18 +1,13 @@
-use Rattle.std.proofs.Common.{◌≡◌, ◌+◌, length, [], refl, sym, arith}
-use Rattle.std.specs.List.{remove}
-use Rattle.std.proofs.lemmas.List.Edits.{length-remove}
+use Rattle.frame_tree.proofs.Common.{◌≡◌, ◌+◌, length, [], refl, sym, arith, remove, length-remove, slots_in}
 use Rattle.frame_tree.proofs.Forest.{linked_rises}
 use Rattle.frame_tree.proofs.SlotStores.{slots_in-length, contains_read, slot_read}
-use Rattle.frame_tree.specs.SlotStores.{slots_in}
 use Rattle.frame_tree.proofs.Keys.{are_keys}
 use Rattle.frame_tree.proofs.Cutting.{HasTaken, taken_slots, taken_store, taken_knows, rises_remove}
 use Rattle.frame_tree.proofs.slot_store.SlotStore.take.Goals as goal
 
 pub remove-key-requires : goal.remove-key-requires
 remove-key-requires g c =
-    let within = rw (← c.self.view_is) at c.requires.within in
-    let long = slots_in-length c.self.inside.slab [] c.self.inside.order.list c.self.invariant.here in
-    omega (arith, within, long)
+    omega (arith, (rw (← c.self.view_is) at c.requires.within), slots_in-length c.self.inside.slab [] c.self.inside.order.list c.self.invariant.here)
 
 pub remove-gone-requires : goal.remove-gone-requires
 remove-gone-requires g c =

@@ -1,8 +1,5 @@
-use Rattle.std.proofs.Common.{vec_capacity, refl, sym, arith}
-use Rattle.frame_tree.specs.Frames.{new_frame}
-use Rattle.frame_tree.proofs.Lengths.{length_more}
-use Rattle.frame_tree.proofs.Tenants.{tree_by_places, named_parent, more_ready, others_there}
-use Rattle.frame_tree.proofs.FoundTree.{HasTree, has_tree, new_sound, new_frames, new_keeps}
+use Rattle.frame_tree.proofs.Common.{vec_capacity, refl, sym, arith, length-append, new_frame}
+use Rattle.frame_tree.proofs.Tenants.{tree_by_places, named_parent, more_ready, others_there, HasTree, has_tree, new_sound, new_frames, new_keeps}
 use Rattle.frame_tree.proofs.table.FrameTable.add.Given.{Over}
 use Rattle.frame_tree.proofs.table.FrameTable.add.Goals.{After-get_mut-tree}
 use Rattle.frame_tree.proofs.table.FrameTable.add.Goals as goal
@@ -13,8 +10,7 @@ was g c = has_tree c.self.invariant c.get_mut-tree.ensures.value
 
 pub get_mut-tree-requires-clause-there : goal.get_mut-tree-requires-clause-there
 get_mut-tree-requires-clause-there g c =
-    let room = rw (← c.self.view_is) at c.requires.room in
-    (tree_by_places _ c.args.f.tenant (omega (arith, room)))
+    (tree_by_places _ c.args.f.tenant (omega (arith, (rw (← c.self.view_is) at c.requires.room))))
 
 pub add-requires-clause-above : goal.add-requires-clause-above
 add-requires-clause-above g c = rw (← c.self.view_is, (was g c).own.frames) at c.requires.above
@@ -35,7 +31,7 @@ pub invariant_of-self : goal.invariant_of-self
 invariant_of-self g c =
     let tree = was g (goal.at.invariant_of-self g c).After-get_mut-tree in
     let room = rw (← c.self.view_is, tree.own.frames, tree.own.places) at c.requires.room in
-    (new_sound tree c.add.ensures (rw length_more (omega (arith, room))) (omega (arith, more_ready c.get_mut-tree.result.now.frames (new_frame c.get_mut-tree.result.now.frames c.args.f.serial c.parent_serial-above.result c.args.home c.args.value) refl)))
+    (new_sound tree c.add.ensures (rw length-append (omega (arith, room))) (omega (arith, more_ready c.get_mut-tree.result.now.frames (new_frame c.get_mut-tree.result.now.frames c.args.f.serial c.parent_serial-above.result c.args.home c.args.value) refl)))
 
 pub returns-clause-frames : goal.returns-clause-frames
 returns-clause-frames g c =

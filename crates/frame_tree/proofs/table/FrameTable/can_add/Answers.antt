@@ -1,6 +1,4 @@
-use Rattle.std.proofs.Common.{◌≡◌, ◌∙◌, ℕ, List, subst, sym, arith}
-use Rattle.std.proofs.lemmas.Bool.{lt-ltb, ltb-true, false≢true}
-use Rattle.frame_tree.specs.Frames.{Frame, AllBelow}
+use Rattle.frame_tree.proofs.Common.{◌≡◌, ◌∙◌, ℕ, List, subst, sym, arith, lt-ltb, ltb-true, false≢true, Frame, AllBelow}
 use Rattle.frame_tree.proofs.table.FrameTable.can_add.Goals as goal
 use Rattle.frame_tree.proofs.table.FrameTable.can_add.Goals.{then-may_follow, else-may_follow}
 
@@ -15,8 +13,7 @@ returns-then-len-places-clause-above g c =
 
 pub returns-then-len-places-clause-parent : goal.returns-then-len-places-clause-parent
 returns-then-len-places-clause-parent g c =
-    let tree = c.in-Some.ensures.found in
-    rw (tree.frames) (λ _. elim c.if-may_follow.branch [
+    rw (c.in-Some.ensures.found.frames) (λ _. elim c.if-may_follow.branch [
       | then-may_follow w ↦ c.may_follow.ensures.parent w.if-may_follow.true
       | else-may_follow w ↦ absurd (false≢true (sym w.if-may_follow.false ∙ sym w.value-is ∙ c.if-len-places.true))
     ])
@@ -26,8 +23,7 @@ returns-then-len-places-clause-room g c =
     let tree = c.in-Some.ensures.found in
     rw (tree.frames, tree.places) (λ _. elim c.if-may_follow.branch [
       | then-may_follow w ↦ (
-          let less = ltb-true _ _ (sym w.value-is ∙ c.if-len-places.true) in
-          omega (arith, less, w.len.ensures, w.places.ensures))
+          omega (arith, ltb-true _ _ (sym w.value-is ∙ c.if-len-places.true), w.len.ensures, w.places.ensures))
       | else-may_follow w ↦ absurd (false≢true (sym w.if-may_follow.false ∙ sym w.value-is ∙ c.if-len-places.true))
     ])
 

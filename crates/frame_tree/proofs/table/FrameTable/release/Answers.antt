@@ -1,6 +1,4 @@
-use Rattle.std.proofs.Common.{vec_capacity, []}
-use Rattle.frame_tree.specs.Frames.{owner_of_tree}
-use Rattle.number_index.proofs.Edits.{has-found, said-without_own, length-without}
+use Rattle.frame_tree.proofs.Common.{vec_capacity, [], owner_of_tree, has-found, said-without_own, length-without}
 use Rattle.frame_tree.proofs.Tenants.{tree_by_places, release_sound, release_keeps}
 use Rattle.frame_tree.proofs.table.FrameTable.release.Goals as goal
 

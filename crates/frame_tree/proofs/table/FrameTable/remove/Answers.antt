@@ -1,7 +1,7 @@
-use Rattle.std.proofs.Common.{vec_capacity, arith}
-use Rattle.frame_tree.proofs.Tenants.{tree_by_frame, without_length}
-use Rattle.frame_tree.proofs.FoundTree.{HasTree, has_tree, new_sound, new_frames, new_keeps}
+use Rattle.frame_tree.proofs.Common.{vec_capacity, arith, eqb, not, Frame}
+use Rattle.frame_tree.proofs.Tenants.{tree_by_frame, HasTree, has_tree, new_sound, new_frames, new_keeps}
 use Rattle.frame_tree.proofs.table.FrameTable.remove.Given.{Over}
+use Rattle.frame_tree.proofs.Places.{length-filter-le}
 use Rattle.frame_tree.proofs.table.FrameTable.remove.Goals.{After-get_mut-tree}
 use Rattle.frame_tree.proofs.table.FrameTable.remove.Goals as goal
 
@@ -31,7 +31,7 @@ invariant_of-self g c =
     let tree = was g (goal.at.invariant_of-self g c).After-get_mut-tree in
     let within = tree.within in
     let count = rw c.remove-was.ensures.left at c.remove-was.ensures.count in
-    (new_sound tree c.remove-was.ensures.left (omega (arith, within, without_length c.args.f.serial c.get_mut-tree.result.now.frames)) (omega (arith, count, c.recount-self-inside.ensures)))
+    (new_sound tree c.remove-was.ensures.left (omega (arith, within, length-filter-le (λ (f : Frame g.row.T.Denot). not (eqb f.serial c.args.f.serial)) c.get_mut-tree.result.now.frames)) (omega (arith, count, c.recount-self-inside.ensures)))
 
 pub returns-clause-frames : goal.returns-clause-frames
 returns-clause-frames g c =

@@ -1,6 +1,5 @@
 use Rattle.std.proofs.Common.{vec_capacity, refl, ◌∙◌, arith}
-use Rattle.frame_tree.proofs.Tenants.{tree_by_places}
-use Rattle.frame_tree.proofs.FoundTree.{HasTree, has_tree, new_sound, new_frames, new_keeps}
+use Rattle.frame_tree.proofs.Tenants.{tree_by_places, HasTree, has_tree, new_sound, new_frames, new_keeps}
 use Rattle.frame_tree.proofs.table.FrameTable.remove_all.Given.{Over}
 use Rattle.frame_tree.proofs.table.FrameTable.remove_all.Goals.{After-get_mut-tree}
 use Rattle.frame_tree.proofs.table.FrameTable.remove_all.Goals as goal
@@ -31,8 +30,7 @@ invariant_of-self g c =
 pub returns : goal.returns
 returns g c =
     let tree = was g (goal.at.returns g c).After-get_mut-tree in
-    let gone = rw c.clear.ensures.items at c.remove_all.ensures.values in
     rw (← c.self.view_is, tree.own.frames) (
       (refl, λ _. tt, (new_frames tree c.remove_all.ensures.left, new_keeps tree c.remove_all.ensures.left)),
-      record { ends = tt; values = c.as_slice.ensures.value ∙ gone },
+      record { ends = tt; values = c.as_slice.ensures.value ∙ (rw c.clear.ensures.items at c.remove_all.ensures.values) },
     )

@@ -1,6 +1,4 @@
-use Rattle.std.proofs.Common.{◌<◌, [], length, ap, vec_capacity, arith}
-use Rattle.number_index.proofs.Edits.{length-inserted}
-use Rattle.frame_tree.specs.Frames.{TenantTree, owner_of_tree}
+use Rattle.frame_tree.proofs.Common.{◌<◌, [], length, ap, vec_capacity, arith, length-inserted, TenantTree, owner_of_tree}
 use Rattle.frame_tree.proofs.Tenants.{reserve_sound, reserve_here, insert_keeps, more_room}
 use Rattle.frame_tree.proofs.table.FrameTable.reserve_first.Goals as goal
 

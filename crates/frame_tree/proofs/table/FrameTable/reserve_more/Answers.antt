@@ -1,8 +1,5 @@
-use Rattle.std.proofs.Common.{Result, Ok, Err, OnErr, vec_capacity, arith}
-use Rattle.number_index.proofs.Edits.{length-with}
-use Rattle.frame_tree.specs.Frames.{owner_of_tree}
-use Rattle.frame_tree.proofs.Tenants.{tree_by_places}
-use Rattle.frame_tree.proofs.FoundTree.{HasTree, has_tree, raised_places, raised_frames, raised_keeps, raised_sound, unraised, unraised_sound}
+use Rattle.frame_tree.proofs.Common.{Result, Ok, Err, OnErr, vec_capacity, arith, length-with, owner_of_tree}
+use Rattle.frame_tree.proofs.Tenants.{tree_by_places, HasTree, has_tree, raised_places, raised_frames, raised_keeps, raised_sound, unraised, unraised_sound}
 use Rattle.frame_tree.proofs.table.FrameTable.reserve_more.Given.{Over}
 use Rattle.frame_tree.proofs.table.FrameTable.reserve_more.Goals.{After-get_mut-tree}
 use Rattle.frame_tree.proofs.table.FrameTable.reserve_more.Goals as goal
@@ -17,8 +14,7 @@ was g c = has_tree c.self.invariant c.get_mut-tree.ensures.value
 
 pub get_mut-tree-requires-clause-there : goal.get_mut-tree-requires-clause-there
 get_mut-tree-requires-clause-there g c =
-    let there = rw (← c.self.view_is) at c.requires.there in
-    (tree_by_places c.self.inside.trees c.args.tenant there)
+    (tree_by_places c.self.inside.trees c.args.tenant (rw (← c.self.view_is) at c.requires.there))
 
 pub raise-requires-clause-more : goal.raise-requires-clause-more
 raise-requires-clause-more g c = rw (← c.self.view_is, (was g c).own.places) at c.requires.more

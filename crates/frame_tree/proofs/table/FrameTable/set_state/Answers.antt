@@ -1,6 +1,5 @@
 use Rattle.std.proofs.Common.{vec_capacity, arith}
-use Rattle.frame_tree.proofs.Tenants.{tree_by_frame, state_length}
-use Rattle.frame_tree.proofs.FoundTree.{HasTree, has_tree, new_sound, new_frames, new_keeps}
+use Rattle.frame_tree.proofs.Tenants.{tree_by_frame, state_length, HasTree, has_tree, new_sound, new_frames, new_keeps}
 use Rattle.frame_tree.proofs.table.FrameTable.set_state.Given.{Over}
 use Rattle.frame_tree.proofs.table.FrameTable.set_state.Goals.{After-get_mut-tree}
 use Rattle.frame_tree.proofs.table.FrameTable.set_state.Goals as goal

@@ -1,6 +1,6 @@
 use Rattle.std.proofs.Common.{[], sym, ◌∙◌}
 use Rattle.frame_tree.proofs.Forest.{has_frame-frames_from}
-use Rattle.frame_tree.proofs.Indexes.{index_rises, found_there}
+use Rattle.frame_tree.proofs.Keys.{index_rises, found_there}
 use Rattle.frame_tree.proofs.tree.TenantFrames.contains.Goals as goal
 
 pub place_of-requires : goal.place_of-requires

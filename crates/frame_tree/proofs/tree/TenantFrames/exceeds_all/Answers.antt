@@ -1,6 +1,5 @@
-use Rattle.std.proofs.Common.{◌≡◌, ◌+◌, ◌-◌, length, [], arith}
-use Rattle.std.proofs.lemmas.Bool.{ltb-true, lt-ltb}
-use Rattle.frame_tree.proofs.Trees.{last_below, below_at}
+use Rattle.frame_tree.proofs.Common.{◌≡◌, ◌+◌, ◌-◌, length, [], arith, ltb-true, lt-ltb}
+use Rattle.frame_tree.proofs.Changes.{last_below, below_at}
 use Rattle.frame_tree.proofs.tree.TenantFrames.exceeds_all.Goals as goal
 
 pub returns-clause-above : goal.returns-clause-above

@@ -1,6 +1,5 @@
-use Rattle.frame_tree.specs.Slots.{frames_from}
+use Rattle.frame_tree.proofs.Common.{frames_from, [], refl, ◌∙◌}
 use Rattle.frame_tree.proofs.Forest.{linked_rises, has_frame-frames_from}
-use Rattle.std.proofs.Common.{[], refl, ◌∙◌}
 use Rattle.frame_tree.proofs.Finds.{found, entry_of_frame-found, frame_at-none, IsTree-linked}
 use Rattle.frame_tree.proofs.tree.TenantFrames.find.Goals as goal
 

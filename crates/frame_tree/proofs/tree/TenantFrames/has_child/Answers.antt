@@ -1,5 +1,5 @@
 use Rattle.std.proofs.Common.{[], length}
-use Rattle.frame_tree.proofs.Trees.{counted_children, counted_leaf, no_counted_children, no_counted_leaf}
+use Rattle.frame_tree.proofs.Changes.{counted_children, counted_leaf, no_counted_children, no_counted_leaf}
 use Rattle.frame_tree.proofs.Forest.{linked_rises}
 use Rattle.frame_tree.proofs.tree.TenantFrames.has_child.Goals as goal
 

@@ -1,16 +1,10 @@
-use Rattle.std.proofs.Common.{[], refl, sym, ◌∙◌, arith}
-use Rattle.std.specs.List.{remove}
-use Rattle.std.proofs.lemmas.List.Edits.{length-remove}
-use Rattle.frame_tree.specs.Slots.{without_child}
-use Rattle.frame_tree.specs.Frames.{is_ready}
+use Rattle.frame_tree.proofs.Common.{[], refl, sym, ◌∙◌, arith, remove, length-remove, without_child, is_ready}
 use Rattle.frame_tree.proofs.SlotStores.{length-without_child}
 use Rattle.frame_tree.proofs.Forest.{linked_rises, has_frame-frames_from}
-use Rattle.frame_tree.proofs.Finds.{found, ready_frames-length}
-use Rattle.frame_tree.proofs.Counts.{length-filter_remove}
-use Rattle.frame_tree.proofs.Changes.{lost_counted, ready-without_child}
-use Rattle.frame_tree.proofs.Trees.{found_value, leaf_slots, lost, lost_sound, lost_frames}
+use Rattle.frame_tree.proofs.Finds.{found, ready_frames-length, length-filter_remove}
+use Rattle.frame_tree.proofs.Changes.{lost_counted, ready-without_child, leaf_slots, lost, lost_sound, lost_frames}
 use Rattle.frame_tree.proofs.Readies.{is_tenant, tenant_rises, ready_in-remove, ready_in-without_child}
-use Rattle.frame_tree.proofs.Indexes.{found_at, index_rises, there_at, removed_index, serials_of-without_child}
+use Rattle.frame_tree.proofs.Keys.{found_at, index_rises, there_at, removed_index, serials_of-without_child}
 use Rattle.frame_tree.proofs.tree.TenantFrames.remove.Goals as goal
 
 pub known_place-at-requires-clause-rise : goal.known_place-at-requires-clause-rise
@@ -27,8 +21,7 @@ take-slot-requires-clause-linked g c = c.self.invariant.sound.linked
 pub take-slot-requires-clause-leaf : goal.take-slot-requires-clause-leaf
 take-slot-requires-clause-leaf g c =
     let place = found_at _ _ _ _ c.self.invariant.index c.known_place-at.ensures.within c.known_place-at.ensures.found in
-    let leaf = rw (← c.self.view_is) at c.requires.leaf in
-    rw place.found (leaf_slots c.self.inside.store.slots c.args.serial c.self.invariant.sound.linked leaf)
+    rw place.found (leaf_slots c.self.inside.store.slots c.args.serial c.self.invariant.sound.linked (rw (← c.self.view_is) at c.requires.leaf))
 
 pub take-slot-requires-clause-counted : goal.take-slot-requires-clause-counted
 take-slot-requires-clause-counted g c slot is =
@@ -68,7 +61,7 @@ pub returns-clause-value : goal.returns-clause-value
 returns-clause-value g c =
     let place = found_at _ _ _ _ c.self.invariant.index c.known_place-at.ensures.within c.known_place-at.ensures.found in
     let f = found [] c.self.inside.store.slots c.known_place-at.result c.args.serial c.take-slot.result c.self.invariant.sound.linked tt place.within place.found c.take-slot.ensures.value in
-    rw (← c.self.view_is) (found_value _ c.take-slot.result c.args.serial f.0 c.take-slot.result.value f.1 refl)
+    rw (← c.self.view_is, f.1.at) refl
 
 pub returns-clause-count : goal.returns-clause-count
 returns-clause-count g c =

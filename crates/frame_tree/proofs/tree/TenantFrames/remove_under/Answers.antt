@@ -1,14 +1,10 @@
-use Rattle.std.proofs.Common.{length, length-set, [], refl, sym, ◌∙◌, arith, append-nil}
+use Rattle.std.proofs.Common.{length, length-set, [], refl, sym, ◌∙◌, arith, append-nil, length-take}
 use Rattle.frame_tree.proofs.Forest.{has_frame-frames_from}
-use Rattle.frame_tree.proofs.Finds.{frames_from-length}
-use Rattle.frame_tree.proofs.Changes.{childless}
-use Rattle.frame_tree.proofs.Counts.{counted_at, count_in}
-use Rattle.frame_tree.proofs.Trees.{cut_linked, cut_sound, cut_frames, cut_values, cut_length}
-use Rattle.frame_tree.proofs.AbortChildless.{leaf_aborted, leaf_under}
+use Rattle.frame_tree.proofs.Finds.{frames_from-length, counted_at, count_in}
+use Rattle.frame_tree.proofs.Changes.{childless, cut_linked, cut_sound, cut_frames, cut_values, cut_length}
+use Rattle.frame_tree.proofs.Aborts.{leaf_aborted, leaf_under, childless_at, cut_ready}
 use Rattle.frame_tree.proofs.Readies.{is_tenant, tenant_rises}
-use Rattle.frame_tree.proofs.UpToAborted.{childless_at, cut_ready}
-use Rattle.frame_tree.proofs.Indexes.{found_at, index_rises, there_at, cut_index}
-use Rattle.frame_tree.proofs.Lengths.{length-take-le}
+use Rattle.frame_tree.proofs.Keys.{found_at, index_rises, there_at, cut_index}
 use Rattle.frame_tree.proofs.tree.TenantFrames.remove_under.Goals as goal
 
 pub known_place-at-requires-clause-rise : goal.known_place-at-requires-clause-rise
@@ -57,7 +53,7 @@ add_serials-requires g c =
     let place = found_at _ _ _ _ c.self.invariant.index c.known_place-at.ensures.within c.known_place-at.ensures.found in
     let cuts = cut_ready c.self.inside.store.slots _ c.known_place-at.result c.args.serial c.self.inside.store.places c.at-slot.result _ c.self.inside.ready.list c.self.invariant.sound place.within place.found c.at-slot.ensures refl c.self.invariant.ready_frames c.self.invariant.within in
     let fewer = cut_length c.args.serial c.self.inside.store.slots c.known_place-at.result c.at-slot.result _ refl in
-    rw (c.truncate.ensures, c.cut.ensures.kept, c.put.ensures) (record { within = cuts.within; room = omega (arith, length-take-le c.known_place-at.result c.self.inside.serials.list, fewer, c.self.invariant.within, c.self.invariant.serial_places) })
+    rw (c.truncate.ensures, c.cut.ensures.kept, c.put.ensures) (record { within = cuts.within; room = omega (arith, length-take c.known_place-at.result c.self.inside.serials.list, fewer, c.self.invariant.within, c.self.invariant.serial_places) })
 
 pub add_ready-requires : goal.add_ready-requires
 add_ready-requires g c =

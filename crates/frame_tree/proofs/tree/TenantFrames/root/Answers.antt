@@ -1,7 +1,7 @@
 use Rattle.frame_tree.proofs.Forest.{has_frame-frames_from}
 use Rattle.std.proofs.Common.{[], sym, ◌∙◌}
 use Rattle.frame_tree.proofs.Finds.{found}
-use Rattle.frame_tree.proofs.Indexes.{found_at, index_rises, there_at}
+use Rattle.frame_tree.proofs.Keys.{found_at, index_rises, there_at}
 use Rattle.frame_tree.proofs.tree.TenantFrames.root.Goals as goal
 
 pub known_place-at-requires-clause-rise : goal.known_place-at-requires-clause-rise

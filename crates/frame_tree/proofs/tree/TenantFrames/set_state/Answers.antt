@@ -1,10 +1,9 @@
-use Rattle.std.proofs.Common.{length, set, length-set, [], refl, sym, ◌∙◌, arith}
-use Rattle.frame_tree.specs.Slots.{ready_slots}
+use Rattle.frame_tree.proofs.Common.{length, set, length-set, [], refl, sym, ◌∙◌, arith, ready_slots}
 use Rattle.frame_tree.proofs.Finds.{ready_frames-length}
 use Rattle.frame_tree.proofs.Forest.{linked_rises, has_frame-frames_from}
 use Rattle.frame_tree.proofs.Changes.{in_state, ready_state, sound_state, frames_state}
 use Rattle.frame_tree.proofs.Readies.{is_tenant, tenant_rises, few_ready_in, ready_in-state}
-use Rattle.frame_tree.proofs.Indexes.{index_set}
+use Rattle.frame_tree.proofs.Keys.{index_set}
 use Rattle.frame_tree.proofs.tree.TenantFrames.set_state.Goals as goal
 
 pub set_state-was-requires-clause-rise : goal.set_state-was-requires-clause-rise
@@ -12,8 +11,7 @@ set_state-was-requires-clause-rise g c = linked_rises [] _ c.self.invariant.soun
 
 pub set_state-was-requires-clause-there : goal.set_state-was-requires-clause-there
 set_state-was-requires-clause-there g c =
-    let there = rw (← c.self.view_is) at c.requires in
-    sym (has_frame-frames_from [] c.self.inside.store.slots c.args.serial) ∙ there
+    sym (has_frame-frames_from [] c.self.inside.store.slots c.args.serial) ∙ (rw (← c.self.view_is) at c.requires)
 
 pub follow-requires-clause-rise : goal.follow-requires-clause-rise
 follow-requires-clause-rise g c = tenant_rises _ _ _ _ c.self.invariant

@@ -1,5 +1,4 @@
-use Rattle.std.proofs.Common.{sym}
-use Rattle.frame_tree.specs.SlotStores.{slots_after}
+use Rattle.frame_tree.proofs.Common.{sym, slots_after}
 use Rattle.frame_tree.proofs.Finds.{children_of-names}
 use Rattle.frame_tree.proofs.walk.Frames.of_parent.Goals as goal
 

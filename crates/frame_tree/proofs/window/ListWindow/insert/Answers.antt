@@ -1,7 +1,5 @@
-use Rattle.std.proofs.Common.{IsOk, not, refl, sym, ap, ◌∙◌, arith}
-use Rattle.std.proofs.lemmas.Bool.{false≢true}
-use Rattle.std.proofs.lemmas.List.{length-drop}
-use Rattle.frame_tree.proofs.Windows.{inserted_back}
+use Rattle.frame_tree.proofs.Common.{IsOk, not, refl, sym, ap, ◌∙◌, arith, false≢true, length-drop}
+use Rattle.frame_tree.proofs.Places.{inserted_back}
 use Rattle.frame_tree.proofs.window.ListWindow.insert.Goals as goal
 
 pub unreachable-requires : goal.unreachable-requires

@@ -1,5 +1,4 @@
-use Rattle.std.proofs.Common.{ap}
-use Rattle.std.proofs.lemmas.List.{drop-set-add}
+use Rattle.frame_tree.proofs.Common.{ap, drop-set-add}
 use Rattle.frame_tree.proofs.window.ListWindow.put.Goals as goal
 
 pub returns : goal.returns

@@ -1,5 +1,5 @@
 use Rattle.std.proofs.Common.{refl, ap, ◌∙◌, arith}
-use Rattle.frame_tree.proofs.Windows.{removed_back, removed_last, place_within}
+use Rattle.frame_tree.proofs.Places.{removed_back, removed_last, place_within}
 use Rattle.frame_tree.proofs.window.ListWindow.remove.Goals as goal
 
 pub returns-then-behind-eq0-clause-left : goal.returns-then-behind-eq0-clause-left

@@ -1,6 +1,5 @@
-use Rattle.std.proofs.Common.{◌≡◌, ◌+◌, refl}
-use Rattle.std.specs.List.{copy_within}
-use Rattle.frame_tree.proofs.Windows.{removed_front, place_within}
+use Rattle.frame_tree.proofs.Common.{◌≡◌, ◌+◌, refl, copy_within}
+use Rattle.frame_tree.proofs.Places.{removed_front, place_within}
 use Rattle.frame_tree.proofs.window.ListWindow.remove_near_front.Goals as goal
 
 pub returns : goal.returns

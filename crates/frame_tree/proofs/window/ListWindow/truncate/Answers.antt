@@ -1,5 +1,4 @@
-use Rattle.std.proofs.Common.{refl}
-use Rattle.std.proofs.lemmas.List.{drop-take}
+use Rattle.frame_tree.proofs.Common.{refl, drop-take}
 use Rattle.frame_tree.proofs.window.ListWindow.truncate.Goals as goal
 
 pub returns-then-at-len : goal.returns-then-at-len

@@ -1,5 +1,5 @@
 use Rattle.std.proofs.Common.{◌<◌, length, arith}
-use Rattle.number_index.proofs.Masks.{masked, guessed}
+use Rattle.number_index.proofs.Places.{masked, guessed}
 use Rattle.number_index.proofs.table.Guesses.guess.Goals as goal
 
 pub returns : goal.returns

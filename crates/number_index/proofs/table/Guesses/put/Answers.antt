@@ -1,5 +1,5 @@
 use Rattle.std.proofs.Common.{◌<◌, length, arith, refl}
-use Rattle.number_index.proofs.Masks.{masked, low_bits, found_again}
+use Rattle.number_index.proofs.Places.{masked, low_bits, found_again}
 use Rattle.number_index.proofs.table.Guesses.put.Goals as goal
 
 pub returns-clause-put : goal.returns-clause-put

@@ -1,5 +1,4 @@
-use Rattle.std.proofs.Common.{◌-◌, arith, ap, sym}
-use Rattle.std.proofs.lemmas.List.{length-set}
+use Rattle.sched_store.proofs.Common.{◌-◌, arith, ap, sym, length-set}
 use Rattle.sched_store.proofs.Jobs.{Jobs, once-ended, ended-one, ended-nobody}
 use Rattle.sched_store.proofs.ledger.Ledger.end.Goals as goal
 

@@ -1,5 +1,4 @@
-use Rattle.std.proofs.Common.{◌≡◌, ◌+◌, ◌-◌, [], drop, refl, sym, ◌∙◌, arith}
-use Rattle.std.proofs.lemmas.List.{drop_all}
+use Rattle.sched_store.proofs.Common.{◌≡◌, ◌+◌, ◌-◌, [], drop, refl, sym, ◌∙◌, arith, drop_all}
 use Rattle.sched_store.proofs.Jobs.{number_from-there, number_from-none, none-from}
 use Rattle.sched_store.proofs.ledger.Ledger.under.Goals as goal
 

@@ -1,5 +1,4 @@
-use Rattle.std.proofs.Common.{◌≡◌, false, drop}
-use Rattle.sched_store.specs.Ledgers.{is_live_in}
+use Rattle.sched_store.proofs.Common.{◌≡◌, false, drop, is_live_in}
 use Rattle.sched_store.proofs.ledger.Ledger.under.Given as goal
 
 abbrev pub invariant-loop-at : goal.invariant-loop-at

@@ -1,6 +1,5 @@
-use Rattle.std.proofs.Common.{◌++◌, ◌∷◌, []}
-use Rattle.sched_rules.specs.declared.job.Job.TheVariants.{Live}
-use Rattle.sched_store.proofs.LedgerPlaces.{jobs-found, found-changed, rising-with_jobs}
+use Rattle.sched_store.proofs.Common.{◌++◌, ◌∷◌, [], Live}
+use Rattle.sched_store.proofs.Jobs.{jobs-found, found-changed, rising-with_jobs}
 use Rattle.sched_store.proofs.ledgers.Ledgers.begin.Goals as goal
 
 pub begin-requires-clause-room : goal.begin-requires-clause-room

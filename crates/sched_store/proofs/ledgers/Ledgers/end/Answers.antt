@@ -1,5 +1,5 @@
 use Rattle.sched_rules.specs.Trees.{with_ended}
-use Rattle.sched_store.proofs.LedgerPlaces.{found-changed, rising-with_jobs}
+use Rattle.sched_store.proofs.Jobs.{found-changed, rising-with_jobs}
 use Rattle.sched_store.proofs.ledgers.Ledgers.end.Goals as goal
 
 pub invariant_of-self : goal.invariant_of-self

@@ -1,4 +1,4 @@
-use Rattle.sched_store.proofs.LedgerPlaces.{found-jobs, none-found}
+use Rattle.sched_store.proofs.Jobs.{found-jobs, none-found}
 use Rattle.sched_store.proofs.ledgers.Ledgers.find.Goals as goal
 
 pub returns-clause-found : goal.returns-clause-found

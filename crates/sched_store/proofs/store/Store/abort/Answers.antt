@@ -1,11 +1,7 @@
-use Rattle.std.proofs.Common.{length, IsSome, sym, subst, arith, ap, ◌∙◌}
-use Rattle.sched_rules.specs.Changes.{on_tenant, without_under}
-use Rattle.sched_rules.specs.Cores.{CoreState}
+use Rattle.sched_store.proofs.Common.{length, IsSome, sym, subst, arith, ap, ◌∙◌, on_tenant, without_under, CoreState, parts_of, frames_in_core, aborted}
+use Rattle.sched_store.proofs.Common.{frames_under}
 use Rattle.sched_rules.specs.Views.{named}
-use Rattle.sched_store.specs.Inside.{parts_of}
-use Rattle.sched_store.specs.Reads.{frames_in_core}
-use Rattle.frame_tree.specs.Frames.{aborted, frames_under}
-use Rattle.sched_store.proofs.Aborting.{has-frame, stays, abort-cut, abort-closes, abort-gone, abort-words, AreFreed, nodes-free, AreGone, gone-stored, gone-shared, abort-count}
+use Rattle.sched_store.proofs.Removing.{has-frame, stays, abort-cut, abort-closes, abort-gone, abort-words, AreFreed, nodes-free, AreGone, gone-stored, gone-shared, abort-count}
 use Rattle.sched_store.proofs.store.Store.abort.Given.{Over}
 use Rattle.sched_store.proofs.store.Store.abort.Goals.{After-free_count, After-give_back}
 use Rattle.sched_store.proofs.store.Store.abort.Goals as goal

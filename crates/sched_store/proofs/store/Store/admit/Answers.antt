@@ -1,8 +1,4 @@
-use Rattle.std.proofs.Common.{List, ap, ◌∙◌, arith}
-use Rattle.sched_store.specs.Changes.{with_admitted}
-use Rattle.sched_store.specs.Inside.{parts_of}
-use Rattle.sched_store.specs.Ledgers.{JobLedger}
-use Rattle.sched_store.specs.Parts.{shared_of}
+use Rattle.sched_store.proofs.Common.{List, ap, ◌∙◌, arith, with_admitted, parts_of, JobLedger, shared_of}
 use Rattle.sched_store.proofs.Admitting.{CanBeAdmitted, can-be-admitted, IsAdmitted, admit-stored, admit-shared}
 use Rattle.sched_store.proofs.store.Store.admit.Given.{Over}
 use Rattle.sched_store.proofs.store.Store.admit.Goals.{After-segments, After-unwrap}

@@ -1,10 +1,5 @@
-use Rattle.std.proofs.Common.{ℕ, IfSome, sym, ◌∙◌, ap, subst}
-use Rattle.sched_rules.specs.Cores.{CoreState}
-use Rattle.sched_rules.specs.Views.{ready_count}
-use Rattle.frame_tree.specs.declared.names.FrameId.{FrameId}
-use Rattle.sched_store.specs.Inside.{parts_of}
-use Rattle.sched_store.specs.Reads.{IsReadyIn}
-use Rattle.sched_store.proofs.Counting.{ready-found, none-counted, nobody-ready}
+use Rattle.sched_store.proofs.Common.{ℕ, IfSome, sym, ◌∙◌, ap, subst, CoreState, ready_count, FrameId, parts_of, IsReadyIn}
+use Rattle.sched_store.proofs.Steps.{ready-found, none-counted, nobody-ready}
 use Rattle.sched_store.proofs.store.Store.any_ready.Goals as goal
 
 pub returns-clause-found : goal.returns-clause-found

@@ -1,9 +1,6 @@
-use Rattle.std.proofs.Common.{◌++◌, ◌∷◌, []}
-use Rattle.sched_rules.specs.declared.job.Job.TheVariants.{Live}
-use Rattle.sched_store.specs.Inside.{parts_of}
-use Rattle.sched_store.proofs.Lookups.{jobs-found}
-use Rattle.sched_store.proofs.Tenants.{there-account-in, jobs-change}
-use Rattle.sched_store.proofs.Numbers.{ledger-there}
+use Rattle.sched_store.proofs.Common.{◌++◌, ◌∷◌, [], Live, parts_of}
+use Rattle.sched_store.proofs.Lookups.{jobs-found, ledger-there}
+use Rattle.sched_store.proofs.Steps.{there-account-in, jobs-change}
 use Rattle.sched_store.proofs.store.Store.begin_job.Goals as goal
 
 pub begin-requires-clause-there : goal.begin-requires-clause-there
@@ -13,13 +10,11 @@ begin-requires-clause-there g c =
 
 pub begin-requires-clause-room : goal.begin-requires-clause-room
 begin-requires-clause-room g c =
-    let room = rw (← c.self.view_is) at c.requires.room in
-    rw (jobs-found (parts_of c.self.inside) c.self.invariant c.args.tenant) at room
+    rw (jobs-found (parts_of c.self.inside) c.self.invariant c.args.tenant) at (rw (← c.self.view_is) at c.requires.room)
 
 pub begin-requires-clause-fresh : goal.begin-requires-clause-fresh
 begin-requires-clause-fresh g c =
-    let fresh = rw (← c.self.view_is) at c.requires.fresh in
-    rw (jobs-found (parts_of c.self.inside) c.self.invariant c.args.tenant) at fresh
+    rw (jobs-found (parts_of c.self.inside) c.self.invariant c.args.tenant) at (rw (← c.self.view_is) at c.requires.fresh)
 
 pub invariant_of-self : goal.invariant_of-self
 invariant_of-self g c =

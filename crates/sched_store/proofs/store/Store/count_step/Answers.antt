@@ -1,13 +1,11 @@
-use Rattle.std.proofs.Common.{◌≤◌, refl}
-use Rattle.sched_store.specs.Inside.{parts_of}
-use Rattle.sched_store.proofs.Tenants.{left-account, book-left, count-step}
+use Rattle.sched_store.proofs.Common.{◌≤◌, refl, parts_of}
+use Rattle.sched_store.proofs.Steps.{left-account, book-left, count-step}
 use Rattle.sched_store.proofs.store.Store.count_step.Goals as goal
 
 pub tick-requires : goal.tick-requires
 tick-requires g c =
     let left = rw (← c.self.view_is) at c.requires in
-    let own = left-account (parts_of c.self.inside) c.self.invariant c.args.tenant (λ left. 1 ≤ left.steps) left in
-    rw own.1.0 refl
+    rw (left-account (parts_of c.self.inside) c.self.invariant c.args.tenant (λ left. 1 ≤ left.steps) left).1.0 refl
 
 pub unwrap-requires : goal.unwrap-requires
 unwrap-requires g c =

@@ -1,7 +1,6 @@
-use Rattle.sched_rules.specs.Trees.{with_ended}
-use Rattle.sched_store.specs.Inside.{parts_of}
-use Rattle.sched_store.proofs.Tenants.{there-account-in, jobs-change}
-use Rattle.sched_store.proofs.Numbers.{ledger-there}
+use Rattle.sched_store.proofs.Common.{with_ended, parts_of}
+use Rattle.sched_store.proofs.Steps.{there-account-in, jobs-change}
+use Rattle.sched_store.proofs.Lookups.{ledger-there}
 use Rattle.sched_store.proofs.store.Store.end_job.Goals as goal
 
 pub end-requires-clause-there : goal.end-requires-clause-there

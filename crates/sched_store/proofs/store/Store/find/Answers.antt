@@ -1,11 +1,7 @@
-use Rattle.std.proofs.Common.{not, sym, ◌∙◌, ap}
-use Rattle.sched_rules.specs.Cores.{CoreState}
-use Rattle.sched_rules.specs.Trees.{is_root}
+use Rattle.sched_store.proofs.Common.{not, sym, ◌∙◌, ap, CoreState, is_root, parts_of, path_of}
 use Rattle.sched_rules.specs.Views.{named}
-use Rattle.sched_store.specs.Inside.{parts_of}
-use Rattle.sched_store.specs.Reads.{path_of}
-use Rattle.sched_store.proofs.Frames.{frame-found, no-frame-found, tree-found}
-use Rattle.sched_store.proofs.Showing.{child-or-root}
+use Rattle.sched_store.proofs.Lookups.{frame-found, no-frame-found, tree-found}
+use Rattle.sched_store.proofs.Removing.{child-or-root}
 use Rattle.sched_store.proofs.store.Store.find.Goals as goal
 
 pub returns-in-Some-clause-frame : goal.returns-in-Some-clause-frame

@@ -1,6 +1,4 @@
-use Rattle.std.proofs.Common.{refl}
-use Rattle.cactus_stack.specs.Nodes.{total_charge}
-use Rattle.sched_store.specs.Inside.{parts_of}
+use Rattle.sched_store.proofs.Common.{refl, total_charge, parts_of}
 use Rattle.sched_store.proofs.Lookups.{free-found}
 use Rattle.sched_store.proofs.store.Store.free_segments.Goals as goal
 

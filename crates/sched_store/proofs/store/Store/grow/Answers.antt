@@ -1,12 +1,7 @@
-use Rattle.std.proofs.Common.{◌≤◌, ◌++◌, length, replicate, arith, ap, ◌∙◌}
-use Rattle.cactus_stack.specs.Nodes.{growth_charge}
-use Rattle.sched_store.specs.Inside.{parts_of}
-use Rattle.sched_store.specs.Parts.{shared_of}
-use Rattle.sched_store.specs.Reads.{words_under}
-use Rattle.sched_store.proofs.Frames.{there-has}
-use Rattle.sched_store.proofs.Tenants.{book-left}
-use Rattle.sched_store.proofs.Words.{WordsSet}
-use Rattle.sched_store.proofs.Writing.{HasNode, has-node, has-free, not-refused, growth-added, growth-within, growth-set}
+use Rattle.sched_store.proofs.Common.{◌≤◌, ◌++◌, length, replicate, arith, ap, ◌∙◌, growth_charge, parts_of, shared_of, words_under}
+use Rattle.sched_store.proofs.Lookups.{there-has}
+use Rattle.sched_store.proofs.Steps.{book-left}
+use Rattle.sched_store.proofs.Words.{WordsSet, HasNode, has-node, has-free, not-refused, growth-added, growth-within, growth-set}
 use Rattle.sched_store.proofs.store.Store.grow.Given.{Over}
 use Rattle.sched_store.proofs.store.Store.grow.Goals.{After-node_of-node, After-unwrap-2}
 use Rattle.sched_store.proofs.store.Store.grow.Goals as goal

@@ -1,9 +1,5 @@
-use Rattle.std.proofs.Common.{ap, ◌∙◌}
-use Rattle.sched_rules.specs.Trees.{has_child}
-use Rattle.sched_rules.specs.Cores.{CoreState}
-use Rattle.sched_store.specs.Inside.{parts_of}
-use Rattle.sched_store.specs.Reads.{frames_in_core}
-use Rattle.sched_store.proofs.Showing.{child-shown}
+use Rattle.sched_store.proofs.Common.{ap, ◌∙◌, has_child, CoreState, parts_of, frames_in_core}
+use Rattle.sched_store.proofs.Removing.{child-shown}
 use Rattle.sched_store.proofs.store.Store.has_child.Goals as goal
 
 pub returns : goal.returns

@@ -1,7 +1,4 @@
-use Rattle.std.proofs.Common.{◌≡◌, Option, Some, None, is_some, option_map, refl, sym, ◌∙◌}
-use Rattle.tenant_quota.specs.Accounts.{left_in, account_of}
-use Rattle.tenant_quota.specs.declared.account.Account.{Account}
-use Rattle.sched_store.specs.Inside.{parts_of}
+use Rattle.sched_store.proofs.Common.{◌≡◌, Option, Some, None, is_some, option_map, refl, sym, ◌∙◌, left_in, account_of, Account, parts_of}
 use Rattle.sched_store.proofs.Lookups.{tenant-there, known-found, rising-found}
 use Rattle.sched_store.proofs.store.Store.has_tenant.Goals as goal
 

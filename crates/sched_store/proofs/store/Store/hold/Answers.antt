@@ -1,6 +1,6 @@
 use Rattle.std.proofs.Common.{Some, set}
 use Rattle.sched_store.specs.Inside.{parts_of}
-use Rattle.sched_store.proofs.Frames.{there-has}
+use Rattle.sched_store.proofs.Lookups.{there-has}
 use Rattle.sched_store.proofs.States.{StateSet, takes-set}
 use Rattle.sched_store.proofs.store.Store.hold.Given.{Over}
 use Rattle.sched_store.proofs.store.Store.hold.Goals.{After-set_state}

@@ -1,8 +1,5 @@
-use Rattle.std.proofs.Common.{ap, sym, ◌∙◌, arith}
-use Rattle.sched_rules.specs.Cores.{is_beyond}
-use Rattle.sched_store.specs.Inside.{parts_of}
-use Rattle.sched_store.proofs.Lookups.{reservations-found}
-use Rattle.sched_store.proofs.Fullness.{beyond-segments, beyond-nodes}
+use Rattle.sched_store.proofs.Common.{ap, sym, ◌∙◌, arith, is_beyond, parts_of}
+use Rattle.sched_store.proofs.Lookups.{reservations-found, beyond-segments, beyond-nodes}
 use Rattle.sched_store.proofs.store.Store.is_beyond.Goals as goal
 
 pub returns-then-rest-segments : goal.returns-then-rest-segments

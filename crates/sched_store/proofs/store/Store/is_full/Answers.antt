@@ -1,8 +1,5 @@
-use Rattle.std.proofs.Common.{ap, sym, ◌∙◌}
-use Rattle.sched_rules.specs.Cores.{is_full}
-use Rattle.sched_store.specs.Inside.{parts_of}
-use Rattle.sched_store.proofs.Lookups.{reservations-found}
-use Rattle.sched_store.proofs.Fullness.{full-tenants, full-segments, full-nodes}
+use Rattle.sched_store.proofs.Common.{ap, sym, ◌∙◌, is_full, parts_of}
+use Rattle.sched_store.proofs.Lookups.{reservations-found, full-tenants, full-segments, full-nodes}
 use Rattle.sched_store.proofs.store.Store.is_full.Goals as goal
 
 pub returns-then-rest-eq0 : goal.returns-then-rest-eq0

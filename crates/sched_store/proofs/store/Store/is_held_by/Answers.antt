@@ -1,6 +1,5 @@
-use Rattle.std.proofs.Common.{sym, ◌∙◌}
-use Rattle.sched_store.specs.Inside.{parts_of}
-use Rattle.sched_store.proofs.Holders.{entry-holds, nothing-holds}
+use Rattle.sched_store.proofs.Common.{sym, ◌∙◌, parts_of}
+use Rattle.sched_store.proofs.States.{entry-holds, nothing-holds}
 use Rattle.sched_store.proofs.store.Store.is_held_by.Goals as goal
 
 pub returns-in-Some : goal.returns-in-Some

@@ -1,10 +1,6 @@
-use Rattle.std.proofs.Common.{IfSome, Option, refl, ap, ◌∙◌, subst}
-use Rattle.tenant_quota.specs.Reservations.{Releases}
-use Rattle.tenant_quota.specs.declared.account.Account.{Account}
-use Rattle.sched_store.specs.Changes.{with_departed}
-use Rattle.sched_store.specs.Inside.{parts_of}
-use Rattle.sched_store.proofs.Tenants.{there-account-in}
-use Rattle.sched_store.proofs.Numbers.{ledger-there}
+use Rattle.sched_store.proofs.Common.{IfSome, Option, refl, ap, ◌∙◌, subst, Releases, Account, with_departed, parts_of}
+use Rattle.sched_store.proofs.Steps.{there-account-in}
+use Rattle.sched_store.proofs.Lookups.{ledger-there}
 use Rattle.sched_store.proofs.LeaveTenant.{has-places, leave-closes, IsDeparture, leave-stored, leave-shared}
 use Rattle.sched_store.proofs.store.Store.leave.Given.{Over}
 use Rattle.sched_store.proofs.store.Store.leave.Goals.{After-release-2}
@@ -49,8 +45,7 @@ close_all-requires-clause-with_children g c = (leave-closes (parts_of c.self.ins
 pub release-requires-clause-there : goal.release-requires-clause-there
 release-requires-clause-there g c =
     let a = there-account-in (parts_of c.self.inside) c.args.tenant c.self.view_is c.requires in
-    let some = has-places (parts_of c.self.inside) c.self.invariant c.args.tenant a.0 a.1 in
-    rw (c.remove_all-nodes.follows.holds-at-none.1.places c.args.tenant) some
+    rw (c.remove_all-nodes.follows.holds-at-none.1.places c.args.tenant) (has-places (parts_of c.self.inside) c.self.invariant c.args.tenant a.0 a.1)
 
 pub remove-requires : goal.remove-requires
 remove-requires g c =
@@ -59,8 +54,7 @@ remove-requires g c =
 
 pub release-requires-2 : goal.release-requires-2
 release-requires-2 g c =
-    let a = there-account-in (parts_of c.self.inside) c.args.tenant c.self.view_is c.requires in
-    rw a.1 refl
+    rw (there-account-in (parts_of c.self.inside) c.args.tenant c.self.view_is c.requires).1 refl
 
 pub invariant_of-self : goal.invariant_of-self
 invariant_of-self g c = leave-stored _ _ _ _ _ _ _ _ c.self.invariant (told g (goal.at.invariant_of-self g c).After-release-2).1

@@ -1,5 +1,4 @@
-use Rattle.std.proofs.Common.{sym, ◌∙◌}
-use Rattle.sched_store.specs.Inside.{parts_of}
+use Rattle.sched_store.proofs.Common.{sym, ◌∙◌, parts_of}
 use Rattle.sched_store.proofs.Lookups.{left-found, left-free}
 use Rattle.sched_store.proofs.store.Store.left.Goals as goal
 

@@ -1,7 +1,6 @@
 use Rattle.std.proofs.Common.{None, set}
 use Rattle.sched_store.specs.Inside.{parts_of}
-use Rattle.sched_store.proofs.Lookups.{named-found}
-use Rattle.sched_store.proofs.Frames.{there-frame, there-has}
+use Rattle.sched_store.proofs.Lookups.{named-found, there-frame, there-has}
 use Rattle.sched_store.proofs.States.{StateSet, let-go-set}
 use Rattle.sched_store.proofs.store.Store.let_go.Given.{Over}
 use Rattle.sched_store.proofs.store.Store.let_go.Goals.{After-set_state}

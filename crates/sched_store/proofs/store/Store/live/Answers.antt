@@ -1,13 +1,6 @@
-use Rattle.std.proofs.Common.{◌≡◌, ◌≤◌, ℕ, length, sum_by, is_some, true, sym, ◌∙◌, ap, subst, arith}
-use Rattle.std.proofs.lemmas.List.Sums.{sum_by-cons}
-use Rattle.frame_tree.specs.declared.names.FrameId.{FrameId}
-use Rattle.frame_tree.specs.Frames.{names_of}
-use Rattle.frame_tree.specs.Tables.{frames_of}
-use Rattle.sched_rules.specs.Cores.{CoreState, tenant_in}
-use Rattle.sched_rules.specs.Views.{live_of}
-use Rattle.sched_store.specs.Inside.{parts_of}
-use Rattle.sched_store.specs.Reads.{words_under}
-use Rattle.sched_store.proofs.Counting.{words-few, live-found}
+use Rattle.sched_store.proofs.Common.{◌≡◌, ◌≤◌, ℕ, length, sum_by, is_some, true, sym, ◌∙◌, ap, subst, arith, sum_by-cons, FrameId, names_of, frames_of}
+use Rattle.sched_store.proofs.Common.{CoreState, tenant_in, live_of, parts_of, words_under}
+use Rattle.sched_store.proofs.Steps.{words-few, live-found}
 use Rattle.sched_store.proofs.store.Store.live.Goals as goal
 
 pub loop-name-init : goal.loop-name-init
@@ -20,17 +13,13 @@ overflow_add-words g c =
     let same : sum_by f (names_of c.args.tenant (frames_of c.self.inside.table c.args.tenant)) ≤ 65536 = subst (λ (s : CoreState). sum_by (λ (name : FrameId). length (words_under s name)) (names_of c.args.tenant (frames_of c.self.inside.table c.args.tenant)) ≤ 65536) c.self.view_is few in
     let initial = ap (sum_by f) (c.into_iter-name-iterator.ensures.into_iter_gives ∙ c.frames-name-items.ensures.names) in
     let step = ap (sum_by f) c.in-Some.ensures.steps ∙ sum_by-cons f c.in-Some.name c.next.new.self in
-    let invariant = c.loop-name.invariant in
-    let word = c.word_count-words.ensures in
-    omega (arith, same, initial, step, invariant, word)
+    omega (arith, same, initial, step, c.loop-name.invariant, c.word_count-words.ensures)
 
 pub loop-name-preserved : goal.loop-name-preserved
 loop-name-preserved g c =
     let f : FrameId → ℕ = λ name. length (words_under c.args.self.now name) in
     let step = ap (sum_by f) c.in-Some.ensures.steps ∙ sum_by-cons f c.in-Some.name c.next.new.self in
-    let invariant = c.loop-name.invariant in
-    let word = c.word_count-words.ensures in
-    omega (arith, step, invariant, word)
+    omega (arith, step, c.loop-name.invariant, c.word_count-words.ensures)
 
 pub returns : goal.returns
 returns g c =

@@ -1,5 +1,4 @@
-use Rattle.std.proofs.Common.{◌≡◌, ◌+◌, length, sum_by}
-use Rattle.sched_store.specs.Reads.{words_under}
+use Rattle.sched_store.proofs.Common.{◌≡◌, ◌+◌, length, sum_by, words_under}
 use Rattle.sched_store.proofs.store.Store.live.Given as goal
 
 abbrev pub invariant-loop-name : goal.invariant-loop-name

@@ -1,13 +1,7 @@
-use Rattle.std.proofs.Common.{not, ap, ◌∙◌}
-use Rattle.sched_rules.specs.Cores.{CoreState}
-use Rattle.sched_rules.specs.Trees.{is_root}
+use Rattle.sched_store.proofs.Common.{not, ap, ◌∙◌, CoreState, is_root, parts_of, path_of, sight_of, words_under}
 use Rattle.sched_rules.specs.Views.{named}
-use Rattle.sched_store.specs.Inside.{parts_of}
-use Rattle.sched_store.specs.Reads.{path_of, sight_of, words_under}
-use Rattle.sched_store.proofs.Frames.{frame-found, no-frame-found, tree-found}
-use Rattle.sched_store.proofs.Lookups.{rising-found}
-use Rattle.sched_store.proofs.Seeing.{sight-found, entry-open}
-use Rattle.sched_store.proofs.Showing.{child-or-root, own-words-shown}
+use Rattle.sched_store.proofs.Lookups.{frame-found, no-frame-found, tree-found, rising-found, sight-found, entry-open}
+use Rattle.sched_store.proofs.Removing.{child-or-root, own-words-shown}
 use Rattle.sched_store.proofs.store.Store.look_up.Goals as goal
 
 pub own-requires : goal.own-requires

@@ -1,5 +1,5 @@
 use Rattle.std.proofs.Common.{refl}
-use Rattle.sched_store.proofs.Founding.{new-stored}
+use Rattle.sched_store.proofs.Admitting.{new-stored}
 use Rattle.sched_store.proofs.store.Store.new.Goals as goal
 
 pub invariant_of-result : goal.invariant_of-result

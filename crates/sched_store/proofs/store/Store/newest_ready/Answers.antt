@@ -1,6 +1,5 @@
-use Rattle.std.proofs.Common.{sym, ◌∙◌}
-use Rattle.sched_store.specs.Inside.{parts_of}
-use Rattle.sched_store.proofs.Frames.{newest-ready-found}
+use Rattle.sched_store.proofs.Common.{sym, ◌∙◌, parts_of}
+use Rattle.sched_store.proofs.Lookups.{newest-ready-found}
 use Rattle.sched_store.proofs.store.Store.newest_ready.Goals as goal
 
 pub returns : goal.returns

@@ -1,11 +1,7 @@
-use Rattle.std.proofs.Common.{◌≤◌, ◌+◌, ap, ◌∙◌, refl, sym, arith}
-use Rattle.cactus_stack.specs.Nodes.{charge}
-use Rattle.frame_tree.specs.Tables.{frames_of}
-use Rattle.sched_store.specs.Inside.{parts_of}
-use Rattle.sched_store.proofs.Tenants.{book-left}
-use Rattle.sched_store.proofs.Writing.{has-free, not-refused}
-use Rattle.sched_store.proofs.OpenFrameParts.{serials-found, opened-next, left-for, parent-for, parent-open, parent-in, serial-of-name, place-left, size-some}
-use Rattle.sched_store.proofs.OpenFrame.{Opened, open-step}
+use Rattle.sched_store.proofs.Common.{◌≤◌, ◌+◌, ap, ◌∙◌, refl, sym, arith, charge, frames_of, parts_of}
+use Rattle.sched_store.proofs.Steps.{book-left}
+use Rattle.sched_store.proofs.Words.{has-free, not-refused}
+use Rattle.sched_store.proofs.OpenFrame.{serials-found, opened-next, left-for, parent-for, parent-open, parent-in, serial-of-name, place-left, size-some, Opened, open-step}
 use Rattle.sched_store.proofs.store.Store.open.Given.{Over}
 use Rattle.sched_store.proofs.store.Store.open.Goals.{After-add}
 use Rattle.sched_store.proofs.store.Store.open.Goals as goal
@@ -19,7 +15,6 @@ step g c =
     let size = size-some c.args.words.now c.args.size c.requires.size in
     let frames = rw (serial, serial-of-name c.args.tenant c.args.parent c.parent_name.result c.parent_name.ensures) at c.add.ensures.frames in
     let unused = rw c.unwrap-node.ensures at c.open-2.ensures.was_unused in
-    let nodes = rw c.unwrap-node.ensures at c.open-2.ensures.opened in
     let changes = rw (c.unwrap-before.ensures, c.charge.ensures) at c.open.ensures.charges in
     let sum = rw (c.unwrap-before.ensures, c.charge.ensures) at c.open.ensures.sum in
     open-step (parts_of c.self.inside) c.open-2.new.self c.add.new.self c.open.new.self c.args.tenant c.args.parent c.parent_node-above.result c.args.words.now c.args.size c.args.home c.unwrap-node.result own.0 c.self.invariant (record {
@@ -30,7 +25,7 @@ step g c =
       most = size.1.0;
       room = size.1.1;
       unused = unused;
-      nodes_is = nodes;
+      nodes_is = (rw c.unwrap-node.ensures at c.open-2.ensures.opened);
       frames = frames;
       kept = c.add.ensures.kept;
       sound = c.open.ensures.sound;
@@ -72,8 +67,7 @@ add-requires-clause-room g c =
 
 pub open-requires : goal.open-requires
 open-requires g c =
-    let own = left-for (parts_of c.self.inside) c.args.tenant c.args.size c.self.invariant c.self.view_is c.requires.left in
-    rw own.1.0 refl
+    rw (left-for (parts_of c.self.inside) c.args.tenant c.args.size c.self.invariant c.self.view_is c.requires.left).1.0 refl
 
 pub unwrap-before-requires : goal.unwrap-before-requires
 unwrap-before-requires g c =

@@ -1,7 +1,5 @@
-use Rattle.std.proofs.Common.{refl, ap, ◌∙◌, arith}
-use Rattle.sched_rules.specs.Changes.{on_tenant, with_reserve}
-use Rattle.sched_store.specs.Inside.{parts_of}
-use Rattle.sched_store.proofs.Raising.{CanBeRaised, can-be-raised, book-raises, IsRaised, raise-stored, raise-shared}
+use Rattle.sched_store.proofs.Common.{refl, ap, ◌∙◌, arith, on_tenant, with_reserve, parts_of}
+use Rattle.sched_store.proofs.Admitting.{CanBeRaised, can-be-raised, book-raises, IsRaised, raise-stored, raise-shared}
 use Rattle.sched_store.proofs.store.Store.raise.Given.{Over}
 use Rattle.sched_store.proofs.store.Store.raise.Goals.{After-segments, After-unwrap}
 use Rattle.sched_store.proofs.store.Store.raise.Goals as goal

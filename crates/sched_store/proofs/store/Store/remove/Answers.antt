@@ -1,15 +1,7 @@
-use Rattle.std.proofs.Common.{◌≡◌, IsSome, false, ℕ, ap, sym, ◌∙◌, subst}
-use Rattle.sched_rules.specs.Trees.{has_child}
-use Rattle.sched_rules.specs.Changes.{on_tenant, without_frame}
-use Rattle.sched_rules.specs.Cores.{CoreState}
+use Rattle.sched_store.proofs.Common.{◌≡◌, IsSome, false, ℕ, ap, sym, ◌∙◌, subst, has_child, on_tenant, without_frame, CoreState, IsOpen, HasNoChild, frames_of}
+use Rattle.sched_store.proofs.Common.{frame_at, frames_without, parts_of, frames_in_core}
 use Rattle.sched_rules.specs.Views.{named}
-use Rattle.cactus_stack.specs.Nodes.{IsOpen, HasNoChild}
-use Rattle.frame_tree.specs.Tables.{frames_of}
-use Rattle.frame_tree.specs.Frames.{frame_at, frames_without}
-use Rattle.sched_store.specs.Inside.{parts_of}
-use Rattle.sched_store.specs.Reads.{frames_in_core}
-use Rattle.sched_store.proofs.Aborting.{has-frame, AreFreed, nodes-free, AreGone, gone-stored, gone-shared}
-use Rattle.sched_store.proofs.RemoveFrame.{others_stay, no-children, leaf-node, has-value, leaf-gone, leaf-cut, leaf-words}
+use Rattle.sched_store.proofs.Removing.{has-frame, AreFreed, nodes-free, AreGone, gone-stored, gone-shared, others_stay, no-children, leaf-node, has-value, leaf-gone, leaf-cut, leaf-words}
 use Rattle.sched_store.proofs.store.Store.remove.Given.{Over}
 use Rattle.sched_store.proofs.store.Store.remove.Goals.{After-free_count, After-give_back}
 use Rattle.sched_store.proofs.store.Store.remove.Goals as goal

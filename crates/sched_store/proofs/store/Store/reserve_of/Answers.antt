@@ -1,9 +1,4 @@
-use Rattle.std.proofs.Common.{◌≡◌, Option, Some, None, option_map, refl, ap, sym, ◌∙◌}
-use Rattle.tenant_quota.specs.Accounts.{account_of}
-use Rattle.tenant_quota.specs.declared.account.Account.{Account}
-use Rattle.sched_rules.specs.Trees.{Tenant}
-use Rattle.sched_store.specs.Inside.{parts_of}
-use Rattle.sched_store.specs.Parts.{Parts, tenant_from}
+use Rattle.sched_store.proofs.Common.{◌≡◌, Option, Some, None, option_map, refl, ap, sym, ◌∙◌, account_of, Account, Tenant, parts_of, Parts, tenant_from}
 use Rattle.sched_store.proofs.Lookups.{tenant-found}
 use Rattle.sched_store.proofs.store.Store.reserve_of.Goals as goal
 

@@ -1,12 +1,6 @@
-use Rattle.std.proofs.Common.{ℕ, List, IsSome, ap, sym, ◌∙◌, subst}
-use Rattle.frame_tree.specs.declared.names.FrameId.{FrameId}
-use Rattle.frame_tree.specs.Frames.{root_of}
-use Rattle.sched_rules.specs.Cores.{CoreState}
+use Rattle.sched_store.proofs.Common.{ℕ, List, IsSome, ap, sym, ◌∙◌, subst, FrameId, root_of, CoreState, parts_of, path_of}
 use Rattle.sched_rules.specs.Views.{named}
-use Rattle.sched_store.specs.Inside.{parts_of}
-use Rattle.sched_store.specs.Reads.{path_of}
-use Rattle.sched_store.proofs.Aborting.{has-frame}
-use Rattle.sched_store.proofs.Showing.{path-shown}
+use Rattle.sched_store.proofs.Removing.{has-frame, path-shown}
 use Rattle.sched_store.proofs.store.Store.root.Goals as goal
 
 pub root-requires : goal.root-requires

@@ -1,5 +1,5 @@
 use Rattle.sched_store.specs.Inside.{parts_of}
-use Rattle.sched_store.proofs.Frames.{there-frame, there-has}
+use Rattle.sched_store.proofs.Lookups.{there-frame, there-has}
 use Rattle.sched_store.proofs.States.{StateSet, unheld-set}
 use Rattle.sched_store.proofs.store.Store.set_state.Given.{Over}
 use Rattle.sched_store.proofs.store.Store.set_state.Goals.{After-set_state}

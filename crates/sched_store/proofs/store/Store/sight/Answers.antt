@@ -1,9 +1,6 @@
-use Rattle.std.proofs.Common.{IsSome, ap, sym, ◌∙◌, subst}
-use Rattle.sched_rules.specs.Cores.{CoreState}
+use Rattle.sched_store.proofs.Common.{IsSome, ap, sym, ◌∙◌, subst, CoreState, parts_of, sight_of}
 use Rattle.sched_rules.specs.Views.{named}
-use Rattle.sched_store.specs.Inside.{parts_of}
-use Rattle.sched_store.specs.Reads.{sight_of}
-use Rattle.sched_store.proofs.Seeing.{sight-found, entry-open, there-not-missing}
+use Rattle.sched_store.proofs.Lookups.{sight-found, entry-open, there-not-missing}
 use Rattle.sched_store.proofs.store.Store.sight.Goals as goal
 
 pub sight-requires : goal.sight-requires

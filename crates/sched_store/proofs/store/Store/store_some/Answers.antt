@@ -1,6 +1,6 @@
 use Rattle.sched_store.specs.Inside.{parts_of}
-use Rattle.sched_store.proofs.Frames.{there-has}
-use Rattle.sched_store.proofs.Writing.{HasNode, has-node, stores-set}
+use Rattle.sched_store.proofs.Lookups.{there-has}
+use Rattle.sched_store.proofs.Words.{HasNode, has-node, stores-set}
 use Rattle.sched_store.proofs.store.Store.store_some.Given.{Over}
 use Rattle.sched_store.proofs.store.Store.store_some.Goals.{After-node_of-node}
 use Rattle.sched_store.proofs.store.Store.store_some.Goals as goal
@@ -17,8 +17,7 @@ store_words-requires-clause-is_open g c = (has g (goal.at.store_words-requires-c
 
 pub store_words-requires-clause-inside : goal.store_words-requires-clause-inside
 store_words-requires-clause-inside g c =
-    let inside = rw (← c.self.view_is) at c.requires.inside in
-    rw (has g (goal.at.store_words-requires-clause-inside g c).After-node_of-node).words at inside
+    rw (has g (goal.at.store_words-requires-clause-inside g c).After-node_of-node).words at (rw (← c.self.view_is) at c.requires.inside)
 
 pub invariant_of-self : goal.invariant_of-self
 invariant_of-self g c = (stores-set (parts_of c.self.inside) c.store_words.new.stack c.args.name c.node_of-node.result c.args.stores.now c.self.invariant (has g (goal.at.invariant_of-self g c).After-node_of-node) c.store_words.ensures).stored

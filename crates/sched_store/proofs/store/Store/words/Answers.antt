@@ -1,9 +1,6 @@
-use Rattle.std.proofs.Common.{ap, ◌∙◌}
-use Rattle.sched_rules.specs.Cores.{CoreState}
-use Rattle.sched_rules.specs.Views.{words_of_frame}
-use Rattle.sched_store.specs.Inside.{parts_of}
-use Rattle.sched_store.proofs.Seeing.{entry-open}
-use Rattle.sched_store.proofs.Showing.{words-shown, no-words-shown}
+use Rattle.sched_store.proofs.Common.{ap, ◌∙◌, CoreState, words_of_frame, parts_of}
+use Rattle.sched_store.proofs.Lookups.{entry-open}
+use Rattle.sched_store.proofs.Removing.{words-shown, no-words-shown}
 use Rattle.sched_store.proofs.store.Store.words.Goals as goal
 
 pub own-requires : goal.own-requires

@@ -1,4 +1,4 @@
-use Rattle.sched_store.proofs.Storing.{store-inside, store-more, store-all}
+use Rattle.sched_store.proofs.Words.{store-inside, store-more, store-all}
 use Rattle.sched_store.proofs.store.writing.store_words.Goals as goal
 
 pub store-requires-clause-in_bounds : goal.store-requires-clause-in_bounds

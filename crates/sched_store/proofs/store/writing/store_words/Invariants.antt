@@ -1,5 +1,4 @@
-use Rattle.std.proofs.Common.{◌≡◌, drop, false}
-use Rattle.cactus_stack.specs.Nodes.{IsOpen, node_words, with_node_words}
+use Rattle.sched_store.proofs.Common.{◌≡◌, drop, false, IsOpen, node_words, with_node_words}
 use Rattle.sched_rules.specs.Trees.{stored, is_outside}
 use Rattle.sched_store.proofs.store.writing.store_words.Given as goal
 

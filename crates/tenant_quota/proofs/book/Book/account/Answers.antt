@@ -1,6 +1,5 @@
 -- What the list finds is the tenant's entry.
-use Rattle.std.proofs.Common.{ap, ◌∙◌, sym}
-use Rattle.std.specs.Prelude.{option_copied, option_map}
+use Rattle.tenant_quota.proofs.Common.{ap, ◌∙◌, sym, option_copied, option_map}
 use Rattle.tenant_quota.proofs.Places.{entry-found}
 use Rattle.tenant_quota.proofs.book.Book.account.Goals as goal
 

@@ -1,10 +1,6 @@
 -- A charge that the tenant has left is written into its account; one that it hasn't is refused.
-use Rattle.std.proofs.Common.{◌≡◌, ℕ, ◌+◌, ◌<◌, ◌≤◌, ◌⊎◌, inl, inr, ap, sym, ◌∙◌, subst, refl, arith}
-use Rattle.number_index.proofs.Edits.{put-same}
-use Rattle.tenant_quota.specs.declared.account.Account.{Account}
-use Rattle.tenant_quota.specs.declared.account.Left.{Left}
-use Rattle.tenant_quota.specs.Accounts.{owner_of_account, charged_by, left_in, IsWithinReserve}
-use Rattle.tenant_quota.specs.Keeping.{held_by}
+use Rattle.tenant_quota.proofs.Common.{◌≡◌, ℕ, ◌+◌, ◌<◌, ◌≤◌, ◌⊎◌, inl, inr, ap, sym, ◌∙◌, subst, refl, arith, put-same, Account, Left, owner_of_account}
+use Rattle.tenant_quota.proofs.Common.{charged_by, left_in, IsWithinReserve, held_by}
 use Rattle.tenant_quota.proofs.Standing.{StandsFor, is_there, stands_for, others_same, within_with, IsChange, written, change_by_write, sum_by_write, one_less}
 use Rattle.tenant_quota.proofs.book.Book.charge_nodes.Given.{Over}
 use Rattle.tenant_quota.proofs.book.Book.charge_nodes.Goals.{After-left-left, Joined-then-left-segments, then-left-segments-via-then-left-segments, then-left-segments-via-else-left-segments+then-left-nodes}

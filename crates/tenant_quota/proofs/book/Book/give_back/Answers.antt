@@ -1,7 +1,4 @@
-use Rattle.std.proofs.Common.{ℕ, ◌-◌, ◌≤◌, sym, ◌∙◌, refl, arith}
-use Rattle.tenant_quota.specs.declared.account.Account.{Account}
-use Rattle.tenant_quota.specs.Accounts.{account_of, credited_by, IsWithinReserve}
-use Rattle.tenant_quota.specs.Keeping.{held_by}
+use Rattle.tenant_quota.proofs.Common.{ℕ, ◌-◌, ◌≤◌, sym, ◌∙◌, refl, arith, Account, account_of, credited_by, IsWithinReserve, held_by}
 use Rattle.tenant_quota.proofs.Standing.{is_some_of, and_at, is_there, stands_for, within_with, IsChange, written, change_by_write, sum_by_write}
 use Rattle.tenant_quota.proofs.book.Book.give_back.Given.{Over}
 use Rattle.tenant_quota.proofs.book.Book.give_back.Goals.{After-get_mut}

@@ -1,10 +1,6 @@
 -- The account is within its reserve, and what it has left is charged to nobody.
-use Rattle.std.proofs.Common.{◌≡◌, ℕ, ◌+◌, ◌≤◌, Some, ap, sym, ◌∙◌, arith}
-use Rattle.std.specs.Prelude.{option_copied}
-use Rattle.tenant_quota.specs.declared.account.Account.{Account}
-use Rattle.tenant_quota.specs.declared.account.Left.{Left}
-use Rattle.tenant_quota.specs.Accounts.{account_of, left_in, IsWithinReserve, charged_segments}
-use Rattle.tenant_quota.specs.Reservations.{Reservations, IsSoundBook}
+use Rattle.tenant_quota.proofs.Common.{◌≡◌, ℕ, ◌+◌, ◌≤◌, Some, ap, sym, ◌∙◌, arith, option_copied, Account, Left, account_of, left_in, IsWithinReserve}
+use Rattle.tenant_quota.proofs.Common.{charged_segments, Reservations, IsSoundBook}
 use Rattle.tenant_quota.proofs.Edits.{AllEntries-of, AllEntries-map, sum_by-le_with}
 use Rattle.tenant_quota.proofs.book.Book.left.Goals as goal
 

@@ -1,35 +1,14 @@
 -- A reservation above the tenant's own that the totals allow is written into its account; any other is refused.
-use Rattle.std.proofs.Common.{◌≡◌, ℕ, ◌+◌, ◌-◌, ◌<◌, ◌≤◌, ◌⊎◌, inl, inr, ltb, true, false, Some, ap, ◌∙◌, refl, arith}
-use Rattle.std.specs.Prelude.{option_map}
-use Rattle.std.proofs.lemmas.Bool.{ltb-true, ltb-false}
-use Rattle.tenant_quota.specs.Quota.{Quota, IsAbove, IsNotAbove, IsWithinLimits}
-use Rattle.tenant_quota.specs.Accounts.{owner_of_account, raised_to}
-use Rattle.tenant_quota.specs.declared.account.Account.{Account}
-use Rattle.tenant_quota.specs.declared.book.Rest.{Rest}
-use Rattle.tenant_quota.specs.Reservations.{Reservations, reserve_of, unreserved_of, HasRoomFor, IsBeyond, CanRaise, IsTooMuch, IsLower, IsSoundBook}
-use Rattle.tenant_quota.specs.Keeping.{held_by}
-use Rattle.number_index.specs.Places.{find_by_number}
-use Rattle.number_index.proofs.Edits.{put-same}
+use Rattle.tenant_quota.proofs.Common.{◌≡◌, ℕ, ◌+◌, ◌-◌, ◌<◌, ◌≤◌, ◌⊎◌, inl, inr, false, Some, ap, ◌∙◌, refl, arith, option_map, Quota, IsAbove, IsNotAbove}
+use Rattle.tenant_quota.proofs.Common.{IsWithinLimits, owner_of_account, raised_to, Account, Rest, Reservations, reserve_of, unreserved_of, HasRoomFor}
+use Rattle.tenant_quota.proofs.Common.{IsBeyond, CanRaise, IsTooMuch, IsLower, IsSoundBook, held_by, find_by_number, put-same}
 use Rattle.tenant_quota.proofs.Standing.{and_at, and_from, if_from, is_there, stands_for, others_same, IsRaise, written, raise_by_write, one_less}
 use Rattle.tenant_quota.proofs.book.Book.raise.Given.{Over}
 use Rattle.tenant_quota.proofs.book.Book.raise.Goals.{After-get_mut, Joined-then-rest-segments, then-rest-segments-via-then-rest-segments, then-rest-segments-via-else-rest-segments+then-rest-nodes}
 use Rattle.tenant_quota.proofs.book.Book.raise.Goals as goal
 
 not_above : (now quota : Quota) → (IsAbove now quota → ⊥) → IsNotAbove now quota
-not_above now quota never =
-    elim (ltb quota.segments now.segments) as (λ b. ltb quota.segments now.segments ≡ b → IsNotAbove now quota) [
-      | true ↦ λ less. inl (ltb-true quota.segments now.segments less)
-      | false ↦ λ enough.
-          elim (ltb quota.nodes now.nodes) as (λ b. ltb quota.nodes now.nodes ≡ b → IsNotAbove now quota) [
-            | true ↦ λ less. inr (inl (ltb-true quota.nodes now.nodes less))
-            | false ↦ λ many.
-                let segments : now.segments ≤ quota.segments = ltb-false quota.segments now.segments enough in
-                let nodes : now.nodes ≤ quota.nodes = ltb-false quota.nodes now.nodes many in
-                let more_segments : now.segments < quota.segments → ⊥ = λ more. never (record { segments = segments; nodes = nodes; one = inl more }) in
-                let more_nodes : now.nodes < quota.nodes → ⊥ = λ more. never (record { segments = segments; nodes = nodes; one = inr more }) in
-                inr (inr (omega arith, omega arith))
-          ] refl
-    ] refl
+not_above now quota never = grind arith
 
 not_both : (now quota : Quota) → IsAbove now quota → IsNotAbove now quota → ⊥
 not_both now quota above (inl less) = omega (arith, above.segments)
@@ -87,28 +66,18 @@ raised b new t quota now is above room raise = record {
   raise = raise;
 }
 
--- the kept sum grows by what the reservation does
-difference : (a b m n : ℕ) → a ≡ m → b ≡ n → a - b ≡ m - n
-difference a b m n is less = rw (is, less) refl
-
-no_less : (a b m n : ℕ) → a ≡ m → b ≡ n → n ≤ m → b ≤ a
-no_less a b m n is less above = rw (is, less) above
-
-sum_raised : (kept old new now quota more : ℕ) → new + now ≡ old + quota → kept ≡ old → more ≡ quota - now → now ≤ quota → kept + more ≡ new
-sum_raised kept old new now quota more raises is more_is above = omega (arith, raises, is, more_is, above)
-
 -- a reservation that the rest of a total doesn't allow, and one that both allow, as the code compares them
 too_much : (b : Reservations) (t : ℕ) (quota now : Quota) (r : Rest) (s s_now n n_now : ℕ) → IsSoundBook b → reserve_of t b ≡ Some now → r ≡ unreserved_of b → IsAbove now quota → s ≡ quota.segments → s_now ≡ now.segments → n ≡ quota.nodes → n_now ≡ now.nodes →
     (r.segments < s - s_now) ⊎ ((s - s_now ≤ r.segments) × (r.nodes < n - n_now)) → IsRefused b t quota
 too_much b t quota now r s s_now n n_now sound is rest above s_is s_now_is n_is n_now_is less =
-    refused b t quota now is above (beyond_rest b quota now r (s - s_now) (n - n_now) sound rest above (difference _ _ _ _ s_is s_now_is) (difference _ _ _ _ n_is n_now_is) (one_less _ _ _ _ less))
+    refused b t quota now is above (beyond_rest b quota now r (s - s_now) (n - n_now) sound rest above (cc) (cc) (one_less _ _ _ _ less))
 
 allowed : (b : Reservations) (t : ℕ) (e : ℕ × Account) (quota : Quota) (r : Rest) (s s_now n n_now : ℕ) → IsSoundBook b → find_by_number owner_of_account t b.accounts ≡ Some e → IsWithinLimits quota →
     r ≡ unreserved_of b → IsAbove e.1.reserve quota → s ≡ quota.segments → s_now ≡ e.1.reserve.segments → n ≡ quota.nodes → n_now ≡ e.1.reserve.nodes → s - s_now ≤ r.segments → n - n_now ≤ r.nodes →
     IsRaised b (written b t e (raised_to quota)) t quota e.1.reserve
 allowed b t e quota r s s_now n n_now sound found limits rest above s_is s_now_is n_is n_now_is enough many =
     let own : reserve_of t b ≡ Some e.1.reserve = ap (option_map (λ (a : Account). a.reserve)) (stands_for b t e sound found).account in
-    let room = within_rest b quota e.1.reserve r (s - s_now) (n - n_now) sound rest above (difference _ _ _ _ s_is s_now_is) (difference _ _ _ _ n_is n_now_is) enough many in
+    let room = within_rest b quota e.1.reserve r (s - s_now) (n - n_now) sound rest above (cc) (cc) enough many in
     raised b _ t quota e.1.reserve own above room (raise_by_write b t e quota sound found limits above room)
 
 -- the account that was read is the tenant's
@@ -121,10 +90,10 @@ few : (g : Over) (c : After-get_mut g) → (IsAbove c.get_mut.result.now.1.reser
 few g c never = too_little (held_by c.self.inside) c.args.tenant c.args.reserve _ (own g c) never
 
 pub overflow_sub-segments : goal.overflow_sub-segments
-overflow_sub-segments g c = no_less _ _ _ _ c.segments.ensures.value c.segments-2.ensures.value (c.is_above.ensures.0 c.if-not-is_above.false).segments
+overflow_sub-segments g c = rw (c.segments.ensures.value, c.segments-2.ensures.value) (c.is_above.ensures.0 c.if-not-is_above.false).segments
 
 pub overflow_sub-nodes : goal.overflow_sub-nodes
-overflow_sub-nodes g c = no_less _ _ _ _ c.nodes.ensures.value c.nodes-2.ensures.value (c.is_above.ensures.0 c.if-not-is_above.false).nodes
+overflow_sub-nodes g c = rw (c.nodes.ensures.value, c.nodes-2.ensures.value) (c.is_above.ensures.0 c.if-not-is_above.false).nodes
 
 -- nothing is written where it is refused
 same : (g : Over) (c : Joined-then-rest-segments g) → c.then-rest-segments.self-inside ≡ c.self.inside
@@ -176,8 +145,8 @@ invariant_of-self-2 g c =
     let now = c.self.invariant in
     record {
       sound = does.raise.sound;
-      segments = sum_raised _ _ _ _ _ _ does.raise.raises.segments now.segments (difference _ _ _ _ c.segments.ensures.value c.segments-2.ensures.value) above.segments;
-      nodes = sum_raised _ _ _ _ _ _ does.raise.raises.nodes now.nodes (difference _ _ _ _ c.nodes.ensures.value c.nodes-2.ensures.value) above.nodes;
+      segments = omega (arith, does.raise.raises.segments, now.segments, c.segments.ensures.value, c.segments-2.ensures.value, above.segments);
+      nodes = omega (arith, does.raise.raises.nodes, now.nodes, c.nodes.ensures.value, c.nodes-2.ensures.value, above.nodes);
     }
 
 pub returns : goal.returns

@@ -1,10 +1,6 @@
 -- The removed entry is the tenant's.
-use Rattle.std.proofs.Common.{◌≡◌, Some, arith}
-use Rattle.tenant_quota.specs.Accounts.{account_of}
-use Rattle.tenant_quota.specs.Reservations.{Releases, released}
-use Rattle.tenant_quota.specs.Keeping.{held_by}
-use Rattle.tenant_quota.proofs.Standing.{if_from, is_there, stands_for}
-use Rattle.tenant_quota.proofs.Effects.{Releases-released, KeepsOtherAccounts-released, IsSoundBook-released}
+use Rattle.tenant_quota.proofs.Common.{◌≡◌, Some, arith, account_of, Releases, released, held_by}
+use Rattle.tenant_quota.proofs.Standing.{if_from, is_there, stands_for, Releases-released, KeepsOtherAccounts-released, IsSoundBook-released}
 use Rattle.tenant_quota.proofs.book.Book.release.Given.{Over}
 use Rattle.tenant_quota.proofs.book.Book.release.Goals.{After-remove-account}
 use Rattle.tenant_quota.proofs.book.Book.release.Goals as goal

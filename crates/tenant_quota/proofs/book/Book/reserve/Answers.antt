@@ -1,11 +1,6 @@
 -- The new tenant has an entry.
-use Rattle.std.proofs.Common.{◌≡◌, ◌≢◌, ℕ, ◌≤◌, ap, arith}
-use Rattle.tenant_quota.specs.declared.book.Rest.{Rest}
-use Rattle.tenant_quota.specs.Quota.{Quota}
-use Rattle.tenant_quota.specs.Accounts.{fresh, with_new}
-use Rattle.tenant_quota.specs.Reservations.{Reservations, unreserved_of, HasRoom, IsSoundBook}
-use Rattle.tenant_quota.specs.Keeping.{held_by}
-use Rattle.tenant_quota.proofs.Effects.{Admits-admitted, KeepsOtherAccounts-admitted, IsSoundBook-admitted}
+use Rattle.tenant_quota.proofs.Common.{◌≡◌, ◌≢◌, ℕ, ◌≤◌, ap, arith, Rest, Quota, fresh, with_new, Reservations, unreserved_of, HasRoom, IsSoundBook, held_by}
+use Rattle.tenant_quota.proofs.Standing.{Admits-admitted, KeepsOtherAccounts-admitted, IsSoundBook-admitted}
 use Rattle.tenant_quota.proofs.book.Book.reserve.Given.{Over}
 use Rattle.tenant_quota.proofs.book.Book.reserve.Goals.{After-insert}
 use Rattle.tenant_quota.proofs.book.Book.reserve.Goals as goal

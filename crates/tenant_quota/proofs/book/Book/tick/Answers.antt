@@ -1,10 +1,6 @@
 -- A step that the tenant has left is counted in its account; without one it is refused.
-use Rattle.std.proofs.Common.{◌≡◌, ◌≢◌, ◌+◌, sym, ◌∙◌, ap, refl, arith}
-use Rattle.number_index.proofs.Edits.{put-same}
-use Rattle.tenant_quota.specs.declared.account.Account.{Account}
-use Rattle.tenant_quota.specs.declared.account.Left.{Left}
-use Rattle.tenant_quota.specs.Accounts.{owner_of_account, ticked, left_in, IsWithinReserve}
-use Rattle.tenant_quota.specs.Keeping.{held_by}
+use Rattle.tenant_quota.proofs.Common.{◌≡◌, ◌≢◌, ◌+◌, sym, ◌∙◌, ap, refl, arith, put-same, Account, Left, owner_of_account, ticked, left_in, IsWithinReserve}
+use Rattle.tenant_quota.proofs.Common.{held_by}
 use Rattle.tenant_quota.proofs.Standing.{StandsFor, is_there, stands_for, others_same, within_with, IsChange, written, change_by_write, sum_by_write}
 use Rattle.tenant_quota.proofs.book.Book.tick.Given.{Over}
 use Rattle.tenant_quota.proofs.book.Book.tick.Goals.{After-left}

@@ -1,28 +1,41 @@
--- What stands up to an aborted frame stays.
-use Rattle.std.proofs.Common.{◌≡◌, ℕ, zero, suc, ◌+◌, ◌<◌, ◌≤◌, nat_lt, Bool, true, false, List, [], ◌∷◌, ◌++◌, Option, Some, None, length, length-set, take, drop, set, get_or, slice_index, refl, ap, sym, ◌∙◌, inl, inr, arith, length-append, take-append-drop, take_at, drop_at, length-take-le as length-front}
-use Rattle.std.proofs.lemmas.Bool.{cases_eq, cases_Bool, false≢true, eq-eqb, ne_eqb}
-use Rattle.std.specs.List.{filter}
-use Rattle.std.proofs.lemmas.List.{get_or-set_same, take-set}
-use Rattle.std.proofs.lemmas.List.Elements.{filter-append}
-use Rattle.slab.specs.Slab.{Slab, get}
-use Rattle.frame_tree.specs.declared.slot.Slot.{Slot as TenantSlot}
-use Rattle.frame_tree.specs.declared.slot_store.StoredSlot.{StoredSlot}
-use Rattle.frame_tree.specs.Frames.{Frame, has_parent}
-use Rattle.frame_tree.specs.declared.ready.ReadyFrame.{ReadyFrame}
-use Rattle.frame_tree.specs.Readies.{ready_in}
-use Rattle.frame_tree.specs.Slots.{frame_of_slot, frames_from, is_kept, kept_slots, IsLinked, AreSoundSlots, Rises, serials_of}
-use Rattle.frame_tree.specs.Places.{has_number}
-use Rattle.frame_tree.specs.SlotStores.{with_found, slots_in, IsHere, AllHere, is_marked, marked_in, Marks, NoneMarked}
-use Rattle.frame_tree.proofs.Cuts.{FollowsBy, kept_follows}
-use Rattle.frame_tree.proofs.Changes.{below_bound, childless}
-use Rattle.frame_tree.proofs.Forest.{linked_rises}
-use Rattle.frame_tree.proofs.Search.{above_at, serial_read}
-use Rattle.frame_tree.proofs.Cutting.{NoParent, tail_key}
-use Rattle.frame_tree.proofs.AbortChildless.{AllStay, all_stay, filter_all}
-use Rattle.frame_tree.proofs.Lengths.{length-take-le}
-use Rattle.frame_tree.proofs.Trees.{cut_linked, cut_length}
-use Rattle.frame_tree.proofs.Indexes.{serials_of-take}
+-- What an abort leaves: at a frame that has no child all, and of the slots, serials and ready frames those up to it.
+use Rattle.std.proofs.Common.{◌≡◌, ℕ, Bool, true, false, not, List, [], ◌∷◌, ◌++◌, Option, Some, None, map, refl, ap, sym, ◌∙◌, inl, inr, arith, zero, suc, ◌+◌, ◌<◌, ◌≤◌, nat_lt, length, length-set, take, drop, set, get_or, slice_index, length-append, take-append-drop, take_at, drop_at, length-take-le as length-front, length-take}
+use Rattle.frame_tree.proofs.Common.{filter, ready_in, Slab, get, StoredSlot, ReadyFrame, has_number, filter-append, Slot, Slot as TenantSlot, get_or-set_same, take-set, cases_Bool, false≢true, eqb-true, ne_eqb, cases_eq, eq-eqb, Frame, has_frame, has_parent, aborted, frames_under, values_of, with_found, slots_in, IsHere, AllHere, is_marked, marked_in, Marks, NoneMarked, frame_of_slot, frames_from, IsLinked, is_kept, child_slots, kept_slots, AreSoundSlots, Rises, serials_of}
+use Rattle.frame_tree.proofs.Forest.{has_frame-append, FollowsBy, kept_follows, kept_slots-frames, gone_values-frames, linked_rises, above_at, serial_read}
+use Rattle.frame_tree.proofs.Finds.{none_of_length, count_in}
+use Rattle.frame_tree.proofs.Cutting.{NoParent, no_parent, tail_key}
+use Rattle.frame_tree.proofs.Changes.{below_bound, childless, cut_linked, cut_length}
+use Rattle.frame_tree.proofs.Keys.{serials_of-take}
 use Rattle.frame_tree.proofs.Readies.{ready_in-append, ready_in-take, few_ready_in}
+
+-- each slot stays
+abbrev pub AllStay : {T : Type 0} → (ℕ → Bool) → List (Slot T) → Type 0
+AllStay keep [] = Unit {0}
+AllStay keep (x ∷ xs) = (keep x.serial ≡ true) × AllStay keep xs
+
+pub all_stay : {T : Type 0} (keep : ℕ → Bool) (n : ℕ) (frames : List (Frame T)) (xs : List (Slot T)) → FollowsBy keep n xs → NoParent n xs → IsLinked frames xs → ((p : ℕ) → has_frame frames p ≡ true → keep p ≡ true) → AllStay keep xs
+all_stay keep n frames [] f none l kept = tt
+all_stay {T} keep n frames (x ∷ xs) f none l kept = grind (arith, all_stay keep n (frames ++ frame_of_slot frames x ∷ []) xs, has_frame-append, ne_eqb, eqb-true)
+
+pub filter_all : {T : Type 0} (keep : ℕ → Bool) (xs : List (Slot T)) → AllStay keep xs → filter (λ x. keep x.serial) xs ≡ xs
+filter_all keep [] s = refl
+filter_all keep (x ∷ xs) s = rw s.0 (ap (λ ys. x ∷ ys) (filter_all keep xs s.1))
+
+filter_none : {T : Type 0} (keep : ℕ → Bool) (xs : List (Slot T)) → AllStay keep xs → filter (λ x. not (keep x.serial)) xs ≡ []
+filter_none keep [] s = refl
+filter_none keep (x ∷ xs) s = rw s.0 (filter_none keep xs s.1)
+
+module _ {T : Type 0} (n : ℕ) (xs : List (Slot T)) (l : IsLinked [] xs) (none : count_in xs n ≡ 0) where
+  stay : AllStay (is_kept n (frames_from [] xs)) xs
+  stay = all_stay (is_kept n (frames_from [] xs)) n [] xs (kept_follows n (frames_from [] xs) [] xs refl l tt) (no_parent n xs (none_of_length (child_slots n xs) none)) l (λ p has. absurd (false≢true has))
+
+  pub leaf_aborted : aborted n (frames_from [] xs) ≡ frames_from [] xs
+  leaf_aborted = sym (kept_slots-frames n xs l) ∙ ap (frames_from []) (filter_all (is_kept n (frames_from [] xs)) xs stay)
+
+  pub leaf_under : values_of (frames_under n (frames_from [] xs)) ≡ []
+  leaf_under = sym (gone_values-frames n xs l) ∙ ap (map (λ x. x.value)) (filter_none (is_kept n (frames_from [] xs)) xs stay)
+
+-- What stands up to an aborted frame stays.
 
 -- each serial is below this one
 abbrev pub AreBefore : {T : Type 0} → ℕ → List (TenantSlot T) → Type 0
@@ -95,13 +108,15 @@ staying {T} keep slab before (j ∷ keys) h s k x has is =
     rest keep slab before None xs h s = absurd h
     rest keep slab before (Some x) xs h s = s.1
 
-early_staying : {T : Type 0} (n : ℕ) (slab : Slab (StoredSlot T)) (keys : List ℕ) (i : ℕ) → AllHere slab [] keys → IsLinked [] (slots_in slab keys) → i < length (slots_in slab keys) → slice_index (serials_of (slots_in slab keys)) i ≡ n → AreStaying (is_kept n (frames_from [] (slots_in slab keys))) slab (take i keys)
-early_staying n slab keys i h l lt at =
-    staying (is_kept n (frames_from [] (slots_in slab keys))) slab [] (take i keys) (all_here-take slab [] keys i h) (rw (slots_in-take slab [] keys i h) (early_stay n (slots_in slab keys) i l lt at))
+module _ {T : Type 0} (n : ℕ) (slab : Slab (StoredSlot T)) (keys : List ℕ) (i : ℕ) (h : AllHere slab [] keys) (l : IsLinked [] (slots_in slab keys))
+    (lt : i < length (slots_in slab keys)) (at : slice_index (serials_of (slots_in slab keys)) i ≡ n) where
+  early_staying : AreStaying (is_kept n (frames_from [] (slots_in slab keys))) slab (take i keys)
+  early_staying =
+      staying (is_kept n (frames_from [] (slots_in slab keys))) slab [] (take i keys) (all_here-take slab [] keys i h) (rw (slots_in-take slab [] keys i h) (early_stay n (slots_in slab keys) i l lt at))
 
--- so marking may begin behind it
-pub marks_early : {T : Type 0} (n : ℕ) (slab : Slab (StoredSlot T)) (keys : List ℕ) (i : ℕ) → AllHere slab [] keys → IsLinked [] (slots_in slab keys) → i < length (slots_in slab keys) → slice_index (serials_of (slots_in slab keys)) i ≡ n → Marks n (slots_in slab keys) (take i keys) slab slab
-marks_early n slab keys i h l lt at k = grind (arith, early_staying)
+  -- so marking may begin behind it
+  pub marks_early : Marks n (slots_in slab keys) (take i keys) slab slab
+  marks_early k = grind (arith, early_staying)
 
 -- and so may the removal of the marked
 pub none_marked_early : {T : Type 0} (n : ℕ) (old marked : Slab (StoredSlot T)) (keys : List ℕ) (i : ℕ) → AllHere old [] keys → IsLinked [] (slots_in old keys) → i < length (slots_in old keys) → slice_index (serials_of (slots_in old keys)) i ≡ n → Marks n (slots_in old keys) keys old marked → NoneMarked marked (take i keys)
@@ -147,6 +162,6 @@ cut_ready {T} xs count i n places slot zs frames s lt at is kept ready within =
     record {
       within = rw parts (omega (arith, length-append (take i ys) rest, front));
       front = sym (serials_of-take zs i) ∙ (ap serials_of (rw parts (take_at (take i ys) rest i front ∙ take-set xs i (childless slot))) ∙ serials_of-take xs i);
-      room = omega (arith, ap length early, few, length-take-le i ys, fewer, within);
+      room = omega (arith, ap length early, few, length-take i ys, fewer, within);
       ready = rw (early, parts, drop_at (take i ys) rest i front) (sym (ready_in-append (take i ys) rest));
     }
