@@ -13,7 +13,7 @@ use Rattle.sched_rules.specs.declared.step.DidOf.TheVariants.{Left}
 use Rattle.sched_rules.specs.Functions.{Functions}
 use Rattle.sched_rules.specs.declared.job.Job.{Job}
 use Rattle.sched_rules.specs.Trees.{Tenant, admitted_with, job_at}
-use Rattle.jamboree_core.proofs.sched_laws_EndedJobs.{step-ended}
+use Rattle.jamboree_core.proofs.sched_laws_Consequences.{step-ended}
 use Rattle.jamboree_core.proofs.Possible.{IsOfSearches, tenant-none-bad}
 use Rattle.sched_rules.specs.Lone.{Outcome, unless, refusal_in, lone, lone_step, is_lower}
 use Rattle.sched_rules.specs.Runs.{tenant_of}

@@ -14,7 +14,7 @@ use Rattle.jamboree_rules.specs.sched_rules.declared.act.Continuation.{Continuat
 use Rattle.jamboree_rules.specs.Frames.{Frame, board, choice_at, may_be_child, own_word, opp_word}
 use Rattle.jamboree_rules.specs.Places.{Spawned, Status, pairs_of}
 use Rattle.jamboree_rules.specs.Acts.{spawns, opening_on, first_search, tests, tests_from, act_by, act_of}
-use Rattle.jamboree_rules.proofs.BoardWords.{own-is, opp-is}
+use Rattle.jamboree_rules.proofs.LeafLemmas.{own-is, opp-is}
 use Rattle.jamboree.specs.declared.frame.View.{View}
 
 -- what a call says of a score: whose it is, and its range

@@ -17,10 +17,8 @@ use Rattle.jamboree_rules.specs.Frames.{Frame, board, coded}
 use Rattle.jamboree_rules.specs.Places.{entry_rest, frame_of, are_entries, is_formed}
 use Rattle.jamboree_rules.specs.Entries.{bounds_of}
 use Rattle.jamboree_rules.specs.Fits.{AreFitting, IsRoot, IsKeptRoot}
-use Rattle.jamboree_rules.proofs.Forms.{IsFormed, formed-told}
-use Rattle.jamboree_rules.proofs.Answers.{root-value}
-use Rattle.jamboree_rules.proofs.Rooted.{root-whole}
-use Rattle.jamboree_rules.proofs.Codes.{few-choices}
+use Rattle.jamboree_rules.proofs.Forms.{IsFormed, formed-told, few-choices}
+use Rattle.jamboree_rules.proofs.Rooted.{root_value, root-whole}
 use Rattle.jamboree.specs.Codes.{decoded}
 
 found-by : (b : List Cell) (passes : Bool) (c : Choice) (more : Option Choice) → IsAllowed b c → IfSome more (IsAllowed b) → IfSome (cond passes (Some c) more) (IsAllowed b)
@@ -67,7 +65,7 @@ whole-held : (origin whole : List ℕ) → AreFitting whole [] HasReturned → I
 whole-held origin whole fits root =
     let f : Frame = frame_of whole in
     let form : IsFormed whole = formed-told whole fits.formed in
-    let holds = root-value origin whole fits root in
+    let holds = root_value origin whole fits root in
     let table = root-whole origin whole fits root in
     let counted : length (drop 12 whole) ≡ length (entered f.depth (board f)) = sym (length-map (drop 12 whole) entry_rest) ∙ table.0 in
     record {

@@ -233,7 +233,7 @@ impl Procedure for Jamboree {
     ghost use Rattle.jamboree_rules.specs.Fits.{IsRoot};
     ghost use Rattle.jamboree_rules.specs.Procedure.{jamboree};
     ghost use Rattle.jamboree_rules.proofs.Keeping.{next-keeps, inlet-keeps};
-    ghost use Rattle.jamboree_rules.proofs.Answers.{accept-keeps};
+    ghost use Rattle.jamboree_rules.proofs.Rooted.{accept-keeps};
     ghost use Rattle.jamboree_rules.proofs.LeafLemmas.{same-value};
 
     type Input = Leaf;

@@ -29,11 +29,9 @@ use Rattle.sched_rules.specs.Runs.{state_after, alone_from}
 use Rattle.sched_rules.specs.Laws.{Mark, Computes, mark_of_state, grown}
 use Rattle.sched_laws.specs.Shapes.{IsShaped}
 use Rattle.sched_laws.specs.Fitted.{TenantFits, submits}
-use Rattle.sched_laws.proofs.Words.{with_frame_words-missing}
+use Rattle.sched_laws.proofs.Holds.{with_frame_words-missing, kids, fits-holds}
 use Rattle.sched_laws.proofs.Shaped.{frame-found, unless-passed, came, by-effects, staying-parent, step-shaped, admitted-shaped}
-use Rattle.sched_laws.proofs.Holds.{kids, fits-holds}
-use Rattle.sched_laws.proofs.Levels.{words-found, sight-head}
-use Rattle.sched_laws.proofs.Fits.{with_frame_words-twice}
+use Rattle.sched_laws.proofs.Fits.{words-found, sight-head, with_frame_words-twice}
 use Rattle.sched_laws.proofs.FitAnswers.{step-fits}
 use Rattle.jamboree_rules.specs.declared.leaf.Leaf.{Leaf}
 use Rattle.jamboree_rules.specs.Fits.{AreFitting, IsRoot}

@@ -17,7 +17,7 @@ use Rattle.sched_rules.proofs.Tenants.{tenant_in-with_outcome, tenant_in_other-w
 use Rattle.sched_rules.proofs.Isolation.{step-taken, shared-after-taken}
 use Rattle.sched_laws.specs.Fitted.{submits, origins_of}
 use Rattle.sched_laws.proofs.Shaped.{LeftShaped}
-use Rattle.sched_laws.proofs.Answers.{lone-shaped}
+use Rattle.sched_laws.proofs.Consequences.{lone-shaped}
 use Rattle.sched_laws.proofs.Fits.{LeftFits}
 use Rattle.sched_laws.proofs.FitAnswers.{step-fits}
 use Rattle.jamboree_rules.specs.declared.leaf.Leaf.{Leaf}

@@ -1,7 +1,5 @@
 pub use Rattle.sched_core.proofs.Stepping as sched_core_Stepping
-pub use Rattle.sched_laws.proofs.Answers as sched_laws_Answers
 pub use Rattle.sched_laws.proofs.Consequences as sched_laws_Consequences
-pub use Rattle.sched_laws.proofs.EndedJobs as sched_laws_EndedJobs
 pub use Rattle.sched_laws.proofs.Parts as sched_laws_Parts
 pub use Rattle.sched_laws.proofs.Shaped as sched_laws_Shaped
 pub mod Replying

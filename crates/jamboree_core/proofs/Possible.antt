@@ -20,12 +20,11 @@ use Rattle.sched_rules.specs.Laws.{Mark, Neither, Computes, HasReturned, mark_of
 use Rattle.sched_rules.specs.Lone.{Outcome, unless, refusal_in, lone, first_step, lone_step, is_lower, raised, at_frame, is_run_by, is_computed_by, is_returned, is_bad_act, act_by_sight, take_tests, steal_tests, advance_tests, answer_tests, inlet_tests, inlet_under, taken_in, finish_tests, is_spendable, cancelled}
 use Rattle.sched_laws.specs.Shapes.{IsShaped, AreShaped}
 use Rattle.sched_laws.specs.Fitted.{TenantFits, CoreFits, submits}
-use Rattle.sched_laws.proofs.Answers.{shaped-in}
+use Rattle.sched_laws.proofs.Consequences.{shaped-in}
 use Rattle.sched_laws.proofs.Shaped.{run-free, returned-childless}
 use Rattle.sched_laws.proofs.Holds.{Lists, F, kids, fits-holds, found-same, among-kids}
-use Rattle.sched_laws.proofs.Levels.{kept-above, has-origin, words-found, parent-neither}
-use Rattle.sched_laws.proofs.Fits.{has-one}
-use Rattle.sched_laws.proofs.FitRuns.{computes-marked, has-returned}
+use Rattle.sched_laws.proofs.Fits.{kept-above, has-origin, words-found, parent-neither, has-one}
+use Rattle.sched_laws.proofs.FitSteps.{computes-marked, has-returned}
 use Rattle.jamboree_rules.specs.declared.leaf.Leaf.{Leaf}
 use Rattle.jamboree_rules.specs.declared.leaf.LeafAnswer.{LeafAnswer}
 use Rattle.jamboree_rules.specs.Acts.{next_act, inlet_act}
@@ -33,7 +32,7 @@ use Rattle.jamboree_rules.specs.Leaves.{accepts}
 use Rattle.jamboree_rules.specs.Fits.{AreFitting, IsRoot}
 use Rattle.jamboree_rules.specs.Procedure.{jamboree}
 use Rattle.jamboree_rules.proofs.Keeping.{next-possible, inlet-possible}
-use Rattle.jamboree_rules.proofs.Answers.{accept-possible}
+use Rattle.jamboree_rules.proofs.Rooted.{accept-possible}
 
 -- tests of which none refuses by BadAct, where none before it applies
 abbrev NoneBad : List (Bool × Refusal) → Type 0

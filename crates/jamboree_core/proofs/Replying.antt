@@ -14,7 +14,7 @@ use Rattle.sched_rules.specs.Runs.{only}
 use Rattle.sched_rules.specs.Cores.{shared_by_nobody, tenant_in}
 use Rattle.sched_rules.specs.Headline.{AreAnswersTo, after_answers, taken_steps}
 use Rattle.sched_laws.specs.Fitted.{JobsFit, TenantFits, submits, RootFits, RootsFit, origins_of}
-use Rattle.sched_laws.proofs.Levels.{IsLawful}
+use Rattle.sched_laws.proofs.Fits.{IsLawful}
 use Rattle.sched_laws.proofs.FitAnswers.{run-fits, nobody-fits}
 use Rattle.jamboree_rules.specs.declared.leaf.Leaf.{Leaf}
 use Rattle.jamboree_rules.specs.declared.leaf.LeafAnswer.{LeafAnswer}
@@ -27,16 +27,14 @@ use Rattle.jamboree_rules.specs.Entries.{bounds_of}
 use Rattle.jamboree_rules.specs.Fits.{AreFitting, IsRoot}
 use Rattle.jamboree_rules.specs.Procedure.{jamboree}
 use Rattle.jamboree_rules.proofs.Keeping.{next-keeps, inlet-keeps}
-use Rattle.jamboree_rules.proofs.Soundness.{fits-sound}
-use Rattle.jamboree_rules.proofs.Answers.{accept-keeps, root-fits, root-value}
-use Rattle.jamboree_rules.proofs.Rooted.{root-whole, root-kept}
+use Rattle.jamboree_rules.proofs.Rooted.{fits_sound, accept-keeps, root_fits, root_value, root-whole, root-kept}
 use Rattle.jamboree_core.specs.Searching.{AreAllRootWords}
 use Rattle.jamboree_core.specs.Replies.{IsSearch, AreSearches, IsReplyTo, AreReplies, AreAllSound}
 
 -- the new root of a search fits, and belongs to a board and a depth
 pub search-parts : {A : Type 0} (step : StepOf A) → IsSearch step → RootFits AreFitting IsRoot step × AreAllRootWords (submits step)
 search-parts (Submit number words size) is =
-    let root = root-fits is.0.own is.0.opp is.0.depth is.0.apart is.0.shallow in
+    let root = root_fits is.0.own is.0.opp is.0.depth is.0.apart is.0.shallow in
     (rw (is.0.are, is.1) root, (is.0, tt))
 search-parts _ is = (tt, tt)
 
@@ -68,7 +66,7 @@ same-table own opp depth bounds f o p d table = grind arith
 -- a returned root holds the reply
 root-replies : (origin all : List ℕ) → AreFitting all [] HasReturned → IsRoot origin all → IsReplyTo origin all
 root-replies origin all fits root =
-    let holds = root-value origin all fits root in
+    let holds = root_value origin all fits root in
     let table : IsTable (frame_of all).depth (board (frame_of all)) (bounds_of (frame_of all)) = (root-whole origin all fits root).2 in
     let own : (frame_of all).own ≡ (frame_of origin).own = root.own_is in
     let opp : (frame_of all).opp ≡ (frame_of origin).opp = root.opp_is in
@@ -97,4 +95,4 @@ replies-held tree (origin ∷ origins) (CancelledJob ∷ jobs) fit = (tt, replie
 
 pub all-sound : (tree : Tree) (frames : List (TreeFrame (List ℕ))) → EachFits AreFitting tree frames → AreAllSound tree frames
 all-sound tree [] fit = tt
-all-sound tree (frame ∷ frames) fit = (fits-sound (frame.value) (values_of (children_of tree frame.serial)) (mark_of_state frame.state) fit.0, all-sound tree frames fit.1)
+all-sound tree (frame ∷ frames) fit = (fits_sound (frame.value) (values_of (children_of tree frame.serial)) (mark_of_state frame.state) fit.0, all-sound tree frames fit.1)

@@ -13,11 +13,9 @@ use Rattle.leaf_search.specs.othello_eval.Tables.{entered}
 use Rattle.jamboree_rules.specs.Fits.{IsSearching, IsTabled}
 use Rattle.jamboree_rules.specs.Entries.{IsOfKind, IsTrueRest}
 use Rattle.jamboree_rules.specs.Acts.{found_rest}
-use Rattle.jamboree_rules.proofs.Searching.{all_settled, IsSearching-mark, IsSearching-low, IsSearching-higher, set_there, set_beside, set_length, low_side, high_side, inner_side, cut, IsGreatest}
+use Rattle.jamboree_rules.proofs.Searching.{all_settled, IsSearching-mark, IsSearching-low, IsSearching-higher, set_there, set_beside, set_length, low_side, high_side, inner_side, cut, IsGreatest, worth_of, role-kept-mark, found-said, tabled-set, tabled-kept}
 use Rattle.jamboree_rules.specs.Frames.{Frame, coded, board, choice_at, code_at, rest_at, value_at, value, floor}
 use Rattle.jamboree_rules.specs.Fits.{IsFirst, IsTest, IsAgain, IsInRole, First, Test, Again, IsChildOf, AreChildren, how_many, IsSearchingFrame, Fits}
-use Rattle.jamboree_rules.proofs.Roles.{worth_of, role-kept-mark}
-use Rattle.jamboree_rules.proofs.Tabling.{found-said, tabled-set, tabled-kept}
 
 -- a child of another number stays a child where a choice is settled
 pub role-kept-settle : (f c : Frame) (i choice rest : ℕ) (best : ℤ) → i < length f.statuses → c.number ≢ i → f.phase ≡ 3 →
@@ -242,29 +240,32 @@ module _ (f c : Frame) (before behind : List Frame) (fits : Fits f (before ++ c 
       Fits-searched 3 (int_max f.best (neg_ℤ c.best)) choice 2 holds refl search (λ d other role. first-alone f c d first role other)
 
 -- what the windows say of a returned child's score
-pub first-low : (f c : Frame) → IsFirst f c → value_at f c.number ≡ neg_ℤ (value c) → IsBound c.alpha c.beta c.best (value c) → neg_ℤ c.best <ℤ f.beta → value_at f c.number ≤ℤ neg_ℤ c.best
-first-low f c r worth bound under =
-    let low : c.alpha ≡ neg_ℤ f.beta = r.low in
-    by_lt_z c.best c.beta
-    (λ inner. let e : neg_ℤ (value c) ≡ neg_ℤ c.best = inner_side c.alpha c.beta c.best (value c) bound (omega (arith, ints)) inner in omega (arith, ints))
-    (λ high. let e : neg_ℤ (value c) ≤ℤ neg_ℤ c.best = low_side c.alpha c.beta c.best (value c) bound high in omega (arith, ints))
+module _ (f c : Frame) (r : IsFirst f c) (worth : value_at f c.number ≡ neg_ℤ (value c)) (bound : IsBound c.alpha c.beta c.best (value c))
+    (under : neg_ℤ c.best <ℤ f.beta) where
+  pub first-low : value_at f c.number ≤ℤ neg_ℤ c.best
+  first-low =
+      let low : c.alpha ≡ neg_ℤ f.beta = r.low in
+      by_lt_z c.best c.beta
+      (λ inner. let e : neg_ℤ (value c) ≡ neg_ℤ c.best = inner_side c.alpha c.beta c.best (value c) bound (omega (arith, ints)) inner in omega (arith, ints))
+      (λ high. let e : neg_ℤ (value c) ≤ℤ neg_ℤ c.best = low_side c.alpha c.beta c.best (value c) bound high in omega (arith, ints))
 
-pub first-exact : (f c : Frame) → IsFirst f c → value_at f c.number ≡ neg_ℤ (value c) → IsBound c.alpha c.beta c.best (value c) → neg_ℤ c.best <ℤ f.beta → floor f <ℤ neg_ℤ c.best → value_at f c.number ≡ neg_ℤ c.best
-first-exact f c r worth bound under over =
-    let low : c.alpha ≡ neg_ℤ f.beta = r.low in
-    let high : c.beta ≡ neg_ℤ f.alpha = r.high in
-    worth ∙ inner_side c.alpha c.beta c.best (value c) bound (omega (arith, ints)) (omega (arith, ints, clamps))
+  pub first-exact : floor f <ℤ neg_ℤ c.best → value_at f c.number ≡ neg_ℤ c.best
+  first-exact over =
+      let low : c.alpha ≡ neg_ℤ f.beta = r.low in
+      let high : c.beta ≡ neg_ℤ f.alpha = r.high in
+      worth ∙ inner_side c.alpha c.beta c.best (value c) bound (omega (arith, ints)) (omega (arith, ints, clamps))
 
-pub again-low : (f c : Frame) → IsAgain f c → value_at f c.number ≡ neg_ℤ (value c) → IsBound c.alpha c.beta c.best (value c) → neg_ℤ c.best ≤ℤ floor f → value_at f c.number ≤ℤ neg_ℤ c.best
-again-low f c r worth bound under =
-    let high : c.beta ≡ neg_ℤ (floor f) = r.high in
-    let e : neg_ℤ (value c) ≤ℤ neg_ℤ c.best = low_side c.alpha c.beta c.best (value c) bound (omega (arith, ints)) in omega (arith, ints)
+module _ (f c : Frame) (r : IsAgain f c) (worth : value_at f c.number ≡ neg_ℤ (value c)) (bound : IsBound c.alpha c.beta c.best (value c)) where
+  pub again-low : neg_ℤ c.best ≤ℤ floor f → value_at f c.number ≤ℤ neg_ℤ c.best
+  again-low under =
+      let high : c.beta ≡ neg_ℤ (floor f) = r.high in
+      let e : neg_ℤ (value c) ≤ℤ neg_ℤ c.best = low_side c.alpha c.beta c.best (value c) bound (omega (arith, ints)) in omega (arith, ints)
 
-pub again-exact : (f c : Frame) → IsAgain f c → value_at f c.number ≡ neg_ℤ (value c) → IsBound c.alpha c.beta c.best (value c) → neg_ℤ c.best <ℤ f.beta → floor f <ℤ neg_ℤ c.best → value_at f c.number ≡ neg_ℤ c.best
-again-exact f c r worth bound under over =
-    let low : c.alpha ≡ neg_ℤ f.beta = r.low in
-    let high : c.beta ≡ neg_ℤ (floor f) = r.high in
-    worth ∙ inner_side c.alpha c.beta c.best (value c) bound (omega (arith, ints)) (omega (arith, ints))
+  pub again-exact : neg_ℤ c.best <ℤ f.beta → floor f <ℤ neg_ℤ c.best → value_at f c.number ≡ neg_ℤ c.best
+  again-exact under over =
+      let low : c.alpha ≡ neg_ℤ f.beta = r.low in
+      let high : c.beta ≡ neg_ℤ (floor f) = r.high in
+      worth ∙ inner_side c.alpha c.beta c.best (value c) bound (omega (arith, ints)) (omega (arith, ints))
 
 pub test-low : (f c : Frame) → value_at f c.number ≡ neg_ℤ (value c) → IsBound c.alpha c.beta c.best (value c) → neg_ℤ c.best ≤ℤ neg_ℤ c.beta → value_at f c.number ≤ℤ neg_ℤ c.best
 test-low f c worth bound under =
@@ -350,9 +351,7 @@ pub record IsSameGoal (p c c' : Frame) : Type 0 where
   pub known : c'.phase ≢ 0 → board c' ≡ after (board p) (choice_at p c.number)
 
 role-same : (p c c' : Frame) → IsSameGoal p c c' → IsInRole p c → IsInRole p c'
-role-same p c c' g (First r) = grind arith
-role-same p c c' g (Test r) = grind arith
-role-same p c c' g (Again r) = grind arith
+role-same p c c' g h5 = grind arith
 
 pub child-same : (p c c' : Frame) → IsSameGoal p c c' → IsChildOf p c → IsChildOf p c'
 child-same p c c' g kin = grind (arith, role-same)
@@ -396,26 +395,7 @@ childless f (c ∷ cs) all kin = absurd (unsettled f c kin.0.in_role (all c.numb
 pub next-settled : (f : Frame) (children : List Frame) → Fits f children Neither → f.phase ≡ 3 → ((k : ℕ) → k < length f.statuses → slice_index f.statuses k ≡ 2) →
     IsGreatest (value_at f) (length f.statuses) (value f) → (f.alpha <ℤ f.best → f.best <ℤ f.beta → f.choice ≡ coded (best_choice f.depth (board f))) →
     (children ≡ []) × Fits (record f { phase = 4 }) [] HasReturned
-next-settled f children fits phase all g named =
-    let s : IsSearchingFrame f = fits.searching (inr phase) in (
-      childless f children all fits.kin,
-      record {
-        window = fits.window;
-        marked = refl;
-        idle = λ _ _. refl;
-        searching = ⊎_elim (λ (e : 4 ≡ 2). absurd (omega arith)) (λ (e : 4 ≡ 3). absurd (omega arith));
-        done = λ _. record {
-          bound = all_settled (value_at f) (code_at f) f.statuses f.rests f.alpha f.beta f.best (value f) f.choice s.search all g;
-          named = named;
-          all = λ _. all;
-          found = λ higher _ _. s.search.found higher;
-        };
-        table = fits.table;
-        whole = λ root _. fits.whole root (λ (e : f.phase ≡ 0). absurd (omega arith));
-        kin = tt;
-        once = λ i. omega arith;
-      },
-    )
+next-settled f children fits phase all g named = grind (arith, childless, all_settled, kin)
 
 -- next, phase 4
 pub next-done : (f : Frame) (children : List Frame) → Fits f children Neither → f.phase ≡ 4 → (children ≡ []) × Fits f [] HasReturned

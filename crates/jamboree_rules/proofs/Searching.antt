@@ -1,24 +1,37 @@
 -- One frame's search, over the values v of its choices, the codes of its choices, their statuses and what is found of them.
-use Rattle.std.specs.Prelude.{◌≡◌, ◌≢◌, ℕ, ◌<◌, ℤ, neg_ℤ, ◌<ℤ◌, ◌≤ℤ◌, List, length, refl, slice_index, slice_set}
+use Rattle.std.specs.Prelude.{◌≡◌, ◌≢◌, ℕ, ◌<◌, ℤ, neg_ℤ, ◌<ℤ◌, ◌≤ℤ◌, List, length, refl, slice_index, slice_set, suc, Bool, true, false, [], ◌∷◌, Some, map, find, slice_index_or, ◌⊎◌, int_le, replicate}
 use Rattle.std.specs.Int.{int_max}
-use Rattle.std.proofs.Common.{sym, ◌∙◌, ap, subst, arith}
+use Rattle.std.proofs.Common.{sym, ◌∙◌, ap, subst, arith, inl, inr}
 use Rattle.std.proofs.lemmas.Grind.{common_steps}
-use Rattle.std.proofs.lemmas.Int.{ints, clamps}
+use Rattle.std.proofs.lemmas.Int.{ints, clamps, by_lt_z}
 use Rattle.leaf_search.specs.Bounds.{IsBound}
-use Rattle.leaf_search.specs.othello_eval.declared.bound.BoundKind.TheVariants.{Exact}
-use Rattle.jamboree_rules.specs.Places.{kind_in}
-use Rattle.jamboree_rules.specs.Entries.{IsOfKind}
-use Rattle.jamboree_rules.specs.Fits.{IsFound, IsSearching}
+use Rattle.jamboree_rules.specs.Places.{kind_in, kind_number, score_in, is_rest}
+use Rattle.jamboree_rules.specs.Entries.{IsOfKind, IsTrueRest}
+use Rattle.jamboree_rules.specs.Fits.{IsFound, IsSearching, IsInRole, IsChildOf, IsTabled}
+use Rattle.othello_moves.specs.declared.choices.Choice.{Choice, TheVariants.Pass}
+use Rattle.othello_moves.specs.Choices.{choices, after}
+use Rattle.leaf_search.specs.othello_eval.Values.{final_value}
+use Rattle.leaf_search.specs.othello_eval.Minimax.{best_choice, choice_value, greatest_or, minimax}
+use Rattle.leaf_search.proofs.EvalLemmas.MinimaxLemmas.{minimax-deeper, best_choice-deeper, int_equal-same, int_equal-below}
+use Rattle.jamboree_rules.specs.Frames.{Frame, board, choice_at, code_at, coded, value_at, value, least, greatest}
+use Rattle.othello_board.specs.declared.cells.Cell.{Cell}
+use Rattle.std.proofs.lemmas.Bool.{cases_eq}
+use Rattle.std.proofs.lemmas.List.{get_or_past}
+use Rattle.leaf_search.specs.othello_eval.declared.bound.BoundKind.{BoundKind, TheVariants.Exact}
+use Rattle.leaf_search.specs.othello_eval.Tables.{Says, entered}
+use Rattle.jamboree_rules.specs.Acts.{seen, kind_by, kind_of, found_rest}
+use Rattle.jamboree_rules.proofs.Forms.{kind-some, kind-read, score-read, same-kind, rest-passes}
 
 -- the score of a child with the window from -high to -low, seen from the parent
-pub low_side : (low high sc m : ℤ) → IsBound low high sc m → high ≤ℤ sc → neg_ℤ m ≤ℤ neg_ℤ sc
-low_side low high sc m b h = let over : sc ≤ℤ m = b.lower h in omega (arith, ints)
+module _ (low high sc m : ℤ) (b : IsBound low high sc m) where
+  pub low_side : high ≤ℤ sc → neg_ℤ m ≤ℤ neg_ℤ sc
+  low_side h = let over : sc ≤ℤ m = b.lower h in omega (arith, ints)
 
-pub high_side : (low high sc m : ℤ) → IsBound low high sc m → sc ≤ℤ low → neg_ℤ sc ≤ℤ neg_ℤ m
-high_side low high sc m b h = let under : m ≤ℤ sc = b.upper h in omega (arith, ints)
+  pub high_side : sc ≤ℤ low → neg_ℤ sc ≤ℤ neg_ℤ m
+  high_side h = let under : m ≤ℤ sc = b.upper h in omega (arith, ints)
 
-pub inner_side : (low high sc m : ℤ) → IsBound low high sc m → low <ℤ sc → sc <ℤ high → neg_ℤ m ≡ neg_ℤ sc
-inner_side low high sc m b h g = ap neg_ℤ (b.exact h g)
+  pub inner_side : low <ℤ sc → sc <ℤ high → neg_ℤ m ≡ neg_ℤ sc
+  inner_side h g = ap neg_ℤ (b.exact h g)
 
 -- a status that is set
 pub set_there : (st : List ℕ) (i x : ℕ) → i < length st → slice_index (slice_set st i x) i ≡ x
@@ -50,37 +63,37 @@ IsSearching-mark v code st rests alpha beta best choice i x rest inside unsettle
 }
 
 -- inlet cases 2 and 3 with a score at most the greater of alpha and best
-pub IsSearching-low : (v : ℕ → ℤ) (code : ℕ → ℕ) (st rests : List ℕ) (alpha beta best score : ℤ) (choice i rest : ℕ) → alpha <ℤ beta → i < length st → slice_index st i ≢ 2 →
-    score ≤ℤ int_max alpha best → v i ≤ℤ score →
-    IsSearching v code st rests alpha beta best choice → IsSearching v code (slice_set st i 2) (slice_set rests i rest) alpha beta (int_max best score) choice
-IsSearching-low v code st rests alpha beta best score choice i rest window inside unsettled low under s = record {
-  below = let b : best <ℤ beta = s.below in omega (arith, ints, clamps);
-  settled = settled-set v st (int_max best score) i 2 inside (λ e. omega (arith, ints, clamps)) (λ k below is. let h : v k ≤ℤ best = s.settled k below is in omega (arith, ints, clamps));
-  found = λ (higher : alpha <ℤ int_max best score).
-      let same : int_max best score ≡ best = omega (arith, ints, clamps) in
-      let above : alpha <ℤ best = omega (arith, ints, clamps) in
-      subst (λ (b : ℤ). IsFound v code (slice_set st i 2) (slice_set rests i rest) b choice) (sym same) (found-set v code st rests best choice i 2 rest inside unsettled (s.found above));
-}
+module _ (v : ℕ → ℤ) (code : ℕ → ℕ) (st rests : List ℕ) (alpha beta best score : ℤ) (choice i rest : ℕ) where
+  pub IsSearching-low : alpha <ℤ beta → i < length st → slice_index st i ≢ 2 → score ≤ℤ int_max alpha best → v i ≤ℤ score →
+      IsSearching v code st rests alpha beta best choice → IsSearching v code (slice_set st i 2) (slice_set rests i rest) alpha beta (int_max best score) choice
+  IsSearching-low window inside unsettled low under s = record {
+    below = let b : best <ℤ beta = s.below in omega (arith, ints, clamps);
+    settled = settled-set v st (int_max best score) i 2 inside (λ e. omega (arith, ints, clamps)) (λ k below is. let h : v k ≤ℤ best = s.settled k below is in omega (arith, ints, clamps));
+    found = λ (higher : alpha <ℤ int_max best score).
+        let same : int_max best score ≡ best = omega (arith, ints, clamps) in
+        let above : alpha <ℤ best = omega (arith, ints, clamps) in
+        subst (λ (b : ℤ). IsFound v code (slice_set st i 2) (slice_set rests i rest) b choice) (sym same) (found-set v code st rests best choice i 2 rest inside unsettled (s.found above));
+  }
 
--- inlet case 2 with a score above the greater of alpha and best: it is exact, and every earlier choice is settled
-pub IsSearching-higher : (v : ℕ → ℤ) (code : ℕ → ℕ) (st rests : List ℕ) (alpha beta best score : ℤ) (choice i rest : ℕ) → i < length st → length rests ≡ length st → IsOfKind rest Exact →
-    int_max alpha best <ℤ score → score <ℤ beta → v i ≡ score → ((k : ℕ) → k < i → slice_index st k ≡ 2) →
-    IsSearching v code st rests alpha beta best choice → IsSearching v code (slice_set st i 2) (slice_set rests i rest) alpha beta (int_max best score) (code i)
-IsSearching-higher v code st rests alpha beta best score choice i rest inside long kind high below exact earlier s =
-    let same : int_max best score ≡ score = omega (arith, ints, clamps) in
-    record {
-      below = omega (arith, ints, clamps);
-      settled = settled-set v st (int_max best score) i 2 inside (λ e. omega (arith, ints, clamps)) (λ k under is. let h : v k ≤ℤ best = s.settled k under is in omega (arith, ints, clamps));
-      found = λ higher. record {
-        place = i;
-        inside = omega (arith, set_length st i 2);
-        settled = set_there st i 2 inside;
-        exact = ap kind_in (set_there rests i rest (omega arith)) ∙ kind;
-        named = refl;
-        worth = exact ∙ sym same;
-        earlier = λ k under. let h : v k ≤ℤ best = s.settled k (omega arith) (earlier k under) in omega (arith, ints, clamps);
-      };
-    }
+  -- inlet case 2 with a score above the greater of alpha and best: it is exact, and every earlier choice is settled
+  pub IsSearching-higher : i < length st → length rests ≡ length st → IsOfKind rest Exact → int_max alpha best <ℤ score → score <ℤ beta → v i ≡ score →
+      ((k : ℕ) → k < i → slice_index st k ≡ 2) → IsSearching v code st rests alpha beta best choice →
+      IsSearching v code (slice_set st i 2) (slice_set rests i rest) alpha beta (int_max best score) (code i)
+  IsSearching-higher inside long kind high below exact earlier s =
+      let same : int_max best score ≡ score = omega (arith, ints, clamps) in
+      record {
+        below = omega (arith, ints, clamps);
+        settled = settled-set v st (int_max best score) i 2 inside (λ e. omega (arith, ints, clamps)) (λ k under is. let h : v k ≤ℤ best = s.settled k under is in omega (arith, ints, clamps));
+        found = λ higher. record {
+          place = i;
+          inside = omega (arith, set_length st i 2);
+          settled = set_there st i 2 inside;
+          exact = ap kind_in (set_there rests i rest (omega arith)) ∙ kind;
+          named = refl;
+          worth = exact ∙ sym same;
+          earlier = λ k under. let h : v k ≤ℤ best = s.settled k (omega arith) (earlier k under) in omega (arith, ints, clamps);
+        };
+      }
 
 -- m is the greatest of the first n values
 pub record IsGreatest (v : ℕ → ℤ) (n : ℕ) (m : ℤ) : Type 0 where
@@ -115,3 +128,172 @@ all_settled v code st rests alpha beta best m choice s all g =
           let worth : v f.place ≡ best = f.worth in
           omega (arith, ints);
     }
+
+-- The minimax value and the best choice of a frame, by places in the list of choices.
+
+-- the value at a place of a list
+abbrev pub at : {X : Type 0} → (X → ℤ) → List X → X → ℕ → ℤ
+at v xs other i = v (slice_index_or xs i other)
+
+first-greatest : (x m : ℤ) → m <ℤ x → x ≡ int_max x m
+first-greatest x m h = omega (arith, ints, clamps)
+
+second-greatest : (x m : ℤ) → x ≤ℤ m → m ≡ int_max x m
+second-greatest x m h = omega (arith, ints, clamps)
+
+module _ {X : Type 0} (v : X → ℤ) (other : X) where
+  above-both : (x : X) (xs : List X) (m : ℤ) → ((k : ℕ) → k < length xs → at v xs other k ≤ℤ m) → (k : ℕ) → k < suc (length xs) → at v (x ∷ xs) other k ≤ℤ int_max (v x) m
+  above-both x xs m h6 k h8 = grind arith
+
+  pub greatest-is : (none : ℤ) (x : X) (xs : List X) → IsGreatest (at v (x ∷ xs) other) (length (x ∷ xs)) (greatest_or none (map v (x ∷ xs)))
+  greatest-is none x [] = grind arith
+  greatest-is none x (y ∷ xs) =
+      let rest : IsGreatest (at v (y ∷ xs) other) (length (y ∷ xs)) (greatest_or none (map v (y ∷ xs))) = greatest-is none y xs in
+      let m : ℤ = greatest_or none (map v (y ∷ xs)) in
+      let here : at v (y ∷ xs) other rest.place ≡ m = rest.attained in
+      by_lt_z m (v x)
+      (λ less. record {
+        above = above-both x (y ∷ xs) m rest.above;
+        place = 0;
+        inside = omega arith;
+        attained = first-greatest (v x) m less;
+      })
+      (λ more. record {
+        above = above-both x (y ∷ xs) m rest.above;
+        place = suc rest.place;
+        inside = omega (arith, rest.inside);
+        attained = here ∙ second-greatest (v x) m more;
+      })
+
+pub find-is : {X : Type 0} (p : X → Bool) (other : X) (xs : List X) (j : ℕ) → j < length xs → p (slice_index_or xs j other) ≡ true →
+    ((k : ℕ) → k < j → p (slice_index_or xs k other) ≡ false) → find p xs ≡ Some (slice_index_or xs j other)
+find-is p other (x ∷ xs) (suc j) below here before =
+    let first : p x ≡ false = before 0 (omega arith) in
+    rw first (find-is p other xs j (omega arith) here (λ k under. before (suc k) (omega arith)))
+find-is p other xs j below here before = grind arith
+
+-- the value of a frame that has choices is the greatest of theirs
+greatest-at : (cs : List Choice) (v : Choice → ℤ) (none : ℤ) → 0 < length cs → IsGreatest (at v cs Pass) (length cs) (greatest_or none (map v cs))
+greatest-at [] v none some = absurd (omega arith)
+greatest-at (c ∷ cs) v none some = greatest-is v Pass none c cs
+
+pub IsGreatest-frame : (f : Frame) → 0 < f.depth → 0 < length (choices (board f)) → IsGreatest (value_at f) (length (choices (board f))) (value f)
+IsGreatest-frame f deep some =
+    let g : IsGreatest (value_at f) (length (choices (board f))) (greatest_or (final_value (board f)) (map (choice_value f.depth (board f)) (choices (board f)))) =
+    greatest-at (choices (board f)) (choice_value f.depth (board f)) (final_value (board f)) some in
+    subst (λ (m : ℤ). IsGreatest (value_at f) (length (choices (board f))) m) (sym (minimax-deeper f.depth (board f) deep)) g
+
+-- the choice that is found first with the greatest value is the best choice
+module _ (f : Frame) (st rests : List ℕ) (deep : 0 < f.depth) (len : length st ≡ length (choices (board f))) where
+  pub found-best : (found : IsFound (value_at f) (code_at f) st rests f.best f.choice) → value f ≡ f.best → best_choice f.depth (board f) ≡ Some (choice_at f found.place)
+  found-best found same = grind (arith, best_choice-deeper, find-is, int_equal-same, int_equal-below)
+
+  pub named-best : IsFound (value_at f) (code_at f) st rests f.best f.choice → value f ≡ f.best → f.choice ≡ coded (best_choice f.depth (board f))
+  named-best found same = found.named ∙ ap coded (sym (found-best found same))
+
+-- What a child's role says, and what it keeps.
+
+-- the value of a child's choice is the child's own, seen from the parent
+pub worth_of : (f c : Frame) → IsChildOf f c → c.phase ≢ 0 → value_at f c.number ≡ neg_ℤ (value c)
+worth_of f c kin there = ap neg_ℤ (ap (λ (d : ℕ). minimax d (after (board f) (choice_at f c.number))) (sym kin.shallower) ∙ ap (λ (b : List Cell). minimax c.depth b) (sym (kin.known there)))
+
+-- a child of another number stays a child where a status is set that isn't its own and that no other search again relies on
+pub role-kept-mark : (f c : Frame) (i x rest : ℕ) → i < length f.statuses → c.number ≢ i → slice_index f.statuses i ≢ 2 → IsInRole f c → IsInRole (record f { statuses = slice_set f.statuses i x; rests = slice_set f.rests i rest }) c
+role-kept-mark f c i x rest h6 h7 h8 h9 = grind (arith, set_beside)
+
+-- A frame's table: what is said of a choice is true, and stays so while other entries are set.
+
+pub le-told : (x y : ℤ) → true ≡ int_le x y → x ≤ℤ y
+le-told x y e = grind (arith, ints)
+
+pub not-le-told : (x y : ℤ) → false ≡ int_le x y → y <ℤ x
+not-le-told x y e = grind (arith, ints)
+
+-- the kind of a child's score is right, seen from the parent
+says-by : (low high : Bool) (alpha beta s m : ℤ) → low ≡ int_le (neg_ℤ s) (neg_ℤ beta) → high ≡ int_le (neg_ℤ alpha) (neg_ℤ s) → IsBound alpha beta s m → Says (kind_by low high) (neg_ℤ s) (neg_ℤ m)
+says-by true high alpha beta s m el eh b =
+    let under : neg_ℤ s ≤ℤ neg_ℤ beta = le-told (neg_ℤ s) (neg_ℤ beta) el in
+    let over : s ≤ℤ m = b.lower (omega (arith, ints)) in omega (arith, ints)
+says-by false true alpha beta s m el eh b =
+    let above : neg_ℤ alpha ≤ℤ neg_ℤ s = le-told (neg_ℤ alpha) (neg_ℤ s) eh in
+    let under : m ≤ℤ s = b.upper (omega (arith, ints)) in omega (arith, ints)
+says-by false false alpha beta s m el eh b =
+    let above : neg_ℤ beta <ℤ neg_ℤ s = not-le-told (neg_ℤ s) (neg_ℤ beta) el in
+    let under : neg_ℤ s <ℤ neg_ℤ alpha = not-le-told (neg_ℤ alpha) (neg_ℤ s) eh in
+    ap neg_ℤ (b.exact (omega (arith, ints)) (omega (arith, ints)))
+
+-- what a returned child's score says of its choice is true
+pub found-true : (c : Frame) (v : ℤ) → least ≤ℤ seen c → IsBound c.alpha c.beta c.best (value c) → v ≡ neg_ℤ (value c) → IsTrueRest (found_rest c) v
+found-true c v low bound worth kind is =
+    let own : BoundKind = kind_of (neg_ℤ c.beta) (neg_ℤ c.alpha) (seen c) in
+    let says : Says own (seen c) (neg_ℤ (value c)) = says-by (int_le (seen c) (neg_ℤ c.beta)) (int_le (neg_ℤ c.alpha) (seen c)) c.alpha c.beta c.best (value c) refl refl bound in
+    let there : Says own (score_in (found_rest c)) v = subst (λ (s : ℤ). Says own s v) (sym (score-read own (seen c) low)) (subst (λ (m : ℤ). Says own (seen c) m) (sym worth) says) in
+    same-kind (λ (k : BoundKind). Says k (score_in (found_rest c)) v) own kind (sym (kind-read own (seen c)) ∙ is) there
+
+-- and it says something
+pub found-said : (c : Frame) → kind_in (found_rest c) ≢ 0
+found-said c none = kind-some (kind_of (neg_ℤ c.beta) (neg_ℤ c.alpha) (seen c)) (sym (kind-read (kind_of (neg_ℤ c.beta) (neg_ℤ c.alpha) (seen c)) (seen c)) ∙ none)
+
+kind-exact : (low high : Bool) → low ≡ false → high ≡ false → kind_number (kind_by low high) ≡ 3
+kind-exact low high el eh = rw (el, eh) refl
+
+above-told : (x y : ℤ) → y <ℤ x → int_le x y ≡ false
+above-told x y h = grind (arith, ints)
+
+-- inside its window it is exact
+pub found-exact : (c : Frame) → neg_ℤ c.beta <ℤ seen c → seen c <ℤ neg_ℤ c.alpha → IsOfKind (found_rest c) Exact
+found-exact c over under = grind (arith, kind-read, kind-exact, above-told)
+
+pub found-passes : (c : Frame) → least ≤ℤ c.best → c.best ≤ℤ greatest → is_rest (found_rest c) ≡ true
+found-passes c low high = rest-passes (kind_of (neg_ℤ c.beta) (neg_ℤ c.alpha) (seen c)) (seen c) (omega (arith, ints)) (omega (arith, ints))
+
+-- a rest of nothing says nothing
+pub nothing-true : (rest : ℕ) (v : ℤ) → rest ≡ 0 → IsTrueRest rest v
+nothing-true rest v none kind is = absurd (kind-some kind (sym is ∙ ap kind_in none))
+
+-- an entry is set
+pub tabled-set : (v : ℕ → ℤ) (st rests : List ℕ) (i x rest : ℕ) → i < length st → IsTrueRest rest (v i) → (x ≡ 2 → kind_in rest ≢ 0) → IsTabled v st rests → IsTabled v (slice_set st i x) (slice_set rests i rest)
+tabled-set v st rests i x rest inside holds said t = record {
+  places = set_length rests i rest ∙ t.places ∙ sym (set_length st i x);
+  holds = λ k. true-set v rests i rest k (omega (arith, t.places)) holds (t.holds k);
+  said = λ k. said-set st rests i x rest k inside (omega (arith, t.places)) said (t.said k);
+}
+  where
+    true-set : (v : ℕ → ℤ) (rests : List ℕ) (i rest k : ℕ) → i < length rests → IsTrueRest rest (v i) → IsTrueRest (slice_index rests k) (v k) → IsTrueRest (slice_index (slice_set rests i rest) k) (v k)
+    true-set v rests i rest k inside here there = elim (cases_eq k i) [
+      | inl same ↦ subst (λ (r : ℕ). IsTrueRest r (v k)) (sym (ap (λ (j : ℕ). slice_index (slice_set rests i rest) j) same ∙ set_there rests i rest inside)) (subst (λ (j : ℕ). IsTrueRest rest (v j)) (sym same) here)
+      | inr other ↦ subst (λ (r : ℕ). IsTrueRest r (v k)) (sym (set_beside rests i rest k other)) there
+    ]
+
+    said-set : (st rests : List ℕ) (i x rest k : ℕ) → i < length st → i < length rests → (x ≡ 2 → kind_in rest ≢ 0) → (slice_index st k ≡ 2 → kind_in (slice_index rests k) ≢ 0) →
+        slice_index (slice_set st i x) k ≡ 2 → kind_in (slice_index (slice_set rests i rest) k) ≢ 0
+    said-set st rests i x rest k inside within here there is = elim (cases_eq k i) [
+      | inl same ↦ grind (arith, set_there)
+      | inr other ↦ subst (λ (r : ℕ). kind_in r ≢ 0) (sym (set_beside rests i rest k other)) (there (sym (set_beside st i x k other) ∙ is))
+    ]
+
+-- a status that `next` stores keeps what is said
+pub tabled-kept : (v : ℕ → ℤ) (st rests : List ℕ) (i x : ℕ) → i < length st → x ≢ 2 → IsTabled v st rests → IsTabled v (slice_set st i x) (slice_set rests i (slice_index rests i))
+tabled-kept v st rests i x inside other t = tabled-set v st rests i x (slice_index rests i) inside (t.holds i) (λ two. absurd (other two)) t
+
+pub zero-at : (n k : ℕ) → slice_index (replicate n 0) k ≡ 0
+zero-at n k = grind (arith, common_steps)
+
+-- before anything is found
+pub tabled-zeros : (v : ℕ → ℤ) (n : ℕ) → IsTabled v (replicate n 0) (replicate n 0)
+tabled-zeros v n = grind (arith, nothing-true, zero-at)
+
+no-places : (xs : List ℕ) (k : ℕ) → length xs ≡ 0 → slice_index xs k ≡ 0
+no-places xs k none = get_or_past xs k 0 (omega arith)
+
+-- where there are no places
+pub tabled-none : (v : ℕ → ℤ) (st rests : List ℕ) → length st ≡ 0 → length rests ≡ 0 → IsTabled v st rests
+tabled-none v st rests sn rn = grind (arith, nothing-true, no-places)
+
+-- at depth 1 and more all choices have a place
+pub entered-deep : (depth : ℕ) (board : List Cell) → 0 < depth → entered depth board ≡ choices board
+entered-deep depth board h3 = grind arith
+
+-- and at depth 0, or in a finished game, none
+pub entered-none : (depth : ℕ) (board : List Cell) → (depth ≡ 0) ⊎ (length (choices board) ≡ 0) → length (entered depth board) ≡ 0
+entered-none depth board h3 = grind arith

@@ -49,6 +49,7 @@ pub fn same_leaves_are_equal()
 
 /// The words of a new root, of a board and a depth of at most 12, satisfy `AreFitting` (`fits`), and have the
 /// board, the depth and the full window of the words that it was submitted with (`rooted`).
+#[tactic(auto, using(crate::proofs::Rooted::root_fits))]
 pub fn a_new_root_fits()
     ensures fits { (own opp depth : ℕ) → bit_and own opp ≡ 0 → depth ≤ 12 → AreFitting (padded (root_words own opp depth) frame_size) [] Neither }
     ensures rooted { (own opp depth : ℕ) → bit_and own opp ≡ 0 → depth ≤ 12 → IsRoot (root_words own opp depth) (padded (root_words own opp depth) frame_size) }
@@ -56,6 +57,7 @@ pub fn a_new_root_fits()
 
 /// A root that has returned holds the minimax value of its board to its depth, and the code of the best choice
 /// (65 for none).
+#[tactic(auto, using(crate::proofs::Rooted::root_value))]
 pub fn a_returned_root_holds_value_and_choice()
     ensures value { (origin words : List ℕ) → AreFitting words [] HasReturned → IsRoot origin words → (frame_of words).best ≡ value (frame_of words) }
     ensures choice { (origin words : List ℕ) → AreFitting words [] HasReturned → IsRoot origin words →
@@ -78,6 +80,7 @@ pub fn a_returned_root_holds_a_table()
 
 /// Where `AreFitting` holds of a frame and its children, the frame is sound (`IsSound`): what it says of minimax
 /// values is true.
+#[tactic(auto, using(crate::proofs::Rooted::fits_sound))]
 pub fn a_fitting_frame_is_sound()
     ensures { (words : List ℕ) (children : List (List ℕ)) (mark : Mark) → AreFitting words children mark → IsSound (frame_of words) (map frame_of children) }
 {}

@@ -1,5 +1,7 @@
 //! The acts, tried on the opening searched to depth 1 with grain 0: each contract is computed from
 //! the definitions alone.
+#![tactic(auto, unfolding(othello_board::specs::Rules::squares, othello_board::specs::Rules::squares_beside, othello_moves::specs::Choices::in_order))]
+
 ghost use Rattle.std.specs.Prelude.{◌≡◌, [], ◌∷◌, true, false};
 ghost use Rattle.sched_rules.specs.declared.act.Continuation.TheVariants.{Grow, Spawn, Wait, Compute, Return};
 ghost use Rattle.jamboree_rules.specs.Acts.{next_act, inlet_act, returns, wakes};

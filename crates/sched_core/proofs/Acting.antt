@@ -17,7 +17,7 @@ use Rattle.sched_rules.specs.Lone.{unless, act_tests, is_computed_by, is_run_by,
 use Rattle.sched_rules.specs.Changes.{on_tenant}
 use Rattle.sched_rules.specs.Views.{named}
 use Rattle.sched_rules.specs.Cores.{CoreState, tenant_in, step_result, shared_refusal}
-use Rattle.sched_laws.proofs.Words.{frame_at-with_frame_words}
+use Rattle.sched_laws.proofs.Holds.{frame_at-with_frame_words}
 use Rattle.sched_store.specs.Reads.{frames_in_core, serials_in, words_under, sight_of, may_hold, holds, is_busy_among}
 use Rattle.sched_core.specs.StepResults.{IsCome}
 use Rattle.sched_core.specs.declared.engine.Seen.{Seen}

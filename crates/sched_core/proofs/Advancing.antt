@@ -18,8 +18,8 @@ use Rattle.sched_rules.specs.Changes.{on_tenant}
 use Rattle.sched_rules.specs.Views.{named}
 use Rattle.sched_rules.specs.Cores.{CoreState, with_tenant, without_tenant, with_outcome}
 use Rattle.sched_laws.specs.Shapes.{IsShaped, AreShaped}
-use Rattle.sched_laws.proofs.Answers.{shaped-in}
-use Rattle.sched_laws.proofs.Words.{length-stored, children_of-with_frame_words, length-with_frame_words, charged-with_frame_words}
+use Rattle.sched_laws.proofs.Consequences.{shaped-in}
+use Rattle.sched_laws.proofs.Holds.{length-stored, children_of-with_frame_words, length-with_frame_words, charged-with_frame_words}
 use Rattle.sched_store.specs.Reads.{TenantHasStepLeft, words_under}
 use Rattle.sched_core.specs.Seeing.{GoesOn}
 use Rattle.sched_core.specs.StepResults.{FollowsResult, IsCome}

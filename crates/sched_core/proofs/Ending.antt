@@ -17,8 +17,7 @@ use Rattle.sched_rules.specs.Views.{named, job_of}
 use Rattle.sched_rules.specs.Cores.{CoreState, tenant_in, step_result, shared_refusal}
 use Rattle.sched_laws.specs.Shapes.{AreShaped}
 use Rattle.sched_laws.proofs.Parts.{path-there}
-use Rattle.sched_laws.proofs.Answers.{shaped-in}
-use Rattle.sched_laws.proofs.Consequences.{live-root, root-above}
+use Rattle.sched_laws.proofs.Consequences.{shaped-in, live-root, root-above}
 use Rattle.sched_store.specs.Reads.{frames_in_core, words_under}
 use Rattle.sched_core.proofs.Changing.{with_change-there}
 use Rattle.sched_core.proofs.TakenStep.{IsWith, IsGoing, going}

@@ -15,8 +15,7 @@ use Rattle.sched_rules.specs.Cores.{CoreState, shared_by_nobody}
 use Rattle.sched_rules.specs.Headline.{IsOneStep}
 use Rattle.sched_laws.specs.Fitted.{RootFits, origins_after}
 use Rattle.sched_laws.proofs.Holds.{F, kids, fits-holds}
-use Rattle.sched_laws.proofs.Levels.{IsLawful, sight-top, sight-under}
-use Rattle.sched_laws.proofs.Fits.{FitsSomehow}
+use Rattle.sched_laws.proofs.Fits.{IsLawful, sight-top, sight-under, FitsSomehow}
 use Rattle.sched_store.specs.Reads.{sight_of, words_under}
 use Rattle.sched_core.specs.declared.engine.Seen.{Seen}
 use Rattle.sched_core.specs.Keeping.{IsKeptFitting, IsFitting}

@@ -22,8 +22,7 @@ use Rattle.sched_rules.specs.Changes.{on_tenant}
 use Rattle.sched_rules.specs.Views.{named}
 use Rattle.sched_rules.specs.Cores.{CoreState, tenant_in, is_busy_elsewhere, unless_busy, step_result, shared_refusal}
 use Rattle.sched_laws.specs.Shapes.{AreShaped}
-use Rattle.sched_laws.proofs.Answers.{shaped-in}
-use Rattle.sched_laws.proofs.Consequences.{returned-leaf}
+use Rattle.sched_laws.proofs.Consequences.{shaped-in, returned-leaf}
 use Rattle.sched_store.specs.Reads.{is_busy_among, AreTenantsRising, words_under, frames_in_core, TenantHasStepLeft}
 use Rattle.sched_core.specs.declared.engine.Seen.{Seen}
 use Rattle.sched_core.specs.Seeing.{MayBeTakenIn, IsReturnedUnder}

@@ -8,7 +8,7 @@ use Rattle.sched_rules.specs.Trees.{Tenant, left}
 use Rattle.sched_rules.specs.Cores.{CoreState, tenant_in}
 use Rattle.sched_rules.specs.Views.{left_in_core, newest_ready_in}
 use Rattle.sched_laws.specs.Shapes.{IsShaped}
-use Rattle.sched_laws.proofs.Answers.{shaped-in}
+use Rattle.sched_laws.proofs.Consequences.{shaped-in}
 use Rattle.sched_laws.proofs.Sums.{left-segments, left-nodes, left-steps}
 use Rattle.sched_laws.proofs.Latest.{newest-found}
 use Rattle.sched_core.specs.Keeping.{IsKeptCore, IsRestOf, IsNewestReadyOf}

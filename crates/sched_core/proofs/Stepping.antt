@@ -17,9 +17,9 @@ use Rattle.sched_rules.specs.Runs.{only}
 use Rattle.sched_rules.specs.Headline.{taken_steps}
 use Rattle.std.specs.Prelude.{OnErr, is_ok}
 use Rattle.sched_laws.specs.Fitted.{CoreFits, RootFits, RootsFit, origins_of, origins_after}
-use Rattle.sched_laws.proofs.Levels.{IsLawful}
+use Rattle.sched_laws.proofs.Fits.{IsLawful}
 use Rattle.sched_laws.proofs.FitAnswers.{answer-keeps, run-fits}
-use Rattle.sched_laws.proofs.Answers.{shaped-answer}
+use Rattle.sched_laws.proofs.Consequences.{shaped_answer}
 use Rattle.sched_laws.proofs.Sums.{reserved-answer}
 use Rattle.sched_core.specs.Keeping.{IsKeptCore}
 use Rattle.sched_core.specs.StepResults.{FollowsResult, IsAdmitted}
@@ -66,7 +66,7 @@ known-still functions before step (Err refusal) after known is = rw is.left know
 pub kept-still : {I A : Type 0} (functions : Functions I A) (before : CoreState) (step : StepOf A) (answer : Result (DidOf I) Refusal) (after : CoreState) → IsKeptCore before → IsOneStep functions before step answer after → IsKeptCore after
 kept-still functions before step answer after kept is =
     record {
-      shaped = rw is.left (shaped-answer functions before step answer kept.shaped);
+      shaped = rw is.left (shaped_answer functions before step answer kept.shaped);
       known = known-still functions before step answer after kept.known is;
       within = rw is.left (reserved-answer functions before step answer kept.within);
     }

@@ -1,19 +1,26 @@
 -- What the shape of a tenant gives.
-use Rattle.std.proofs.Common.{◌≡◌, ℕ, suc, ◌+◌, ◌-◌, ◌≤◌, inl, inr, true, List, [], ◌∷◌, Some, length, ap, ◌∙◌, arith}
+use Rattle.std.proofs.Common.{◌≡◌, ℕ, suc, ◌+◌, ◌-◌, ◌≤◌, inl, inr, true, List, [], ◌∷◌, Some, length, ap, ◌∙◌, arith, Bool, false, eqb, Option, None, Result, Ok, Err, ◌++◌}
 use Rattle.std.proofs.lemmas.Bool.{cases_Bool, ne_eqb}
 use Rattle.std.proofs.lemmas.List.Sums.{sum_by-cons}
 use Rattle.sched_rules.specs.cactus_stack.Nodes.{charge}
-use Rattle.tenant_quota.specs.Quota.{IsWithinLimits}
+use Rattle.tenant_quota.specs.Quota.{IsWithinLimits, Quota}
 use Rattle.tenant_quota.specs.Accounts.{IsWithinReserve}
 use Rattle.frame_tree.specs.declared.names.State.TheVariants.{Computing, Returned}
 use Rattle.frame_tree.specs.Frames.{Frame, frame_at, path_in, root_of, children_of}
 use Rattle.frame_tree.proofs.TreeValues.{root-there}
-use Rattle.sched_rules.specs.declared.job.Job.{Job}
-use Rattle.sched_rules.specs.declared.job.Job.TheVariants.{Live}
-use Rattle.sched_rules.specs.Trees.{Tree, Tenant, account_in, charged_for, is_root, job_at, is_live_at, number_from, job_under}
+use Rattle.sched_rules.specs.declared.job.Job.{Job, TheVariants.Live, TheVariants.Cancelled as CancelledJob}
+use Rattle.sched_rules.specs.Trees.{Tree, Tenant, account_in, charged_for, is_root, job_at, is_live_at, number_from, job_under, with_ended}
 use Rattle.sched_rules.specs.Laws.{mark_of_state}
-use Rattle.sched_laws.specs.Shapes.{IsShaped, live_count, AreRootsLive, AreLiveRootsThere, HaveWords}
-use Rattle.sched_laws.proofs.Shaped.{returned-childless}
+use Rattle.sched_laws.specs.Shapes.{IsShaped, live_count, AreRootsLive, AreLiveRootsThere, HaveWords, AreShaped}
+use Rattle.sched_laws.proofs.Shaped.{returned-childless, LeftShaped, unless-passed, step-shaped, admitted-shaped, came, by-kinds}
+use Rattle.sched_rules.specs.declared.{refusal.Refusal.Refusal, refusal.Refusal.TheVariants.NoTenant, step.DidOf.DidOf}
+use Rattle.sched_rules.specs.declared.step.StepOf.{StepOf, TheVariants.Admit, TheVariants.AdmitMore}
+use Rattle.sched_rules.specs.Functions.{Functions}
+use Rattle.sched_rules.specs.Lone.{Outcome, lone, lone_step}
+use Rattle.sched_rules.specs.Runs.{tenant_of}
+use Rattle.sched_rules.specs.Cores.{CoreState, tenant_in, with_tenant, without_tenant, with_outcome, meets_busy, unless_busy, unless_beyond, is_beyond, reserved_by, reservations_in, step_among, step_result, shared_after}
+use Rattle.sched_rules.specs.Headline.{after_answer, after_answers}
+use Rattle.sched_laws.specs.Ended.{HasEnded, KeepsEnded}
 
 -- a frame that has returned or computes has no child
 pub returned-leaf : (tenant : Tenant) (s : ℕ) (f : Frame (List ℕ)) → IsShaped tenant → frame_at tenant.frames s ≡ Some f → f.state ≡ Returned → children_of tenant.frames s ≡ []
@@ -63,12 +70,13 @@ pub root-counted : (jobs : List Job) (xs : Tree) (s : ℕ) (f : Frame (List ℕ)
 root-counted jobs [] s f roots at root = absurd cc
 root-counted jobs (x ∷ xs) s f roots at root = grind (arith, root-counted jobs xs s f)
 
-pub root-live : (tenant : Tenant) (s : ℕ) (f : Frame (List ℕ)) → IsShaped tenant → frame_at tenant.frames s ≡ Some f → is_root f.path ≡ true → job_at tenant.jobs (job_under s tenant.jobs) ≡ Some (Live s)
-root-live tenant s f shape at root = (let one = root-counted tenant.jobs tenant.frames s f shape.roots at root in job-found s tenant.jobs (omega (arith, one)))
+module _ (tenant : Tenant) (s : ℕ) (f : Frame (List ℕ)) (shape : IsShaped tenant) (at : frame_at tenant.frames s ≡ Some f) where
+  pub root-live : is_root f.path ≡ true → job_at tenant.jobs (job_under s tenant.jobs) ≡ Some (Live s)
+  root-live root = (let one = root-counted tenant.jobs tenant.frames s f shape.roots at root in job-found s tenant.jobs (omega (arith, one)))
 
--- the root above any frame
-pub root-above : (tenant : Tenant) (s : ℕ) (f : Frame (List ℕ)) → IsShaped tenant → frame_at tenant.frames s ≡ Some f → path_in tenant.frames (root_of f.path) ≡ root_of f.path ∷ []
-root-above tenant s f shape at = root-there tenant.frames s f shape.tree at
+  -- the root above any frame
+  pub root-above : path_in tenant.frames (root_of f.path) ≡ root_of f.path ∷ []
+  root-above = root-there tenant.frames s f shape.tree at
 
 -- nothing is used beyond what is reserved
 pub within-reserve : (tenant : Tenant) → IsWithinLimits tenant.reserve → IsShaped tenant → IsWithinReserve (account_in tenant)
@@ -90,3 +98,104 @@ frames-charged (x ∷ xs) words =
 
 pub few-frames : (tenant : Tenant) → IsShaped tenant → length tenant.frames ≤ tenant.reserve.segments
 few-frames tenant shape = (let some = frames-charged tenant.frames shape.words in let within = shape.charged in omega (arith, some, within))
+
+-- all that the shape gives
+pub ruleset given_by_shape = (returned-leaf, computing-leaf, live-root, root-live, root-above, within-reserve, few-frames)
+
+-- Whatever a step is answered, each tenant has its shape after it.
+
+abbrev Entries : Type 0
+Entries = List (ℕ × Tenant)
+
+pub shaped-in : (n : ℕ) (es : Entries) (t : Tenant) → AreShaped es → tenant_in es n ≡ Some t → IsShaped t
+shaped-in n [] t all is = absurd cc
+shaped-in n (e ∷ es) t all is = grind (arith, shaped-in n es t)
+
+with-shaped : (n : ℕ) (t : Tenant) (es : Entries) → IsShaped t → AreShaped es → AreShaped (with_tenant n t es)
+with-shaped n t [] s all = (s, tt)
+with-shaped n t (e ∷ es) s all = elim (cases_Bool (eqb e.0 n)) [ inl same ↦ rw same (s, all.1) | inr other ↦ rw other (all.0, with-shaped n t es s all.1) ]
+
+without-shaped : (n : ℕ) (es : Entries) → AreShaped es → AreShaped (without_tenant n es)
+without-shaped n [] all = tt
+without-shaped n (e ∷ es) all = elim (cases_Bool (eqb e.0 n)) [ inl same ↦ rw same (without-shaped n es all.1) | inr other ↦ rw other (all.0, without-shaped n es all.1) ]
+
+outcome-shaped : (n : ℕ) (t : Option Tenant) (es : Entries) → LeftShaped t → AreShaped es → AreShaped (with_outcome n t es)
+outcome-shaped n t es s all = grind (arith, without-shaped, with-shaped)
+
+-- a tenant that has the core to itself
+refused : {I : Type 0} (refusal : Refusal) (outcome : Outcome I) → ◌≡◌ {A = Result (Outcome I) Refusal} (Err refusal) (Ok outcome) → LeftShaped outcome.0
+refused refusal outcome e = absurd cc
+
+pub lone-shaped : {I A : Type 0} (functions : Functions I A) (own : Option Tenant) (step : StepOf A) (outcome : Outcome I) → lone functions own step ≡ Ok outcome → LeftShaped own → LeftShaped outcome.0
+lone-shaped functions (Some tenant) step outcome is s = step-shaped functions tenant step outcome is s
+lone-shaped {I} functions None (Admit number quota) outcome is s = grind (arith, came, admitted-shaped)
+lone-shaped functions None _ outcome is s = refused NoTenant outcome is
+
+-- a step among several tenants
+pub not-busy : {I : Type 0} (busy : Bool) (alone : Result (Outcome I) Refusal) (outcome : Outcome I) → unless_busy busy alone ≡ Ok outcome → alone ≡ Ok outcome
+not-busy busy alone outcome is = grind arith
+
+-- so is an admission of more, where the totals allow it
+pub not-beyond : {I : Type 0} (beyond : Bool) (alone : Result (Outcome I) Refusal) (outcome : Outcome I) → unless_beyond beyond alone ≡ Ok outcome → (beyond ≡ false) × (alone ≡ Ok outcome)
+not-beyond beyond alone outcome is = grind arith
+
+-- what was taken of an admission of more
+pub more-taken : {I A : Type 0} (functions : Functions I A) (before : CoreState) (number : ℕ) (quota : Quota) (outcome : Outcome I) → step_result {A = A} functions before (AdmitMore number quota) ≡ Ok outcome →
+    (is_beyond (reservations_in before) (reserved_by (tenant_in before.tenants number)) quota ≡ false) × (lone {A = A} functions (tenant_in before.tenants number) (AdmitMore number quota) ≡ Ok outcome)
+more-taken {A = A} functions before number quota outcome is =
+    let own = tenant_in before.tenants number in
+    not-beyond (is_beyond (reservations_in before) (reserved_by own) quota) (lone {A = A} functions own (AdmitMore number quota)) outcome is
+
+pub own-shaped : (n : ℕ) (es : Entries) → AreShaped es → LeftShaped (tenant_in es n)
+own-shaped n es all = grind (arith, shaped-in)
+
+among-shaped : {I A : Type 0} (functions : Functions I A) (before : CoreState) (step : StepOf A) (outcome : Outcome I) → step_among functions before step ≡ Ok outcome → AreShaped before.tenants → LeftShaped outcome.0
+among-shaped functions before step outcome is all =
+    lone-shaped functions (tenant_in before.tenants (tenant_of step)) step outcome
+    (not-busy (meets_busy step before.tenants) (lone functions (tenant_in before.tenants (tenant_of step)) step) outcome is) (own-shaped (tenant_of step) before.tenants all)
+
+pub step_result-shaped : {I A : Type 0} (functions : Functions I A) (before : CoreState) (step : StepOf A) (outcome : Outcome I) → step_result functions before step ≡ Ok outcome → AreShaped before.tenants → LeftShaped outcome.0
+step_result-shaped {I} functions before (Admit number quota) outcome is all = grind (arith, unless-passed, came, admitted-shaped)
+step_result-shaped {A = A} functions before (AdmitMore number quota) outcome is all = grind (arith, lone-shaped, more-taken, own-shaped)
+step_result-shaped functions before step outcome is all = among-shaped functions before step outcome is all
+
+module _ {I A : Type 0} (functions : Functions I A) where
+  after-shaped : (before : CoreState) (step : StepOf A) (came_to : Result (Outcome I) Refusal) → step_result functions before step ≡ came_to → AreShaped before.tenants → AreShaped (shared_after before step came_to).tenants
+  after-shaped before step came_to is all = grind (arith, outcome-shaped, step_result-shaped)
+
+  pub shaped_answer : (before : CoreState) (step : StepOf A) (answer : Result (DidOf I) Refusal) → AreShaped before.tenants → AreShaped (after_answer functions before step answer).tenants
+  shaped_answer before step answer all = grind (arith, after-shaped)
+
+  pub shaped_answers : (before : CoreState) (steps : List (StepOf A)) (answers : List (Result (DidOf I) Refusal)) → AreShaped before.tenants → AreShaped (after_answers functions before steps answers).tenants
+  shaped_answers before (step ∷ steps) (answer ∷ answers) all =
+      shaped_answers (after_answer functions before step answer) steps answers (shaped_answer before step answer all)
+  shaped_answers before steps answers all = grind arith
+
+-- A job that has ended stays as it is, whatever its tenant does but leave.
+
+-- one more job changes none
+at-append : (jobs : List Job) (more : Job) (number : ℕ) (job : Job) → job_at jobs number ≡ Some job → job_at (jobs ++ more ∷ []) number ≡ Some job
+at-append [] more number job at = absurd cc
+at-append (x ∷ xs) more number job at = grind (arith, at-append xs more)
+
+-- nor does one that ends
+not-live : (root : ℕ) (job : Job) → HasEnded job → is_live_at root job ≡ false
+not-live root job has = grind arith
+
+at-ended : (root : ℕ) (end : Job) (jobs : List Job) (number : ℕ) (job : Job) → HasEnded job → job_at jobs number ≡ Some job → job_at (with_ended root end jobs) number ≡ Some job
+at-ended root end [] number job has at = absurd cc
+at-ended root end (x ∷ xs) number job has at = elim (cases_Bool (eqb number 1)) [
+  | inl first ↦ grind (arith, not-live)
+  | inr later ↦ rw later (at-ended root end xs (number - 1) job has (rw later at at))
+]
+
+pub step-ended : {I A : Type 0} (functions : Functions I A) (tenant : Tenant) (step : StepOf A) (outcome : Outcome I) → lone_step functions tenant step ≡ Ok outcome → KeepsEnded tenant.jobs outcome.0
+step-ended functions tenant step outcome is = by-kinds functions tenant step outcome (KeepsEnded tenant.jobs) is (record {
+  at_raise = λ number quota raises k job has at. at;
+  at_submit = λ serials root frames k job has at. at-append tenant.jobs _ k job at;
+  at_work = λ serials frames k job has at. at;
+  at_finish = λ root words k job has at. at-ended root _ tenant.jobs k job has at;
+  at_spend = λ serial f found k job has at. at-ended (root_of f.path) _ tenant.jobs k job has at;
+  at_cancel = λ number root found k job has at. at-ended root CancelledJob tenant.jobs k job has at;
+  at_leave = λ number leaves. tt;
+})

@@ -1,34 +1,30 @@
 -- Every answer leaves a core fitting, and so does every list of them.
-use Rattle.std.proofs.Common.{◌≡◌, ◌≢◌, ℕ, ◌<◌, ◌≤◌, inl, inr, true, false, eqb, List, [], ◌∷◌, ◌++◌, Option, Some, None, Result, Ok, Err, refl, ap, sym, ◌∙◌, subst, arith, append_assoc, append-nil}
-use Rattle.std.specs.Prelude.{is_ok}
+use Rattle.std.proofs.Common.{◌≡◌, ◌≢◌, ℕ, ◌<◌, ◌≤◌, inl, inr, true, false, eqb, List, [], ◌∷◌, ◌++◌, Option, Some, None, Result, Ok, Err, refl, ap, sym, ◌∙◌, subst, arith, append_assoc, append-nil, suc, ◌+◌, length}
+use Rattle.std.specs.Prelude.{is_ok, ◌==◌}
 use Rattle.std.proofs.lemmas.Bool.{cases_Bool, cases_eq, eq-eqb, ne_eqb}
 use Rattle.tenant_quota.specs.Quota.{Quota}
 use Rattle.frame_tree.specs.Frames.{root_of}
-use Rattle.sched_rules.specs.declared.job.Job.TheVariants.{Spent as SpentJob, Cancelled as CancelledJob}
-use Rattle.sched_rules.specs.declared.refusal.Refusal.{Refusal}
-use Rattle.sched_rules.specs.declared.step.StepOf.{StepOf}
-use Rattle.sched_rules.specs.declared.step.StepOf.TheVariants.{Admit, AdmitMore, Submit}
-use Rattle.sched_rules.specs.declared.step.DidOf.{DidOf}
-use Rattle.sched_rules.specs.declared.step.DidOf.TheVariants.{Admitted}
+use Rattle.sched_rules.specs.declared.{refusal.Refusal.Refusal, act.Continuation.Continuation}
+use Rattle.sched_rules.specs.declared.step.StepOf.{StepOf, TheVariants.Admit, TheVariants.AdmitMore, TheVariants.Submit}
+use Rattle.sched_rules.specs.declared.step.DidOf.{DidOf, TheVariants.Admitted, TheVariants.Submitted}
 use Rattle.sched_rules.specs.Functions.{Functions}
-use Rattle.sched_rules.specs.Trees.{Tenant, admitted_with}
-use Rattle.sched_rules.specs.Laws.{Fitting, Rooting}
-use Rattle.sched_rules.specs.Lone.{Outcome, lone, lone_step}
-use Rattle.sched_rules.specs.Runs.{tenant_of, only}
+use Rattle.sched_rules.specs.Trees.{Tenant, admitted_with, Tree}
+use Rattle.sched_rules.specs.Laws.{Fitting, Rooting, ParentFits, NewChildFits}
+use Rattle.sched_rules.specs.Lone.{Outcome, lone, lone_step, submit_tests, submitted}
+use Rattle.sched_rules.specs.Runs.{tenant_of, only, state_after, answer_of, alone_from, answers_from}
 use Rattle.sched_rules.specs.Cores.{CoreState, shared_by_nobody, tenant_in, with_outcome, meets_busy, step_result, newest_after, shared_with}
 use Rattle.sched_rules.specs.Headline.{is_admission, IsAnswerTo, AreAnswersTo, after_answer, after_answers, taken_steps, AreNumbersGiven}
 use Rattle.sched_rules.proofs.Tenants.{tenant_in-with_outcome, tenant_in_other-with_outcome, known-number}
-use Rattle.sched_rules.proofs.Isolation.{step-taken, there, more-there, above, step_result-step, shared-after-taken}
+use Rattle.sched_rules.proofs.Isolation.{step-taken, there, more-there, above, step_result-step, shared-after-taken, found}
 use Rattle.sched_laws.specs.Shapes.{IsShaped, AreShaped}
-use Rattle.sched_laws.specs.Fitted.{TenantFits, CoreFits, submits, origins_of, RootFits, RootsFit, origins_after, StaysFitting}
+use Rattle.sched_laws.specs.Fitted.{TenantFits, CoreFits, submits, origins_of, RootFits, RootsFit, origins_after, StaysFitting, JobsFit}
 use Rattle.sched_laws.proofs.Shaped.{unless-passed, came, by-effects}
-use Rattle.sched_laws.proofs.Consequences.{root-above, live-root}
-use Rattle.sched_laws.proofs.Answers.{shaped-in, not-busy, more-taken, shaped-answer}
+use Rattle.sched_laws.proofs.Consequences.{root-above, live-root, shaped-in, not-busy, more-taken, shaped_answer}
 use Rattle.sched_laws.proofs.Holds.{Lists}
-use Rattle.sched_laws.proofs.Levels.{IsLawful}
-use Rattle.sched_laws.proofs.Fits.{LeftFits}
-use Rattle.sched_laws.proofs.FitEnds.{ended-fits, submit-fits}
-use Rattle.sched_laws.proofs.FitRuns.{taken-fits, advanced-fits, answered-fits, inlet-fits, finished-fits}
+use Rattle.sched_laws.proofs.Fits.{IsLawful, LeftFits}
+use Rattle.sched_laws.proofs.FitSteps.{ended-fits, submit-fits, taken-fits, advanced-fits, answered-fits, inlet-fits, finished-fits}
+use Rattle.std.proofs.lemmas.List.Elements.{filter-append}
+use Rattle.sched_rules.specs.declared.job.Job.{Job, TheVariants.Spent as SpentJob, TheVariants.Cancelled as CancelledJob}
 
 -- a step that submits nothing adds no origin
 same-origins : (fits : Fitting) (rooted : Rooting) (origins : Lists) (o : Option Tenant) → LeftFits fits rooted origins o → LeftFits fits rooted (origins ++ []) o
@@ -48,19 +44,16 @@ pub taken-more-there : {I A : Type 0} (functions : Functions I A) (before : Core
 taken-more-there {A = A} functions before number quota outcome is = more-there {A = A} functions (tenant_in before.tenants number) number quota outcome (more-taken {A = A} functions before number quota outcome is).1
 
 -- the greatest number after a taken step: the step's tenant has one that is no greater, and it is no less than before
-numbers-after : {I A : Type 0} (functions : Functions I A) (before : CoreState) (step : StepOf A) (outcome : Outcome I) → AreNumbersGiven before → step_result functions before step ≡ Ok outcome → (tenant_of step ≤ newest_after before.newest step) × (before.newest ≤ newest_after before.newest step)
-numbers-after functions before (Admit number quota) outcome known is = (let p = admitted-above functions before number quota outcome is in (omega arith, omega (arith, p.0)))
-numbers-after {A = A} functions before (AdmitMore number quota) outcome known is =
-    (known-number before.newest number before.tenants known (taken-more-there {A = A} functions before number quota outcome is), omega arith)
-numbers-after functions before step outcome known is =
-    (known-number before.newest (tenant_of step) before.tenants known (there functions _ step outcome refl (taken-alone functions before step outcome refl is)), omega arith)
+module _ {I A : Type 0} (functions : Functions I A) (before : CoreState) (step : StepOf A) where
+  numbers-after : (outcome : Outcome I) → AreNumbersGiven before → step_result functions before step ≡ Ok outcome → (tenant_of step ≤ newest_after before.newest step) × (before.newest ≤ newest_after before.newest step)
+  numbers-after outcome known is = grind (arith, admitted-above, known-number, taken-more-there, there, taken-alone)
 
--- whatever a step is answered
-pub known-answer : {I A : Type 0} (functions : Functions I A) (before : CoreState) (step : StepOf A) (answer : Result (DidOf I) Refusal) → AreNumbersGiven before → IsAnswerTo functions before step answer → AreNumbersGiven (after_answer functions before step answer)
-known-answer functions before step (Err refusal) known right = known
-known-answer functions before step (Ok did) known right =
-    let t = step-taken functions before step did known right in
-    let K : CoreState → Type 0 = λ after. AreNumbersGiven after in subst K (sym (shared-after-taken functions before step did t)) t.known
+  -- whatever a step is answered
+  pub known-answer : (answer : Result (DidOf I) Refusal) → AreNumbersGiven before → IsAnswerTo functions before step answer → AreNumbersGiven (after_answer functions before step answer)
+  known-answer (Err refusal) known right = known
+  known-answer (Ok did) known right =
+      let t = step-taken functions before step did known right in
+      let K : CoreState → Type 0 = λ after. AreNumbersGiven after in subst K (sym (shared-after-taken functions before step did t)) t.known
 
 -- the origins after a list of steps
 same-core : (fits : Fitting) (rooted : Rooting) (a b : ℕ → Lists) (shared : CoreState) → ((number : ℕ) → a number ≡ b number) → CoreFits fits rooted a shared → CoreFits fits rooted b shared
@@ -175,22 +168,86 @@ module _ {I A : Type 0} (functions : Functions I A) (fits : Fitting) (rooted : R
 
   pub stays-fitting : (origins : ℕ → Lists) (before : CoreState) (steps : List (StepOf A)) (answers : List (Result (DidOf I) Refusal)) → IsLawful functions fits rooted → AreNumbersGiven before → AreShaped before.tenants → CoreFits fits rooted origins before →
       AreAnswersTo functions before steps answers → StaysFitting functions fits rooted origins before steps answers
-  stays-fitting origins before [] answers lawful known shaped core right = core
-  stays-fitting origins before (step ∷ steps) [] lawful known shaped core right = core
   stays-fitting origins before (step ∷ steps) (answer ∷ answers) lawful known shaped core right = (
     core,
     λ root. let next = answer-keeps origins before step answer lawful known shaped core root right.0 in
-        stays-fitting (origins_after origins step answer) (after_answer functions before step answer) steps answers lawful next.0 (shaped-answer functions before step answer shaped) next.1 right.1,
+        stays-fitting (origins_after origins step answer) (after_answer functions before step answer) steps answers lawful next.0 (shaped_answer functions before step answer shaped) next.1 right.1,
   )
+  stays-fitting origins before steps answers lawful known shaped core right = grind arith
 
   pub run-fits : (origins : ℕ → Lists) (before : CoreState) (steps : List (StepOf A)) (answers : List (Result (DidOf I) Refusal)) → IsLawful functions fits rooted → AreNumbersGiven before → AreShaped before.tenants → CoreFits fits rooted origins before →
       AreAnswersTo functions before steps answers → RootsFit fits rooted (taken_steps steps answers) → CoreFits fits rooted (λ number. origins number ++ origins_of (only number (taken_steps steps answers))) (after_answers functions before steps answers)
   run-fits origins before [] answers lawful known shaped core right roots = same-core fits rooted origins _ before (λ number. sym (append-nil (origins number))) core
   run-fits origins before (step ∷ steps) [] lawful known shaped core right roots = absurd right
-  run-fits origins before (step ∷ steps) (Err refusal ∷ answers) lawful known shaped core right roots =
-      run-fits origins before steps answers lawful known shaped core right.1 roots
+  run-fits origins before (step ∷ steps) (Err refusal ∷ answers) lawful known shaped core right roots = grind (arith, run-fits origins before steps answers lawful known shaped core right.1 roots)
   run-fits origins before (step ∷ steps) (Ok did ∷ answers) lawful known shaped core right roots =
       let answer : Result (DidOf I) Refusal = Ok did in
       let next = answer-keeps origins before step answer lawful known shaped core (λ is. roots.0) right.0 in
       same-core fits rooted _ _ (after_answers functions (after_answer functions before step answer) steps answers) (λ number. origins-on origins step did (taken_steps steps answers) number)
-      (run-fits (origins_after origins step answer) (after_answer functions before step answer) steps answers lawful next.0 (shaped-answer functions before step answer shaped) next.1 right.1 roots.1)
+      (run-fits (origins_after origins step answer) (after_answer functions before step answer) steps answers lawful next.0 (shaped_answer functions before step answer shaped) next.1 right.1 roots.1)
+
+-- Lists of steps in parts, and the numbers of jobs.
+
+-- a list of steps in two parts
+pub alone_from-append : {I A : Type 0} (functions : Functions I A) (before : Option Tenant) (steps more : List (StepOf A)) → alone_from functions before (steps ++ more) ≡ alone_from functions (alone_from functions before steps) more
+alone_from-append functions before [] more = refl
+alone_from-append functions before (step ∷ steps) more = alone_from-append functions (state_after before (lone functions before step)) steps more
+
+pub answers_from-append : {I A : Type 0} (functions : Functions I A) (before : Option Tenant) (steps more : List (StepOf A)) →
+    answers_from functions before (steps ++ more) ≡ answers_from functions before steps ++ answers_from functions (alone_from functions before steps) more
+answers_from-append functions before [] more = refl
+answers_from-append {I} functions before (step ∷ steps) more = ap (λ (rest : List (Result (DidOf I) Refusal)). answer_of (lone functions before step) ∷ rest) (answers_from-append functions (state_after before (lone functions before step)) steps more)
+
+pub only-append : {A : Type 0} (number : ℕ) (steps more : List (StepOf A)) → only number (steps ++ more) ≡ only number steps ++ only number more
+only-append {A} number steps more = filter-append (λ (step : StepOf A). tenant_of step == number) steps more
+
+pub ruleset in_parts = (alone_from-append, answers_from-append, only-append)
+
+-- every procedure keeps that every frame fits, where that says nothing
+AlwaysFits : Fitting
+AlwaysFits own children mark = Unit {0}
+
+AlwaysRooted : Rooting
+AlwaysRooted origin own = Unit {0}
+
+parent-always : (origin : List ℕ) (above older : List (List ℕ)) (own : List ℕ) (younger : List (List ℕ)) → ParentFits AlwaysFits AlwaysRooted origin above older own younger
+unfolding AlwaysFits AlwaysRooted
+parent-always origin above older own younger = grind arith
+
+child-always : (after : Continuation) → NewChildFits AlwaysFits after
+unfolding AlwaysFits
+child-always after = grind arith
+
+always-lawful : {I A : Type 0} (functions : Functions I A) → IsLawful functions AlwaysFits AlwaysRooted
+unfolding AlwaysFits
+always-lawful functions = grind (arith, parent-always, child-always)
+
+root-always : {A : Type 0} (step : StepOf A) → RootFits AlwaysFits AlwaysRooted step
+unfolding AlwaysFits AlwaysRooted
+root-always step = grind arith
+
+roots-always : {A : Type 0} (steps : List (StepOf A)) → RootsFit AlwaysFits AlwaysRooted steps
+roots-always [] = tt
+roots-always (step ∷ steps) = (root-always step, roots-always steps)
+
+-- as many jobs as origins
+as-many : (fits : Fitting) (rooted : Rooting) (tree : Tree) (origins : List (List ℕ)) (jobs : List Job) → JobsFit fits rooted tree origins jobs → length jobs ≡ length origins
+as-many fits rooted tree (origin ∷ origins) (job ∷ jobs) all = ap (λ (n : ℕ). suc n) (as-many fits rooted tree origins jobs all.1)
+as-many fits rooted tree origins jobs all = grind arith
+
+pub jobs_counted : {I A : Type 0} (functions : Functions I A) (totals : Quota) (steps : List (StepOf A)) (answers : List (Result (DidOf I) Refusal)) (number : ℕ) (tenant : Tenant) → AreAnswersTo functions (shared_by_nobody totals) steps answers →
+    tenant_in (after_answers functions (shared_by_nobody totals) steps answers).tenants number ≡ Some tenant → length tenant.jobs ≡ length (origins_of (only number (taken_steps steps answers)))
+jobs_counted functions totals steps answers number tenant right at =
+    let core = run-fits functions AlwaysFits AlwaysRooted (λ n. []) (shared_by_nobody totals) steps answers (always-lawful functions) tt tt (nobody-fits AlwaysFits AlwaysRooted totals) right (roots-always (taken_steps steps answers)) in
+    as-many AlwaysFits AlwaysRooted tenant.frames _ tenant.jobs (core.tenants number tenant at).jobs
+
+-- the number that a taken Submit is answered
+pub submit_numbered : {I A : Type 0} (functions : Functions I A) (before : CoreState) (number : ℕ) (words : List ℕ) (size : ℕ) (did : DidOf I) (tenant : Tenant) → IsAnswerTo functions before (Submit number words size) (Ok did) → tenant_in before.tenants number ≡ Some tenant →
+    did ≡ Submitted (length tenant.jobs + 1) (record { tenant = number; serial = tenant.serials + 1 })
+submit_numbered {I} {A} functions before number words size did tenant right at =
+    let step : StepOf A = Submit number words size in
+    let own = right.1 refl in
+    let f = found (meets_busy step before.tenants) (lone functions (tenant_in before.tenants number) step) did own.own_state own.busy_worker own.else_taken in
+    let alone : lone functions (Some tenant) step ≡ Ok f.0 = ap (λ o. lone functions o step) (sym at) ∙ f.2 in
+    let p = unless-passed (submit_tests tenant words size) (submitted {I = I} tenant number words size) f.0 alone in
+    sym f.3 ∙ sym (ap (λ (o : Outcome I). o.1) p.1)

@@ -1,16 +1,93 @@
--- What holds of each frame of a tree, with its words, the words of its children and its mark: before a change, so that it holds after it.
-use Rattle.std.proofs.Common.{◌≡◌, ◌≢◌, ℕ, inl, inr, Bool, true, false, not, eqb, List, [], ◌∷◌, ◌++◌, Option, Some, None, refl, ap, sym, ◌∙◌, subst, arith, append-nil}
+-- A tree with other words in a frame: what is found, whose children, and what is charged.
+use Rattle.std.proofs.Common.{◌≡◌, ◌≢◌, ℕ, suc, ◌+◌, ◌≤◌, inl, inr, Bool, false, eqb, List, [], ◌∷◌, ◌++◌, Some, length, refl, ap, sym, ◌∙◌, arith, true, not, Option, None, subst, append-nil}
 use Rattle.std.specs.List.{filter}
-use Rattle.std.proofs.lemmas.Bool.{cases_Bool, cases_eq, false≢true, ne_eqb, eqb-true, not-true, not_from_false}
+use Rattle.std.proofs.lemmas.List.{length-set}
+use Rattle.std.proofs.lemmas.List.Sums.{sum_by-append, sum_by-cons}
+use Rattle.std.proofs.lemmas.Bool.{cases_Bool, eqb-true, cases_eq, false≢true, ne_eqb, not-true, not_from_false}
+use Rattle.sched_rules.specs.cactus_stack.Nodes.{charge}
+use Rattle.frame_tree.specs.Frames.{Frame, frame_at, has_frame, children_of, values_of, IsTree, parent_of, goes_under, aborted, frames_without, with_state, IsNextFrame}
+use Rattle.frame_tree.specs.TreeLaws.{is_child_of, AreSerialsRising, AreAlike, is_that, Each, if_kept}
+use Rattle.frame_tree.proofs.TreeLaws.{above-missing, children-by-paths, there-found, found-serial, missing, frame_at-push, frame_at_other-push, tree-rising, placed, under-through, found-each, each-found}
+use Rattle.frame_tree.proofs.TreeValues.{tree-alike, children_of-push, frame_at-with_state, frame_at_other-with_state, children_of-with_state, values_of-with_state}
+use Rattle.sched_rules.specs.Trees.{Tree, charged_for, with_frame_words, stored}
 use Rattle.frame_tree.specs.declared.names.State.{State}
-use Rattle.frame_tree.specs.Frames.{Frame, frame_at, has_frame, parent_of, goes_under, children_of, aborted, frames_without, with_state, values_of, IsNextFrame, IsTree}
-use Rattle.frame_tree.specs.TreeLaws.{is_that, is_child_of, AreSerialsRising, Each, if_kept}
-use Rattle.frame_tree.proofs.TreeLaws.{there-found, found-serial, missing, frame_at-push, frame_at_other-push, above-missing, tree-rising, placed, under-through, found-each, each-found, children-by-paths}
 use Rattle.frame_tree.proofs.TreeChanges.{aborted-itself, rising-filter, frame_at-filter, frame_at-stays, filter-found, tree-aborted, tree-without, frame_at-without, frame_at_other-without, aborted-leaf}
-use Rattle.frame_tree.proofs.TreeValues.{children_of-push, frame_at-with_state, frame_at_other-with_state, children_of-with_state, values_of-with_state}
-use Rattle.sched_rules.specs.Trees.{Tree, with_frame_words}
 use Rattle.sched_rules.specs.Laws.{Fitting, Mark, mark_of_state, EachFits, EveryFrameFits}
-use Rattle.sched_laws.proofs.Words.{frame_at-with_frame_words, frame_at_other-with_frame_words, children_of-with_frame_words, with_frame_words-missing}
+
+-- stores keep the number of words
+pub length-stored : (stores : List (ℕ × ℕ)) (words : List ℕ) → length (stored stores words) ≡ length words
+length-stored [] words = refl
+length-stored (store ∷ stores) words = length-stored stores _ ∙ length-set words store.0 store.1
+
+-- the same serials and paths
+module _ (n : ℕ) (words : List ℕ) where
+  pub with_frame_words-alike : (xs : Tree) → AreAlike xs (with_frame_words n words xs)
+  with_frame_words-alike [] = tt
+  with_frame_words-alike (x ∷ xs) = grind (arith, with_frame_words-alike xs)
+
+  pub tree-with_frame_words : (xs : Tree) → IsTree xs → IsTree (with_frame_words n words xs)
+  tree-with_frame_words xs t = tree-alike xs (with_frame_words n words xs) (with_frame_words-alike xs) t
+
+  pub frame_at-with_frame_words : (xs : Tree) (f : Frame (List ℕ)) → frame_at xs n ≡ Some f → frame_at (with_frame_words n words xs) n ≡ Some (record f { value = words })
+  frame_at-with_frame_words [] f at = absurd cc
+  frame_at-with_frame_words (x ∷ xs) f at = grind (arith, frame_at-with_frame_words xs f)
+
+  pub frame_at_other-with_frame_words : (xs : Tree) (s : ℕ) → n ≢ s → frame_at (with_frame_words n words xs) s ≡ frame_at xs s
+  frame_at_other-with_frame_words [] s other = refl
+  frame_at_other-with_frame_words (x ∷ xs) s other = grind (arith, frame_at_other-with_frame_words xs s other)
+
+  -- the frames that pass a test on paths
+  pub paths-with_frame_words : (p : List ℕ → Bool) (xs : Tree) → filter (λ x. p x.path) (with_frame_words n words xs) ≡ with_frame_words n words (filter (λ x. p x.path) xs)
+  paths-with_frame_words p [] = refl
+  paths-with_frame_words p (x ∷ xs) = grind (arith, paths-with_frame_words p xs)
+
+  pub children_of-with_frame_words : (xs : Tree) (s : ℕ) → IsTree xs → children_of (with_frame_words n words xs) s ≡ with_frame_words n words (children_of xs s)
+  children_of-with_frame_words xs s t =
+      children-by-paths (with_frame_words n words xs) s (tree-with_frame_words xs t) ∙ paths-with_frame_words (is_child_of s) xs ∙ sym (ap (with_frame_words n words) (children-by-paths xs s t))
+
+  pub length-with_frame_words : (xs : Tree) → length (with_frame_words n words xs) ≡ length xs
+  length-with_frame_words [] = refl
+  length-with_frame_words (x ∷ xs) = ap (λ (k : ℕ). suc k) (length-with_frame_words xs)
+
+  -- no frame of that serial: nothing changes
+  pub with_frame_words-missing : (xs : Tree) → has_frame xs n ≡ false → with_frame_words n words xs ≡ xs
+  with_frame_words-missing [] lacks = refl
+  with_frame_words-missing (x ∷ xs) lacks = grind (arith, with_frame_words-missing xs)
+
+-- what is charged, frame by frame
+charged-cons : (x : Frame (List ℕ)) (xs : Tree) → charged_for (x ∷ xs) ≡ charge (length x.value) + charged_for xs
+charged-cons x xs = sum_by-cons (λ frame. charge (length frame.value)) x xs
+
+pub charged-one : (x : Frame (List ℕ)) → charged_for (x ∷ []) ≡ charge (length x.value)
+charged-one x = charged-cons x [] ∙ omega arith
+
+-- that of the new words in place of the old
+charged-here : (n : ℕ) (words : List ℕ) (x : Frame (List ℕ)) (xs : Tree) → x.serial ≡ n → AreSerialsRising (x ∷ xs) →
+    charged_for (with_frame_words n words (x ∷ xs)) + charge (length x.value) ≡ charged_for (x ∷ xs) + charge (length words)
+charged-here n words x xs serial rising = grind (arith, with_frame_words-missing, above-missing, charged-cons)
+
+pub charged-with_frame_words : (n : ℕ) (words : List ℕ) (xs : Tree) (f : Frame (List ℕ)) → AreSerialsRising xs → frame_at xs n ≡ Some f →
+    charged_for (with_frame_words n words xs) + charge (length f.value) ≡ charged_for xs + charge (length words)
+charged-with_frame_words n words [] f rising at = absurd cc
+charged-with_frame_words n words (x ∷ xs) f rising at = grind (arith, charged-with_frame_words n words xs f, charged-here, eqb-true, charged-cons)
+
+-- what is charged for some frames and some more
+pub charged-append : (xs ys : Tree) → charged_for (xs ++ ys) ≡ charged_for xs + charged_for ys
+charged-append xs ys = sum_by-append (λ frame. charge (length frame.value)) xs ys
+
+-- and for those that pass a test
+pub charged-filter : (keep : Frame (List ℕ) → Bool) (xs : Tree) → charged_for (filter keep xs) ≤ charged_for xs
+charged-filter keep [] = omega arith
+charged-filter keep (x ∷ xs) = grind (arith, charged-filter keep xs, charged-cons)
+
+-- the same values are charged the same
+pub charged-values : (xs ys : Tree) → values_of ys ≡ values_of xs → charged_for ys ≡ charged_for xs
+charged-values [] [] e = refl
+charged-values [] (y ∷ ys) e = absurd cc
+charged-values (x ∷ xs) [] e = absurd cc
+charged-values (x ∷ xs) (y ∷ ys) e = grind (arith, charged-values xs ys, charged-cons)
+
+-- What holds of each frame of a tree, with its words, the words of its children and its mark: before a change, so that it holds after it.
 
 abbrev pub Lists : Type 0
 Lists = List (List ℕ)
@@ -31,19 +108,20 @@ abbrev pub Holds : Fact → Tree → Type 0
 Holds Q tree = (s : ℕ) (f : F) → frame_at tree s ≡ Some f → Q s f.value (kids tree s) (mark_of_state f.state)
 
 -- fitting is such a fact
-each-fits : (fits : Fitting) (tree frames : Tree) → EachFits fits tree frames → Each (λ f. fits f.value (kids tree f.serial) (mark_of_state f.state)) frames
-each-fits fits tree [] all = tt
-each-fits fits tree (x ∷ xs) all = (all.0, each-fits fits tree xs all.1)
+module _ (fits : Fitting) (tree : Tree) where
+  each-fits : (frames : Tree) → EachFits fits tree frames → Each (λ f. fits f.value (kids tree f.serial) (mark_of_state f.state)) frames
+  each-fits [] all = tt
+  each-fits (x ∷ xs) all = (all.0, each-fits xs all.1)
 
-fits-each : (fits : Fitting) (tree frames : Tree) → Each (λ f. fits f.value (kids tree f.serial) (mark_of_state f.state)) frames → EachFits fits tree frames
-fits-each fits tree [] all = tt
-fits-each fits tree (x ∷ xs) all = (all.0, fits-each fits tree xs all.1)
+  fits-each : (frames : Tree) → Each (λ f. fits f.value (kids tree f.serial) (mark_of_state f.state)) frames → EachFits fits tree frames
+  fits-each [] all = tt
+  fits-each (x ∷ xs) all = (all.0, fits-each xs all.1)
 
-pub fits-holds : (fits : Fitting) (tree : Tree) → EveryFrameFits fits tree → Holds (λ s w k m. fits w k m) tree
-fits-holds fits tree all s f at = grind (arith, found-serial, each-found, each-fits)
+  pub fits-holds : EveryFrameFits fits tree → Holds (λ s w k m. fits w k m) tree
+  fits-holds all s f at = grind (arith, found-serial, each-found, each-fits)
 
-pub holds-fits : (fits : Fitting) (tree : Tree) → IsTree tree → Holds (λ s w k m. fits w k m) tree → EveryFrameFits fits tree
-holds-fits fits tree t all = grind (arith, fits-each, found-each, tree-rising, found-serial)
+  pub holds-fits : IsTree tree → Holds (λ s w k m. fits w k m) tree → EveryFrameFits fits tree
+  holds-fits t all = grind (arith, fits-each, found-each, tree-rising, found-serial)
 
 -- the same frame
 pub found-same : (tree : Tree) (s n : ℕ) (f g : F) → s ≡ n → frame_at tree s ≡ Some f → frame_at tree n ≡ Some g → f ≡ g

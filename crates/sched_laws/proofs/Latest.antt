@@ -1,8 +1,7 @@
 -- Which ready frame `newest_ready_of` finds.
 use Rattle.std.proofs.Common.{◌≡◌, ◌≢◌, ℕ, ◌<◌, inl, inr, true, false, List, [], ◌∷◌, Option, Some, None, refl, sym, subst, arith}
 use Rattle.std.proofs.lemmas.Bool.{cases_Bool, false≢true, eq-eqb, ne_eqb}
-use Rattle.frame_tree.specs.declared.names.State.{State}
-use Rattle.frame_tree.specs.declared.names.FrameId.{FrameId}
+use Rattle.frame_tree.specs.declared.{names.State.State, names.FrameId.FrameId}
 use Rattle.frame_tree.specs.Frames.{Frame, frame_at, has_frame, is_ready, ready_name, first_of_two, newest_ready_of, IsReadyAt}
 use Rattle.frame_tree.specs.TreeLaws.{AllAboveSerial, AreSerialsRising}
 use Rattle.frame_tree.proofs.TreeLaws.{missing}

@@ -1,20 +1,23 @@
 -- Each part of a tenant's shape, under each change of the tree and of the jobs.
-use Rattle.std.proofs.Common.{◌≡◌, ◌≢◌, ℕ, suc, ◌+◌, ◌≤◌, ◌⊎◌, inl, inr, Bool, true, false, eqb, ltb, List, [], ◌∷◌, ◌++◌, Option, Some, None, length, refl, ap, sym, ◌∙◌, arith, length-append}
+use Rattle.std.proofs.Common.{◌≡◌, ◌≢◌, ℕ, suc, ◌+◌, ◌≤◌, ◌⊎◌, inl, inr, Bool, true, false, eqb, ltb, List, [], ◌∷◌, ◌++◌, Option, Some, None, length, refl, ap, sym, ◌∙◌, arith, length-append, ◌-◌, ◌*◌, ◌<◌, not, replicate}
 use Rattle.std.specs.List.{filter}
 use Rattle.std.proofs.lemmas.List.Elements.{filter-append}
-use Rattle.std.proofs.lemmas.Bool.{cases_Bool, cases_eq, false≢true, eq-eqb, ne_eqb, eqb-false, ltb-false}
+use Rattle.std.proofs.lemmas.Bool.{cases_Bool, cases_eq, false≢true, eq-eqb, ne_eqb, eqb-false, ltb-false, not_from_false}
 use Rattle.frame_tree.specs.declared.names.State.{State}
-use Rattle.frame_tree.specs.Frames.{Frame, frame_at, has_frame, path_in, AllBelow, parent_of, with_state, children_of, values_of, IsNextFrame, IsTree}
+use Rattle.frame_tree.specs.Frames.{Frame, frame_at, has_frame, path_in, AllBelow, parent_of, with_state, children_of, values_of, IsNextFrame, IsTree, goes_under, aborted, frames_without, new_frame}
 use Rattle.frame_tree.specs.TreeLaws.{is_child_of, Each, AreAlike}
-use Rattle.frame_tree.proofs.TreeLaws.{there-found, found-serial, found-path, missing, frame_at-push, frame_at_other-push, tree-rising, each-found, found-each, children-by-paths}
-use Rattle.frame_tree.proofs.TreeChanges.{filter-found, frame_at-stays}
-use Rattle.frame_tree.proofs.TreeValues.{tree-push, children_of-push, tree-with_state, frame_at-with_state, frame_at_other-with_state, children_of-with_state}
-use Rattle.sched_rules.specs.declared.job.Job.{Job}
-use Rattle.sched_rules.specs.declared.job.Job.TheVariants.{Live}
-use Rattle.sched_rules.specs.Trees.{Tree, has_child, is_live_at, with_frame_words, with_ended}
+use Rattle.frame_tree.proofs.TreeLaws.{there-found, found-serial, found-path, missing, frame_at-push, frame_at_other-push, tree-rising, each-found, found-each, children-by-paths, found-there, found-ends}
+use Rattle.frame_tree.proofs.TreeChanges.{filter-found, frame_at-stays, AllBelow-filter, tree-aborted, tree-without, tree-without_job}
+use Rattle.frame_tree.proofs.TreeValues.{tree-push, children_of-push, tree-with_state, frame_at-with_state, frame_at_other-with_state, children_of-with_state, tree-new_frame, new-frame-next, parent_of-path_under, AllBelow-alike, path_in-alike, with_state-alike, values_of-with_state}
+use Rattle.sched_rules.specs.declared.job.Job.{Job, TheVariants.Live}
+use Rattle.sched_rules.specs.Trees.{Tree, has_child, is_live_at, with_frame_words, with_ended, Tenant, charged_for, is_root}
 use Rattle.sched_rules.specs.Laws.{Neither, mark_of_state}
-use Rattle.sched_laws.specs.Shapes.{AreMarkedChildless, live_count, AreRootsLive, IsRootThere, AreLiveRootsThere, HaveWords}
-use Rattle.sched_laws.proofs.Words.{children_of-with_frame_words, length-with_frame_words}
+use Rattle.sched_laws.specs.Shapes.{AreMarkedChildless, live_count, AreRootsLive, IsRootThere, AreLiveRootsThere, HaveWords, IsShaped}
+use Rattle.sched_laws.proofs.Holds.{children_of-with_frame_words, length-with_frame_words, with_frame_words-alike, tree-with_frame_words, charged-one, charged-with_frame_words, charged-append, charged-filter, charged-values}
+use Rattle.std.proofs.lemmas.List.{length-replicate}
+use Rattle.sched_rules.specs.cactus_stack.Nodes.{charge, padded}
+use Rattle.frame_tree.proofs.Forest.{EndsIn, AllBelow-append, has_frame-above, path_in-left, path_in-right}
+use Rattle.sched_rules.specs.Lone.{counted, in_state, holding, opened, ended}
 
 -- a frame that computes or has returned has no child in this tree
 abbrev pub IsMarkedChildless : Tree → Frame (List ℕ) → Type 0
@@ -92,22 +95,16 @@ pub childless-from : (new : Tree) → IsTree new → ((s : ℕ) (f : Frame (List
 childless-from new t at = each-childless new new (found-each (IsMarkedChildless new) new (tree-rising new t) at)
 
 -- other words in a frame
-pub has_child-with_frame_words : (n : ℕ) (words : List ℕ) (tree : Tree) (s : ℕ) → IsTree tree → has_child (with_frame_words n words tree) s ≡ has_child tree s
-has_child-with_frame_words n words tree s t = grind (arith, has_child-length, children_of-with_frame_words, length-with_frame_words)
+module _ (n : ℕ) (words : List ℕ) (tree : Tree) where
+  pub has_child-with_frame_words : (s : ℕ) → IsTree tree → has_child (with_frame_words n words tree) s ≡ has_child tree s
+  has_child-with_frame_words s t = grind (arith, has_child-length, children_of-with_frame_words, length-with_frame_words)
 
-words-kept : (n : ℕ) (words : List ℕ) (tree frames : Tree) → IsTree tree → AreMarkedChildless tree frames → AreMarkedChildless (with_frame_words n words tree) (with_frame_words n words frames)
-words-kept n words tree [] t all = tt
-words-kept n words tree (x ∷ xs) t all = elim (cases_Bool (eqb x.serial n)) [
-  | inl same ↦ rw same (keep x all.0, words-kept n words tree xs t all.1)
-  | inr other ↦ rw other (keep x all.0, words-kept n words tree xs t all.1)
-]
-  where
-    keep : (f : Frame (List ℕ)) → IsMarkedChildless tree f → IsMarkedChildless (with_frame_words n words tree) f
-    keep f (inl neither) = inl neither
-    keep f (inr none) = inr (has_child-with_frame_words n words tree f.serial t ∙ none)
+  words-kept : (frames : Tree) → IsTree tree → AreMarkedChildless tree frames → AreMarkedChildless (with_frame_words n words tree) (with_frame_words n words frames)
+  words-kept [] t all = tt
+  words-kept (x ∷ xs) t all = grind (arith, words-kept xs t, words-kept xs t all.1, has_child-with_frame_words)
 
-pub childless-with_frame_words : (n : ℕ) (words : List ℕ) (tree : Tree) → IsTree tree → AreMarkedChildless tree tree → AreMarkedChildless (with_frame_words n words tree) (with_frame_words n words tree)
-childless-with_frame_words n words tree t all = words-kept n words tree tree t all
+  pub childless-with_frame_words : IsTree tree → AreMarkedChildless tree tree → AreMarkedChildless (with_frame_words n words tree) (with_frame_words n words tree)
+  childless-with_frame_words t all = words-kept tree t all
 
 -- one frame more, under a frame that neither computes nor has returned, or under none
 pub childless-push : (tree : Tree) (y : Frame (List ℕ)) → IsTree tree → IsNextFrame tree y → mark_of_state y.state ≡ Neither →
@@ -148,10 +145,8 @@ childless-filter keep tree t left all = grind (arith, childless-from, childless-
 
 -- the root frames, where serials and paths stay
 pub roots-alike : (jobs : List Job) (xs ys : Tree) → AreAlike xs ys → AreRootsLive jobs xs → AreRootsLive jobs ys
-roots-alike jobs [] [] alike roots = tt
-roots-alike jobs [] (y ∷ ys) alike roots = absurd alike
-roots-alike jobs (x ∷ xs) [] alike roots = absurd alike
 roots-alike jobs (x ∷ xs) (y ∷ ys) alike roots = grind (arith, roots-alike jobs xs ys)
+roots-alike jobs xs ys alike roots = grind arith
 
 pub roots-append : (jobs : List Job) (xs ys : Tree) → AreRootsLive jobs xs → AreRootsLive jobs ys → AreRootsLive jobs (xs ++ ys)
 roots-append jobs [] ys p q = q
@@ -183,8 +178,7 @@ path-there (x ∷ xs) root e = elim (cases_Bool (eqb x.serial root)) [ inl same 
 -- no job lives under a serial that is no frame's
 pub no-live : (tree : Tree) (root : ℕ) (jobs : List Job) → has_frame tree root ≡ false → AreLiveRootsThere tree jobs → live_count root jobs ≡ 0
 no-live tree root [] lacks live = refl
-no-live tree root (Live s ∷ jobs) lacks live = grind (arith, no-live tree root jobs lacks, path-there)
-no-live tree root (_ ∷ jobs) lacks live = no-live tree root jobs lacks live.1
+no-live tree root (x2 ∷ jobs) lacks live = grind (arith, no-live tree root jobs lacks, no-live tree root jobs lacks live.1, path-there)
 
 -- the job that lives under a root ended
 abbrev pub IsEnd : Job → Type 0
@@ -212,8 +206,7 @@ KeepsRoots old new = (root : ℕ) → path_in old root ≡ root ∷ [] → path_
 
 pub live-kept : (old new : Tree) (jobs : List Job) → KeepsRoots old new → AreLiveRootsThere old jobs → AreLiveRootsThere new jobs
 live-kept old new [] kept live = tt
-live-kept old new (Live root ∷ jobs) kept live = (kept root live.0, live-kept old new jobs kept live.1)
-live-kept old new (_ ∷ jobs) kept live = (tt, live-kept old new jobs kept live.1)
+live-kept old new (x2 ∷ jobs) kept live = grind (arith, live-kept old new jobs kept, live-kept old new jobs kept live.1)
 
 pub live-append : (tree : Tree) (jobs more : List Job) → AreLiveRootsThere tree jobs → AreLiveRootsThere tree more → AreLiveRootsThere tree (jobs ++ more)
 live-append tree [] more p q = q
@@ -224,14 +217,14 @@ end-there : (tree : Tree) (job : Job) → IsEnd job → IsRootThere tree job
 end-there tree (Live root) end = absurd (false≢true (sym (end root) ∙ eq-eqb root root refl))
 end-there tree _ end = tt
 
-other-there : (old new : Tree) (root : ℕ) (job : Job) → ((s : ℕ) → s ≢ root → path_in old s ≡ s ∷ [] → path_in new s ≡ s ∷ []) → is_live_at root job ≡ false → IsRootThere old job → IsRootThere new job
-other-there old new root (Live s) kept other there = kept s (eqb-false s root other) there
-other-there old new root _ kept other there = tt
+module _ (old new : Tree) (root : ℕ) (job : Job) where
+  other-there : ((s : ℕ) → s ≢ root → path_in old s ≡ s ∷ [] → path_in new s ≡ s ∷ []) → is_live_at root job ≡ false → IsRootThere old job → IsRootThere new job
+  other-there kept other there = grind (arith, eqb-false)
 
-pub live-with_ended : (old new : Tree) (root : ℕ) (job : Job) (jobs : List Job) → IsEnd job → ((s : ℕ) → s ≢ root → path_in old s ≡ s ∷ [] → path_in new s ≡ s ∷ []) →
-    AreLiveRootsThere old jobs → AreLiveRootsThere new (with_ended root job jobs)
-live-with_ended old new root job [] end kept live = tt
-live-with_ended old new root job (x ∷ xs) end kept live = grind (arith, live-with_ended old new root job xs end kept, end-there, other-there)
+  pub live-with_ended : (jobs : List Job) → IsEnd job → ((s : ℕ) → s ≢ root → path_in old s ≡ s ∷ [] → path_in new s ≡ s ∷ []) → AreLiveRootsThere old jobs →
+      AreLiveRootsThere new (with_ended root job jobs)
+  live-with_ended [] end kept live = tt
+  live-with_ended (x ∷ xs) end kept live = grind (arith, live-with_ended xs end kept, end-there, other-there)
 
 -- the roots that pass a test are still there
 pub roots-stay : (keep : Frame (List ℕ) → Bool) (tree : Tree) (s : ℕ) → IsTree tree → ((f : Frame (List ℕ)) → f.serial ≡ s → f.path ≡ s ∷ [] → keep f ≡ true) → path_in tree s ≡ s ∷ [] → path_in (filter keep tree) s ≡ s ∷ []
@@ -263,3 +256,195 @@ words-with_frame_words n words (x ∷ xs) fit all = grind (arith, words-with_fra
 pub words-at : (xs : Tree) (s : ℕ) (f : Frame (List ℕ)) → HaveWords xs → frame_at xs s ≡ Some f → (1 ≤ length f.value) × (length f.value ≤ 128)
 words-at [] s f all at = absurd cc
 words-at (x ∷ xs) s f all at = grind (arith, words-at xs s f)
+
+-- What a step does to a tenant, move by move: each move keeps the shape.
+
+-- one more step is counted, where one was left
+pub shaped-counted : (tenant : Tenant) → tenant.steps < 16 * tenant.reserve.nodes → IsShaped tenant → IsShaped (counted tenant)
+shaped-counted tenant left s = grind arith
+
+-- another state in a frame: one that neither computes nor has returned, or of a frame without a child
+pub shaped-in_state : (n : ℕ) (state : State) (tenant : Tenant) → (mark_of_state state ≡ Neither) ⊎ (has_child tenant.frames n ≡ false) → IsShaped tenant → IsShaped (in_state n state tenant)
+shaped-in_state n state tenant ok s =
+    let alike = with_state-alike n state tenant.frames in
+    let values = values_of-with_state n state tenant.frames in
+    record {
+      tree = tree-with_state n state tenant.frames s.tree;
+      given = AllBelow-alike tenant.frames (with_state n state tenant.frames) (tenant.serials + 1) alike s.given;
+      childless = childless-with_state n state tenant.frames s.tree ok s.childless;
+      roots = roots-alike tenant.jobs tenant.frames (with_state n state tenant.frames) alike s.roots;
+      live = live-kept tenant.frames (with_state n state tenant.frames) tenant.jobs (λ root is. path_in-alike tenant.frames (with_state n state tenant.frames) root alike ∙ is) s.live;
+      few_jobs = s.few_jobs;
+      words = words-values tenant.frames (with_state n state tenant.frames) values s.words;
+      charged = (let e = charged-values tenant.frames (with_state n state tenant.frames) values in let c = s.charged in omega (arith, e, c));
+      opened = s.opened;
+      ticks = s.ticks;
+    }
+
+-- other words in a frame: 1 to 128, charged within what is reserved
+pub shaped-holding : (n : ℕ) (words : List ℕ) (tenant : Tenant) (f : Frame (List ℕ)) → frame_at tenant.frames n ≡ Some f → (1 ≤ length words) × (length words ≤ 128) →
+    charged_for tenant.frames + charge (length words) ≤ tenant.reserve.segments + charge (length f.value) → IsShaped tenant → IsShaped (holding n words tenant)
+shaped-holding n words tenant f at fit room s =
+    let alike = with_frame_words-alike n words tenant.frames in
+    record {
+      tree = tree-with_frame_words n words tenant.frames s.tree;
+      given = AllBelow-alike tenant.frames (with_frame_words n words tenant.frames) (tenant.serials + 1) alike s.given;
+      childless = childless-with_frame_words n words tenant.frames s.tree s.childless;
+      roots = roots-alike tenant.jobs tenant.frames (with_frame_words n words tenant.frames) alike s.roots;
+      live = live-kept tenant.frames (with_frame_words n words tenant.frames) tenant.jobs (λ root is. path_in-alike tenant.frames (with_frame_words n words tenant.frames) root alike ∙ is) s.live;
+      few_jobs = s.few_jobs;
+      words = words-with_frame_words n words tenant.frames fit s.words;
+      charged = (let e = charged-with_frame_words n words tenant.frames f (tree-rising tenant.frames s.tree) at in within (charged_for (with_frame_words n words tenant.frames)) (charge (length f.value)) (charged_for tenant.frames) (charge (length words)) tenant.reserve.segments e room);
+      opened = s.opened;
+      ticks = s.ticks;
+    }
+  where
+    within : (a b c d r : ℕ) → a + b ≡ c + d → c + d ≤ r + b → a ≤ r
+    within a b c d r e le = omega arith
+
+-- fewer frames: those that stay are a tree, and the root frames are among them
+pub shaped-fewer : (keep : Frame (List ℕ) → Bool) (tenant : Tenant) → IsTree (filter keep tenant.frames) → ((root : ℕ) (f : Frame (List ℕ)) → f.serial ≡ root → f.path ≡ root ∷ [] → keep f ≡ true) →
+    IsShaped tenant → IsShaped (record tenant { frames = filter keep tenant.frames })
+shaped-fewer keep tenant left stays s = grind (arith, AllBelow-filter, childless-filter, roots-filter, live-kept, roots-stay, words-filter, charged-filter)
+
+-- an abort
+pub shaped-aborted : (p : ℕ) (tenant : Tenant) → IsShaped tenant → IsShaped (record tenant { frames = aborted p tenant.frames })
+shaped-aborted p tenant s = shaped-fewer (λ x. not (goes_under p x.path)) tenant (tree-aborted p tenant.frames s.tree) (λ root f serial path. rw path refl) s
+
+-- a leaf that is no root
+module _ (p : ℕ) where
+  pub shaped-without : (tenant : Tenant) (f : Frame (List ℕ)) (q : ℕ) → frame_at tenant.frames p ≡ Some f → parent_of f.path ≡ Some q →
+      children_of tenant.frames p ≡ [] → IsShaped tenant → IsShaped (record tenant { frames = frames_without p tenant.frames })
+  shaped-without tenant f q at named leaf s = by
+    where
+      apart : (root : ℕ) → path_in tenant.frames root ≡ root ∷ [] → root ≢ p
+      apart root path e =
+          let both : f.path ≡ root ∷ [] = sym (found-path tenant.frames p f at) ∙ ap (path_in tenant.frames) (sym e) ∙ path in
+          let none : parent_of f.path ≡ None = rw both refl in
+          absurd cc
+
+      left : IsTree (frames_without p tenant.frames)
+      left = tree-without p tenant.frames s.tree leaf
+
+      by : IsShaped (record tenant { frames = frames_without p tenant.frames })
+      by = record {
+        tree = left;
+        given = AllBelow-filter (λ x. not (eqb x.serial p)) (tenant.serials + 1) tenant.frames s.given;
+        childless = childless-filter (λ x. not (eqb x.serial p)) tenant.frames s.tree left s.childless;
+        roots = roots-filter (λ x. not (eqb x.serial p)) tenant.jobs tenant.frames s.roots;
+        live = live-kept tenant.frames (frames_without p tenant.frames) tenant.jobs
+            (λ root is. roots-stay (λ x. not (eqb x.serial p)) tenant.frames root s.tree (λ x serial path. not_from_false (eqb x.serial p) (ne_eqb x.serial p (λ e. apart root is (sym serial ∙ e)))) is) s.live;
+        few_jobs = s.few_jobs;
+        words = words-filter (λ x. not (eqb x.serial p)) tenant.frames s.words;
+        charged = (let e = charged-filter (λ x. not (eqb x.serial p)) tenant.frames in let c = s.charged in omega (arith, e, c));
+        opened = s.opened;
+        ticks = s.ticks;
+      }
+
+  -- a job that ends, with all its frames
+  pub shaped-ended : (job : Job) (tenant : Tenant) → IsEnd job → IsShaped tenant → IsShaped (ended p job tenant)
+  shaped-ended job tenant end s =
+      let cut = aborted p tenant.frames in
+      let left = tree-without_job p tenant.frames s.tree in
+      let cut_tree = tree-aborted p tenant.frames s.tree in
+      record {
+        tree = left;
+        given = AllBelow-filter (λ x. not (eqb x.serial p)) (tenant.serials + 1) cut (AllBelow-filter (λ x. not (goes_under p x.path)) (tenant.serials + 1) tenant.frames s.given);
+        childless = childless-filter (λ x. not (eqb x.serial p)) cut cut_tree left (childless-filter (λ x. not (goes_under p x.path)) tenant.frames s.tree cut_tree s.childless);
+        roots = roots-with_ended p job tenant.jobs (frames_without p cut) end (gone cut) (roots-filter (λ x. not (eqb x.serial p)) tenant.jobs cut (roots-filter (λ x. not (goes_under p x.path)) tenant.jobs tenant.frames s.roots));
+        live = live-with_ended tenant.frames (frames_without p cut) p job tenant.jobs end (λ r other is.
+            roots-stay (λ x. not (eqb x.serial p)) cut r cut_tree (λ x serial path. not_from_false (eqb x.serial p) (ne_eqb x.serial p (λ e. other (sym serial ∙ e))))
+            (roots-stay (λ x. not (goes_under p x.path)) tenant.frames r s.tree (λ x serial path. rw path refl) is)) s.live;
+        few_jobs = (let e = length-with_ended p job tenant.jobs in let few = s.few_jobs in omega (arith, e, few));
+        words = words-filter (λ x. not (eqb x.serial p)) cut (words-filter (λ x. not (goes_under p x.path)) tenant.frames s.words);
+        charged = (let e = charged-filter (λ x. not (goes_under p x.path)) tenant.frames in let d = charged-filter (λ x. not (eqb x.serial p)) cut in let c = s.charged in omega (arith, e, d, c));
+        opened = s.opened;
+        ticks = s.ticks;
+      }
+    where
+      gone : (xs : Tree) → has_frame (frames_without p xs) p ≡ false
+      gone [] = refl
+      gone (x ∷ xs) = elim (cases_Bool (eqb x.serial p)) [ inl same ↦ rw same (gone xs) | inr other ↦ rw (other, other) (gone xs) ]
+
+-- the words that a frame begins with
+pub length-padded : (words : List ℕ) (size : ℕ) → length words ≤ size → length (padded words size) ≡ size
+length-padded words size le = (let whole = length-append words (replicate (size - length words) 0) in let zeros = length-replicate {A = ℕ} (size - length words) 0 in omega (arith, whole, zeros, le))
+
+-- what a frame of this size needs: words that are fewer, a node, and segments
+pub record HasRoomFor (words : List ℕ) (size : ℕ) (tenant : Tenant) : Type 0 where
+  pub some : 1 ≤ size
+  pub few : size ≤ 128
+  pub fewer : length words ≤ size
+  pub node : tenant.serials < tenant.reserve.nodes
+  pub segments : charged_for tenant.frames + charge size ≤ tenant.reserve.segments
+
+below-more : (bound more : ℕ) (xs : Tree) → bound ≤ more → AllBelow bound xs → AllBelow more xs
+below-more bound more [] le below = tt
+below-more bound more (x ∷ xs) le below = (omega (arith, le, below.0), below-more bound more xs le below.1)
+
+given-push : (tenant : Tenant) (y : Frame (List ℕ)) → y.serial ≡ tenant.serials + 1 → AllBelow (tenant.serials + 1) tenant.frames → AllBelow (tenant.serials + 1 + 1) (tenant.frames ++ y ∷ [])
+given-push tenant y e below = AllBelow-append (tenant.serials + 1 + 1) tenant.frames (y ∷ []) (below-more (tenant.serials + 1) (tenant.serials + 1 + 1) tenant.frames (omega arith) below) (omega (arith, e), tt)
+
+charged-push : (xs : Tree) (y : Frame (List ℕ)) (size segments : ℕ) → length y.value ≡ size → charged_for xs + charge size ≤ segments → charged_for (xs ++ y ∷ []) ≤ segments
+charged-push xs y size segments is room = grind (arith, charged-append, charged-one)
+
+words-new : (y : Frame (List ℕ)) (size : ℕ) → length y.value ≡ size → 1 ≤ size → size ≤ 128 → HaveWords (y ∷ [])
+words-new y size is some few = ((omega (arith, is), omega (arith, is)), tt)
+
+-- a path of two serials or more is no root's
+no-root : (path : List ℕ) (last s : ℕ) → EndsIn path last → is_root (path ++ s ∷ []) ≡ false
+no-root [] last s ends = absurd ends
+no-root (x ∷ path) last s ends = ne_eqb (length (x ∷ path ++ s ∷ [])) 1 (λ e. let long = length-append path (s ∷ []) in omega (arith, e, long))
+
+-- a child opened under a frame that neither computes nor has returned
+pub shaped-child : (p home : ℕ) (words : List ℕ) (size : ℕ) (tenant : Tenant) (f : Frame (List ℕ)) → frame_at tenant.frames p ≡ Some f → mark_of_state f.state ≡ Neither → HasRoomFor words size tenant →
+    IsShaped tenant → IsShaped (opened (Some p) words size home tenant)
+shaped-child p home words size tenant f at free room s =
+    let new = new_frame tenant.frames (tenant.serials + 1) (Some p) home (padded words size) in
+    let there = found-there tenant.frames p f at in
+    let next = new-frame-next tenant.frames (tenant.serials + 1) (Some p) home (padded words size) s.tree s.given there in
+    let long = length-padded words size room.fewer in
+    let ends : EndsIn (path_in tenant.frames p) p = rw (found-path tenant.frames p f at) (found-ends tenant.frames p f s.tree at) in
+    let named : parent_of new.path ≡ Some p = parent_of-path_under tenant.frames (Some p) (tenant.serials + 1) s.tree there in
+    record {
+      tree = tree-new_frame tenant.frames (tenant.serials + 1) (Some p) home (padded words size) s.tree s.given there;
+      given = given-push tenant new refl s.given;
+      childless = childless-push tenant.frames new s.tree next refl (λ q g is at_q. parent-free q g (sym named ∙ is) at_q) s.childless;
+      roots = roots-append tenant.jobs tenant.frames (new ∷ []) s.roots ((λ is. absurd (false≢true (sym (no-root (path_in tenant.frames p) p (tenant.serials + 1) ends) ∙ is))), tt);
+      live = live-kept tenant.frames (tenant.frames ++ new ∷ []) tenant.jobs (λ root is. path_in-left tenant.frames (new ∷ []) root (path-there tenant.frames root is) ∙ is) s.live;
+      few_jobs = s.few_jobs;
+      words = words-append tenant.frames (new ∷ []) s.words (words-new new size long room.some room.few);
+      charged = charged-push tenant.frames new size tenant.reserve.segments long room.segments;
+      opened = (let node = room.node in omega (arith, node));
+      ticks = s.ticks;
+    }
+  where
+    parent-free : (q : ℕ) (g : Frame (List ℕ)) → Some p ≡ Some q → frame_at tenant.frames q ≡ Some g → mark_of_state g.state ≡ Neither
+    parent-free q g e at_q =
+        let same : p ≡ q = cc in
+        let both : ◌≡◌ {A = Option (Frame (List ℕ))} (Some f) (Some g) = sym at ∙ ap (frame_at tenant.frames) same ∙ at_q in
+        let is : f ≡ g = cc in ap (λ (y : Frame (List ℕ)). mark_of_state y.state) (sym is) ∙ free
+
+-- a root opened, with the job that lives under it
+pub shaped-root : (words : List ℕ) (size home : ℕ) (tenant : Tenant) → length tenant.jobs < 256 → HasRoomFor words size tenant →
+    IsShaped tenant → IsShaped (record (opened None words size home tenant) { jobs = tenant.jobs ++ Live (tenant.serials + 1) ∷ [] })
+shaped-root words size home tenant few room s =
+    let root = tenant.serials + 1 in
+    let new = new_frame tenant.frames root None home (padded words size) in
+    let next = new-frame-next tenant.frames root None home (padded words size) s.tree s.given refl in
+    let long = length-padded words size room.fewer in
+    let lacks = has_frame-above tenant.frames root s.given in
+    let one : live_count root (tenant.jobs ++ Live root ∷ []) ≡ 1 = live_count-append root tenant.jobs (Live root ∷ []) ∙ (rw (no-live tenant.frames root tenant.jobs lacks s.live, one-live root) refl) in
+    let own : path_in (tenant.frames ++ new ∷ []) root ≡ root ∷ [] = path_in-right tenant.frames (new ∷ []) root lacks ∙ (rw (eq-eqb root root refl) refl) in
+    record {
+      tree = tree-new_frame tenant.frames root None home (padded words size) s.tree s.given refl;
+      given = given-push tenant new refl s.given;
+      childless = childless-push tenant.frames new s.tree next refl (λ q g is at_q. absurd cc) s.childless;
+      roots = roots-append (tenant.jobs ++ Live root ∷ []) tenant.frames (new ∷ []) (roots-more root tenant.jobs tenant.frames s.given s.roots) ((λ is. one), tt);
+      live = live-append (tenant.frames ++ new ∷ []) tenant.jobs (Live root ∷ []) (live-kept tenant.frames (tenant.frames ++ new ∷ []) tenant.jobs (λ r is. path_in-left tenant.frames (new ∷ []) r (path-there tenant.frames r is) ∙ is) s.live) (own, tt);
+      few_jobs = (let more = length-append tenant.jobs (Live root ∷ []) in omega (arith, more, few));
+      words = words-append tenant.frames (new ∷ []) s.words (words-new new size long room.some room.few);
+      charged = charged-push tenant.frames new size tenant.reserve.segments long room.segments;
+      opened = (let node = room.node in omega (arith, node));
+      ticks = s.ticks;
+    }

@@ -4,31 +4,23 @@ use Rattle.std.proofs.lemmas.List.{length-replicate}
 use Rattle.std.proofs.lemmas.Bool.{cases_Bool, false≢true, eqb-false, ltb-false, leb-true, leb-false, not-false, or_parts, and_parts}
 use Rattle.sched_rules.specs.cactus_stack.Nodes.{charge, growth_charge}
 use Rattle.tenant_quota.specs.Quota.{Quota}
-use Rattle.frame_tree.specs.declared.names.State.{State}
-use Rattle.frame_tree.specs.declared.names.State.TheVariants.{Ready, Running, Computing, Returned}
+use Rattle.frame_tree.specs.declared.names.State.{State, TheVariants.Ready, TheVariants.Running, TheVariants.Computing}
 use Rattle.frame_tree.specs.declared.names.FrameId.{FrameId}
 use Rattle.frame_tree.specs.Frames.{Frame, frame_at, parent_of, root_of, children_of, is_ready}
 use Rattle.frame_tree.proofs.TreeLaws.{there-found, found-serial, tree-rising, under-there, under-below}
 use Rattle.frame_tree.proofs.TreeChanges.{aborted-itself, frame_at_other-without}
-use Rattle.sched_rules.specs.declared.act.Act.{Act}
-use Rattle.sched_rules.specs.declared.act.InletAct.{InletAct}
-use Rattle.sched_rules.specs.declared.act.Continuation.{Continuation}
+use Rattle.sched_rules.specs.declared.{act.Act.Act, act.InletAct.InletAct, act.Continuation.Continuation, step.StepOf.StepOf, step.DidOf.TheVariants.Left}
 use Rattle.sched_rules.specs.declared.act.Continuation.TheVariants.{Grow, Spawn, Go, Wait, Compute, Return}
-use Rattle.sched_rules.specs.declared.job.Job.{Job}
 use Rattle.sched_rules.specs.declared.job.Job.TheVariants.{Live, Done, Spent as SpentJob, Cancelled as CancelledJob}
-use Rattle.sched_rules.specs.declared.refusal.Refusal.{Refusal}
-use Rattle.sched_rules.specs.declared.refusal.Refusal.TheVariants.{NotReturned, NotSpent, NoJob, OldTenant, Lower}
-use Rattle.sched_rules.specs.declared.step.StepOf.{StepOf}
+use Rattle.sched_rules.specs.declared.refusal.Refusal.{Refusal, TheVariants.NotReturned, TheVariants.NotSpent, TheVariants.OldTenant, TheVariants.Lower}
 use Rattle.sched_rules.specs.declared.step.StepOf.TheVariants.{Admit, AdmitMore, Submit, Take, Steal, Advance, Answer, Inlet, Finish, Spend, Cancel, Leave}
-use Rattle.sched_rules.specs.declared.step.DidOf.TheVariants.{Cancelled, Left}
 use Rattle.sched_rules.specs.Functions.{Functions}
 use Rattle.sched_rules.specs.Trees.{Tree, Tenant, admitted_with, frame_words, words_in, charged_for, left, stored, is_outside, has_child, job_at, kept_words}
 use Rattle.sched_rules.specs.Laws.{Neither, mark_of_state}
-use Rattle.sched_rules.specs.Lone.{Outcome, unless, lone_step, is_lower, raised, counted, in_state, holding, ended, is_frame_size, submit_tests, submitted, take_tests, steal_tests, taken_by, is_run_by, is_returned, act_by_sight, is_bad_then, is_spawn, segments_for, advance_tests, then_done, advanced, answer_tests, answered, inlet_tests, does_wait, staying, taken_in, inlet_under, finish_tests, finished, is_spendable, spent, cancelled, at_frame}
+use Rattle.sched_rules.specs.Lone.{Outcome, unless, lone_step, is_lower, raised, counted, in_state, holding, ended, is_frame_size, submit_tests, submitted, take_tests, steal_tests, taken_by, is_run_by, is_returned, act_by_sight, is_bad_then, is_spawn, segments_for, advance_tests, then_done, advanced, answer_tests, answered, inlet_tests, does_wait, staying, taken_in, inlet_under, finish_tests, finished, is_spendable, spent, at_frame}
 use Rattle.sched_laws.specs.Shapes.{IsShaped}
-use Rattle.sched_laws.proofs.Words.{length-stored, frame_at-with_frame_words, charged-with_frame_words}
-use Rattle.sched_laws.proofs.Parts.{childless-at, no-child, has_child-with_frame_words, words-at}
-use Rattle.sched_laws.proofs.Moves.{shaped-counted, shaped-in_state, shaped-holding, shaped-aborted, shaped-without, shaped-ended, shaped-child, shaped-root}
+use Rattle.sched_laws.proofs.Holds.{length-stored, frame_at-with_frame_words, charged-with_frame_words}
+use Rattle.sched_laws.proofs.Parts.{childless-at, no-child, has_child-with_frame_words, words-at, shaped-counted, shaped-in_state, shaped-holding, shaped-aborted, shaped-without, shaped-ended, shaped-child, shaped-root}
 
 -- what a step leaves, if it leaves a tenant, has its shape
 abbrev pub LeftShaped : Option Tenant → Type 0
@@ -43,19 +35,12 @@ AllPass (test ∷ tests) = (test.0 ≡ false) × AllPass tests
 -- a taken step passed its tests
 pub unless-passed : {X : Type 0} (tests : List (Bool × Refusal)) (effect outcome : X) → unless tests effect ≡ Ok outcome → AllPass tests × (effect ≡ outcome)
 unless-passed {X} [] effect outcome is = (tt, (let e : ◌≡◌ {A = Result X Refusal} (Ok effect) (Ok outcome) = is in cc))
-unless-passed {X} (test ∷ tests) effect outcome is = elim (cases_Bool test.0) [
-  | inl applied ↦ (let e : ◌≡◌ {A = Result X Refusal} (Err test.1) (Ok outcome) = rw applied at is in absurd cc)
-  | inr passed ↦ (let rest = unless-passed tests effect outcome (rw passed at is) in ((passed, rest.0), rest.1))
-]
+unless-passed {X} (test ∷ tests) effect outcome is = grind (arith, unless-passed tests effect outcome)
 
 -- what a step at a frame found
 pub frame-found : {X : Type 0} (frames : Tree) (s : ℕ) (step : Frame (List ℕ) → Result X Refusal) (outcome : X) → at_frame (frame_at frames s) step ≡ Ok outcome →
     (f : Frame (List ℕ)) × (frame_at frames s ≡ Some f) × (step f ≡ Ok outcome)
-frame-found {X} frames s step outcome is = by (frame_at frames s) refl
-  where
-    by : (o : Option (Frame (List ℕ))) → frame_at frames s ≡ o → (f : Frame (List ℕ)) × (frame_at frames s ≡ Some f) × (step f ≡ Ok outcome)
-    by None e = (let none : ◌≡◌ {A = Result X Refusal} (at_frame None step) (Ok outcome) = ap (λ o. at_frame o step) (sym e) ∙ is in absurd cc)
-    by (Some f) e = (f, e, ap (λ o. at_frame o step) (sym e) ∙ is)
+frame-found frames s step outcome is = grind arith
 
 -- an effect that came out
 pub came : {I : Type 0} (P : Option Tenant → Type 0) (effect outcome : Outcome I) → effect ≡ outcome → P effect.0 → P outcome.0
@@ -120,20 +105,7 @@ by-effects {I} functions tenant (Spend name) outcome P is each =
     let f = frame-found tenant.frames name.serial (λ frame. unless ((not (is_spendable functions tenant frame), NotSpent) ∷ []) (spent tenant frame)) outcome is in
     let p = unless-passed ((not (is_spendable functions tenant f.0), NotSpent) ∷ []) (spent {I = I} tenant f.0) outcome f.2 in
     came P (spent tenant f.0) outcome p.1 (each.at_spend name.serial f.0 f.1)
-by-effects {I} functions tenant (Cancel number job) outcome P is each = by (job_at tenant.jobs job) refl is
-  where
-    none : ◌≡◌ {A = Result (Outcome I) Refusal} (Err NoJob) (Ok outcome) → P outcome.0
-    none e = absurd cc
-
-    by : (found : Option Job) → job_at tenant.jobs job ≡ found → cancelled tenant found ≡ Ok outcome → P outcome.0
-    by None at e = none e
-    by (Some (Live root)) at e =
-        let both : ◌≡◌ {A = Result (Outcome I) Refusal} (Ok (Some (ended root CancelledJob tenant), Cancelled)) (Ok outcome) = e in
-        let pair : ◌≡◌ {A = Outcome I} (Some (ended root CancelledJob tenant), Cancelled) outcome = cc in
-        came P (Some (ended root CancelledJob tenant), Cancelled) outcome pair (each.at_cancel job root at)
-    by (Some (Done words)) at e = none e
-    by (Some SpentJob) at e = none e
-    by (Some CancelledJob) at e = none e
+by-effects {I} functions tenant (Cancel number job) outcome P is each = grind (arith, came)
 by-effects {I} functions tenant (Leave number) outcome P is each =
     let e : ◌≡◌ {A = Result (Outcome I) Refusal} (Ok (None, Left)) (Ok outcome) = is in
     let own : ◌≡◌ {A = Outcome I} (None, Left) outcome = cc in came P (None, Left) outcome own (each.at_leave number refl)
@@ -202,13 +174,10 @@ taken-shaped I tenant worker f some s =
 
 -- a frame that a worker runs or computes, and one that has returned
 pub run-free : (worker : ℕ) (state : State) → is_run_by worker state ≡ true → mark_of_state state ≡ Neither
-run-free worker (Computing holder) is = absurd (false≢true is)
-run-free worker Returned is = absurd (false≢true is)
-run-free worker _ is = refl
+run-free worker state is = grind (arith, false≢true)
 
 pub returned-marked : (state : State) → is_returned state ≡ true → mark_of_state state ≢ Neither
-returned-marked Returned is = λ e. cc
-returned-marked _ is = absurd (false≢true is)
+returned-marked state is = grind (arith, false≢true)
 
 pub returned-childless : (tenant : Tenant) (s : ℕ) (f : Frame (List ℕ)) → IsShaped tenant → frame_at tenant.frames s ≡ Some f → mark_of_state f.state ≢ Neither → children_of tenant.frames s ≡ []
 returned-childless tenant s f shape at marked = grind (arith, childless-at, no-child, found-serial)
@@ -229,95 +198,97 @@ grow-room c a b r le = omega arith
 grow-fits : (words more : ℕ) → ((eqb more 0) || ltb 128 (words + more)) ≡ false → words + more ≤ 128
 grow-fits words more is = ltb-false 128 (words + more) (or_parts (eqb more 0) (ltb 128 (words + more)) is).1
 
-then-shaped : {I A : Type 0} (functions : Functions I A) (t : Tenant) (worker : ℕ) (name : FrameId) (path words : List ℕ) (after : Continuation) (g : Frame (List ℕ)) → frame_at t.frames name.serial ≡ Some g → g.value ≡ words → mark_of_state g.state ≡ Neither →
-    is_bad_then (length words) (has_child t.frames name.serial) after ≡ false → (is_spawn after ≡ true → t.serials < t.reserve.nodes) → charged_for t.frames + segments_for g after ≤ t.reserve.segments →
-    IsShaped t → LeftShaped (then_done functions t worker name path words after).0
-then-shaped functions t worker name path words (Grow more) g at is free good node room s =
-    let whole = length-append words (replicate more 0) in let zeros = length-replicate {A = ℕ} more 0 in
-    let fits = words-at t.frames name.serial g s.words at in
-    let few = grow-fits (length words) more good in
-    let long : length (words ++ replicate more 0) ≡ length words + more = omega (arith, whole, zeros) in
-    let own : length g.value ≡ length words = ap length is in
-    shaped-holding name.serial (words ++ replicate more 0) t g at (omega (arith, fits.0, long, own), omega (arith, long, few))
-    (grown (charged_for t.frames) (length (words ++ replicate more 0)) (length g.value) t.reserve.segments (length words) more long own room) s
-  where
-    grown : (c n o r w m : ℕ) → n ≡ w + m → o ≡ w → c + growth_charge o m ≤ r → c + charge n ≤ r + charge o
-    grown c n o r w m long own le = grow-room c (charge n) (charge o) r (let P : ℕ → Type 0 = λ k. c + (charge k - charge o) ≤ r in subst P (ap (λ (k : ℕ). k + m) own ∙ sym long) le)
-then-shaped functions t worker name path words (Spawn given size) g at is free good node room s =
-    let fits = size-parts given size good in
-    shaped-child name.serial worker given size t g at free (record { some = fits.0; few = fits.1; fewer = fits.2; node = node refl; segments = room }) s
-then-shaped functions t worker name path words Go g at is free good node room s = s
-then-shaped functions t worker name path words Wait g at is free good node room s = grind (arith, shaped-in_state)
-then-shaped functions t worker name path words Compute g at is free good node room s = shaped-in_state name.serial (Computing worker) t (inr good) s
-then-shaped functions t worker name path words Return g at is free good node room s = grind (arith, shaped-in_state)
+module _ {I A : Type 0} (functions : Functions I A) where
+  then-shaped : (t : Tenant) (worker : ℕ) (name : FrameId) (path words : List ℕ) (after : Continuation) (g : Frame (List ℕ)) →
+      frame_at t.frames name.serial ≡ Some g → g.value ≡ words → mark_of_state g.state ≡ Neither →
+      is_bad_then (length words) (has_child t.frames name.serial) after ≡ false → (is_spawn after ≡ true → t.serials < t.reserve.nodes) →
+      charged_for t.frames + segments_for g after ≤ t.reserve.segments → IsShaped t → LeftShaped (then_done functions t worker name path words after).0
+  then-shaped t worker name path words (Grow more) g at is free good node room s =
+      let whole = length-append words (replicate more 0) in let zeros = length-replicate {A = ℕ} more 0 in
+      let fits = words-at t.frames name.serial g s.words at in
+      let few = grow-fits (length words) more good in
+      let long : length (words ++ replicate more 0) ≡ length words + more = omega (arith, whole, zeros) in
+      let own : length g.value ≡ length words = ap length is in
+      shaped-holding name.serial (words ++ replicate more 0) t g at (omega (arith, fits.0, long, own), omega (arith, long, few))
+      (grown (charged_for t.frames) (length (words ++ replicate more 0)) (length g.value) t.reserve.segments (length words) more long own room) s
+    where
+      grown : (c n o r w m : ℕ) → n ≡ w + m → o ≡ w → c + growth_charge o m ≤ r → c + charge n ≤ r + charge o
+      grown c n o r w m long own le = grow-room c (charge n) (charge o) r (let P : ℕ → Type 0 = λ k. c + (charge k - charge o) ≤ r in subst P (ap (λ (k : ℕ). k + m) own ∙ sym long) le)
+  then-shaped t worker name path words (Spawn given size) g at is free good node room s =
+      let fits = size-parts given size good in
+      shaped-child name.serial worker given size t g at free (record { some = fits.0; few = fits.1; fewer = fits.2; node = node refl; segments = room }) s
+  then-shaped t worker name path words Go g at is free good node room s = s
+  then-shaped t worker name path words Wait g at is free good node room s = grind (arith, shaped-in_state)
+  then-shaped t worker name path words Compute g at is free good node room s = shaped-in_state name.serial (Computing worker) t (inr good) s
+  then-shaped t worker name path words Return g at is free good node room s = grind (arith, shaped-in_state)
 
--- Advance
-advance-shaped : {I A : Type 0} (functions : Functions I A) (tenant : Tenant) (worker : ℕ) (name : FrameId) (f : Frame (List ℕ)) (act : Act) → frame_at tenant.frames name.serial ≡ Some f →
-    AllPass (advance_tests tenant worker f act) → IsShaped tenant → LeftShaped (advanced functions tenant worker name f act).0
-advance-shaped functions tenant worker name f act at passed s =
-    let good = (or_parts (is_outside act.stores f.value) (is_bad_then (length f.value) (has_child tenant.frames f.serial) act.after) passed.1.1.0).1 in
-    let own = found-serial tenant.frames name.serial f at in
-    let words = stored act.stores f.value in
-    let long : length words ≡ length f.value = length-stored act.stores f.value in
-    let t = holding f.serial words tenant in
-    let at_own : frame_at tenant.frames f.serial ≡ Some f = ap (frame_at tenant.frames) own ∙ at in
-    let st = shaped-counted t (step-left tenant passed.1.0) (shaped-stored f.serial words tenant f at_own long s) in
-    let g : Frame (List ℕ) = record f { value = words } in
-    let at_g : frame_at t.frames name.serial ≡ Some g = ap (frame_at t.frames) (sym own) ∙ frame_at-with_frame_words f.serial words tenant.frames f at_own in
-    let child : has_child t.frames name.serial ≡ has_child tenant.frames f.serial = ap (has_child t.frames) (sym own) ∙ has_child-with_frame_words f.serial words tenant.frames f.serial s.tree in
-    then-shaped functions (counted t) worker name f.path words act.after g at_g refl (run-free worker f.state (not-false (is_run_by worker f.state) passed.0))
-    (ap (λ (n : ℕ). is_bad_then n (has_child t.frames name.serial) act.after) long ∙ ap (λ (b : Bool). is_bad_then (length f.value) b act.after) child ∙ good)
-    (λ spawn. node-left tenant (node (is_spawn act.after) (eqb (left tenant).nodes 0) spawn passed.1.1.1.0))
-    (room act.after (segments-left tenant (segments_for f act.after) s.charged passed.1.1.1.1.0)
-    (same (charged_for t.frames) (charge (length f.value)) (charged_for tenant.frames) (charge (length words)) (ap charge long) (charged-with_frame_words f.serial words tenant.frames f (tree-rising tenant.frames s.tree) at_own)) g long)
-    st
-  where
-    node : (spawn none : Bool) → spawn ≡ true → (spawn && none) ≡ false → none ≡ false
-    node true none is both = both
-    node false none is both = absurd (false≢true is)
+  -- Advance
+  advance-shaped : (tenant : Tenant) (worker : ℕ) (name : FrameId) (f : Frame (List ℕ)) (act : Act) → frame_at tenant.frames name.serial ≡ Some f →
+      AllPass (advance_tests tenant worker f act) → IsShaped tenant → LeftShaped (advanced functions tenant worker name f act).0
+  advance-shaped tenant worker name f act at passed s =
+      let good = (or_parts (is_outside act.stores f.value) (is_bad_then (length f.value) (has_child tenant.frames f.serial) act.after) passed.1.1.0).1 in
+      let own = found-serial tenant.frames name.serial f at in
+      let words = stored act.stores f.value in
+      let long : length words ≡ length f.value = length-stored act.stores f.value in
+      let t = holding f.serial words tenant in
+      let at_own : frame_at tenant.frames f.serial ≡ Some f = ap (frame_at tenant.frames) own ∙ at in
+      let st = shaped-counted t (step-left tenant passed.1.0) (shaped-stored f.serial words tenant f at_own long s) in
+      let g : Frame (List ℕ) = record f { value = words } in
+      let at_g : frame_at t.frames name.serial ≡ Some g = ap (frame_at t.frames) (sym own) ∙ frame_at-with_frame_words f.serial words tenant.frames f at_own in
+      let child : has_child t.frames name.serial ≡ has_child tenant.frames f.serial = ap (has_child t.frames) (sym own) ∙ has_child-with_frame_words f.serial words tenant.frames f.serial s.tree in
+      then-shaped (counted t) worker name f.path words act.after g at_g refl (run-free worker f.state (not-false (is_run_by worker f.state) passed.0))
+      (ap (λ (n : ℕ). is_bad_then n (has_child t.frames name.serial) act.after) long ∙ ap (λ (b : Bool). is_bad_then (length f.value) b act.after) child ∙ good)
+      (λ spawn. node-left tenant (node (is_spawn act.after) (eqb (left tenant).nodes 0) spawn passed.1.1.1.0))
+      (room act.after (segments-left tenant (segments_for f act.after) s.charged passed.1.1.1.1.0)
+      (same (charged_for t.frames) (charge (length f.value)) (charged_for tenant.frames) (charge (length words)) (ap charge long) (charged-with_frame_words f.serial words tenant.frames f (tree-rising tenant.frames s.tree) at_own)) g long)
+      st
+    where
+      node : (spawn none : Bool) → spawn ≡ true → (spawn && none) ≡ false → none ≡ false
+      node true none is both = both
+      node false none is both = absurd (false≢true is)
 
-    same : (a b c d : ℕ) → d ≡ b → a + b ≡ c + d → a ≡ c
-    same a b c d e is = omega arith
+      same : (a b c d : ℕ) → d ≡ b → a + b ≡ c + d → a ≡ c
+      same a b c d e is = omega arith
 
-    room : (after : Continuation) {c : ℕ} → charged_for tenant.frames + segments_for f after ≤ tenant.reserve.segments → c ≡ charged_for tenant.frames → (g : Frame (List ℕ)) → length g.value ≡ length f.value → c + segments_for g after ≤ tenant.reserve.segments
-    room (Grow more) le e g long = (let m = ap (λ (n : ℕ). growth_charge n more) long in sum le e m)
-      where
-        sum : {a b c d r : ℕ} → a + b ≤ r → c ≡ a → d ≡ b → c + d ≤ r
-        sum le e f = omega arith
-    room _ le e g long = rw e le
+      room : (after : Continuation) {c : ℕ} → charged_for tenant.frames + segments_for f after ≤ tenant.reserve.segments → c ≡ charged_for tenant.frames → (g : Frame (List ℕ)) → length g.value ≡ length f.value → c + segments_for g after ≤ tenant.reserve.segments
+      room (Grow more) le e g long = (let m = ap (λ (n : ℕ). growth_charge n more) long in sum le e m)
+        where
+          sum : {a b c d r : ℕ} → a + b ≤ r → c ≡ a → d ≡ b → c + d ≤ r
+          sum le e f = omega arith
+      room _ le e g long = rw e le
 
--- Answer
-answer-shaped : {I A : Type 0} (functions : Functions I A) (tenant : Tenant) (worker : ℕ) (s : ℕ) (f : Frame (List ℕ)) (answer : A) → frame_at tenant.frames s ≡ Some f →
-    AllPass (answer_tests functions tenant worker f answer) → IsShaped tenant → LeftShaped (answered functions tenant worker f answer).0
-answer-shaped functions tenant worker s f answer at passed shape =
-    let at_own : frame_at tenant.frames f.serial ≡ Some f = ap (frame_at tenant.frames) (found-serial tenant.frames s f at) ∙ at in
-    let words = stored (functions.accept f.value answer) f.value in
-    let t = holding f.serial words tenant in
-    shaped-counted (in_state f.serial (Running worker) t) (step-left tenant passed.1.1.0)
-    (shaped-in_state f.serial (Running worker) t (inl refl) (shaped-stored f.serial words tenant f at_own (length-stored (functions.accept f.value answer) f.value) shape))
+  -- Answer
+  answer-shaped : (tenant : Tenant) (worker : ℕ) (s : ℕ) (f : Frame (List ℕ)) (answer : A) → frame_at tenant.frames s ≡ Some f →
+      AllPass (answer_tests functions tenant worker f answer) → IsShaped tenant → LeftShaped (answered functions tenant worker f answer).0
+  answer-shaped tenant worker s f answer at passed shape =
+      let at_own : frame_at tenant.frames f.serial ≡ Some f = ap (frame_at tenant.frames) (found-serial tenant.frames s f at) ∙ at in
+      let words = stored (functions.accept f.value answer) f.value in
+      let t = holding f.serial words tenant in
+      shaped-counted (in_state f.serial (Running worker) t) (step-left tenant passed.1.1.0)
+      (shaped-in_state f.serial (Running worker) t (inl refl) (shaped-stored f.serial words tenant f at_own (length-stored (functions.accept f.value answer) f.value) shape))
 
 -- Inlet: the frames that stay, with the parent among them
-staying-shaped : (tenant : Tenant) (n parent : ℕ) (f : Frame (List ℕ)) (abort : Bool) → frame_at tenant.frames n ≡ Some f → parent_of f.path ≡ Some parent → children_of tenant.frames n ≡ [] → IsShaped tenant →
-    IsShaped (record tenant { frames = staying tenant.frames n parent abort })
-staying-shaped tenant n parent f true at named leaf s = shaped-aborted parent tenant s
-staying-shaped tenant n parent f false at named leaf s = shaped-without n tenant f parent at named leaf s
+module _ (tenant : Tenant) where
+  staying-shaped : (n parent : ℕ) (f : Frame (List ℕ)) (abort : Bool) → frame_at tenant.frames n ≡ Some f → parent_of f.path ≡ Some parent →
+      children_of tenant.frames n ≡ [] → IsShaped tenant → IsShaped (record tenant { frames = staying tenant.frames n parent abort })
+  staying-shaped n parent f true at named leaf s = shaped-aborted parent tenant s
+  staying-shaped n parent f false at named leaf s = shaped-without n tenant f parent at named leaf s
 
-pub staying-parent : (tenant : Tenant) (n parent : ℕ) (f g : Frame (List ℕ)) (abort : Bool) → frame_at tenant.frames n ≡ Some f → parent_of f.path ≡ Some parent → frame_at tenant.frames parent ≡ Some g → IsShaped tenant →
-    frame_at (staying tenant.frames n parent abort) parent ≡ Some g
-staying-parent tenant n parent f g true at named at_g s = aborted-itself parent tenant.frames g s.tree at_g
-staying-parent tenant n parent f g false at named at_g s = grind (arith, under-below, frame_at_other-without)
+  pub staying-parent : (n parent : ℕ) (f g : Frame (List ℕ)) (abort : Bool) → frame_at tenant.frames n ≡ Some f → parent_of f.path ≡ Some parent →
+      frame_at tenant.frames parent ≡ Some g → IsShaped tenant → frame_at (staying tenant.frames n parent abort) parent ≡ Some g
+  staying-parent n parent f g abort at named at_g s = grind (arith, aborted-itself, under-below, frame_at_other-without)
 
-pub inlet-stored-shaped : (tenant : Tenant) (worker n : ℕ) (f : Frame (List ℕ)) (parent : ℕ) (act : InletAct) → frame_at tenant.frames n ≡ Some f → parent_of f.path ≡ Some parent →
-    AllPass (inlet_tests tenant worker f parent act) → IsShaped tenant →
-    IsShaped (counted (holding parent (stored act.stores (words_in (staying tenant.frames n parent act.abort) parent)) (record tenant { frames = staying tenant.frames n parent act.abort })))
-inlet-stored-shaped tenant worker n f parent act at named passed s =
-    let leaf = returned-childless tenant n f s at (returned-marked f.state (not-false (is_returned f.state) passed.0)) in
-    let g = there-found tenant.frames parent (under-there tenant.frames n parent f s.tree at named) in
-    let frames = staying tenant.frames n parent act.abort in
-    let at_g : frame_at frames parent ≡ Some g.0 = staying-parent tenant n parent f g.0 act.abort at named g.1 s in
-    let words = stored act.stores (words_in frames parent) in
-    let long : length words ≡ length g.0.value = length-stored act.stores (words_in frames parent) ∙ ap (λ o. length (frame_words o)) at_g in
-    shaped-counted (holding parent words (record tenant { frames = frames })) (step-left tenant passed.1.0) (shaped-stored parent words (record tenant { frames = frames }) g.0 at_g long (staying-shaped tenant n parent f act.abort at named leaf s))
+  pub inlet-stored-shaped : (worker n : ℕ) (f : Frame (List ℕ)) (parent : ℕ) (act : InletAct) → frame_at tenant.frames n ≡ Some f →
+      parent_of f.path ≡ Some parent → AllPass (inlet_tests tenant worker f parent act) → IsShaped tenant →
+      IsShaped (counted (holding parent (stored act.stores (words_in (staying tenant.frames n parent act.abort) parent)) (record tenant { frames = staying tenant.frames n parent act.abort })))
+  inlet-stored-shaped worker n f parent act at named passed s =
+      let leaf = returned-childless tenant n f s at (returned-marked f.state (not-false (is_returned f.state) passed.0)) in
+      let g = there-found tenant.frames parent (under-there tenant.frames n parent f s.tree at named) in
+      let frames = staying tenant.frames n parent act.abort in
+      let at_g : frame_at frames parent ≡ Some g.0 = staying-parent n parent f g.0 act.abort at named g.1 s in
+      let words = stored act.stores (words_in frames parent) in
+      let long : length words ≡ length g.0.value = length-stored act.stores (words_in frames parent) ∙ ap (λ o. length (frame_words o)) at_g in
+      shaped-counted (holding parent words (record tenant { frames = frames })) (step-left tenant passed.1.0) (shaped-stored parent words (record tenant { frames = frames }) g.0 at_g long (staying-shaped n parent f act.abort at named leaf s))
 
 inlet-shaped : (I : Type 0) (tenant : Tenant) (worker : ℕ) (name : FrameId) (f : Frame (List ℕ)) (parent : ℕ) (act : InletAct) → frame_at tenant.frames name.serial ≡ Some f → parent_of f.path ≡ Some parent →
     AllPass (inlet_tests tenant worker f parent act) → IsShaped tenant → LeftShaped (taken_in {I = I} tenant worker name parent act).0

@@ -2,13 +2,10 @@
 use Rattle.std.proofs.Common.{◌≡◌, ℕ, ◌⊎◌, inl, inr, Bool, true, false, not, ◌||◌, ◌&&◌, eqb, ltb, List, [], ◌∷◌, Option, Some, None, refl, ap, sym, ◌∙◌, arith}
 use Rattle.std.specs.Prelude.{◌↔◌}
 use Rattle.std.proofs.lemmas.Bool.{cases_Bool, false≢true, eq-eqb, eqb-true, not-false, or_cases, or_left, or_right, and_parts, and_from}
-use Rattle.frame_tree.specs.declared.names.State.{State}
-use Rattle.frame_tree.specs.declared.names.State.TheVariants.{Running}
-use Rattle.frame_tree.specs.declared.names.FrameId.{FrameId}
+use Rattle.frame_tree.specs.declared.{names.State.State, names.State.TheVariants.Running, names.FrameId.FrameId}
 use Rattle.frame_tree.specs.Frames.{Frame, frame_at, parent_of}
-use Rattle.sched_rules.specs.declared.refusal.Refusal.{Refusal}
+use Rattle.sched_rules.specs.declared.{refusal.Refusal.Refusal, step.StepOf.TheVariants.Advance, step.StepOf.TheVariants.Inlet}
 use Rattle.sched_rules.specs.declared.refusal.Refusal.TheVariants.{NotRunning, NoSteps, BadAct, NoNodes, NoSegments, NotReturned, Busy}
-use Rattle.sched_rules.specs.declared.step.StepOf.TheVariants.{Advance, Inlet}
 use Rattle.sched_rules.specs.Functions.{Functions}
 use Rattle.sched_rules.specs.Trees.{Tenant, words_in, left, is_outside, has_child, is_busy_in}
 use Rattle.sched_rules.specs.Lone.{unless, applies, refusal_in, lone_refusal, is_run, is_run_by, is_returned, act_by_sight, is_bad_act, is_spawn, segments_for, act_tests, advance_tests, advanced, inlet_tests, taken_in, inlet_under, is_bad_inlet, IsSpendable}
@@ -40,13 +37,13 @@ run-by : (worker : ℕ) (state : State) → is_run_by worker state ≡ true → 
 run-by worker state h3 = grind arith
 
 -- what an Advance of a frame that is there would be refused by
-advance-refusal : {I A : Type 0} (functions : Functions I A) (tenant : Tenant) (worker : ℕ) (name : FrameId) (frame : Frame (List ℕ)) → frame_at tenant.frames name.serial ≡ Some frame →
-    lone_refusal {A = A} functions (Some tenant) (Advance worker name) ≡ refusal_in (unless (advance_tests tenant worker frame (act_by_sight functions tenant frame)) (advanced functions tenant worker name frame (act_by_sight functions tenant frame)))
-advance-refusal functions tenant worker name frame at = grind arith
+module _ {I A : Type 0} (functions : Functions I A) (tenant : Tenant) (worker : ℕ) (name : FrameId) (frame : Frame (List ℕ))
+    (at : frame_at tenant.frames name.serial ≡ Some frame) where
+  advance-refusal : lone_refusal {A = A} functions (Some tenant) (Advance worker name) ≡ refusal_in (unless (advance_tests tenant worker frame (act_by_sight functions tenant frame)) (advanced functions tenant worker name frame (act_by_sight functions tenant frame)))
+  advance-refusal = grind arith
 
-inlet-refusal : {I A : Type 0} (functions : Functions I A) (tenant : Tenant) (worker : ℕ) (name : FrameId) (frame : Frame (List ℕ)) → frame_at tenant.frames name.serial ≡ Some frame →
-    lone_refusal {A = A} functions (Some tenant) (Inlet worker name) ≡ refusal_in (inlet_under functions tenant worker name frame (parent_of frame.path))
-inlet-refusal functions tenant worker name frame at = grind arith
+  inlet-refusal : lone_refusal {A = A} functions (Some tenant) (Inlet worker name) ≡ refusal_in (inlet_under functions tenant worker name frame (parent_of frame.path))
+  inlet-refusal = grind arith
 
 -- the tests of an Inlet, as tests
 abbrev InletTests : Bool → Bool → Bool → Bool → List (Bool × Refusal)
@@ -56,76 +53,74 @@ bad-inlet : {X : Type 0} (returned outside busy : Bool) (effect : X) → returne
 bad-inlet returned outside busy effect h5 h6 = grind arith
 
 good-inlet : {X : Type 0} (returned steps outside busy : Bool) (effect : X) → refusal_in (unless (InletTests (not returned) steps outside busy) effect) ≡ Some BadAct → (returned ≡ true) × (outside ≡ true)
-good-inlet true false true busy effect is = (refl, refl)
-good-inlet false steps outside busy effect is = absurd cc
-good-inlet true true outside busy effect is = absurd cc
-good-inlet true false false true effect is = absurd cc
-good-inlet true false false false effect is = absurd cc
+good-inlet returned steps outside busy effect is = grind arith
 
-may-forth : {I A : Type 0} (functions : Functions I A) (tenant : Tenant) (name : FrameId) (frame : Frame (List ℕ)) → frame_at tenant.frames name.serial ≡ Some frame → IsSpendable functions tenant frame → MayBeSpent functions tenant name
-may-forth {I} {A} functions tenant name frame at is =
-    elim (cases_Bool (eqb (left tenant).steps 0)) [
-      | inl none ↦ inl (eqb-true (left tenant).steps 0 none)
-      | inr some ↦ elim (or_cases (is_run frame.state && applies acts) (is_returned frame.state && is_bad_inlet functions tenant frame (parent_of frame.path)) (rw some at is)) [
-        | inl stuck_run ↦ inr (inl (run some (and_parts (is_run frame.state) (applies acts) stuck_run)))
-        | inr bad ↦ inr (inr (inlet some (parent_of frame.path) refl (and_parts (is_returned frame.state) (is_bad_inlet functions tenant frame (parent_of frame.path)) bad)))
+module _ {I A : Type 0} (functions : Functions I A) (tenant : Tenant) (name : FrameId) (frame : Frame (List ℕ))
+    (at : frame_at tenant.frames name.serial ≡ Some frame) where
+  may-forth : IsSpendable functions tenant frame → MayBeSpent functions tenant name
+  may-forth is =
+      elim (cases_Bool (eqb (left tenant).steps 0)) [
+        | inl none ↦ inl (eqb-true (left tenant).steps 0 none)
+        | inr some ↦ elim (or_cases (is_run frame.state && applies acts) (is_returned frame.state && is_bad_inlet functions tenant frame (parent_of frame.path)) (rw some at is)) [
+          | inl stuck_run ↦ inr (inl (run some (and_parts (is_run frame.state) (applies acts) stuck_run)))
+          | inr bad ↦ inr (inr (inlet some (parent_of frame.path) refl (and_parts (is_returned frame.state) (is_bad_inlet functions tenant frame (parent_of frame.path)) bad)))
+        ]
       ]
-    ]
-  where
-    acts : List (Bool × Refusal)
-    acts = act_tests tenant frame (act_by_sight functions tenant frame)
+    where
+      acts : List (Bool × Refusal)
+      acts = act_tests tenant frame (act_by_sight functions tenant frame)
 
-    run : eqb (left tenant).steps 0 ≡ false → (is_run frame.state ≡ true) × (applies acts ≡ true) → IsStuck functions tenant name
-    run some both =
-        let w = runner frame.state both.0 in
-        let act = act_by_sight functions tenant frame in
-        let effect = advanced functions tenant w.0 name frame act in
-        let bad = is_bad_act frame.value (has_child tenant.frames frame.serial) act in
-        let nodes = is_spawn act.after && eqb (left tenant).nodes 0 in
-        let segments = ltb (left tenant).segments (segments_for frame act.after) in
-        let s = stuck bad nodes segments effect both.1 in
-        let tests : unless (advance_tests tenant w.0 frame act) effect ≡ unless (Tests false false bad nodes segments) effect = rw (w.1, some) refl in
-        (w.0, s.0, s.1, advance-refusal functions tenant w.0 name frame at ∙ ap refusal_in tests ∙ s.2)
+      run : eqb (left tenant).steps 0 ≡ false → (is_run frame.state ≡ true) × (applies acts ≡ true) → IsStuck functions tenant name
+      run some both =
+          let w = runner frame.state both.0 in
+          let act = act_by_sight functions tenant frame in
+          let effect = advanced functions tenant w.0 name frame act in
+          let bad = is_bad_act frame.value (has_child tenant.frames frame.serial) act in
+          let nodes = is_spawn act.after && eqb (left tenant).nodes 0 in
+          let segments = ltb (left tenant).segments (segments_for frame act.after) in
+          let s = stuck bad nodes segments effect both.1 in
+          let tests : unless (advance_tests tenant w.0 frame act) effect ≡ unless (Tests false false bad nodes segments) effect = rw (w.1, some) refl in
+          (w.0, s.0, s.1, advance-refusal functions tenant w.0 name frame at ∙ ap refusal_in tests ∙ s.2)
 
-    inlet : eqb (left tenant).steps 0 ≡ false → (parent : Option ℕ) → parent_of frame.path ≡ parent → (is_returned frame.state ≡ true) × (is_bad_inlet functions tenant frame (parent_of frame.path) ≡ true) → IsBadInlet functions tenant name
-    inlet some None named both = absurd (false≢true (sym (ap (is_bad_inlet functions tenant frame) named) ∙ both.1))
-    inlet some (Some parent) named both = λ worker.
-        let act = functions.inlet (words_in tenant.frames parent) frame.value in
-        let effect = taken_in {I = I} tenant worker name parent act in
-        let outside = is_outside act.stores (words_in tenant.frames parent) in
-        let busy = is_busy_in worker tenant.frames in
-        let bad : outside ≡ true = sym (ap (is_bad_inlet functions tenant frame) named) ∙ both.1 in
-        let tests : unless (inlet_tests tenant worker frame parent act) effect ≡ unless (InletTests (not (is_returned frame.state)) false outside busy) effect = rw some refl in
-        inlet-refusal functions tenant worker name frame at ∙ ap (λ o. refusal_in (inlet_under functions tenant worker name frame o)) named ∙ ap refusal_in tests ∙ bad-inlet (is_returned frame.state) outside busy effect both.0 bad
+      inlet : eqb (left tenant).steps 0 ≡ false → (parent : Option ℕ) → parent_of frame.path ≡ parent → (is_returned frame.state ≡ true) × (is_bad_inlet functions tenant frame (parent_of frame.path) ≡ true) → IsBadInlet functions tenant name
+      inlet some None named both = absurd (false≢true (sym (ap (is_bad_inlet functions tenant frame) named) ∙ both.1))
+      inlet some (Some parent) named both = λ worker.
+          let act = functions.inlet (words_in tenant.frames parent) frame.value in
+          let effect = taken_in {I = I} tenant worker name parent act in
+          let outside = is_outside act.stores (words_in tenant.frames parent) in
+          let busy = is_busy_in worker tenant.frames in
+          let bad : outside ≡ true = sym (ap (is_bad_inlet functions tenant frame) named) ∙ both.1 in
+          let tests : unless (inlet_tests tenant worker frame parent act) effect ≡ unless (InletTests (not (is_returned frame.state)) false outside busy) effect = rw some refl in
+          inlet-refusal functions tenant worker name frame at ∙ ap (λ o. refusal_in (inlet_under functions tenant worker name frame o)) named ∙ ap refusal_in tests ∙ bad-inlet (is_returned frame.state) outside busy effect both.0 bad
 
-may-back : {I A : Type 0} (functions : Functions I A) (tenant : Tenant) (name : FrameId) (frame : Frame (List ℕ)) → frame_at tenant.frames name.serial ≡ Some frame → MayBeSpent functions tenant name → IsSpendable functions tenant frame
-may-back functions tenant name frame at (inl none) = rw (eq-eqb (left tenant).steps 0 none) refl
-may-back functions tenant name frame at (inr (inl s)) =
-    let act = act_by_sight functions tenant frame in
-    let effect = advanced functions tenant s.0 name frame act in
-    let bad = is_bad_act frame.value (has_child tenant.frames frame.serial) act in
-    let nodes = is_spawn act.after && eqb (left tenant).nodes 0 in
-    let segments = ltb (left tenant).segments (segments_for frame act.after) in
-    let u = unstuck (not (is_run_by s.0 frame.state)) (eqb (left tenant).steps 0) bad nodes segments effect s.1 s.2 (sym (advance-refusal functions tenant s.0 name frame at) ∙ s.3) in
-    let run = run-by s.0 frame.state (not-false (is_run_by s.0 frame.state) u.0) in
-    let runs = is_run frame.state && applies (act_tests tenant frame act) in
-    or_left (eqb (left tenant).steps 0 || runs) (is_returned frame.state && is_bad_inlet functions tenant frame (parent_of frame.path))
-    (or_right (eqb (left tenant).steps 0) runs (and_from (is_run frame.state) (applies (act_tests tenant frame act)) run u.1))
-may-back {I} functions tenant name frame at (inr (inr b)) = by (parent_of frame.path) refl
-  where
-    refused : refusal_in (inlet_under functions tenant 1 name frame (parent_of frame.path)) ≡ Some BadAct
-    refused = grind (arith, inlet-refusal)
+  may-back : MayBeSpent functions tenant name → IsSpendable functions tenant frame
+  may-back (inl none) = rw (eq-eqb (left tenant).steps 0 none) refl
+  may-back (inr (inl s)) =
+      let act = act_by_sight functions tenant frame in
+      let effect = advanced functions tenant s.0 name frame act in
+      let bad = is_bad_act frame.value (has_child tenant.frames frame.serial) act in
+      let nodes = is_spawn act.after && eqb (left tenant).nodes 0 in
+      let segments = ltb (left tenant).segments (segments_for frame act.after) in
+      let u = unstuck (not (is_run_by s.0 frame.state)) (eqb (left tenant).steps 0) bad nodes segments effect s.1 s.2 (sym (advance-refusal functions tenant s.0 name frame at) ∙ s.3) in
+      let run = run-by s.0 frame.state (not-false (is_run_by s.0 frame.state) u.0) in
+      let runs = is_run frame.state && applies (act_tests tenant frame act) in
+      or_left (eqb (left tenant).steps 0 || runs) (is_returned frame.state && is_bad_inlet functions tenant frame (parent_of frame.path))
+      (or_right (eqb (left tenant).steps 0) runs (and_from (is_run frame.state) (applies (act_tests tenant frame act)) run u.1))
+  may-back (inr (inr b)) = by (parent_of frame.path) refl
+    where
+      refused : refusal_in (inlet_under functions tenant 1 name frame (parent_of frame.path)) ≡ Some BadAct
+      refused = grind (arith, inlet-refusal)
 
-    by : (parent : Option ℕ) → parent_of frame.path ≡ parent → IsSpendable functions tenant frame
-    by None named = (let e : Some NotReturned ≡ Some BadAct = sym (ap (λ o. refusal_in (inlet_under functions tenant 1 name frame o)) named) ∙ refused in absurd cc)
-    by (Some parent) named =
-        let act = functions.inlet (words_in tenant.frames parent) frame.value in
-        let effect = taken_in {I = I} tenant 1 name parent act in
-        let outside = is_outside act.stores (words_in tenant.frames parent) in
-        let g = good-inlet (is_returned frame.state) (eqb (left tenant).steps 0) outside (is_busy_in 1 tenant.frames) effect (sym (ap (λ o. refusal_in (inlet_under functions tenant 1 name frame o)) named) ∙ refused) in
-        let bad : is_bad_inlet functions tenant frame (parent_of frame.path) ≡ true = ap (is_bad_inlet functions tenant frame) named ∙ g.1 in
-        or_right (eqb (left tenant).steps 0 || (is_run frame.state && applies (act_tests tenant frame (act_by_sight functions tenant frame)))) (is_returned frame.state && is_bad_inlet functions tenant frame (parent_of frame.path))
-        (and_from (is_returned frame.state) (is_bad_inlet functions tenant frame (parent_of frame.path)) g.0 bad)
+      by : (parent : Option ℕ) → parent_of frame.path ≡ parent → IsSpendable functions tenant frame
+      by None named = (let e : Some NotReturned ≡ Some BadAct = sym (ap (λ o. refusal_in (inlet_under functions tenant 1 name frame o)) named) ∙ refused in absurd cc)
+      by (Some parent) named =
+          let act = functions.inlet (words_in tenant.frames parent) frame.value in
+          let effect = taken_in {I = I} tenant 1 name parent act in
+          let outside = is_outside act.stores (words_in tenant.frames parent) in
+          let g = good-inlet (is_returned frame.state) (eqb (left tenant).steps 0) outside (is_busy_in 1 tenant.frames) effect (sym (ap (λ o. refusal_in (inlet_under functions tenant 1 name frame o)) named) ∙ refused) in
+          let bad : is_bad_inlet functions tenant frame (parent_of frame.path) ≡ true = ap (is_bad_inlet functions tenant frame) named ∙ g.1 in
+          or_right (eqb (left tenant).steps 0 || (is_run frame.state && applies (act_tests tenant frame (act_by_sight functions tenant frame)))) (is_returned frame.state && is_bad_inlet functions tenant frame (parent_of frame.path))
+          (and_from (is_returned frame.state) (is_bad_inlet functions tenant frame (parent_of frame.path)) g.0 bad)
 
-pub may-be-spent : {I A : Type 0} (functions : Functions I A) (tenant : Tenant) (name : FrameId) (frame : Frame (List ℕ)) → frame_at tenant.frames name.serial ≡ Some frame → IsSpendable functions tenant frame ↔ MayBeSpent functions tenant name
-may-be-spent functions tenant name frame at = (may-forth functions tenant name frame at, may-back functions tenant name frame at)
+  pub may-be-spent : IsSpendable functions tenant frame ↔ MayBeSpent functions tenant name
+  may-be-spent = (may-forth, may-back)

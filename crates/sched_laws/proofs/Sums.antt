@@ -1,16 +1,13 @@
 -- What all tenants have reserved and are charged, under each answer.
-use Rattle.std.proofs.Common.{◌≡◌, ◌↔◌, ℕ, ◌+◌, ◌*◌, ◌≤◌, inl, inr, false, ◌||◌, eqb, ltb, leb, List, [], ◌∷◌, Option, Some, None, Result, Ok, Err, length, refl, ap, sym, ◌∙◌, subst, arith}
+use Rattle.std.proofs.Common.{◌≡◌, ◌↔◌, ℕ, ◌+◌, ◌*◌, ◌≤◌, false, ◌||◌, ltb, leb, List, [], ◌∷◌, Option, Some, None, Result, Ok, Err, length, refl, ap, sym, ◌∙◌, subst, arith}
 use Rattle.std.proofs.lemmas.List.Sums.{sum_by-cons}
-use Rattle.std.proofs.lemmas.Bool.{cases_Bool, false≢true, ltb-false, le-ltb, or_parts}
+use Rattle.std.proofs.lemmas.Bool.{false≢true, ltb-false, le-ltb, or_parts}
 use Rattle.tenant_quota.specs.Quota.{Quota}
 use Rattle.tenant_quota.specs.Accounts.{reserved_segments, reserved_nodes}
 use Rattle.tenant_quota.specs.declared.account.Account.{Account}
-use Rattle.sched_rules.specs.declared.refusal.Refusal.{Refusal}
-use Rattle.sched_rules.specs.declared.refusal.Refusal.TheVariants.{NoTenant, Lower}
-use Rattle.sched_rules.specs.declared.step.StepOf.{StepOf}
-use Rattle.sched_rules.specs.declared.step.StepOf.TheVariants.{Admit, AdmitMore}
-use Rattle.sched_rules.specs.declared.step.DidOf.{DidOf}
-use Rattle.sched_rules.specs.declared.step.DidOf.TheVariants.{Admitted}
+use Rattle.sched_rules.specs.declared.refusal.Refusal.{Refusal, TheVariants.NoTenant, TheVariants.Lower}
+use Rattle.sched_rules.specs.declared.step.StepOf.{StepOf, TheVariants.Admit, TheVariants.AdmitMore}
+use Rattle.sched_rules.specs.declared.step.DidOf.{DidOf, TheVariants.Admitted}
 use Rattle.sched_rules.specs.Functions.{Functions}
 use Rattle.sched_rules.specs.Trees.{Tenant, admitted_with, account_in, charged_for, left}
 use Rattle.sched_rules.specs.Lone.{Outcome, lone, lone_step, is_lower, raised}
@@ -22,7 +19,7 @@ use Rattle.sched_rules.proofs.Isolation.{there}
 use Rattle.sched_laws.specs.Shapes.{IsShaped, AreShaped, IsReservedWithin, IsCovered}
 use Rattle.sched_laws.proofs.Shaped.{unless-passed, by-kinds}
 use Rattle.sched_laws.proofs.FitAnswers.{taken-alone}
-use Rattle.sched_laws.proofs.Answers.{more-taken}
+use Rattle.sched_laws.proofs.Consequences.{more-taken}
 
 abbrev Entries : Type 0
 Entries = List (ℕ × Tenant)
@@ -46,26 +43,18 @@ nodes-total : (es : Entries) → reserved_nodes (accounts_in es) ≡ total (λ t
 nodes-total [] = refl
 nodes-total (e ∷ es) = sum_by-cons (λ (a : ℕ × Account). a.1.reserve.nodes) (e.0, account_in e.1) (accounts_in es) ∙ ap (λ (n : ℕ). e.1.reserve.nodes + n) (nodes-total es)
 
-total-changed : (m : Tenant → ℕ) (n : ℕ) (old t : Tenant) (es : Entries) → tenant_in es n ≡ Some old → total m (with_tenant n t es) + m old ≡ total m es + m t
-total-changed m n old t [] at = absurd cc
-total-changed m n old t (e ∷ es) at = elim (cases_Bool (eqb e.0 n)) [
-  | inl is ↦ (let both : Some e.1 ≡ Some old = rw is at at in let own : e.1 ≡ old = cc in let same = ap m own in rw is (omega (arith, same)))
-  | inr other ↦ (let rest = total-changed m n old t es (rw other at at) in rw other (omega (arith, rest)))
-]
+module _ (m : Tenant → ℕ) (n : ℕ) where
+  total-changed : (old t : Tenant) (es : Entries) → tenant_in es n ≡ Some old → total m (with_tenant n t es) + m old ≡ total m es + m t
+  total-changed old t [] at = absurd cc
+  total-changed old t (e ∷ es) at = grind (arith, total-changed old t es)
 
-total-more : (m : Tenant → ℕ) (n : ℕ) (t : Tenant) (es : Entries) → total m (with_tenant n t es) ≤ total m es + m t
-total-more m n t [] = omega arith
-total-more m n t (e ∷ es) = elim (cases_Bool (eqb e.0 n)) [
-  | inl is ↦ rw is (omega arith)
-  | inr other ↦ rw other (let rest = total-more m n t es in omega (arith, rest))
-]
+  total-more : (t : Tenant) (es : Entries) → total m (with_tenant n t es) ≤ total m es + m t
+  total-more t [] = omega arith
+  total-more t (e ∷ es) = grind (arith, total-more t es)
 
-total-less : (m : Tenant → ℕ) (n : ℕ) (es : Entries) → total m (without_tenant n es) ≤ total m es
-total-less m n [] = omega arith
-total-less m n (e ∷ es) = let rest = total-less m n es in elim (cases_Bool (eqb e.0 n)) [
-  | inl is ↦ rw is (omega (arith, rest))
-  | inr other ↦ rw other (omega (arith, rest))
-]
+  total-less : (es : Entries) → total m (without_tenant n es) ≤ total m es
+  total-less [] = omega arith
+  total-less (e ∷ es) = grind (arith, total-less es)
 
 -- a tenant that is left keeps what it reserved
 abbrev pub KeepsReserve : Quota → Option Tenant → Type 0
@@ -86,8 +75,7 @@ step-reserve functions tenant step outcome no_admission is = by-kinds functions 
 
 -- a number that goes by what is reserved, after a tenant came to this
 outcome-total : (m : Quota → ℕ) (n : ℕ) (old : Tenant) (o : Option Tenant) (es : Entries) → tenant_in es n ≡ Some old → KeepsReserve old.reserve o → total (λ t. m t.reserve) (with_outcome n o es) ≤ total (λ t. m t.reserve) es
-outcome-total m n old None es at keeps = total-less (λ t. m t.reserve) n es
-outcome-total m n old (Some t) es at keeps = let changed = total-changed (λ u. m u.reserve) n old t es at in let same = ap m keeps in omega (arith, changed, same)
+outcome-total m n old o es at keeps = grind (arith, total-less, total-changed)
 
 -- a taken step keeps the reservations within the totals
 room : (m : Quota → ℕ) (number : ℕ) (quota : Quota) (es : Entries) (most : ℕ) → total (λ t. m t.reserve) es + m quota ≤ most → total (λ t. m t.reserve) (with_tenant number (admitted_with quota) es) ≤ most
@@ -166,77 +154,82 @@ beyond-exactly before number old quota at = (forth, back)
           no-further book.nodes old.reserve.nodes (reserved_nodes book.accounts) quota.nodes (total (λ t. t.reserve.nodes) after) (omega (arith, b, all_nodes)) (omega (arith, n, f)),
         ) refl
 
-more-within : {I A : Type 0} (functions : Functions I A) (before : CoreState) (number : ℕ) (quota : Quota) (outcome : Outcome I) → step_result {A = A} functions before (AdmitMore number quota) ≡ Ok outcome → IsReservedWithin before → WithinAfter before number outcome.0
-more-within {I} {A} functions before number quota outcome is within = by (tenant_in before.tenants number) refl
-  where
-    found : (is_beyond (reservations_in before) (reserved_by (tenant_in before.tenants number)) quota ≡ false) × (lone {A = A} functions (tenant_in before.tenants number) (AdmitMore number quota) ≡ Ok outcome)
-    found = more-taken {A = A} functions before number quota outcome is
+module _ {I A : Type 0} (functions : Functions I A) (before : CoreState) where
+  more-within : (number : ℕ) (quota : Quota) (outcome : Outcome I) → step_result {A = A} functions before (AdmitMore number quota) ≡ Ok outcome → IsReservedWithin before → WithinAfter before number outcome.0
+  more-within number quota outcome is within = by (tenant_in before.tenants number) refl
+    where
+      found : (is_beyond (reservations_in before) (reserved_by (tenant_in before.tenants number)) quota ≡ false) × (lone {A = A} functions (tenant_in before.tenants number) (AdmitMore number quota) ≡ Ok outcome)
+      found = more-taken {A = A} functions before number quota outcome is
 
-    alone : (own : Option Tenant) → tenant_in before.tenants number ≡ own → lone {A = A} functions own (AdmitMore number quota) ≡ Ok outcome
-    alone own at = ap (λ o. lone {A = A} functions o (AdmitMore number quota)) (sym at) ∙ found.1
+      alone : (own : Option Tenant) → tenant_in before.tenants number ≡ own → lone {A = A} functions own (AdmitMore number quota) ≡ Ok outcome
+      alone own at = ap (λ o. lone {A = A} functions o (AdmitMore number quota)) (sym at) ∙ found.1
 
-    by : (own : Option Tenant) → tenant_in before.tenants number ≡ own → WithinAfter before number outcome.0
-    by None at = (let e : ◌≡◌ {A = Result (Outcome I) Refusal} (Err NoTenant) (Ok outcome) = alone None at in absurd cc)
-    by (Some old) at =
-        let p = unless-passed ((is_lower old.reserve quota, Lower) ∷ []) (raised {I = I} old quota) outcome (alone (Some old) at) in
-        let P : Outcome I → Type 0 = λ o. WithinAfter before number o.0 in
-        let enough = ap (λ o. is_beyond (reservations_in before) (reserved_by o) quota) (sym at) ∙ found.0 in
-        subst P p.1 (further-within before number quota old at enough)
+      by : (own : Option Tenant) → tenant_in before.tenants number ≡ own → WithinAfter before number outcome.0
+      by None at = (let e : ◌≡◌ {A = Result (Outcome I) Refusal} (Err NoTenant) (Ok outcome) = alone None at in absurd cc)
+      by (Some old) at =
+          let p = unless-passed ((is_lower old.reserve quota, Lower) ∷ []) (raised {I = I} old quota) outcome (alone (Some old) at) in
+          let P : Outcome I → Type 0 = λ o. WithinAfter before number o.0 in
+          let enough = ap (λ o. is_beyond (reservations_in before) (reserved_by o) quota) (sym at) ∙ found.0 in
+          subst P p.1 (further-within before number quota old at enough)
 
-step-within : {I A : Type 0} (functions : Functions I A) (before : CoreState) (step : StepOf A) (outcome : Outcome I) → is_admission step ≡ false → step_result functions before step ≡ Ok outcome → IsReservedWithin before → WithinAfter before (tenant_of step) outcome.0
-step-within functions before step outcome no_admission is within = by (tenant_in before.tenants (tenant_of step)) refl
-  where
-    alone : lone functions (tenant_in before.tenants (tenant_of step)) step ≡ Ok outcome
-    alone = taken-alone functions before step outcome no_admission is
+  step-within : (step : StepOf A) (outcome : Outcome I) → is_admission step ≡ false → step_result functions before step ≡ Ok outcome → IsReservedWithin before → WithinAfter before (tenant_of step) outcome.0
+  step-within step outcome no_admission is within = by (tenant_in before.tenants (tenant_of step)) refl
+    where
+      alone : lone functions (tenant_in before.tenants (tenant_of step)) step ≡ Ok outcome
+      alone = taken-alone functions before step outcome no_admission is
 
-    by : (own : Option Tenant) → tenant_in before.tenants (tenant_of step) ≡ own → WithinAfter before (tenant_of step) outcome.0
-    by None at = absurd (there functions None step outcome no_admission (ap (λ o. lone functions o step) (sym at) ∙ alone) refl)
-    by (Some tenant) at =
-        let keeps = step-reserve functions tenant step outcome no_admission (ap (λ o. lone functions o step) (sym at) ∙ alone) in
-        let a = outcome-total (λ q. q.segments) (tenant_of step) tenant outcome.0 before.tenants at keeps in
-        let b = outcome-total (λ q. q.nodes) (tenant_of step) tenant outcome.0 before.tenants at keeps in
-        let c = within.segments in let d = within.nodes in
-        let e = segments-total before.tenants in let f = nodes-total before.tenants in
-        (omega (arith, a, c, e), omega (arith, b, d, f))
+      by : (own : Option Tenant) → tenant_in before.tenants (tenant_of step) ≡ own → WithinAfter before (tenant_of step) outcome.0
+      by None at = absurd (there functions None step outcome no_admission (ap (λ o. lone functions o step) (sym at) ∙ alone) refl)
+      by (Some tenant) at =
+          let keeps = step-reserve functions tenant step outcome no_admission (ap (λ o. lone functions o step) (sym at) ∙ alone) in
+          let a = outcome-total (λ q. q.segments) (tenant_of step) tenant outcome.0 before.tenants at keeps in
+          let b = outcome-total (λ q. q.nodes) (tenant_of step) tenant outcome.0 before.tenants at keeps in
+          let c = within.segments in let d = within.nodes in
+          let e = segments-total before.tenants in let f = nodes-total before.tenants in
+          (omega (arith, a, c, e), omega (arith, b, d, f))
 
-taken-within : {I A : Type 0} (functions : Functions I A) (before : CoreState) (step : StepOf A) (outcome : Outcome I) → step_result functions before step ≡ Ok outcome → IsReservedWithin before → WithinAfter before (tenant_of step) outcome.0
-taken-within functions before (Admit number quota) outcome is within = admit-within functions before number quota outcome is within
-taken-within functions before (AdmitMore number quota) outcome is within = more-within functions before number quota outcome is within
-taken-within functions before step outcome is within = step-within functions before step outcome refl is within
+  taken-within : (step : StepOf A) (outcome : Outcome I) → step_result functions before step ≡ Ok outcome → IsReservedWithin before → WithinAfter before (tenant_of step) outcome.0
+  taken-within (Admit number quota) outcome is within = admit-within functions before number quota outcome is within
+  taken-within (AdmitMore number quota) outcome is within = more-within number quota outcome is within
+  taken-within step outcome is within = step-within step outcome refl is within
 
-after-within : {I A : Type 0} (functions : Functions I A) (before : CoreState) (step : StepOf A) (came_to : Result (Outcome I) Refusal) → step_result functions before step ≡ came_to → IsReservedWithin before → IsReservedWithin (shared_after before step came_to)
-after-within functions before step (Err refusal) is within = within
-after-within functions before step (Ok outcome) is within =
-    let both = taken-within functions before step outcome is within in
-    let e = segments-total (with_outcome (tenant_of step) outcome.0 before.tenants) in
-    let f = nodes-total (with_outcome (tenant_of step) outcome.0 before.tenants) in
-    record { segments = omega (arith, both.0, e); nodes = omega (arith, both.1, f) }
+  after-within : (step : StepOf A) (came_to : Result (Outcome I) Refusal) → step_result functions before step ≡ came_to → IsReservedWithin before → IsReservedWithin (shared_after before step came_to)
+  after-within step (Err refusal) is within = within
+  after-within step (Ok outcome) is within =
+      let both = taken-within step outcome is within in
+      let e = segments-total (with_outcome (tenant_of step) outcome.0 before.tenants) in
+      let f = nodes-total (with_outcome (tenant_of step) outcome.0 before.tenants) in
+      record { segments = omega (arith, both.0, e); nodes = omega (arith, both.1, f) }
 
-pub reserved-answer : {I A : Type 0} (functions : Functions I A) (before : CoreState) (step : StepOf A) (answer : Result (DidOf I) Refusal) → IsReservedWithin before → IsReservedWithin (after_answer functions before step answer)
-reserved-answer functions before step (Err refusal) within = within
-reserved-answer functions before step (Ok did) within = after-within functions before step (step_result functions before step) refl within
+  pub reserved-answer : (step : StepOf A) (answer : Result (DidOf I) Refusal) → IsReservedWithin before → IsReservedWithin (after_answer functions before step answer)
+  reserved-answer step (Err refusal) within = within
+  reserved-answer step (Ok did) within = after-within step (step_result functions before step) refl within
 
 pub reserved-answers : {I A : Type 0} (functions : Functions I A) (before : CoreState) (steps : List (StepOf A)) (answers : List (Result (DidOf I) Refusal)) → IsReservedWithin before → IsReservedWithin (after_answers functions before steps answers)
-reserved-answers functions before [] answers within = within
-reserved-answers functions before (step ∷ steps) [] within = within
 reserved-answers functions before (step ∷ steps) (answer ∷ answers) within = reserved-answers functions (after_answer functions before step answer) steps answers (reserved-answer functions before step answer within)
+reserved-answers functions before steps answers within = grind arith
 
 -- the charges are within what is reserved, and so within the total
 charged-reserved : (es : Entries) → AreShaped es → charged_in es ≤ total (λ t. t.reserve.segments) es
 charged-reserved [] all = omega arith
 charged-reserved (e ∷ es) all = let rest = charged-reserved es all.1 in let own = all.0.charged in omega (arith, rest, own)
 
-pub covered : (shared : CoreState) → AreShaped shared.tenants → IsReservedWithin shared → IsCovered shared
-covered shared all within = let a = charged-reserved shared.tenants all in let b = within.segments in let c = segments-total shared.tenants in omega (arith, a, b, c)
+module _ (shared : CoreState) (all : AreShaped shared.tenants) (within : IsReservedWithin shared) where
+  pub covered : IsCovered shared
+  covered = let a = charged-reserved shared.tenants all in let b = within.segments in let c = segments-total shared.tenants in omega (arith, a, b, c)
 
-pub free-whole : (shared : CoreState) → AreShaped shared.tenants → IsReservedWithin shared → free_in shared + charged_in shared.tenants ≡ shared.totals.segments
-free-whole shared all within = let c : charged_in shared.tenants ≤ shared.totals.segments = covered shared all within in omega (arith, c)
+  pub free-whole : free_in shared + charged_in shared.tenants ≡ shared.totals.segments
+  free-whole = let c : charged_in shared.tenants ≤ shared.totals.segments = covered in omega (arith, c)
 
-pub left-segments : (tenant : Tenant) → IsShaped tenant → (left tenant).segments + charged_for tenant.frames ≡ tenant.reserve.segments
-left-segments tenant shape = let c = shape.charged in omega (arith, c)
+module _ (tenant : Tenant) (shape : IsShaped tenant) where
+  pub left-segments : (left tenant).segments + charged_for tenant.frames ≡ tenant.reserve.segments
+  left-segments = let c = shape.charged in omega (arith, c)
 
-pub left-nodes : (tenant : Tenant) → IsShaped tenant → (left tenant).nodes + tenant.serials ≡ tenant.reserve.nodes
-left-nodes tenant shape = let c = shape.opened in omega (arith, c)
+  pub left-nodes : (left tenant).nodes + tenant.serials ≡ tenant.reserve.nodes
+  left-nodes = let c = shape.opened in omega (arith, c)
 
-pub left-steps : (tenant : Tenant) → IsShaped tenant → (left tenant).steps + tenant.steps ≡ 16 * tenant.reserve.nodes
-left-steps tenant shape = let c = shape.ticks in omega (arith, c)
+  pub left-steps : (left tenant).steps + tenant.steps ≡ 16 * tenant.reserve.nodes
+  left-steps = let c = shape.ticks in omega (arith, c)
+
+-- nothing is cut off
+pub ruleset none_cut_off = (left-segments, left-nodes, left-steps, covered, free-whole)

@@ -19,6 +19,7 @@ use sched_rules::Procedure;
 
 /// If each tenant has its shape (`IsShaped`), each has it after any step, whatever the answer, and after any
 /// list of steps.
+#[tactic(auto, using(crate::proofs::Consequences::shaped_answer, crate::proofs::Consequences::shaped_answers))]
 pub fn every_tenant_keeps_its_shape<P: Procedure>()
     ensures step { (procedure : P) (before : CoreState) (step : StepOf P.Answer) (answer : Result (DidOf P.Input) Refusal) →
         AreShaped before.tenants → AreShaped (after_answer (P.functions procedure) before step answer).tenants }
@@ -29,6 +30,7 @@ pub fn every_tenant_keeps_its_shape<P: Procedure>()
 /// What follows from a tenant's shape (`IsShaped`): a frame that has returned, or is computed, has no child;
 /// the root of a live job is there; a root frame's job is found by its serial, and lives; above each frame
 /// there is its root; and neither the charges nor the number of frames are beyond what is reserved.
+#[tactic(auto, using(crate::proofs::Consequences::given_by_shape))]
 pub fn what_the_shape_gives()
     ensures returned { (tenant : Tenant) (s : ℕ) (frame : Frame (List ℕ)) → IsShaped tenant → frame_at tenant.frames s ≡ Some frame → frame.state ≡ Returned → children_of tenant.frames s ≡ [] }
     ensures computing { (tenant : Tenant) (s worker : ℕ) (frame : Frame (List ℕ)) → IsShaped tenant → frame_at tenant.frames s ≡ Some frame → frame.state ≡ Computing worker → children_of tenant.frames s ≡ [] }

@@ -23,6 +23,7 @@ use sched_rules::Procedure;
 /// A list of steps may be cut in two: a tenant alone comes to the same state with the same answers by the first
 /// part and then the second, and its own steps of the list are those of the first part, then those of the
 /// second.
+#[tactic(auto, using(crate::proofs::FitAnswers::in_parts))]
 pub fn steps_in_parts<P: Procedure>()
     ensures state { (procedure : P) (before : Option Tenant) (steps more : List (StepOf P.Answer)) →
         alone_from (P.functions procedure) before (steps ++ more) ≡ alone_from (P.functions procedure) (alone_from (P.functions procedure) before steps) more }
@@ -33,6 +34,7 @@ pub fn steps_in_parts<P: Procedure>()
 
 /// Job k of a tenant is that of its k-th taken Submit: a tenant has as many jobs as taken Submits, and a taken
 /// Submit is answered with the next number, one more than the tenant had jobs.
+#[tactic(auto, using(crate::proofs::FitAnswers::jobs_counted, crate::proofs::FitAnswers::submit_numbered))]
 pub fn jobs_are_numbered_by_their_submits<P: Procedure>()
     ensures count { (procedure : P) (totals : Quota) (steps : List (StepOf P.Answer)) (answers : List (Result (DidOf P.Input) Refusal)) (number : ℕ) (tenant : Tenant) →
         AreAnswersTo (P.functions procedure) (shared_by_nobody totals) steps answers →

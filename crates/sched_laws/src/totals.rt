@@ -31,6 +31,7 @@ pub fn more_is_beyond_exactly_where_a_total_is_passed()
 
 /// What a tenant has left and what it used add up to what it reserved, and the free and the charged segments to
 /// the total. So no subtraction in `left` and `free_in` is cut off at 0.
+#[tactic(auto, using(crate::proofs::Sums::none_cut_off))]
 pub fn nothing_is_cut_off()
     ensures segments { (tenant : Tenant) → IsShaped tenant → (left tenant).segments + charged_for tenant.frames ≡ tenant.reserve.segments }
     ensures nodes { (tenant : Tenant) → IsShaped tenant → (left tenant).nodes + tenant.serials ≡ tenant.reserve.nodes }

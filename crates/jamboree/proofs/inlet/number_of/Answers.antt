@@ -1,7 +1,6 @@
 use Rattle.std.proofs.Common.{arith}
 use Rattle.jamboree_rules.specs.Frames.{board}
-use Rattle.jamboree_rules.proofs.Codes.{few-choices}
-use Rattle.jamboree_rules.proofs.Forms.{child-told}
+use Rattle.jamboree_rules.proofs.Forms.{few-choices, child-told}
 use Rattle.jamboree.specs.Views.{frame_in}
 use Rattle.jamboree.proofs.inlet.number_of.Goals as goal
 

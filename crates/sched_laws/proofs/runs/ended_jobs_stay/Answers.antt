@@ -1,4 +1,4 @@
-use Rattle.sched_laws.proofs.EndedJobs.{step-ended}
+use Rattle.sched_laws.proofs.Consequences.{step-ended}
 use Rattle.sched_laws.proofs.runs.ended_jobs_stay.Goals as goal
 
 pub returns : goal.returns
