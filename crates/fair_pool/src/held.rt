@@ -32,9 +32,45 @@ pub trait HeldHall {
     fn charge(&mut self, tenant: u64, amount: u64);
 }
 
+/// What one tenant was served under this lock, for which nobody was charged yet. A charge writes to accounts that all workers write to, so
+/// that tasks of one tenant that follow each other are charged together.
+#[derive(Drop)]
+struct Owed {
+    tenant: u64,
+    amount: u64,
+}
+
+impl Owed {
+    /// Nothing.
+    fn nothing() -> Owed {
+        Owed {
+            tenant: 0,
+            amount: 0,
+        }
+    }
+
+    /// This tenant was served so much more; another one is charged for what it was served before.
+    fn add<H: HeldHall>(&mut self, held: &mut H, tenant: u64, amount: u64) {
+        if self.tenant != tenant {
+            self.settle(held);
+            self.tenant = tenant;
+        }
+        self.amount = self.amount.saturating_add(amount);
+    }
+
+    /// The tenant is charged.
+    fn settle<H: HeldHall>(&mut self, held: &mut H) {
+        if self.amount > 0 {
+            held.charge(self.tenant, self.amount);
+            self.amount = 0;
+        }
+    }
+}
+
 /// Takes up to 32 steps of the worker that follow each other under one lock, pushes the tasks of the frames that they make ready, and
 /// returns what the worker holds then. It stops earlier where there is a leaf to compute, or the worker is without a frame and neither a
-/// pick is due nor has its own deque a task. A tenant is charged 1 for each task that is begun, and what its leaf cost.
+/// pick is due nor has its own deque a task. A tenant is charged 1 for each task that is begun, and what its leaf cost, before there is a
+/// pick and before the lock is let go.
 pub fn steps<H: HeldHall>(
     held: &mut H,
     worker: Worker,
@@ -44,26 +80,28 @@ pub fn steps<H: HeldHall>(
     ensures { posts hands.new.ends ≡ posts hands.old.ends }
 {
     let mut holding = holding;
+    let mut owed = Owed::nothing();
     for _ in 0..HELD_STEPS {
         let Some(step) = holding.step(worker) else {
             break;
         };
-        settle(held, hands, &holding);
+        note(held, hands, &mut owed, &holding);
         holding = turned(held, worker, hands, holding, &step);
-        holding = gone_on(held, hands, holding);
+        holding = gone_on(held, hands, &mut owed, holding);
     }
+    owed.settle(held);
     holding
 }
 
-/// Charges the tenant for what the worker is about to do with its frame: 1 where it begins a task, and where it brings an answer what
-/// the leaf cost.
-fn settle<H: HeldHall>(held: &mut H, hands: &mut Hands, holding: &Holding)
+/// Notes what the tenant owes for what the worker is about to do with its frame: 1 where it begins a task, and where it brings an answer
+/// what the leaf cost.
+fn note<H: HeldHall>(held: &mut H, hands: &mut Hands, owed: &mut Owed, holding: &Holding)
     ensures { hands.new.ends ≡ hands.old.ends }
 {
     match holding {
-        Holding::Next(Action::Get(task)) => held.charge(task.frame.tenant, 1),
+        Holding::Next(Action::Get(task)) => owed.add(held, task.frame.tenant, 1),
         Holding::Next(Action::Bring(frame, _)) => {
-            held.charge(frame.tenant, hands.cost);
+            owed.add(held, frame.tenant, hands.cost);
             hands.cost = 0;
         }
         _ => {}
@@ -94,23 +132,29 @@ fn turned<H: HeldHall>(
 
 /// What a worker that has the hall locked holds next: where it is without a frame, a pick where one is due, else the newest task of its
 /// own deque, if there is one.
-fn gone_on<H: HeldHall>(held: &mut H, hands: &mut Hands, holding: Holding) -> Holding
+fn gone_on<H: HeldHall>(
+    held: &mut H,
+    hands: &mut Hands,
+    owed: &mut Owed,
+    holding: Holding,
+) -> Holding
     ensures next { GoesOnHere (H.is_fair held.new) holding result (worker_seats hands.old.ends) (worker_seats hands.new.ends) hands.old.rhythm.since hands.new.rhythm.since }
     ensures posts { posts hands.new.ends ≡ posts hands.old.ends }
 {
     match holding {
-        Holding::Nothing => next_here(held, hands),
+        Holding::Nothing => next_here(held, hands, owed),
         other => other,
     }
 }
 
 /// What a worker without a frame that has the hall locked holds next: a pick where one is due, else the newest task of its own deque, if
 /// there is one.
-fn next_here<H: HeldHall>(held: &mut H, hands: &mut Hands) -> Holding
+fn next_here<H: HeldHall>(held: &mut H, hands: &mut Hands, owed: &mut Owed) -> Holding
     ensures next { GoesOnHere (H.is_fair held.new) Holding.Nothing result (worker_seats hands.old.ends) (worker_seats hands.new.ends) hands.old.rhythm.since hands.new.rhythm.since }
     ensures posts { posts hands.new.ends ≡ posts hands.old.ends }
 {
     if hands.rhythm.is_due() {
+        owed.settle(held);
         if let Some(task) = held.pick() {
             hands.rhythm.picked();
             return Holding::Next(Action::Get(task));

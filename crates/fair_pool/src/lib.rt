@@ -1,7 +1,7 @@
 //! The workers of a site's pool, by whom nobody waits for a neighbour.
 //!
 //! A worker of `steal_pool` begins a new job only when all deques are empty, so a short job may wait as long as its neighbours have
-//! work. Here each 8th task that a worker begins is a pick ([`Rhythm`]): the newest ready frame of a tenant of a customer that none with
+//! work. Here each 32nd task that a worker begins is a pick ([`Rhythm`]): the newest ready frame of a tenant of a customer that none with
 //! a ready frame was served less than ([`fair_task`], by a [`FairShare`]). All others are as ever: the newest of the worker's own deque, else
 //! the oldest of another's; and where the deques give none, a pick, for which it waits at the site. A pick leaves its task behind in the
 //! deque where it lies; whoever comes to that later is refused its frame and goes on. So that such tasks don't pile up a deque has room
@@ -9,7 +9,7 @@
 //!
 //! The site is whatever has a hall, and who shares it, under a lock ([`Site`]); while it is locked it is a [`HeldHall`], and a worker takes
 //! up to 32 [`steps`] there. Each task that is begun is charged to its tenant as 1, and each leaf as 4 to the
-//! power of its depth (not yet as the positions that its search entered).
+//! power of its depth (not yet as the positions that its search entered); what follows under one lock for one tenant is charged at once.
 //!
 //! What is proved is that each turn is the table's (`pool_rules`), and no task but that of its turn is pushed; that between turns under
 //! one lock the worker goes on with a pick, only where one is due, or with the newest task of its own deque, which is counted

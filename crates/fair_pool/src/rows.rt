@@ -7,13 +7,13 @@ ghost use Rattle.fair_pool.specs.Waits.{is_ahead, Comes, Wakes, Rests, Serves, P
 ghost use Rattle.fair_pool.specs.Shares.{new_shares, tenant_entered, entered_place, customer_at, network_at, tenant_seen, left_all};
 ghost use Rattle.fair_pool.specs.Rows.{account, four, three, served};
 
-/// Seven tasks of the deques are begun, and the 8th is a pick. Where it finds none it stays due.
-pub fn seven_tasks_and_a_pick()
+/// Thirty-one tasks of the deques are begun, and the 32nd is a pick. Where it finds none it stays due.
+pub fn many_tasks_and_a_pick()
     ensures first { is_due 0 ≡ false }
-    ensures seventh { is_due 6 ≡ false }
-    ensures eighth { is_due 7 ≡ true }
-    ensures counts { since_after 6 ≡ 7 }
-    ensures stays { since_after 7 ≡ 7 }
+    ensures last { is_due 30 ≡ false }
+    ensures pick { is_due 31 ≡ true }
+    ensures counts { since_after 30 ≡ 31 }
+    ensures stays { since_after 31 ≡ 31 }
 {}
 
 /// Two were served as much: the one that has been active for longer comes before the other. One that was served less comes before
