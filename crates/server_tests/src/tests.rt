@@ -1,5 +1,6 @@
 ghost use Rattle.std.specs.Prelude.{◌≡◌, true};
 
+mod bells;
 mod servers;
 mod sites;
 

@@ -27,7 +27,7 @@ const SCHOOL: Who = Who::Named(0);
 const TOKEN: &[u8] = b"sesame";
 
 /// An amount.
-fn amount(sessions: u32, segments: u64, nodes: u64) -> Amount
+pub(super) fn amount(sessions: u32, segments: u64, nodes: u64) -> Amount
     ensures { result ≡ record { sessions = sessions; segments = segments; nodes = nodes } }
 {
     Amount {
@@ -191,7 +191,7 @@ fn plays<R: Wait + Clock + Abort>(
 }
 
 /// A seat of a customer that came then.
-fn seat_of<R: Wait + Abort>(rt: &R, desk: &SiteDesk, who: Who, at: u64) -> Option<Seat> {
+pub(super) fn seat_of<R: Wait + Abort>(rt: &R, desk: &SiteDesk, who: Who, at: u64) -> Option<Seat> {
     let Some(ask) = Reserve::new(8, 80) else {
         return None;
     };
