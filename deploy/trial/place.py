@@ -79,14 +79,14 @@ class From(stage.From):  # type: ignore[misc]
 
 class Site:
     """`othello_site` with deploy/site.toml at free ports. Sessions come to `port`: by HAProxy with TLS where `made` has its certificates, else as they are;
-    `inner` is where a proxy hands connections on. `terms` are changes of the file, `more` stands behind it."""
+    `inner` is where a proxy hands connections on, and `clear` HAProxy's entrance without TLS. `terms` are changes of the file, `more` stands behind it. The variable `name` names the program."""
 
-    def __init__(self, made: dict[str, str] | None = None, terms: list[tuple[str, str]] | None = None, more: str = "", bare: bool = False):
-        self.made, self.bare = made, bare
+    def __init__(self, made: dict[str, str] | None = None, terms: list[tuple[str, str]] | None = None, more: str = "", bare: bool = False, name: str = "SITE"):
+        self.made, self.bare, self.name = made, bare, name
         self.folder = tempfile.TemporaryDirectory()
         root = pathlib.Path(self.folder.name)
         self.file, self.log, self.control = root / "site.toml", root / "log", f"{root}/control"
-        self.inner, self.health, self.plain, self.outer, self.metrics_port = (free_port() for _ in range(5))
+        self.inner, self.health, self.plain, self.outer, self.clear, self.metrics_port = (free_port() for _ in range(6))
         moved = [("127.0.0.1:4720", f"127.0.0.1:{self.inner}"), ("127.0.0.1:4719", f"127.0.0.1:{self.health}"), ("/run/othello-site/control", self.control)]
         moved += [('# plain = "127.0.0.1:4711"', f'plain = "127.0.0.1:{self.plain}"')]
         self.file.write_text(replaced((TOP / "deploy/site.toml").read_text(), [*moved, *(terms or [])]) + more)
@@ -108,6 +108,7 @@ class Site:
             more = f" ca-file {path.parent}/customers.pem verify optional"
             moved = [("bind :4700 ssl crt /etc/haproxy/othello.pem", f"bind 127.0.0.1:{self.outer} ssl crt {path.parent}/othello.pem{more}"),
                      ("bind [::]:4700 v6only ssl crt /etc/haproxy/othello.pem", f"bind [::1]:{self.outer} v6only ssl crt {path.parent}/othello.pem{more}"),
+                     ("# For clients of this host without TLS: bind 127.0.0.1:4711", f"bind 127.0.0.1:{self.clear}"),
                      ("/etc/haproxy/named.lst", f"{path.parent}/named.lst"), ("127.0.0.1:8404", f"127.0.0.1:{self.metrics_port}"),
                      ("/run/haproxy/admin.sock", f"{path.parent}/admin"), ("127.0.0.1:4723", f"127.0.0.1:{free_port()}"),
                      ("127.0.0.1:4720 port 4719", f"127.0.0.1:{self.inner} port {self.health}"), ("127.0.0.1:4730 port 4729", f"127.0.0.1:{free_port()} port {free_port()}")]
@@ -123,7 +124,7 @@ class Site:
     def start(self) -> None:
         """Starts the program, at first or after its end."""
         with self.log.open("a") as log:
-            self.process = subprocess.Popen([program("SITE", "--ready-site"), *([] if self.bare else [self.file])], stdout=log, stderr=log)
+            self.process = subprocess.Popen([program(self.name, "--ready-site"), *([] if self.bare else [self.file])], stdout=log, stderr=log)
         until(lambda: self.process and self.process.poll() is not None or is_there(4711 if self.bare else self.plain) and os.path.exists(self.control), 60, "the site listens")
         assert self.process.poll() is None, self.log.read_text()
 
