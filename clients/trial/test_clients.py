@@ -18,7 +18,7 @@ import time
 from collections.abc import Iterator
 
 import pytest
-from coluwen import AsyncClient, Board, Client, Done, Late, Position, Refused, Result, Session, TooDeep, Unreachable, formats
+from coluwen import AsyncClient, Board, Client, Done, Position, Refused, Result, Session, Unreachable, formats
 from conftest import TOP, Othello, positions, served, solved, until
 
 BIN = TOP / "clients" / "bin"
@@ -125,20 +125,6 @@ def test_the_grain() -> None:
         with served("--sessions", "1000", "--segments", "65536", "--nodes", "4194304", "--grain", str(grain)) as server, Client("127.0.0.1", server.port, silence=30) as client:
             info = client.info()
             assert (info.grain, info.sure, info.mostly) == (grain, grain + 4, grain + 5)
-
-
-def test_what_is_too_deep(server: Othello) -> None:
-    with Client("127.0.0.1", server.port, silence=30, segments=64, nodes=100) as client, pytest.raises(TooDeep) as fault:
-        client.analyse(positions(1, 5, 20, 20)[0], 5)
-    assert (fault.value.depth, fault.value.greatest) == (5, 0)
-
-
-def test_late(server: Othello) -> None:
-    with Client("127.0.0.1", server.port, silence=20, sessions=1) as client:
-        begun = time.monotonic()
-        with pytest.raises(Late):
-            client.analyse(positions(1, 5, 20, 20)[0], 12, timeout=0.5)
-        assert time.monotonic() - begun < 5 and client.analyse(OPENING, 1).best == "d3"
 
 
 def test_a_batch_outlives_a_server(tmp_path: pathlib.Path) -> None:

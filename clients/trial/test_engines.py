@@ -21,7 +21,7 @@ from typing import Any
 
 import pytest
 from conftest import TOP, Othello, positions, program, solved
-from coluwen import Analyst, Engine, FormatError, Position, Result
+from coluwen import Analyst, Engine, Position, Result
 from coluwen.board import OTHER, PASS, SQUARES
 
 OPENING = Position.opening()
@@ -159,14 +159,6 @@ def test_what_a_server_cannot_give_an_engine_gives(server: Othello) -> None:
     for more, wanted in (([], "SPENT\n"), (["--fallback", "engine"], "DONE {} {}\n".format(*solved([line])[0]))):
         run = subprocess.run([*map(str, words), *more], input=f"{line}\n", capture_output=True, text=True, timeout=300, check=False)
         assert run.stdout == wanted, run.stderr
-
-
-def test_many_of_any_depth_are_answered_in_order_with_their_faults() -> None:
-    asked = [(OPENING, 3), ("nonsense", 3), (OPENING.play("d3"), 2), (OPENING, 13)]
-    with Engine(3) as engine:
-        outcomes = list(engine.analyse_many(asked))
-    assert [outcome.number for outcome in outcomes] == [0, 1, 2, 3]
-    assert [type(outcome.answer).__mro__[1 if index % 2 else 0] for index, outcome in enumerate(outcomes)] == [Result, FormatError, Result, FormatError]
 
 
 def test_ten_thousand_positions_while_processes_are_killed() -> None:

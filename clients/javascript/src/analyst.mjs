@@ -63,16 +63,16 @@ export class Analyst extends EventTarget {
   async analyseAll(position, depth, how = {}) {
     const place = checked(position, depth);
     if (depth < 1) throw new RangeError("moves are looked at from depth 1 on");
-    const [ends, stops] = [depth >= place.empties, new Stops(how.signal)];
+    const [ends, moves, stops] = [depth >= place.empties, place.legalMoves(), new Stops(how.signal)];
+    const left = moves[0] === PASS ? depth : depth - 1; // a pass uses no ply
     const valued = async (move) => {
-      const left = move === PASS ? depth : depth - 1; // a pass uses no ply
-      const { score } = await stops.around((signal) => this.analyse(place.play(move), left, { ...how, signal })).catch((fault) => {
-        throw fault instanceof TooDeep ? new TooDeep(depth, fault.greatest && fault.greatest + depth - left) : fault;
-      });
+      const { score } = await stops.around((signal) => this.analyse(place.play(move), left, { ...how, signal }));
       return new Entry(move, new Score(0 - score.value, "=", ends, place.side));
     };
     try {
-      return (await Promise.all(place.legalMoves().map(valued))).sort((one, other) => Score.compare(other.score, one.score));
+      return (await Promise.all(moves.map(valued))).sort((one, other) => Score.compare(other.score, one.score));
+    } catch (fault) {
+      throw fault instanceof TooDeep ? new TooDeep(depth, fault.greatest && fault.greatest + depth - left) : fault;
     } finally {
       stops.end(new ColuwenError("another move's question failed"));
     }

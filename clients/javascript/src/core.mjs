@@ -19,73 +19,63 @@ const PROBES = ["-O-------O-------OXOO---XOXXOO--OOXXOOO---OXO------OO----------
 const [FEW_NODES, LEAST_PROBE, LAST_PROBE] = [50, 2, 8];
 
 /** How long to wait before the next look at a job that was asked so long ago. */
-export const pauseAfter = (taken) => Math.min(Math.max(taken / 4, 0.2), 20);
+const pauseAfter = (taken) => Math.min(Math.max(taken / 4, 0.2), 20);
 
-/** The lines of one session, and which answer is whose. */
+/** The lines of one session, of which one at most isn't answered. */
 export class Wire {
-  waiting = []; // lines that were sent and aren't answered
+  line = null; // that isn't answered
   jobs = 0; // that were asked
-  #rest = ""; // what came behind the last LF
+  #rest = ""; // what came of its answer
 
   /** The bytes of a line. A token is its last word, and stands in no fault. */
-  line(words, token = "") {
+  send(words, token = "") {
     const line = words.join(" ");
     if (!/^[ -~]*$/.test(line + token)) throw new RangeError(`${JSON.stringify(line)} is no line: it has other bytes than ASCII's signs`);
-    this.waiting.push(line);
+    this.line = line;
     return token ? `${line} ${token}\n` : `${line}\n`;
   }
 
-  /** What each line that these bytes end answers: { line, answer } or { line, refusal }. Broken where they are no answers. */
-  answers(block) {
-    const parts = (this.#rest + block).split("\n");
-    this.#rest = parts.pop();
-    const found = parts.map((text) => this.#answer(text));
-    if (this.#rest && !this.waiting.length) this.#answer(this.#rest);
-    if (this.#rest.length >= LONGEST) throw new Broken(`an answer has more than ${LONGEST} bytes`);
-    return found;
-  }
-
-  #answer(text) {
-    const line = this.waiting.shift();
-    if (line === undefined) throw new Broken(`the server said ${JSON.stringify(text.slice(0, 60))}, which wasn't asked`);
+  /** What the line got: { answer } or { refusal }; null while that has no end. Broken where it is no answer. */
+  receive(bytes) {
+    const [text, ...behind] = (this.#rest + bytes).split("\n");
+    const rest = behind.join(" ");
+    if (this.line === null || rest) throw new Broken(`the server said ${JSON.stringify((rest || text).slice(0, 60))}, which wasn't asked`);
+    if (text.length >= LONGEST) throw new Broken(`an answer has more than ${LONGEST} bytes`);
+    this.#rest = behind.length ? "" : text;
+    if (!behind.length) return null;
     try {
-      const answer = parse(line, text, this.jobs);
+      const answer = parse(this.line, text, this.jobs);
       if (answer.state === "JOB") this.jobs += 1;
-      return { line, answer };
+      return { answer };
     } catch (refusal) {
       if (!(refusal instanceof Refused)) throw refusal;
-      return { line, refusal };
+      return { refusal };
+    } finally {
+      this.line = null;
     }
   }
 }
 
-/** How deep a server looks: by INFO where it knows that, else by how many nodes two positions take from depth to depth. */
-class Probe {
-  grain = 6; version = null; // that a site says last
-  #place = 0; #depth = LEAST_PROBE; #nodes = null; #wasSpent = false;
-
-  /** The next line, after the answer to the one before; null once the grain is known. */
-  next(answer, refusal) {
-    if (refusal && refusal.number !== UNKNOWN && !USED_UP.includes(refusal.number)) throw refusal;
-    const state = answer?.state ?? (refusal ? "REFUSED" : "BEGIN");
-    if (state === "BEGIN") return ["INFO"];
-    if (state === "JOB" || state === "PENDING") return ["GET", answer.job];
-    if (state === "INFO") [this.grain, this.version] = [answer.numbers[0], answer.more.split(" ").at(-1) || null];
-    else if (state !== "QUOTA") this.#wasSpent ||= this.#nodes !== null && state !== "DONE";
-    else this.#counted(answer.numbers[1]);
-    if (state === "INFO" || this.#place === PROBES.length) return null;
-    return state === "QUOTA" ? ["ASK", this.#depth, PROBES[this.#place]] : ["QUOTA"];
+/**
+ * Finds out how deep a server looks: by INFO where it knows that, else by how many nodes two positions take from depth to depth. Yields lines and takes
+ * their answers, null for one that is refused.
+ */
+function* probe() {
+  const site = yield ["INFO"];
+  if (site) return [site.numbers[0], site.more.split(" ").at(-1) || null];
+  let [left, grain] = [(yield ["QUOTA"]).numbers[1], 6];
+  for (const place of PROBES) {
+    for (let depth = LEAST_PROBE; depth <= LAST_PROBE; depth += 1) {
+      let job = yield ["ASK", depth, place];
+      while (job?.state === "JOB" || job?.state === "PENDING") job = yield ["GET", job.job];
+      const before = left;
+      left = (yield ["QUOTA"]).numbers[1];
+      if (job?.state === "DONE" && before - left <= FEW_NODES) continue;
+      grain = Math.min(grain, depth - 2);
+      break;
+    }
   }
-
-  /** So many nodes are left after a job; before the first there is nothing to compare. */
-  #counted(nodes) {
-    const isFirst = this.#nodes === null;
-    const isOver = !isFirst && (this.#wasSpent || this.#nodes - nodes > FEW_NODES);
-    if (isOver) this.grain = Math.min(this.grain, this.#depth - 2);
-    if (!isFirst) this.#depth += 1;
-    if (isOver || this.#depth > LAST_PROBE) [this.#place, this.#depth] = [this.#place + 1, LEAST_PROBE];
-    [this.#nodes, this.#wasSpent] = [nodes, false];
-  }
+  return [grain, null];
 }
 
 /** A session, from its opening to its end. */
@@ -162,18 +152,16 @@ export class Core {
     if (!this.#seats.has(seat)) return;
     let found;
     try {
-      found = seat.wire.answers(bytes);
+      found = seat.wire.receive(bytes);
     } catch (fault) {
-      this.lost(seat, fault, now);
-      return;
+      return void this.lost(seat, fault, now);
     }
-    for (const { answer, refusal } of found) {
-      [this.#heard, this.#trouble] = [now, null];
-      const { word, question } = seat.asked;
-      [seat.asked, seat.deadline] = [null, Infinity];
-      if (seat.probe && word !== "HELLO" && word !== "BYE") this.#probed(seat, answer, refusal, now);
-      else this[`_${word}`](seat, question, answer, refusal, now);
-    }
+    if (!found) return;
+    [this.#heard, this.#trouble] = [now, null];
+    const [{ answer, refusal }, { word, question }] = [found, seat.asked];
+    [seat.asked, seat.deadline] = [null, Infinity];
+    if (seat.probe && word !== "HELLO" && word !== "BYE") this.#probed(seat, word, answer, refusal, now);
+    else this[`_${word}`](seat, question, answer, refusal, now);
     this.#go(now);
   }
 
@@ -246,7 +234,7 @@ export class Core {
   #send(seat, words, question, now, token) {
     seat.asked = { word: words[0], question };
     seat.deadline = now + seat.silence;
-    this.#out.push(["send", seat, seat.wire.line(words, token)]);
+    this.#out.push(["send", seat, seat.wire.send(words, token)]);
   }
 
   // What each line's answer brings.
@@ -346,18 +334,20 @@ export class Core {
     }
   }
 
-  #probed(seat, answer, refusal, now) {
-    try {
+  /** A probe goes on, where its line isn't refused for another reason than what it asks for. */
+  #probed(seat, word, answer, refusal, now) {
+    if (answer || (word === "INFO" && refusal.number === UNKNOWN) || (word === "ASK" && USED_UP.includes(refusal.number))) {
       if (answer?.state === "PENDING") seat.freeAt = now + 1;
-      seat.line = seat.probe.next(answer, refusal);
-    } catch (fault) {
-      this.#failDeep(fault);
+      const { done, value } = seat.probe.next(answer);
+      seat.line = done ? null : value;
+      if (!done) return;
+      const [grain, version] = value;
+      if (this.#deep.length) this.#info = { grain, sure: Math.min(grain + 4, DEEPEST), mostly: Math.min(grain + 5, DEEPEST), version };
+      for (const one of this.#deep.splice(0)) this.#tooDeep(one);
+    } else {
       seat.line = null;
+      this.#failDeep(refusal);
     }
-    if (seat.line) return;
-    const { grain, version } = seat.probe;
-    if (this.#deep.length) this.#info = { grain, sure: Math.min(grain + 4, DEEPEST), mostly: Math.min(grain + 5, DEEPEST), version };
-    for (const one of this.#deep.splice(0)) this.#tooDeep(one);
   }
 
   // What is done next.
@@ -373,7 +363,6 @@ export class Core {
   #turn(seat, now) {
     if (!seat.isReady || seat.asked) return;
     if (seat.probe) {
-      if (seat.line === undefined) seat.line = seat.probe.next();
       if (seat.line && now >= seat.freeAt) this.#send(seat, seat.line, null, now);
       else if (!seat.line) this.#send(seat, ["BYE"], null, now);
       return;
@@ -414,7 +403,7 @@ export class Core {
     if (!this.#queue.length && seats.every(({ asked, running }) => !asked && !running.length)) this.#most = this.sessions;
     if (now < this.#retryAt) return;
     const opening = seats.filter((one) => !one.isReady && !one.probe).length;
-    if (this.#deep.length && !seats.some(({ probe }) => probe) && this.#seats.size < this.#most) this.#open(0, now, new Probe());
+    if (this.#deep.length && !seats.some(({ probe }) => probe) && this.#seats.size < this.#most) this.#open(0, now, probe());
     for (const one of this.#queue.slice(opening)) if (this.#seats.size < this.#most) this.#open(this.#levelOf(one), now);
     const [first] = this.#queue;
     if (this.#seats.size < this.#most || seats.length < this.#seats.size || seats.some((one) => !one.isReady || one.isRetired || one.probe || one.asked?.word === "BYE")) return;
@@ -424,9 +413,10 @@ export class Core {
     this.#turn(least, now);
   }
 
-  #open(level, now, probe = null) {
-    const reserved = probe ? LEVELS[0] : this.levels[level];
-    const seat = new Seat(level, { ...reserved }, Math.min(this.silence * 2 ** this.#silences, Math.max(this.outage, this.silence)), now, probe);
+  #open(level, now, probing = null) {
+    const reserved = probing ? LEVELS[0] : this.levels[level];
+    const seat = new Seat(level, { ...reserved }, Math.min(this.silence * 2 ** this.#silences, Math.max(this.outage, this.silence)), now, probing);
+    seat.line = probing?.next().value;
     this.#seats.add(seat);
     this.#out.push(["open", seat]);
   }

@@ -155,19 +155,3 @@ export declare class Client extends Analyst {
 
 /** `othello://host:port`, and `?tls=1` or any other option by its name, times in seconds; without an address COLUWEN_URL's, or this host's. */
 export declare function connect(address?: string, options?: ClientOptions): Client;
-
-export type State = { readonly state: "DONE"; readonly value: number; readonly move: string } | { readonly state: "PENDING" | "SPENT" | "CANCELLED" };
-
-export declare class Session {
-  static open(options: PlaceOptions & { host: string; port: number; segments: number; nodes: number; silence?: number }): Promise<Session>;
-  ask(depth: number, position: string | Position): Promise<number>;
-  get(job: number): Promise<State>;
-  wait(job: number): Promise<State>;
-  poll(job: number, how?: { timeout?: number }): Promise<State>;
-  table(job: number): Promise<{ readonly move: string; readonly sign: Sign; readonly value: number }[] | null>;
-  cancel(job: number): Promise<void>;
-  reserve(segments: number, nodes: number): Promise<void>;
-  quota(): Promise<{ readonly segments: number; readonly nodes: number; readonly steps: number }>;
-  live(): Promise<{ readonly frames: number; readonly words: number }>;
-  close(): Promise<void>;
-}

@@ -5,4 +5,3 @@ export { Client, ClientEvent, HOST, PORT, connect } from "./client.mjs";
 export { Engine } from "./engine.mjs";
 export { Broken, Closed, ColuwenError, FAULTS, IllegalMove, Late, Refused, Silent, TooDeep, Unreachable } from "./faults.mjs";
 export { Score } from "./score.mjs";
-export { Session } from "./session.mjs";

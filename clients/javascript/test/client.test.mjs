@@ -9,7 +9,7 @@ import readline from "node:readline";
 import test from "node:test";
 import { promisify } from "node:util";
 import { Core } from "../src/core.mjs";
-import { Analyst, Client, Closed, ColuwenError, Entry, Late, Position, Refused, Score, Session, TooDeep, Unreachable, connect } from "../src/index.mjs";
+import { Analyst, Client, Closed, ColuwenError, Entry, Late, Position, Score, TooDeep, Unreachable, connect } from "../src/index.mjs";
 
 const OPENING = Position.opening();
 
@@ -46,24 +46,6 @@ test("a question's session is kept for the next, and one that lacks nodes is end
   for (const bytes of [null, "WELCOME 1024 65536\n", "JOB 1\n", "DONE 1 5 d3\n", "TABLE 1 d3=5\n"]) step(bytes ? "received" : "opened", 3, ...[seats[1], bytes].filter(Boolean));
   assert.deepEqual(step("ask", 4, job(2)), [["send", 1, `ASK 2 ${OPENING}`]]);
   assert.equal(seats.length, 2);
-});
-
-test("a session is asked 256 times at most, and no more once it says that it has had enough", () => {
-  for (const most of [3, 256]) {
-    const { step, seats } = told({ sessions: 1 });
-    const questions = Array.from({ length: most + 1 }, () => job());
-    for (const one of questions) step("ask", 0, one);
-    step("opened", 1, seats[0]);
-    let lines = step("received", 1, seats[0], "WELCOME 256 8192\n");
-    for (let each = 1; each <= most; each += 1) {
-      assert.deepEqual(lines.at(-1), ["send", 0, LINE]);
-      for (const bytes of [`JOB ${each}`, `DONE ${each} 5 d3`, `TABLE ${each} d3=5`]) lines = step("received", 2, seats[0], `${bytes}\n`);
-    }
-    if (most < 256) lines = step("received", 3, seats[0], "ERR 13\n");
-    assert.deepEqual(lines.at(-1), ["send", 0, "BYE"]);
-    assert.deepEqual(step("received", 4, seats[0], "BYE\n").at(-1), ["open", 1, undefined]);
-    assert.ok(!questions.at(-1).isSettled);
-  }
 });
 
 test("who is given up leaves the others alone", () => {
@@ -284,18 +266,4 @@ test("a program that forgets to close its client ends", () => having(() => sound
     console.log((await connect("othello://127.0.0.1:${port}?silence=20").analyse(Position.opening(), 2)).best);`;
   const { stdout } = await promisify(execFile)(process.execPath, ["--input-type=module", "-e", program], { timeout: 20_000 });
   assert.equal(stdout, "d3\n");
-}));
-
-test("a session's lines", () => having(() => sound(), {}, async (_, heard, port) => {
-  const session = await Session.open({ host: "127.0.0.1", port, segments: 64, nodes: 4096, silence: 5000 });
-  const [first, second] = await Promise.all([session.ask(6, OPENING), session.ask(2, OPENING)]);
-  assert.deepEqual([await session.poll(first), await session.table(second), await session.quota(), await session.live()],
-    [{ state: "DONE", value: 5, move: "d3" }, [{ move: "d3", sign: "=", value: 5 }, { move: "c4", sign: "<", value: -1 }], { segments: 256, nodes: 8000, steps: 9000 }, { frames: 0, words: 0 }]);
-  await session.reserve(128, 8192);
-  await assert.rejects(session.ask(6, "x\nBYE"), RangeError);
-  await session.close();
-  await assert.rejects(session.quota(), Closed);
-  assert.deepEqual(heard.slice(-2), ["RESERVE 128 8192", "BYE"]);
-  const refused = await having(() => () => "ERR 30\n", {}, async (__, ___, other) => assert.rejects(Session.open({ host: "127.0.0.1", port: other, segments: 1, nodes: 1, token: "x" }), Refused));
-  assert.equal(refused, undefined);
 }));

@@ -4,22 +4,18 @@ from __future__ import annotations
 import asyncio
 import concurrent.futures
 import threading
-import time
 from collections.abc import Callable, Iterator
 from typing import Any
 
 import pytest
-from behaviour import Row, Server, rows
 from coluwen import AsyncClient, Client, Closed, ColuwenError, Late, Refused, Result, TooDeep, Unreachable
+from rows import TIMES, Player, Row, play, rows
 
 ROWS = rows()
 
 
-def options_of(row: Row) -> dict[str, Any]:
-    found: dict[str, Any] = {}
-    for name, text in row.options.items():
-        found[name] = text if name == "token" else int(text) if name in ("sessions", "ahead", "segments", "nodes") else int(text) / 1000
-    return found
+def options_of(options: dict[str, str]) -> dict[str, Any]:
+    return {name: text if name == "token" else int(text) / 1000 if name in TIMES else int(text) for name, text in options.items()}
 
 
 def text_of_fault(fault: BaseException) -> str:
@@ -41,12 +37,12 @@ def text_of(result: Result) -> str:
     return " ".join(["result", str(result.score.value), result.best or "-", *map(str, result.table)])
 
 
-class Blocking:
+class Blocking(Player):
     """Makes the calls of a row by `Client`."""
 
-    def __init__(self, port: int, options: dict[str, Any]):
-        self.client = Client("127.0.0.1", port, **options)
-        self.started: dict[str, tuple[float, concurrent.futures.Future[list[str]]]] = {}
+    def __init__(self, port: int, options: dict[str, str]):
+        super().__init__()
+        self.client = Client("127.0.0.1", port, **options_of(options))
         self.taken = 0
 
     def close(self) -> None:
@@ -60,14 +56,9 @@ class Blocking:
     def make(self, words: str) -> list[str]:
         word, _, rest = words.partition(" ")
         try:
-            return getattr(self, word)(rest)  # type: ignore[no-any-return]
+            return getattr(self, "shut" if word == "close" else word)(rest)  # type: ignore[no-any-return]
         except (ColuwenError, ValueError, TypeError, concurrent.futures.CancelledError, asyncio.CancelledError) as fault:
             return [text_of_fault(fault)]
-
-    def begin(self, name: str, words: str) -> None:
-        future = concurrent.futures.Future[list[str]]()
-        threading.Thread(target=lambda: future.set_result(self.make(words)), daemon=True).start()
-        self.started[name] = time.monotonic(), future
 
     def analyse(self, rest: str) -> list[str]:
         depth, position, how = question_of(rest)
@@ -104,72 +95,52 @@ class Blocking:
         return ["done"]
 
 
-class Asynchronous(Blocking):
-    """Makes them by `AsyncClient`, whose loop has a thread of its own."""
+class Facade:
+    """An `AsyncClient`, whose loop has a thread of its own, as a `Client` is called."""
 
     def __init__(self, port: int, options: dict[str, Any]):
         self.loop = asyncio.new_event_loop()
         self.thread = threading.Thread(target=self.loop.run_forever, daemon=True)
         self.thread.start()
-        self.other = AsyncClient("127.0.0.1", port, **options)
-        self.started, self.taken = {}, 0
+        self.client = AsyncClient("127.0.0.1", port, **options)
+
+    def submit(self, position: str, depth: int, **how: Any) -> concurrent.futures.Future[Result]:
+        return asyncio.run_coroutine_threadsafe(self.client.analyse(position, depth, **how), self.loop)
+
+    def analyse(self, position: str, depth: int, **how: Any) -> Result:
+        return self.submit(position, depth, **how).result()
 
     def do(self, call: Any) -> Any:
         return asyncio.run_coroutine_threadsafe(call, self.loop).result()
 
+    def __getattr__(self, name: str) -> Any:
+        return lambda *words: self.do(getattr(self.client, name)(*words))
+
+    def analyse_many(self, *words: Any, **how: Any) -> Iterator[Any]:
+        async def next_of(source: Any) -> Any:
+            return await anext(source, None)
+
+        source = self.client.analyse_many(*words, **how)
+        try:
+            while outcome := self.do(next_of(source)):
+                yield outcome
+        finally:
+            self.do(source.aclose())  # type: ignore[attr-defined]
+
+
+class Asynchronous(Blocking):
+    """Makes them by `AsyncClient`."""
+
+    def __init__(self, port: int, options: dict[str, str]):
+        Player.__init__(self)
+        self.client, self.taken = Facade(port, options_of(options)), 0  # type: ignore[assignment]
+
     def close(self) -> None:
-        self.do(self.other.close())
-        self.loop.call_soon_threadsafe(self.loop.stop)
-        self.thread.join()
-        self.loop.close()
-
-    def analyse(self, rest: str) -> list[str]:
-        depth, position, how = question_of(rest)
-        abort = how.pop("abort", None)
-
-        async def call() -> Result:
-            task = asyncio.ensure_future(self.other.analyse(position, depth, **how))
-            if abort:
-                asyncio.get_running_loop().call_later(abort, task.cancel)
-            return await task
-
-        return [text_of(self.do(call()))]
-
-    def analyse_all(self, rest: str) -> list[str]:
-        depth, position, _ = question_of(rest)
-        return [" ".join(["moves", *map(str, self.do(self.other.analyse_all(position, depth)))])]
-
-    def analyse_many(self, rest: str) -> list[str]:
-        depth, positions, how = many_of(rest)
-
-        async def call() -> list[str]:
-            found: list[str] = []
-            if "take" in how:
-                source = self.other.analyse_many(self.endless(positions[0]), depth)
-                async for one in source:
-                    assert isinstance(one.answer, Result) and one.number == len(found)
-                    found.append("")
-                    if len(found) == how["take"]:
-                        break
-                await source.aclose()  # type: ignore[attr-defined]
-                return [f"taken {self.taken}"]
-            async for one in self.other.analyse_many(positions, depth, **how):
-                found.append(item_of(one))
-            return found
-
-        return self.do(call())  # type: ignore[no-any-return]
-
-    def info(self, _: str) -> list[str]:
-        info = self.do(self.other.info())
-        return [f"info grain={info.grain} sure={info.sure} mostly={info.mostly}"]
-
-    def ping(self, _: str) -> list[str]:
-        assert self.do(self.other.ping()) >= 0
-        return ["done"]
-
-    def shut(self, _: str) -> list[str]:
-        self.do(self.other.close())
-        return ["done"]
+        facade: Any = self.client
+        facade.close()
+        facade.loop.call_soon_threadsafe(facade.loop.stop)
+        facade.thread.join()
+        facade.loop.close()
 
 
 def question_of(rest: str) -> tuple[int, str, dict[str, float]]:
@@ -192,49 +163,7 @@ def item_of(one: Any) -> str:
     return f"item {one.number} {text_of(one.answer) if isinstance(one.answer, Result) else text_of_fault(one.answer)}"
 
 
-def compare(wanted: list[str], found: list[str], taken: float, in_any_order: bool = False) -> None:
-    """What a call gave, and what it was to give."""
-    plain, limits = [], {}
-    for line in wanted:
-        plain.append(" ".join(word for word in line.split() if not word.startswith(("before=", "after="))))
-        limits |= dict(word.split("=") for word in line.split() if word.startswith(("before=", "after=")))
-    if plain and plain[0].startswith("taken "):
-        assert int(found[0].split()[1]) <= int(plain[0].split()[1])
-        return
-    assert (sorted(found) if in_any_order else found) == plain
-    assert taken < float(limits.get("before", 1e9)) / 1000 and taken >= float(limits.get("after", 0)) / 1000
-
-
-def play(row: Row, player: Callable[[int, dict[str, Any]], Blocking]) -> None:
-    server = Server(row)
-    client = player(server.port, options_of(row))
-    try:
-        for words, wanted in row.steps:
-            word, _, rest = words.partition(" ")
-            rest = "shut" if rest == "close" else rest
-            begun = time.monotonic()
-            if word == "call":
-                compare(wanted, client.make(rest), time.monotonic() - begun, "order=known" in rest)
-            elif word == "start":
-                client.begin(*rest.split(" ", 1))
-            elif word == "join":
-                compare(wanted, client.started[rest][1].result(10), time.monotonic() - client.started[rest][0])
-            elif word == "sleep":
-                time.sleep(int(rest) / 1000)
-            elif word == "sent":
-                name, _, count = rest.partition(" ")
-                assert sum(line.startswith(name) for line in server.heard) == int(count)
-            elif word == "connections":
-                assert server.accepted == int(rest)
-    except AssertionError as fault:
-        raise AssertionError(f"{fault}; the server: {server.faults}, {server.heard[-20:]}") from None
-    finally:
-        client.close()
-        faults = server.ended()
-    assert not faults
-
-
 @pytest.mark.parametrize("row", ROWS, ids=[row.name for row in ROWS])
 @pytest.mark.parametrize("player", [Blocking, Asynchronous])
-def test_row(row: Row, player: Callable[[int, dict[str, Any]], Blocking]) -> None:
+def test_row(row: Row, player: Callable[[int, dict[str, str]], Blocking]) -> None:
     play(row, player)

@@ -6,13 +6,12 @@ import concurrent.futures
 import copy
 import logging
 import pickle
-import socket
 import threading
 import time
 
 import coluwen
 import pytest
-from coluwen import AsyncClient, Broken, Client, Closed, ColuwenError, Entry, Late, Outcome, Position, Progress, Refused, Result, Score, Session, Silent, TooDeep, Unreachable
+from coluwen import AsyncClient, Broken, Client, Closed, ColuwenError, Entry, Late, Position, Progress, Refused, Result, Score, Session, Silent, TooDeep, Unreachable
 from coluwen._place import url_of
 from told import sound, told, value_of
 
@@ -72,22 +71,6 @@ def test_many_stream() -> None:
                 next(client.analyse_many(LINE, 2, **wrong))  # type: ignore[arg-type]
 
 
-def test_a_fault_of_one_is_its_own() -> None:
-    state = lambda depth, nodes: "SPENT" if depth > 8 else "DONE"
-    with told(sound(state=state)) as server, Client("127.0.0.1", server.port) as client:
-        asked = [(OPENING, 3), (OPENING, 9), ("no position", 3), (OPENING, 13), (OPENING, 3.0), OPENING, (LINE[0], 2)]
-        outcomes = list(client.analyse_many(asked))  # type: ignore[arg-type]
-        assert [type(one.answer).__name__ for one in outcomes] == ["Result", "TooDeep", "Unfit", "Unfit", "Unfit", "Unfit", "Result"]
-        assert "a depth is a whole number from 0 to 12, and not 3.0" in str(outcomes[4].answer) and all(isinstance(one.answer, (Result, ColuwenError)) for one in outcomes)
-
-    async def trial(port: int) -> list[Outcome]:
-        async with AsyncClient("127.0.0.1", port) as client:
-            return [one async for one in client.analyse_many(asked)]  # type: ignore[arg-type]
-
-    with told(sound(state=state)) as server:
-        assert [type(one.answer).__name__ for one in asyncio.run(asyncio.wait_for(trial(server.port), 20))] == [type(one.answer).__name__ for one in outcomes]
-
-
 def test_what_the_source_raises_is_raised() -> None:
     def source():  # type: ignore[no-untyped-def]
         yield OPENING
@@ -124,7 +107,7 @@ def too_deep(number: int) -> Result:
 def test_faults_of_a_process_pool() -> None:
     with concurrent.futures.ProcessPoolExecutor(1) as pool, pytest.raises(TooDeep) as fault:
         pool.submit(too_deep, 9).result()
-    assert (fault.value.depth, fault.value.greatest) == (9, 7)
+    assert (fault.value.depth, fault.value.greatest) == (9, 7) and str(fault.value) == "depth 9 can't be had at this server's grain; depth 7 surely can"
     result = Result(OPENING, 3, Score(-4), "d3", (Entry("d3", Score(-4)),))
     assert pickle.loads(pickle.dumps(result)) == result
 
@@ -179,38 +162,6 @@ def test_what_happens_is_logged(caplog: pytest.LogCaptureFixture) -> None:
         ended[0] = True
         assert client.analyse(OPENING, 2).best == "d3"
     assert [one.name for one in caplog.records] == ["coluwen"] and "asked again" in caplog.text and str(server.port) in caplog.text
-
-
-def test_a_client_that_is_closed() -> None:
-    with told(sound(state=lambda depth, nodes: "PENDING")) as server:
-        client = Client("127.0.0.1", server.port)
-        future = client.submit(OPENING, 6)
-        while not any(line.startswith("GET") for line in server.heard):
-            time.sleep(0.01)
-        client.close()
-        with pytest.raises(Closed):
-            future.result(5)
-        for call in (lambda: client.analyse(OPENING, 1), lambda: client.submit(OPENING, 1), client.info, client.ping, lambda: list(client.analyse_many([OPENING], 1))):
-            with pytest.raises(Closed):
-                call()  # type: ignore[no-untyped-call]
-        client.close()
-        time.sleep(0.1)  # what was sent before is heard
-        heard = len(server.heard)
-        time.sleep(0.2)
-        assert len(server.heard) == heard
-
-    async def trial(port: int) -> None:
-        async with AsyncClient("127.0.0.1", port) as client:
-            await client.ping()
-        for call in (client.ping, client.info, lambda: client.analyse(OPENING, 1)):
-            with pytest.raises(Closed):
-                await call()  # type: ignore[no-untyped-call]
-
-    with told(sound()) as server:
-        asyncio.run(asyncio.wait_for(trial(server.port), 20))
-        heard = list(server.heard)
-        time.sleep(0.2)
-        assert server.heard == heard and heard[-1] == "BYE"
 
 
 def test_info_is_found_out_once() -> None:
@@ -305,13 +256,7 @@ def test_what_is_no_answer(cut: str) -> None:
                     session.get(job)
 
 
-def test_a_port_where_nobody_is() -> None:
-    with socket.create_server(("127.0.0.1", 0)) as listener:
-        port = listener.getsockname()[1]
-    begun = time.monotonic()
-    with Client("127.0.0.1", port, silence=0.5) as client, pytest.raises(Unreachable, match=f"127.0.0.1:{port}: "):
-        client.ping()
-    assert 0.3 < time.monotonic() - begun < 15
+def test_a_host_that_isn_t_there() -> None:
     with Client("no-such-host.invalid", 1) as client, pytest.raises(Unreachable):
         client.analyse(OPENING, 1)
 

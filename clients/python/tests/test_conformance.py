@@ -1,18 +1,12 @@
 """The rows of clients/conformance.txt, as the clients of the other languages have them too."""
 import pathlib
-import re
 
 import pytest
 from coluwen import Broken, IllegalMove, Position, Refused, Score
 from coluwen._answers import Answer, parse
+from rows import bytes_of
 
 FILE = pathlib.Path(__file__).resolve().parents[2] / "conformance.txt"
-
-
-def bytes_of(text: str) -> bytes:
-    spelled = {"n": b"\n", "r": b"\r", "t": b"\t", "\\": b"\\"}
-    return b"".join(spelled[part[1]] if part[:1] == "\\" and part[1] != "x" else bytes([int(part[2:], 16)]) if part[:1] == "\\" else part.encode()
-                    for part in re.findall(r"\\x..|\\.|[^\\]+", text))  # fmt: skip
 
 
 ROWS = [line.rstrip("\n").split("\t") for line in FILE.open(encoding="ascii") if not line.startswith("#")]

@@ -198,16 +198,6 @@ def test_fewer_sessions_than_are_wanted() -> None:
     assert len(stage.lines("HELLO")) < 30
 
 
-def test_256_jobs_a_session() -> None:
-    works = [Question(1, POSITIONS[at % 20]) for at in range(600)]
-    stage = Stage(Model(job=0), sessions=1)
-    stage.ask(*works)
-    stage.run(60)
-    assert results(works) == [value_of(work.position) for work in works] and len(stage.lines("HELLO")) == 3 and stage.most_open == 1
-    for key in {key for _, key, _ in stage.sent}:
-        assert sum(line.startswith("ASK") for _, one, line in stage.sent if one == key) <= 256
-
-
 def test_an_outage_loses_nothing() -> None:
     """The server is away for a while, and silent for another: all is asked again, and it is told."""
     model = Model(job=0.3)
@@ -269,23 +259,6 @@ def test_patience() -> None:
     stage.ask(work := Question(3, OPENING))
     stage.run(1)
     assert isinstance(work.fault, Refused) and work.fault.number == 30 and len(stage.lines("HELLO")) <= 2
-
-
-def test_what_is_spent() -> None:
-    """Alone, with more, once; what can't be had at all is TooDeep, with what the server surely has; the server is probed once for all of them."""
-    stage = Stage(Model(spent=lambda depth, nodes, jobs: depth > 7 or depth > 5 and (nodes < 20000 or jobs > 0)), sessions=2)
-    works = [Question(depth, POSITIONS[at]) for at, depth in enumerate((3, 6, 9, 3, 9, 6, 12))]
-    stage.ask(*works)
-    stage.run(60)
-    assert results(works) == [value_of(work.position) if work.depth < 9 else "TooDeep" for work in works]
-    assert [str(work.fault) for work in works if work.fault][0] == "depth 9 can't be had at this server's grain; depth 8 surely can"
-    assert [work.fault.greatest for work in works if isinstance(work.fault, TooDeep)] == [8, 8, 8] and len(stage.lines("INFO")) == 1
-    assert stage.most_open == 2
-    before = len(stage.sent)
-    stage.ask(work := Question(9, OPENING))
-    stage.run(10)
-    assert isinstance(work.fault, TooDeep) and not [line for _, _, line in stage.sent[before:] if line.startswith("INFO")]
-    assert [line for _, _, line in stage.sent[before:] if line.startswith("HELLO")] == ["HELLO 1024 65536"]
 
 
 @pytest.mark.parametrize("grain, found", [(0, 0), (3, 3), (5, 5), (6, 6), (9, 6)])
@@ -391,31 +364,6 @@ def test_a_job_that_somebody_else_cancelled() -> None:
     assert isinstance(work.fault, Broken) and "cancelled by nobody here" in str(work.fault)
 
 
-def test_close() -> None:
-    stage = Stage(Model(job=5), sessions=2)
-    works = [Question(6, OPENING), Question(6, POSITIONS[1]), Question(6, POSITIONS[2])]
-    stage.ask(Errand(ping))
-    stage.run(1)
-    stage.ask(*works)
-    stage.run(1)
-    stage.core.close(stage.now)
-    stage.act()
-    assert results(works) == ["Closed"] * 3 and stage.core.has_ended and not stage.open
-    before = len(stage.sent)
-    stage.run(10)
-    assert len(stage.sent) == before
-    with pytest.raises(Closed):
-        stage.core.ask(Question(1, OPENING), stage.now)
-    stage = Stage(Model(), sessions=2)
-    stage.ask(Errand(ping))
-    stage.run(1)
-    stage.core.close(stage.now)
-    stage.act()
-    assert not stage.core.has_ended and stage.lines("BYE") == ["BYE"]
-    stage.run(1)
-    assert stage.core.has_ended
-
-
 def test_counted_nodes() -> None:
     stage = Stage(Model(), sessions=1, counts=True)
     works = [Question(3, POSITIONS[at]) for at in range(5)]
@@ -467,10 +415,6 @@ def test_a_wire() -> None:
         Wire().receive(b"BYE\n")
     with pytest.raises(Broken, match="ended the session"):
         Wire().receive(b"")
-    wire = Wire()
-    wire.send("BYE")
-    with pytest.raises(Broken, match="more than 1115 bytes"):
-        wire.receive(b"y" * 1115)
 
 
 class Hand:
@@ -515,6 +459,13 @@ class Hand:
         return found
 
 
+def test_a_core_that_is_closed_takes_nothing() -> None:
+    hand = Hand()
+    hand.core.close(hand.now)
+    with pytest.raises(Closed):
+        hand.ask(Question(1, OPENING))
+
+
 @pytest.mark.parametrize("how", ["the other side ends", "silence"])
 def test_a_session_that_ends_without_an_answer_is_over(how: str) -> None:
     hand = Hand(sessions=1)
@@ -553,20 +504,19 @@ def test_a_session_with_jobs_takes_no_errand_and_none_that_goes_alone() -> None:
 
 
 def test_what_is_refused_to_a_session_in_use() -> None:
-    """A session that has had its 256 jobs is left; one whose room is used up is raised, and left at the greatest."""
-    for number, wanted in ((10, "1 RESERVE 512 16384"), (11, "1 RESERVE 512 16384"), (13, "1 BYE")):
+    """A session whose room is used up is raised, and left at the greatest."""
+    for number in (10, 11):
         hand = Hand(sessions=1)
         hand.ask(Question(2, OPENING))
         hand.ask(Question(3, OPENING))
         hand.opens(1)
         hand.hear(1, "JOB 1")
         assert hand.hear(1, "DONE 1 5 d3", "TABLE 1 d3=5") == [f"1 ASK 3 {OPENING}"]
-        assert hand.hear(1, f"ERR {number}")[:1] == [wanted]
+        assert hand.hear(1, f"ERR {number}") == ["1 RESERVE 512 16384"]
         for raised in ("512 16384", "1024 32768", "1024 65536"):
-            if number != 13:
-                assert hand.hear(1, f"RESERVED {raised}") == [f"1 ASK 3 {OPENING}"]
-                last = hand.hear(1, f"ERR {number}")
-        assert number == 13 or last[:1] == ["1 BYE"]
+            assert hand.hear(1, f"RESERVED {raised}") == [f"1 ASK 3 {OPENING}"]
+            last = hand.hear(1, f"ERR {number}")
+        assert last[:1] == ["1 BYE"]
         assert not any(work.fault for work in hand.ended)
 
 
@@ -578,20 +528,6 @@ def test_what_a_look_is_refused_for() -> None:
     assert hand.waits(0.09) == [] and hand.waits(0.02) == ["1 GET 1"]  # too fast: later, and the job is kept
     assert hand.hear(1, "ERR 17") == ["shut 1", "open 2"]  # no such job: this session can't be believed
     assert hand.opens(2) == [f"2 ASK 2 {OPENING}"] and not hand.ended
-
-
-def test_behind_a_spent_job_a_session_ends() -> None:
-    hand = Hand(sessions=1)
-    hand.ask(Question(2, OPENING))
-    hand.ask(Question(9, OPENING))
-    hand.opens(1)
-    hand.hear(1, "JOB 1", "DONE 1 5 d3", "TABLE 1 d3=5", "JOB 2")
-    assert hand.hear(1, "SPENT 2")[:1] == ["1 BYE"]
-    opened = [line for line in hand.hear(1, "BYE") + hand.waits(1) if line.startswith("open")]
-    assert opened == ["open 2"]
-    hand.ask(Question(3, OPENING))
-    assert hand.opens(2) == [f"2 ASK 9 {OPENING}"]  # alone, in a session with the most that there is
-    assert hand.hear(2, "JOB 1", "SPENT 1")[:1] == ["2 BYE"]
 
 
 def test_what_is_reserved_by_hand_knows_no_depth() -> None:

@@ -91,6 +91,11 @@ def test_the_program_for_the_processor(tmp_path: pathlib.Path, monkeypatch: pyte
     (tmp_path / "othello").write_text("#!/bin/sh\n")
     (tmp_path / "othello").chmod(0o755)
     assert programs_here()[0] == str(tmp_path / "othello")
+    monkeypatch.setattr(engine_module, "HERE", tmp_path / "clients/python/src/coluwen/engine.py")
+    monkeypatch.setenv("PATH", "")
+    assert programs_here() == [str(tmp_path / "othello")]  # an archive's
+    (tmp_path / "crates").mkdir()
+    assert not programs_here()  # a checkout's is a script that builds
 
 
 def test_processes_that_end_are_begun_anew_and_nothing_is_lost(false: str) -> None:

@@ -43,10 +43,6 @@ class Engine:
         return Result(position, depth, Score(depth), moves[0] if moves else "-", table)
 
 
-def run(coroutine):
-    return asyncio.run(asyncio.wait_for(coroutine, 20))
-
-
 async def lines_of(service, position, depth, exact=()):
     return [json.loads(line) async for line in service.analyse(position, depth, list(exact))]
 
@@ -61,110 +57,88 @@ def test_steps():
     assert [steps_of(Position("X" * 63 + "-", "O"), 4), steps_of(OPENING, 14), steps_of(OPENING, 4)] == [[1], [4, 6, 8, 10, 12], [4]]
 
 
-def test_each_is_asked_once_for_all_who_wait():
-    async def main():
-        engine = Engine(free=False)
-        library = Library(engine, 4)
-        told = [[] for _ in range(9)]
-        waiting = [asyncio.ensure_future(library.find(OPENING, 4, one.append)) for one in told]
-        await asyncio.sleep(0.01)
-        engine.go.set()
-        found = await asyncio.gather(*waiting)
-        assert engine.asked == [(OPENING.text, 4)] and len({id(one) for one in found}) == 1
-        assert all(one == [{"kind": "searching"}] for one in told)
-        await library.find(OPENING, 4, told[0].append)
-        assert len(engine.asked) == 1
-
-    run(main())
+async def test_each_is_asked_once_for_all_who_wait():
+    engine = Engine(free=False)
+    library = Library(engine, 4)
+    told = [[] for _ in range(9)]
+    waiting = [asyncio.ensure_future(library.find(OPENING, 4, one.append)) for one in told]
+    await asyncio.sleep(0.01)
+    engine.go.set()
+    found = await asyncio.gather(*waiting)
+    assert engine.asked == [(OPENING.text, 4)] and len({id(one) for one in found}) == 1
+    assert all(one == [{"kind": "searching"}] for one in told)
+    await library.find(OPENING, 4, told[0].append)
+    assert len(engine.asked) == 1
 
 
-def test_a_question_is_given_up_with_the_last_who_waits():
-    async def main():
-        engine = Engine(free=False)
-        library = Library(engine, 1)
-        waiting = [asyncio.ensure_future(library.find(OPENING, 4, lambda _: None)) for _ in range(2)]
-        await asyncio.sleep(0.01)
-        waiting[0].cancel()
-        await asyncio.sleep(0.01)
-        assert not engine.given_up
-        waiting[1].cancel()
-        await asyncio.sleep(0.01)
-        assert engine.given_up == [(OPENING.text, 4)] and library.turns.taken == 0 and not library.flights
-        engine.go.set()
-        assert (await library.find(OPENING, 4, lambda _: None)).result.depth == 4
-
-    run(main())
+async def test_a_question_is_given_up_with_the_last_who_waits():
+    engine = Engine(free=False)
+    library = Library(engine, 1)
+    waiting = [asyncio.ensure_future(library.find(OPENING, 4, lambda _: None)) for _ in range(2)]
+    await asyncio.sleep(0.01)
+    waiting[0].cancel()
+    await asyncio.sleep(0.01)
+    assert not engine.given_up
+    waiting[1].cancel()
+    await asyncio.sleep(0.01)
+    assert engine.given_up == [(OPENING.text, 4)] and library.turns.taken == 0 and not library.flights
+    engine.go.set()
+    assert (await library.find(OPENING, 4, lambda _: None)).result.depth == 4
 
 
-def test_turns_are_in_order_and_none_is_lost():
-    async def main():
-        turns, order = Turns(2), []
+async def test_turns_are_in_order_and_none_is_lost():
+    turns, order = Turns(2), []
 
-        async def one(number):
-            async with turns.turn(told[number].append):
-                order.append(number)
-                await asyncio.sleep(0.001)
+    async def one(number):
+        async with turns.turn(told[number].append):
+            order.append(number)
+            await asyncio.sleep(0.001)
 
-        told = [[] for _ in range(20)]
-        tasks = [asyncio.ensure_future(one(number)) for number in range(20)]
-        await asyncio.sleep(0)
-        tasks[5].cancel()  # one who waits
-        await asyncio.gather(*tasks, return_exceptions=True)
-        assert order == [number for number in range(20) if number != 5]
-        assert turns.taken == 0 and not turns.waiting
-        assert [event["ahead"] for event in told[9]] == [8, *range(7, 0, -1)]
-
-    run(main())
+    told = [[] for _ in range(20)]
+    tasks = [asyncio.ensure_future(one(number)) for number in range(20)]
+    await asyncio.sleep(0)
+    tasks[5].cancel()  # one who waits
+    await asyncio.gather(*tasks, return_exceptions=True)
+    assert order == [number for number in range(20) if number != 5]
+    assert turns.taken == 0 and not turns.waiting
+    assert [event["ahead"] for event in told[9]] == [8, *range(7, 0, -1)]
 
 
-def test_a_lost_server_is_asked_again(monkeypatch):
+async def test_a_lost_server_is_asked_again(monkeypatch):
     monkeypatch.setattr(page_library, "FIRST_PAUSE", 0.001)
-
-    async def main():
-        engine, told = Engine(), []
-        engine.faults = [Unreachable("gone"), ConnectionResetError(), TimeoutError()]
-        found = await Library(engine, 1).find(OPENING, 4, told.append)
-        assert found.result.depth == 4 and [event["kind"] for event in told] == ["searching", "lost"] * 3 + ["searching"]
-
-    run(main())
+    engine, told = Engine(), []
+    engine.faults = [Unreachable("gone"), ConnectionResetError(), TimeoutError()]
+    found = await Library(engine, 1).find(OPENING, 4, told.append)
+    assert found.result.depth == 4 and [event["kind"] for event in told] == ["searching", "lost"] * 3 + ["searching"]
 
 
-def test_too_deep_is_said_and_not_asked_again():
-    async def main():
-        engine = Engine()
-        service = Service(Library(engine, 1), [4, 6, 8], True)
-        engine.faults = []
-        await lines_of(service, OPENING, 6)
-        engine.faults = [TooDeep(8, 7)]
-        told = await lines_of(service, OPENING, 8)
-        assert [line["kind"] for line in told] == ["step", "searching", "deepest", "done"] and told[2]["depth"] == 6
-        count = len(engine.asked)
-        assert [line["kind"] for line in await lines_of(service, OPENING, 8)] == ["step", "deepest", "done"] and len(engine.asked) == count
-
-    run(main())
+async def test_too_deep_is_said_and_not_asked_again():
+    engine = Engine()
+    service = Service(Library(engine, 1), [4, 6, 8], True)
+    engine.faults = []
+    await lines_of(service, OPENING, 6)
+    engine.faults = [TooDeep(8, 7)]
+    told = await lines_of(service, OPENING, 8)
+    assert [line["kind"] for line in told] == ["step", "searching", "deepest", "done"] and told[2]["depth"] == 6
+    count = len(engine.asked)
+    assert [line["kind"] for line in await lines_of(service, OPENING, 8)] == ["step", "deepest", "done"] and len(engine.asked) == count
 
 
-def test_without_steps_the_greatest_depth_alone_is_asked():
-    async def main():
-        engine = Engine()
-        service = Service(Library(engine, 1), [4, 6, 8], True)
-        told = [json.loads(line) async for line in service.analyse(OPENING, 8, [], False)]
-        assert [line["depth"] for line in told if line["kind"] == "step"] == [8] and len(engine.asked) == 1
-        engine.faults = [TooDeep(8, 7)]
-        told = [json.loads(line) async for line in service.analyse(OPENING.play("d3"), 8, [], False)]
-        assert [(line["kind"], line.get("depth")) for line in told if line["kind"] != "searching"] == [("step", 6), ("deepest", 6), ("done", None)]
-
-    run(main())
+async def test_without_steps_the_greatest_depth_alone_is_asked():
+    engine = Engine()
+    service = Service(Library(engine, 1), [4, 6, 8], True)
+    told = [json.loads(line) async for line in service.analyse(OPENING, 8, [], False)]
+    assert [line["depth"] for line in told if line["kind"] == "step"] == [8] and len(engine.asked) == 1
+    engine.faults = [TooDeep(8, 7)]
+    told = [json.loads(line) async for line in service.analyse(OPENING.play("d3"), 8, [], False)]
+    assert [(line["kind"], line.get("depth")) for line in told if line["kind"] != "searching"] == [("step", 6), ("deepest", 6), ("done", None)]
 
 
-def test_exact_values_are_those_of_the_positions_behind():
-    async def main():
-        engine = Engine()
-        told = await lines_of(Service(Library(engine, 1), [4], True), OPENING, 4, OPENING.legal_moves())
-        exact = {line["move"]: line["score"] for line in told if line["kind"] == "exact"}
-        assert exact == {move: {"sign": "=", "points": -3} for move in OPENING.legal_moves()[1:]}  # the best one's is known
-
-    run(main())
+async def test_exact_values_are_those_of_the_positions_behind():
+    engine = Engine()
+    told = await lines_of(Service(Library(engine, 1), [4], True), OPENING, 4, OPENING.legal_moves())
+    exact = {line["move"]: line["score"] for line in told if line["kind"] == "exact"}
+    assert exact == {move: {"sign": "=", "points": -3} for move in OPENING.legal_moves()[1:]}  # the best one's is known
 
 
 def test_scores():
@@ -181,54 +155,48 @@ def test_names(host, known):
     assert names_of(host, 8047, {"localhost", "board.example"}) == known
 
 
-def test_classes():
-    async def main():
-        rooms = Rooms()
-        opened = rooms.open("here", "#a")
-        pupil = rooms.follow(opened["room"])
-        assert json.loads(await anext(pupil)) == {"state": "#a"}
-        with pytest.raises(Fault, match="another teacher"):
-            rooms.show(opened["room"], "key", "#b")
-        rooms.show(opened["room"], opened["key"], "#b")
-        rooms.show(opened["room"], opened["key"], "#c")
-        assert json.loads(await anext(pupil)) == {"state": "#c"} == json.loads(await anext(rooms.follow(opened["room"])))  # the last one counts, also for who comes later
-        rooms.show(opened["room"], opened["key"], None)
-        assert json.loads(await anext(pupil)) == {"state": None}
-        with pytest.raises(StopAsyncIteration):
-            await anext(pupil)
-        with pytest.raises(Fault, match="no such class"):
-            rooms.find(opened["room"])
-
-    run(main())
-
-
-def test_a_teacher_hears_who_follows_and_whose_hands_are_raised():
-    async def main():
-        rooms = Rooms()
-        opened = rooms.open("here", "#a")
-        with pytest.raises(Fault, match="another teacher"):
-            rooms.pupils(opened["room"], "key")
-        heads = rooms.pupils(opened["room"], opened["key"])
-        assert json.loads(await anext(heads)) == {"followers": 0, "hands": []}
-        pupil = rooms.follow(opened["room"])
+async def test_classes():
+    rooms = Rooms()
+    opened = rooms.open("here", "#a")
+    pupil = rooms.follow(opened["room"])
+    assert json.loads(await anext(pupil)) == {"state": "#a"}
+    with pytest.raises(Fault, match="another teacher"):
+        rooms.show(opened["room"], "key", "#b")
+    rooms.show(opened["room"], opened["key"], "#b")
+    rooms.show(opened["room"], opened["key"], "#c")
+    assert json.loads(await anext(pupil)) == {"state": "#c"} == json.loads(await anext(rooms.follow(opened["room"])))  # the last one counts, also for who comes later
+    rooms.show(opened["room"], opened["key"], None)
+    assert json.loads(await anext(pupil)) == {"state": None}
+    with pytest.raises(StopAsyncIteration):
         await anext(pupil)
-        assert json.loads(await anext(heads)) == {"followers": 1, "hands": []}
-        rooms.raise_hand(opened["room"], "one", "Anna", "#b")
-        assert json.loads(await anext(heads)) == {"followers": 1, "hands": [{"name": "Anna", "state": "#b"}]}
-        rooms.raise_hand(opened["room"], "one", "Anna", None)
-        assert json.loads(await anext(heads)) == {"followers": 1, "hands": []}
-        waiting = asyncio.ensure_future(anext(heads))
-        await asyncio.sleep(0.01)
-        await pupil.aclose()
-        assert json.loads(await waiting) == {"followers": 0, "hands": []}
-        for number in range(150):
-            rooms.raise_hand(opened["room"], str(number), "", "#")
-        assert len(json.loads(await anext(heads))["hands"]) == 100
-        rooms.show(opened["room"], opened["key"], None)
-        with pytest.raises(StopAsyncIteration):
-            await anext(heads)
+    with pytest.raises(Fault, match="no such class"):
+        rooms.find(opened["room"])
 
-    run(main())
+
+async def test_a_teacher_hears_who_follows_and_whose_hands_are_raised():
+    rooms = Rooms()
+    opened = rooms.open("here", "#a")
+    with pytest.raises(Fault, match="another teacher"):
+        rooms.pupils(opened["room"], "key")
+    heads = rooms.pupils(opened["room"], opened["key"])
+    assert json.loads(await anext(heads)) == {"followers": 0, "hands": []}
+    pupil = rooms.follow(opened["room"])
+    await anext(pupil)
+    assert json.loads(await anext(heads)) == {"followers": 1, "hands": []}
+    rooms.raise_hand(opened["room"], "one", "Anna", "#b")
+    assert json.loads(await anext(heads)) == {"followers": 1, "hands": [{"name": "Anna", "state": "#b"}]}
+    rooms.raise_hand(opened["room"], "one", "Anna", None)
+    assert json.loads(await anext(heads)) == {"followers": 1, "hands": []}
+    waiting = asyncio.ensure_future(anext(heads))
+    await asyncio.sleep(0.01)
+    await pupil.aclose()
+    assert json.loads(await waiting) == {"followers": 0, "hands": []}
+    for number in range(150):
+        rooms.raise_hand(opened["room"], str(number), "", "#")
+    assert len(json.loads(await anext(heads))["hands"]) == 100
+    rooms.show(opened["room"], opened["key"], None)
+    with pytest.raises(StopAsyncIteration):
+        await anext(heads)
 
 
 @pytest.mark.parametrize("target, path, query", [("//[", "//[", {}), ("/a%00b?name=%00", "/a\0b", {"name": "\0"}), ("/?a=1#b", "/", {"a": "1"}), ("/http://[::1", "/http://[::1", {})])
@@ -241,39 +209,30 @@ def site():
     return Site(Service(Library(Engine(), 1), [4], True), lambda host, port: True)
 
 
-def test_an_older_address_leads_on_in_one_line():
-    async def main():
-        answer = await site().answer(Request("GET", "/review?moves=f5\n\rSet-Cookie: a", "/review", {}, {"host": "here"}, ""))
-        assert answer.status == 302 and answer.headers["Location"] == "/?moves=f5%0A%0DSet-Cookie:%20a"
-        assert (await site().answer(Request("GET", "/review?moves=f5d6&depth=4", "/review", {}, {"host": "here"}, ""))).headers["Location"] == "/?moves=f5d6&depth=4"
-
-    run(main())
+async def test_an_older_address_leads_on_in_one_line():
+    answer = await site().answer(Request("GET", "/review?moves=f5\n\rSet-Cookie: a", "/review", {}, {"host": "here"}, ""))
+    assert answer.status == 302 and answer.headers["Location"] == "/?moves=f5%0A%0DSet-Cookie:%20a"
+    assert (await site().answer(Request("GET", "/review?moves=f5d6&depth=4", "/review", {}, {"host": "here"}, ""))).headers["Location"] == "/?moves=f5d6&depth=4"
     with pytest.raises(ValueError):
         head_of(Answer(headers={"Location": "/\nA: b"}), close=True)
 
 
-def test_the_page_and_its_engine_are_served():
-    async def main():
-        for path, kind in (("/", "text/html; charset=utf-8"), ("/js/main.js", "text/javascript; charset=utf-8"), ("/engine/page64.wasm", "application/wasm")):
-            answer = await site().answer(Request("GET", path, path, {}, {"host": "here"}, ""))
-            assert answer.status == 200 and answer.kind == kind and answer.body
-        told = await site().answer(Request("GET", "/about.json", "/about.json", {}, {"host": "here"}, ""))
-        assert json.loads(told.body) == {"service": True, "depths": [4], "places": 1, "settled": True, "addresses": []}
-
-    run(main())
+async def test_the_page_and_its_engine_are_served():
+    for path, kind in (("/", "text/html; charset=utf-8"), ("/js/main.js", "text/javascript; charset=utf-8"), ("/engine/page64.wasm", "application/wasm")):
+        answer = await site().answer(Request("GET", path, path, {}, {"host": "here"}, ""))
+        assert answer.status == 200 and answer.kind == kind and answer.body
+    told = await site().answer(Request("GET", "/about.json", "/about.json", {}, {"host": "here"}, ""))
+    assert json.loads(told.body) == {"service": True, "depths": [4], "places": 1, "settled": True, "addresses": []}
 
 
-def test_without_a_server_there_are_classes():
-    async def main():
-        alone = Site(Service(None, [], True), lambda host, port: True)
-        told = await alone.answer(Request("GET", "/about.json", "/about.json", {}, {"host": "here"}, ""))
-        assert json.loads(told.body) == {"service": True, "depths": [], "places": 0, "settled": True, "addresses": []}
-        question, kind = json.dumps({"position": OPENING.text, "depth": 4}).encode(), {"host": "here", "content-type": "application/json"}
-        with pytest.raises(Fault, match="the page has its own"):
-            await alone.answer(Request("POST", "/analyse", "/analyse", {}, kind, "", question))
-        assert (await alone.answer(Request("POST", "/class", "/class", {}, kind, "", b'{"state": "#"}'))).status == 200
-
-    run(main())
+async def test_without_a_server_there_are_classes():
+    alone = Site(Service(None, [], True), lambda host, port: True)
+    told = await alone.answer(Request("GET", "/about.json", "/about.json", {}, {"host": "here"}, ""))
+    assert json.loads(told.body) == {"service": True, "depths": [], "places": 0, "settled": True, "addresses": []}
+    question, kind = json.dumps({"position": OPENING.text, "depth": 4}).encode(), {"host": "here", "content-type": "application/json"}
+    with pytest.raises(Fault, match="the page has its own"):
+        await alone.answer(Request("POST", "/analyse", "/analyse", {}, kind, "", question))
+    assert (await alone.answer(Request("POST", "/class", "/class", {}, kind, "", b'{"state": "#"}'))).status == 200
 
 
 def test_the_log_is_one_line_in_the_common_form(caplog):
@@ -285,20 +244,17 @@ def test_the_log_is_one_line_in_the_common_form(caplog):
     assert plain("a\0\\b") == "a\\x00\\x5cb"
 
 
-def test_what_goes_wrong_here_is_a_500():
-    async def main():
-        async def broken(request):
-            raise KeyError("no such thing")
+async def test_what_goes_wrong_here_is_a_500():
+    async def broken(request):
+        raise KeyError("no such thing")
 
-        server = await (web := page_web.Web(broken, lambda method, path: 0)).start("127.0.0.1", 0)
-        reader, writer = await asyncio.open_connection(*server.sockets[0].getsockname())
-        writer.write(b"GET /\0%00 HTTP/1.1\r\nHost: here\r\nConnection: close\r\n\r\n")
-        assert (await reader.read()).startswith(b"HTTP/1.1 500 ")
-        writer.close()
-        server.close()
-        await web.end()
-
-    run(main())
+    server = await (web := page_web.Web(broken, lambda method, path: 0)).start("127.0.0.1", 0)
+    reader, writer = await asyncio.open_connection(*server.sockets[0].getsockname())
+    writer.write(b"GET /\0%00 HTTP/1.1\r\nHost: here\r\nConnection: close\r\n\r\n")
+    assert (await reader.read()).startswith(b"HTTP/1.1 500 ")
+    writer.close()
+    server.close()
+    await web.end()
 
 
 # What a question, a class and a hand are.
@@ -338,42 +294,39 @@ def request(method, path, asked=None, **headers):
     return Request(method, path, path, {}, {"content-type": "application/json", **headers}, "10.0.0.7", json.dumps(asked).encode())
 
 
-def test_the_services_paths():
-    async def main():
-        service = Service(Library(Engine(), 3), [4], True)
-        assert service.most("POST", "/class") == 65536 and service.most("GET", "/class") == 0
-        assert await service.answer(request("GET", "/other")) is None
-        for method, path in (("POST", "/about.json"), ("GET", "/analyse"), ("GET", "/class"), ("GET", "/class/a/pupils"), ("GET", "/class/a/hand"), ("PUT", "/class/a")):
-            with pytest.raises(Fault) as fault:
-                await service.answer(request(method, path))
-            assert fault.value.status == 405, path
-        for path in ("/class/A", "/class/" + "a" * 33, "/class/a/other", "/class/b/"):
-            with pytest.raises(Fault) as fault:
-                await service.answer(request("GET", path))
-            assert (fault.value.status, fault.value.code) == (404, "class")
-        told = await service.answer(request("POST", "/analyse", {"position": OPENING.text, "depth": 4, "steps": False}))
-        assert told.kind == "application/x-ndjson" and [json.loads(line)["kind"] async for line in told.lines] == ["searching", "step", "done"]
-        opened = json.loads((await service.answer(request("POST", "/class", {"state": "#a"}))).body)
-        room, key = opened["room"], opened["key"]
-        assert re.fullmatch("[a-z2-9]{10}", room) and service.rooms.rooms[room].address == "10.0.0.7" and len(key) == 32
-        follows = await service.answer(request("GET", f"/class/{room}"))
-        assert follows.kind == "application/x-ndjson" and json.loads(await anext(follows.lines)) == {"state": "#a"}
-        pupils = await service.answer(request("POST", f"/class/{room}/pupils", {"key": key}))
-        assert pupils.kind == "application/x-ndjson" and json.loads(await anext(pupils.lines)) == {"followers": 1, "hands": []}
-        for asked in ({}, [key], {"key": key[:-1]}, {"key": 5}):
-            with pytest.raises(Fault) as fault:
-                await service.answer(request("POST", f"/class/{room}/pupils", asked))
-            assert (fault.value.status, fault.value.code) == (403, "key")
-        assert (await service.answer(request("POST", f"/class/{room}/hand", {"pupil": "p", "name": "Anna", "state": "#b"}))).body == b"{}"
-        assert json.loads(await anext(pupils.lines))["hands"] == [{"name": "Anna", "state": "#b"}]
-        assert (await service.answer(request("POST", f"/class/{room}", {"key": key, "state": "#c"}))).body == b"{}"
-        assert json.loads(await anext(follows.lines)) == {"state": "#c"}
-        await service.answer(request("POST", f"/class/{room}", {"key": key, "state": None}))
-        assert json.loads(await anext(follows.lines)) == {"state": None}
-        with pytest.raises(Fault, match="no such class"):
-            await service.answer(request("GET", f"/class/{room}"))
-
-    run(main())
+async def test_the_services_paths():
+    service = Service(Library(Engine(), 3), [4], True)
+    assert service.most("POST", "/class") == 65536 and service.most("GET", "/class") == 0
+    assert await service.answer(request("GET", "/other")) is None
+    for method, path in (("POST", "/about.json"), ("GET", "/analyse"), ("GET", "/class"), ("GET", "/class/a/pupils"), ("GET", "/class/a/hand"), ("PUT", "/class/a")):
+        with pytest.raises(Fault) as fault:
+            await service.answer(request(method, path))
+        assert fault.value.status == 405, path
+    for path in ("/class/A", "/class/" + "a" * 33, "/class/a/other", "/class/b/"):
+        with pytest.raises(Fault) as fault:
+            await service.answer(request("GET", path))
+        assert (fault.value.status, fault.value.code) == (404, "class")
+    told = await service.answer(request("POST", "/analyse", {"position": OPENING.text, "depth": 4, "steps": False}))
+    assert told.kind == "application/x-ndjson" and [json.loads(line)["kind"] async for line in told.lines] == ["searching", "step", "done"]
+    opened = json.loads((await service.answer(request("POST", "/class", {"state": "#a"}))).body)
+    room, key = opened["room"], opened["key"]
+    assert re.fullmatch("[a-z2-9]{10}", room) and service.rooms.rooms[room].address == "10.0.0.7" and len(key) == 32
+    follows = await service.answer(request("GET", f"/class/{room}"))
+    assert follows.kind == "application/x-ndjson" and json.loads(await anext(follows.lines)) == {"state": "#a"}
+    pupils = await service.answer(request("POST", f"/class/{room}/pupils", {"key": key}))
+    assert pupils.kind == "application/x-ndjson" and json.loads(await anext(pupils.lines)) == {"followers": 1, "hands": []}
+    for asked in ({}, [key], {"key": key[:-1]}, {"key": 5}):
+        with pytest.raises(Fault) as fault:
+            await service.answer(request("POST", f"/class/{room}/pupils", asked))
+        assert (fault.value.status, fault.value.code) == (403, "key")
+    assert (await service.answer(request("POST", f"/class/{room}/hand", {"pupil": "p", "name": "Anna", "state": "#b"}))).body == b"{}"
+    assert json.loads(await anext(pupils.lines))["hands"] == [{"name": "Anna", "state": "#b"}]
+    assert (await service.answer(request("POST", f"/class/{room}", {"key": key, "state": "#c"}))).body == b"{}"
+    assert json.loads(await anext(follows.lines)) == {"state": "#c"}
+    await service.answer(request("POST", f"/class/{room}", {"key": key, "state": None}))
+    assert json.loads(await anext(follows.lines)) == {"state": None}
+    with pytest.raises(Fault, match="no such class"):
+        await service.answer(request("GET", f"/class/{room}"))
 
 
 @pytest.mark.parametrize("asked, ends, wanted", [
@@ -402,90 +355,76 @@ def test_hands(asked, is_one):
     assert (fault.value.status, fault.value.code) == (400, "hand")
 
 
-def test_so_many_classes(monkeypatch):
+async def test_so_many_classes(monkeypatch):
     now = [1000.0]
     monkeypatch.setattr(page_rooms, "time", types.SimpleNamespace(monotonic=lambda: now[0]))
-
-    async def main():
-        rooms = Rooms()
-        first = rooms.open("a", "#")
-        now[0] += 1
-        for _ in range(9):
-            rooms.open("a", "#")
-        for address in ("a", "b"):
-            if address == "a":
-                with pytest.raises(Fault) as fault:
-                    rooms.open("a", "#")
-                assert (fault.value.status, fault.value.code) == (429, "classes")
-            else:
-                rooms.open("b", "#")
-        for number in range(189):
-            rooms.open(str(number), "#")
-        assert len(rooms.rooms) == 200
-        with pytest.raises(Fault, match="too many classes"):
-            rooms.open("c", "#")
-        follower = rooms.follow(first["room"])
-        assert json.loads(await anext(follower)) == {"state": "#"}
-        now[0] += 4 * 3600 - 1  # the first one, and it alone, shows nothing for four hours; at that moment it isn't over yet
-        with pytest.raises(Fault):
-            rooms.open("c", "#")
-        now[0] += 0.5
+    rooms = Rooms()
+    first = rooms.open("a", "#")
+    now[0] += 1
+    for _ in range(9):
+        rooms.open("a", "#")
+    for address in ("a", "b"):
+        if address == "a":
+            with pytest.raises(Fault) as fault:
+                rooms.open("a", "#")
+            assert (fault.value.status, fault.value.code) == (429, "classes")
+        else:
+            rooms.open("b", "#")
+    for number in range(189):
+        rooms.open(str(number), "#")
+    assert len(rooms.rooms) == 200
+    with pytest.raises(Fault, match="too many classes"):
         rooms.open("c", "#")
-        assert json.loads(await anext(follower)) == {"state": None} and first["room"] not in rooms.rooms and len(rooms.rooms) == 200
+    follower = rooms.follow(first["room"])
+    assert json.loads(await anext(follower)) == {"state": "#"}
+    now[0] += 4 * 3600 - 1  # the first one, and it alone, shows nothing for four hours; at that moment it isn't over yet
+    with pytest.raises(Fault):
+        rooms.open("c", "#")
+    now[0] += 0.5
+    rooms.open("c", "#")
+    assert json.loads(await anext(follower)) == {"state": None} and first["room"] not in rooms.rooms and len(rooms.rooms) == 200
 
-    run(main())
 
-
-def test_what_shows_something_is_no_idle_class(monkeypatch):
+async def test_what_shows_something_is_no_idle_class(monkeypatch):
     now = [1000.0]
     monkeypatch.setattr(page_rooms, "time", types.SimpleNamespace(monotonic=lambda: now[0]))
-
-    async def main():
-        rooms = Rooms()
-        opened = rooms.open("a", "#")
-        now[0] += 3 * 3600
-        rooms.show(opened["room"], opened["key"], "#b")
-        now[0] += 3 * 3600
-        rooms.open("b", "#")
-        assert rooms.find(opened["room"]).state == "#b"
-        await asyncio.sleep(0.01)
-        assert not rooms.telling
-
-    run(main())
+    rooms = Rooms()
+    opened = rooms.open("a", "#")
+    now[0] += 3 * 3600
+    rooms.show(opened["room"], opened["key"], "#b")
+    now[0] += 3 * 3600
+    rooms.open("b", "#")
+    assert rooms.find(opened["room"]).state == "#b"
+    await asyncio.sleep(0.01)
+    assert not rooms.telling
 
 
-def test_so_many_follow(monkeypatch):
-    async def main():
-        rooms = Rooms()
-        opened = rooms.open("a", "#")
-        followers = [rooms.follow(opened["room"]) for _ in range(400)]
-        for one in followers:
-            await anext(one)
-        with pytest.raises(Fault) as fault:
-            rooms.follow(opened["room"])
-        assert (fault.value.status, fault.value.code) == (429, "followers")
-        await followers[0].aclose()
-        await anext(rooms.follow(opened["room"]))
-
-    run(main())
+async def test_so_many_follow(monkeypatch):
+    rooms = Rooms()
+    opened = rooms.open("a", "#")
+    followers = [rooms.follow(opened["room"]) for _ in range(400)]
+    for one in followers:
+        await anext(one)
+    with pytest.raises(Fault) as fault:
+        rooms.follow(opened["room"])
+    assert (fault.value.status, fault.value.code) == (429, "followers")
+    await followers[0].aclose()
+    await anext(rooms.follow(opened["room"]))
     with pytest.raises(Fault) as fault:
         Rooms().find("none")
     assert (fault.value.status, fault.value.code) == (404, "class")
 
 
-def test_a_raised_hand_is_the_latest():
-    async def main():
-        rooms = Rooms()
-        opened = rooms.open("here", "#a")
-        heads = rooms.pupils(opened["room"], opened["key"])
-        await anext(heads)
-        for pupil in ("one", "two", "one"):
-            rooms.raise_hand(opened["room"], pupil, pupil, f"#{pupil}")
-        assert [hand["name"] for hand in json.loads(await anext(heads))["hands"]] == ["two", "one"]
-        with pytest.raises(Fault):
-            rooms.raise_hand("none", "one", "", "#")
-
-    run(main())
+async def test_a_raised_hand_is_the_latest():
+    rooms = Rooms()
+    opened = rooms.open("here", "#a")
+    heads = rooms.pupils(opened["room"], opened["key"])
+    await anext(heads)
+    for pupil in ("one", "two", "one"):
+        rooms.raise_hand(opened["room"], pupil, pupil, f"#{pupil}")
+    assert [hand["name"] for hand in json.loads(await anext(heads))["hands"]] == ["two", "one"]
+    with pytest.raises(Fault):
+        rooms.raise_hand("none", "one", "", "#")
 
 
 # The library.
@@ -510,212 +449,170 @@ LAST = Position.parse("-" * 50 + "XO" + "-" * 12 + " X")  # c7 ends it, with 61 
 AFTER = LAST.play("a7") if "a7" in LAST.legal_moves() else LAST.play(LAST.legal_moves()[0])
 
 
-def test_the_line_to_the_end_is_followed():
+async def test_the_line_to_the_end_is_followed():
     move = LAST.legal_moves()[0]
-
-    async def main():
-        over = Book({(LAST.text, 4): (6000, True, move), (AFTER.text, 3): (-6000, True, None)})
-        found = await Library(over, 1).find(LAST, 4, lambda _: None)
-        assert (found.line, found.empty, AFTER.is_over) == ((move,), AFTER.empties, True) and over.asked == [(LAST.text, 4), (AFTER.text, 3)]
-        for rows in ({(LAST.text, 4): (6000, True, move)}, {(LAST.text, 4): (6000, True, move), (AFTER.text, 3): (-4000, True, None)}):  # too deep, or another value
-            found = await Library(Book(rows), 1).find(LAST, 4, lambda _: None)
-            assert (found.line, found.empty) == ((move,), None)
-        found = await Library(Book({(LAST.text, 4): (6000, True, None)}), 1).find(LAST, 4, lambda _: None)
-        assert (found.line, found.empty) == ((), None)
-        found = await Library(Book({(LAST.text, 4): (5, False, move)}), 1).find(LAST, 4, lambda _: None)
-        assert (found.line, found.empty) == ((), None)
-
-    run(main())
+    over = Book({(LAST.text, 4): (6000, True, move), (AFTER.text, 3): (-6000, True, None)})
+    found = await Library(over, 1).find(LAST, 4, lambda _: None)
+    assert (found.line, found.empty, AFTER.is_over) == ((move,), AFTER.empties, True) and over.asked == [(LAST.text, 4), (AFTER.text, 3)]
+    for rows in ({(LAST.text, 4): (6000, True, move)}, {(LAST.text, 4): (6000, True, move), (AFTER.text, 3): (-4000, True, None)}):  # too deep, or another value
+        found = await Library(Book(rows), 1).find(LAST, 4, lambda _: None)
+        assert (found.line, found.empty) == ((move,), None)
+    found = await Library(Book({(LAST.text, 4): (6000, True, None)}), 1).find(LAST, 4, lambda _: None)
+    assert (found.line, found.empty) == ((), None)
+    found = await Library(Book({(LAST.text, 4): (5, False, move)}), 1).find(LAST, 4, lambda _: None)
+    assert (found.line, found.empty) == ((), None)
 
 
-def test_a_pass_takes_no_ply():
+async def test_a_pass_takes_no_ply():
     place = Position.parse("XO" + "-" * 62 + " O")
     after = place.play("pass")
     last = after.play("c1")
-
-    async def main():
-        book = Book({(place.text, 4): (-6000, True, "pass"), (after.text, 4): (6000, True, "c1"), (last.text, 3): (-6000, True, None)})
-        found = await Library(book, 1).find(place, 4, lambda _: None)
-        assert (found.line, found.empty) == (("pass", "c1"), 61)
-        told = await lines_of(Service(Library(book, 1), [4], True), place, 4, ["pass"])
-        assert [line["kind"] for line in told if line["kind"] != "searching"] == ["step", "done"]
-
-    run(main())
+    book = Book({(place.text, 4): (-6000, True, "pass"), (after.text, 4): (6000, True, "c1"), (last.text, 3): (-6000, True, None)})
+    found = await Library(book, 1).find(place, 4, lambda _: None)
+    assert (found.line, found.empty) == (("pass", "c1"), 61)
+    told = await lines_of(Service(Library(book, 1), [4], True), place, 4, ["pass"])
+    assert [line["kind"] for line in told if line["kind"] != "searching"] == ["step", "done"]
 
 
-def test_so_many_are_kept():
-    async def main():
-        engine = Engine()
-        library = Library(engine, 1, most=2)
-        for depth in (1, 2, 1, 3):  # 2 is the one that wasn't used for longest
-            await library.find(OPENING, depth, lambda _: None)
-        assert [depth for _, depth in library.kept] == [1, 3] and library.asked == 3 and library.known(OPENING, 2) is None
-        await library.find(OPENING, 1, lambda _: None)
-        assert len(engine.asked) == 3 and library.cancelled == 0 and not library.flights
-
-    run(main())
+async def test_so_many_are_kept():
+    engine = Engine()
+    library = Library(engine, 1, most=2)
+    for depth in (1, 2, 1, 3):  # 2 is the one that wasn't used for longest
+        await library.find(OPENING, depth, lambda _: None)
+    assert [depth for _, depth in library.kept] == [1, 3] and library.asked == 3 and library.known(OPENING, 2) is None
+    await library.find(OPENING, 1, lambda _: None)
+    assert len(engine.asked) == 3 and library.cancelled == 0 and not library.flights
 
 
-def test_a_full_server_is_asked_again_and_another_refusal_told(monkeypatch):
+async def test_a_full_server_is_asked_again_and_another_refusal_told(monkeypatch):
     monkeypatch.setattr(page_library, "FIRST_PAUSE", 0.001)
     monkeypatch.setattr(page_library, "LONGEST_PAUSE", 0.003)
-
-    async def main():
-        engine, told = Engine(), []
-        engine.faults = [Refused(number) for number in (10, 11, 14, 19)]
-        await Library(engine, 1).find(OPENING, 4, told.append)
-        assert [(event["kind"], event.get("again")) for event in told if event["kind"] != "searching"] == [("full", 0.001), ("full", 0.002), ("full", 0.003), ("full", 0.003)]
-        engine.faults = [Refused(30)]
-        library = Library(engine, 1)
-        with pytest.raises(Refused):
-            await library.find(OPENING, 4, told.append)
-        assert not library.flights and library.turns.taken == 0
-        engine.faults = [Refused(30)]
-        lines = await lines_of(Service(Library(engine, 1), [4], True), OPENING, 4)
-        assert [(line["kind"], line.get("code")) for line in lines] == [("searching", None), ("fault", "server")]
-
-    run(main())
+    engine, told = Engine(), []
+    engine.faults = [Refused(number) for number in (10, 11, 14, 19)]
+    await Library(engine, 1).find(OPENING, 4, told.append)
+    assert [(event["kind"], event.get("again")) for event in told if event["kind"] != "searching"] == [("full", 0.001), ("full", 0.002), ("full", 0.003), ("full", 0.003)]
+    engine.faults = [Refused(30)]
+    library = Library(engine, 1)
+    with pytest.raises(Refused):
+        await library.find(OPENING, 4, told.append)
+    assert not library.flights and library.turns.taken == 0
+    engine.faults = [Refused(30)]
+    lines = await lines_of(Service(Library(engine, 1), [4], True), OPENING, 4)
+    assert [(line["kind"], line.get("code")) for line in lines] == [("searching", None), ("fault", "server")]
 
 
-def test_who_comes_later_hears_what_was_told_last():
-    async def main():
-        engine = Engine(free=False)
-        library, heard = Library(engine, 1), [[], []]
-        first = asyncio.ensure_future(library.find(OPENING, 4, heard[0].append))
-        await asyncio.sleep(0.01)
-        second = asyncio.ensure_future(library.find(OPENING, 4, heard[1].append))
-        third = asyncio.ensure_future(library.find(OPENING, 5, heard[1].append))
-        await asyncio.sleep(0.01)
-        assert heard[1] == [{"kind": "searching"}, {"kind": "waiting", "ahead": 1}]
-        first.cancel()
-        await asyncio.sleep(0.01)
-        assert library.cancelled == 0
-        engine.go.set()
-        await asyncio.gather(second, third)
-        assert library.cancelled == 0
-
-    run(main())
+async def test_who_comes_later_hears_what_was_told_last():
+    engine = Engine(free=False)
+    library, heard = Library(engine, 1), [[], []]
+    first = asyncio.ensure_future(library.find(OPENING, 4, heard[0].append))
+    await asyncio.sleep(0.01)
+    second = asyncio.ensure_future(library.find(OPENING, 4, heard[1].append))
+    third = asyncio.ensure_future(library.find(OPENING, 5, heard[1].append))
+    await asyncio.sleep(0.01)
+    assert heard[1] == [{"kind": "searching"}, {"kind": "waiting", "ahead": 1}]
+    first.cancel()
+    await asyncio.sleep(0.01)
+    assert library.cancelled == 0
+    engine.go.set()
+    await asyncio.gather(second, third)
+    assert library.cancelled == 0
 
 
-def test_a_place_that_comes_with_the_end_is_passed_on():
-    async def main():
-        turns = Turns(1)
-        told = [[], []]
+async def test_a_place_that_comes_with_the_end_is_passed_on():
+    turns = Turns(1)
+    told = [[], []]
 
-        async def hold(number):
-            async with turns.turn(told[number].append):
-                pass
+    async def hold(number):
+        async with turns.turn(told[number].append):
+            pass
 
-        async with turns.turn(lambda _: None):
-            waits = [asyncio.ensure_future(hold(number)) for number in range(2)]
-            await asyncio.sleep(0)
-        waits[0].cancel()  # it has the place already, and hasn't run
-        await asyncio.gather(*waits, return_exceptions=True)
-        assert waits[0].cancelled() and not waits[1].cancelled() and turns.taken == 0 and not turns.waiting
-
-    run(main())
+    async with turns.turn(lambda _: None):
+        waits = [asyncio.ensure_future(hold(number)) for number in range(2)]
+        await asyncio.sleep(0)
+    waits[0].cancel()  # it has the place already, and hasn't run
+    await asyncio.gather(*waits, return_exceptions=True)
+    assert waits[0].cancelled() and not waits[1].cancelled() and turns.taken == 0 and not turns.waiting
 
 
-def test_what_is_left_is_given_up():
-    async def main():
-        engine = Engine(free=False)
-        service = Service(Library(engine, 1), [4], True)
-        lines = service.analyse(OPENING, 4, [])
-        assert json.loads(await anext(lines))["kind"] == "searching"
-        begun = asyncio.get_running_loop().time()
-        await lines.aclose()
-        await asyncio.sleep(0.01)
-        assert asyncio.get_running_loop().time() - begun < 10 and engine.given_up == [(OPENING.text, 4)] and not service.known.flights
-
-    run(main())
+async def test_what_is_left_is_given_up():
+    engine = Engine(free=False)
+    service = Service(Library(engine, 1), [4], True)
+    lines = service.analyse(OPENING, 4, [])
+    assert json.loads(await anext(lines))["kind"] == "searching"
+    begun = asyncio.get_running_loop().time()
+    await lines.aclose()
+    await asyncio.sleep(0.01)
+    assert asyncio.get_running_loop().time() - begun < 10 and engine.given_up == [(OPENING.text, 4)] and not service.known.flights
 
 
-def test_a_lost_server_is_asked_again_after_a_pause(monkeypatch):
+async def test_a_lost_server_is_asked_again_after_a_pause(monkeypatch):
     monkeypatch.setattr(page_library, "FIRST_PAUSE", 0.1)
-
-    async def main():
-        engine, begun = Engine(), asyncio.get_running_loop().time()
-        engine.faults = [Unreachable("lost"), Unreachable("lost")]
-        await Library(engine, 1).find(OPENING, 4, lambda _: None)
-        assert asyncio.get_running_loop().time() - begun >= 0.29  # 0.1 and 0.2 s
-
-    run(main())
+    engine, begun = Engine(), asyncio.get_running_loop().time()
+    engine.faults = [Unreachable("lost"), Unreachable("lost")]
+    await Library(engine, 1).find(OPENING, 4, lambda _: None)
+    assert asyncio.get_running_loop().time() - begun >= 0.29  # 0.1 and 0.2 s
 
 
-def test_where_the_best_move_wins_another_may_be_worth_points():
+async def test_where_the_best_move_wins_another_may_be_worth_points():
     class Winning(Engine):
         async def analyse(self, position, depth):
             result = await super().analyse(position, depth)
             return dataclasses.replace(result, score=Score(8000 if position == OPENING else 3))
-
-    async def main():
-        told = await lines_of(Service(Library(Winning(), 1), [4]), OPENING, 4, ["c4"])
-        assert [one["score"] for one in told if one["kind"] == "exact"] == [{"sign": "=", "points": -3}]
-
-    run(main())
+    told = await lines_of(Service(Library(Winning(), 1), [4]), OPENING, 4, ["c4"])
+    assert [one["score"] for one in told if one["kind"] == "exact"] == [{"sign": "=", "points": -3}]
 
 
-def test_steps_that_are_known_are_not_told_again():
-    async def main():
-        engine = Engine()
-        service = Service(Library(engine, 1), [4, 6, 8], True)
-        first = await lines_of(service, OPENING, 8)
-        assert [line["depth"] for line in first if line["kind"] == "step"] == [4, 6, 8] and all(line["depth"] for line in first if line["kind"] == "searching")
-        assert [line["depth"] for line in await lines_of(service, OPENING, 8) if line["kind"] == "step"] == [8]
-        step = first[1]
-        assert step == {"kind": "step", "depth": 4, "ends": False, "score": {"sign": "=", "points": 4}, "best": "d3", "line": ["d3"],
-                        "table": {"d3": {"sign": "=", "points": 4}, "c4": {"sign": "<", "points": 3}, "f5": {"sign": "<", "points": 2}, "e6": {"sign": "<", "points": 1}}}
-
-    run(main())
+async def test_steps_that_are_known_are_not_told_again():
+    engine = Engine()
+    service = Service(Library(engine, 1), [4, 6, 8], True)
+    first = await lines_of(service, OPENING, 8)
+    assert [line["depth"] for line in first if line["kind"] == "step"] == [4, 6, 8] and all(line["depth"] for line in first if line["kind"] == "searching")
+    assert [line["depth"] for line in await lines_of(service, OPENING, 8) if line["kind"] == "step"] == [8]
+    step = first[1]
+    assert step == {"kind": "step", "depth": 4, "ends": False, "score": {"sign": "=", "points": 4}, "best": "d3", "line": ["d3"],
+                    "table": {"d3": {"sign": "=", "points": 4}, "c4": {"sign": "<", "points": 3}, "f5": {"sign": "<", "points": 2}, "e6": {"sign": "<", "points": 1}}}
 
 
-def test_exact_values_at_the_end_count_the_empty_squares():
+async def test_exact_values_at_the_end_count_the_empty_squares():
     place = Position.parse("-" * 48 + "OX--" + "OX--" + "-" * 8 + " O")
     moves = place.legal_moves()
-
-    async def main():
-        behind = {move: place.play(move) for move in moves}
-        rows = {(place.text, 4): (2000, True, moves[0], (moves[0], "=", 2000), *((move, "=", 2000) for move in moves[1:]))}
-        rows |= {(after.text, 3): (-2000, True, None) for after in behind.values()}
-        told = await lines_of(Service(Library(Book(rows), 1), [4], True), place, 4, moves)
-        assert [line["move"] for line in told if line["kind"] == "exact"] == moves[1:]
-        assert all(line["score"]["discs"] == 1 and line["depth"] == 4 for line in told if line["kind"] == "exact")
-        rows[place.text, 4] = (5, False, moves[0], (moves[0], "=", 5), *((move, "=", 4) for move in moves[1:]))  # exact already, and no end: nothing is asked
-        told = await lines_of(Service(Library(Book(rows), 1), [4], True), place, 4, moves)
-        assert [line for line in told if line["kind"] == "exact"] == []
-        rows[place.text, 4] = (5, False, moves[0], (moves[0], "=", 5), *((move, "<", 4) for move in moves[1:]))
-        rows |= {(after.text, 3): (5, False, None) for after in list(behind.values())[1:2]}  # the others are too deep
-        for after in list(behind.values())[2:]:
-            del rows[after.text, 3]
-        told = await lines_of(Service(Library(Book(rows), 1), [4], True), place, 4, moves)
-        assert [(line["move"], line["score"]) for line in told if line["kind"] == "exact"] == [(moves[1], {"sign": "=", "points": -5})]
-
-    run(main())
+    behind = {move: place.play(move) for move in moves}
+    rows = {(place.text, 4): (2000, True, moves[0], (moves[0], "=", 2000), *((move, "=", 2000) for move in moves[1:]))}
+    rows |= {(after.text, 3): (-2000, True, None) for after in behind.values()}
+    told = await lines_of(Service(Library(Book(rows), 1), [4], True), place, 4, moves)
+    assert [line["move"] for line in told if line["kind"] == "exact"] == moves[1:]
+    assert all(line["score"]["discs"] == 1 and line["depth"] == 4 for line in told if line["kind"] == "exact")
+    rows[place.text, 4] = (5, False, moves[0], (moves[0], "=", 5), *((move, "=", 4) for move in moves[1:]))  # exact already, and no end: nothing is asked
+    told = await lines_of(Service(Library(Book(rows), 1), [4], True), place, 4, moves)
+    assert [line for line in told if line["kind"] == "exact"] == []
+    rows[place.text, 4] = (5, False, moves[0], (moves[0], "=", 5), *((move, "<", 4) for move in moves[1:]))
+    rows |= {(after.text, 3): (5, False, None) for after in list(behind.values())[1:2]}  # the others are too deep
+    for after in list(behind.values())[2:]:
+        del rows[after.text, 3]
+    told = await lines_of(Service(Library(Book(rows), 1), [4], True), place, 4, moves)
+    assert [(line["move"], line["score"]) for line in told if line["kind"] == "exact"] == [(moves[1], {"sign": "=", "points": -5})]
 
 
 # Files.
 
 
-def test_files_and_their_tags():
-    async def main():
-        page = site()
-        page.port = 8047
-        answer = await page.answer(Request("GET", "/style.css", "/style.css", {}, {"host": "here"}, ""))
-        tag = answer.headers["ETag"]
-        assert answer.status == 200 and re.fullmatch('"[0-9a-f]{20}"', tag) and answer.headers["Cache-Control"] == "no-cache"
-        again = await page.answer(Request("HEAD", "/style.css", "/style.css", {}, {"host": "here", "if-none-match": tag}, ""))
-        assert (again.status, again.body, again.headers["ETag"]) == (304, b"", tag)
-        for method, path, status in (("POST", "/style.css", 405), ("GET", "/none", 404)):
-            with pytest.raises(Fault) as fault:
-                await page.answer(Request(method, path, path, {}, {"host": "here"}, ""))
-            assert fault.value.status == status
-        old = await page.answer(Request("GET", "/review", "/review", {}, {"host": "here"}, ""))
-        assert (old.status, old.headers["Location"]) == (302, "/")
-        asked = []
-        named = Site(Service(None, [], True), lambda host, port: asked.append((host, port)))
-        named.port = 8047
+async def test_files_and_their_tags():
+    page = site()
+    page.port = 8047
+    answer = await page.answer(Request("GET", "/style.css", "/style.css", {}, {"host": "here"}, ""))
+    tag = answer.headers["ETag"]
+    assert answer.status == 200 and re.fullmatch('"[0-9a-f]{20}"', tag) and answer.headers["Cache-Control"] == "no-cache"
+    again = await page.answer(Request("HEAD", "/style.css", "/style.css", {}, {"host": "here", "if-none-match": tag}, ""))
+    assert (again.status, again.body, again.headers["ETag"]) == (304, b"", tag)
+    for method, path, status in (("POST", "/style.css", 405), ("GET", "/none", 404)):
         with pytest.raises(Fault) as fault:
-            await named.answer(Request("GET", "/", "/", {}, {"host": "a"}, ""))
-        assert fault.value.status == 403 and asked == [("a", 8047)]
-
-    run(main())
+            await page.answer(Request(method, path, path, {}, {"host": "here"}, ""))
+        assert fault.value.status == status
+    old = await page.answer(Request("GET", "/review", "/review", {}, {"host": "here"}, ""))
+    assert (old.status, old.headers["Location"]) == (302, "/")
+    asked = []
+    named = Site(Service(None, [], True), lambda host, port: asked.append((host, port)))
+    named.port = 8047
+    with pytest.raises(Fault) as fault:
+        await named.answer(Request("GET", "/", "/", {}, {"host": "a"}, ""))
+    assert fault.value.status == 403 and asked == [("a", 8047)]

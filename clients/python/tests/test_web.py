@@ -61,24 +61,21 @@ def question(line: str = "GET /a HTTP/1.1", *headers: str, body: bytes = b"") ->
     return "\r\n".join([line, "Host: here", *headers, "", ""]).encode() + body
 
 
-def test_a_connection_has_requests_one_after_another_until_it_says_close() -> None:
-    async def main() -> None:
-        async with served() as (web, dial):
-            reader, writer = await dial()
-            writer.write(question("GET /a%20b?c=d&e=f HTTP/1.1", "X:  y ") + question("POST /p HTTP/1.1", "Content-Length: 10", body=b"0123456789") + question("HEAD /h HTTP/1.1"))
-            status, headers, body = await answer_to(reader)
-            assert (status, json.loads(body)) == (200, ["GET", "/a b", {"c": "d", "e": "f"}, "", "127.0.0.1", "y"])
-            assert headers["content-type"] == "application/json" and "connection" not in headers and "default-src 'none'" in headers["content-security-policy"]
-            assert json.loads((await answer_to(reader))[2])[3] == "0123456789"
-            head = await asyncio.wait_for(reader.readuntil(b"\r\n\r\n"), SOON)
-            assert b"Content-Length: 34\r\n" in head and head.startswith(b"HTTP/1.1 200 OK\r\n")
-            assert web.count == 1 and dict(web.of_address) == {"127.0.0.1": 1} and len(web.tasks) == 1
-            writer.write(question("GET /fault HTTP/1.1", "Connection: CLOSE"))
-            status, headers, body = await answer_to(reader)
-            assert (status, headers["connection"], headers["retry-after"], json.loads(body)) == (429, "close", "2", {"code": "classes", "text": "too many"})
-            assert await asyncio.wait_for(reader.read(), SOON) == b""
-
-    run(main())
+async def test_a_connection_has_requests_one_after_another_until_it_says_close() -> None:
+    async with served() as (web, dial):
+        reader, writer = await dial()
+        writer.write(question("GET /a%20b?c=d&e=f HTTP/1.1", "X:  y ") + question("POST /p HTTP/1.1", "Content-Length: 10", body=b"0123456789") + question("HEAD /h HTTP/1.1"))
+        status, headers, body = await answer_to(reader)
+        assert (status, json.loads(body)) == (200, ["GET", "/a b", {"c": "d", "e": "f"}, "", "127.0.0.1", "y"])
+        assert headers["content-type"] == "application/json" and "connection" not in headers and "default-src 'none'" in headers["content-security-policy"]
+        assert json.loads((await answer_to(reader))[2])[3] == "0123456789"
+        head = await asyncio.wait_for(reader.readuntil(b"\r\n\r\n"), SOON)
+        assert b"Content-Length: 34\r\n" in head and head.startswith(b"HTTP/1.1 200 OK\r\n")
+        assert web.count == 1 and dict(web.of_address) == {"127.0.0.1": 1} and len(web.tasks) == 1
+        writer.write(question("GET /fault HTTP/1.1", "Connection: CLOSE"))
+        status, headers, body = await answer_to(reader)
+        assert (status, headers["connection"], headers["retry-after"], json.loads(body)) == (429, "close", "2", {"code": "classes", "text": "too many"})
+        assert await asyncio.wait_for(reader.read(), SOON) == b""
 
 
 @pytest.mark.parametrize("sent, status, code", [
@@ -90,101 +87,82 @@ def test_a_connection_has_requests_one_after_another_until_it_says_close() -> No
     (question("GET / HTTP/1.1", "no header"), 400, "header"), (question("GET / HTTP/1.1", ": x"), 400, "header"), (question("GET / HTTP/1.1", "X : y"), 400, "header"),
     (question("GET / HTTP/1.1", "Host: there"), 400, "header"), (question("POST / HTTP/1.1", "Content-Length: 0", "Content-Length: 0"), 400, "header"),
 ])  # fmt: skip
-def test_what_is_refused_ends_the_connection(sent: bytes, status: int, code: str) -> None:
-    async def main() -> None:
-        async with served(head=256) as (_, dial):
-            reader, writer = await dial()
-            writer.write(sent + question())
-            given, headers, body = await answer_to(reader)
-            assert (given, json.loads(body)["code"], headers["connection"]) == (status, code, "close")
-            with contextlib.suppress(ConnectionError):
-                assert await asyncio.wait_for(reader.read(), SOON) == b""
-
-    run(main())
-
-
-def test_what_may_stand_twice_and_how_long_a_length_is() -> None:
-    async def main() -> None:
-        async with served() as (_, dial):
-            reader, writer = await dial()
-            writer.write(question("POST / HTTP/1.1", "X: 1", "X: 2", "Content-Length: " + "0" * 10 + "1", body=b"z") + question("GET / HTTP/1.0"))
-            assert json.loads((await answer_to(reader))[2])[3:] == ["z", "127.0.0.1", "2"]
-            status, headers, _ = await answer_to(reader)
-            assert (status, headers["connection"]) == (200, "close")
+async def test_what_is_refused_ends_the_connection(sent: bytes, status: int, code: str) -> None:
+    async with served(head=256) as (_, dial):
+        reader, writer = await dial()
+        writer.write(sent + question())
+        given, headers, body = await answer_to(reader)
+        assert (given, json.loads(body)["code"], headers["connection"]) == (status, code, "close")
+        with contextlib.suppress(ConnectionError):
             assert await asyncio.wait_for(reader.read(), SOON) == b""
 
-    run(main())
+
+async def test_what_may_stand_twice_and_how_long_a_length_is() -> None:
+    async with served() as (_, dial):
+        reader, writer = await dial()
+        writer.write(question("POST / HTTP/1.1", "X: 1", "X: 2", "Content-Length: " + "0" * 10 + "1", body=b"z") + question("GET / HTTP/1.0"))
+        assert json.loads((await answer_to(reader))[2])[3:] == ["z", "127.0.0.1", "2"]
+        status, headers, _ = await answer_to(reader)
+        assert (status, headers["connection"]) == (200, "close")
+        assert await asyncio.wait_for(reader.read(), SOON) == b""
     assert request_of(question("GET /?" + "&".join(f"a{at}=1" for at in range(50)) + " HTTP/1.1"), "").query["a49"] == "1"
     assert request_of(question("GET /?" + "&".join(f"a{at}=1" for at in range(51)) + " HTTP/1.1"), "").query == {}
 
 
 @pytest.mark.parametrize("limits", [{"connections": 3}, {"per_address": 3}])
-def test_so_many_connections(limits: dict[str, int]) -> None:
-    async def main() -> None:
-        async with served(**limits) as (web, dial):
-            for number in range(3):
-                reader, writer = await dial()
-                writer.write(question())
-                assert (await answer_to(reader))[0] == 200
-            reader, _ = await dial()
-            status, headers, body = await answer_to(reader)
-            assert (status, headers["connection"], headers["retry-after"] if "retry-after" in headers else "", json.loads(body)["code"]) == (503, "close", "", "busy")
-            assert await asyncio.wait_for(reader.read(), SOON) == b""
-            writer.close()
-            for _ in range(500):
-                if web.count < 3:
-                    break
-                await asyncio.sleep(0.01)
+async def test_so_many_connections(limits: dict[str, int]) -> None:
+    async with served(**limits) as (web, dial):
+        for number in range(3):
             reader, writer = await dial()
             writer.write(question())
             assert (await answer_to(reader))[0] == 200
+        reader, _ = await dial()
+        status, headers, body = await answer_to(reader)
+        assert (status, headers["connection"], headers["retry-after"] if "retry-after" in headers else "", json.loads(body)["code"]) == (503, "close", "", "busy")
+        assert await asyncio.wait_for(reader.read(), SOON) == b""
+        writer.close()
+        for _ in range(500):
+            if web.count < 3:
+                break
+            await asyncio.sleep(0.01)
+        reader, writer = await dial()
+        writer.write(question())
+        assert (await answer_to(reader))[0] == 200
 
-    run(main())
 
-
-def test_so_many_requests_of_a_connection() -> None:
-    async def main() -> None:
-        async with served(requests=2) as (_, dial):
-            reader, writer = await dial()
-            writer.write(question() * 3)
-            assert [(await answer_to(reader))[0] for _ in range(2)] == [200, 200]
-            with contextlib.suppress(ConnectionError):
-                assert await asyncio.wait_for(reader.read(), SOON) == b""
-
-    run(main())
+async def test_so_many_requests_of_a_connection() -> None:
+    async with served(requests=2) as (_, dial):
+        reader, writer = await dial()
+        writer.write(question() * 3)
+        assert [(await answer_to(reader))[0] for _ in range(2)] == [200, 200]
+        with contextlib.suppress(ConnectionError):
+            assert await asyncio.wait_for(reader.read(), SOON) == b""
 
 
 @pytest.mark.parametrize("limits, sent, answers", [
     ({"head_seconds": 0.1, "idle_seconds": 99, "body_seconds": 99}, b"GET / HT", 0), ({"head_seconds": 99, "idle_seconds": 0.1, "body_seconds": 99}, question(), 1),
     ({"head_seconds": 99, "idle_seconds": 99, "body_seconds": 0.1}, question("POST / HTTP/1.1", "Content-Length: 2", body=b"0"), 0),
 ])  # fmt: skip
-def test_who_is_slow_is_left(limits: dict[str, float], sent: bytes, answers: int) -> None:
-    async def main() -> None:
-        async with served(**limits) as (_, dial):
-            reader, writer = await dial()
-            writer.write(sent)
-            for _ in range(answers):
-                assert (await answer_to(reader))[0] == 200
-            assert await asyncio.wait_for(reader.read(), SOON) == b""
-
-    run(main())
+async def test_who_is_slow_is_left(limits: dict[str, float], sent: bytes, answers: int) -> None:
+    async with served(**limits) as (_, dial):
+        reader, writer = await dial()
+        writer.write(sent)
+        for _ in range(answers):
+            assert (await answer_to(reader))[0] == 200
+        assert await asyncio.wait_for(reader.read(), SOON) == b""
 
 
-def test_a_browser_that_takes_nothing_is_left() -> None:
+async def test_a_browser_that_takes_nothing_is_left() -> None:
     async def great(request: Request) -> Answer:
         return Answer(body=bytes(1 << 25))
-
-    async def main() -> None:
-        async with served(great, write_seconds=0.2) as (web, dial):
-            _, writer = await dial()
-            writer.write(question())
-            for _ in range(1500):
-                await asyncio.sleep(0.01)
-                if not web.count:
-                    return
-            raise AssertionError("it is still there")
-
-    run(main())
+    async with served(great, write_seconds=0.2) as (web, dial):
+        _, writer = await dial()
+        writer.write(question())
+        for _ in range(1500):
+            await asyncio.sleep(0.01)
+            if not web.count:
+                return
+        raise AssertionError("it is still there")
 
 
 def streaming(log: list[str], pause: float = 0.0, fault: bool = False) -> Any:
@@ -205,80 +183,63 @@ def streaming(log: list[str], pause: float = 0.0, fault: bool = False) -> Any:
     return handler
 
 
-def test_lines_are_sent_as_they_come_and_end_the_connection() -> None:
-    async def main() -> None:
-        log: list[str] = []
-        async with served(streaming(log)) as (_, dial):
-            reader, writer = await dial()
-            writer.write(question())
-            head, _, body = (await asyncio.wait_for(reader.read(), SOON)).partition(b"\r\n\r\n")
-            assert b"Transfer-Encoding: chunked" in head and b"Content-Length" not in head and b"Connection: close" in head
-            assert body == b"4\r\none\n\r\n15\r\ntwo, which is longer\n\r\n0\r\n\r\n" and log == ["closed"]
-
-    run(main())
+async def test_lines_are_sent_as_they_come_and_end_the_connection() -> None:
+    log: list[str] = []
+    async with served(streaming(log)) as (_, dial):
+        reader, writer = await dial()
+        writer.write(question())
+        head, _, body = (await asyncio.wait_for(reader.read(), SOON)).partition(b"\r\n\r\n")
+        assert b"Transfer-Encoding: chunked" in head and b"Content-Length" not in head and b"Connection: close" in head
+        assert body == b"4\r\none\n\r\n15\r\ntwo, which is longer\n\r\n0\r\n\r\n" and log == ["closed"]
 
 
-def test_where_no_line_comes_an_empty_one_does(monkeypatch: pytest.MonkeyPatch) -> None:
+async def test_where_no_line_comes_an_empty_one_does(monkeypatch: pytest.MonkeyPatch) -> None:
     monkeypatch.setattr(page_web, "HEARTBEAT", 0.05)
-
-    async def main() -> None:
-        async with served(streaming([], 0.4)) as (_, dial):
-            reader, writer = await dial()
-            writer.write(question())
-            body = (await asyncio.wait_for(reader.read(), SOON)).partition(b"\r\n\r\n")[2]
-            assert re.fullmatch(rb"4\r\none\n\r\n(1\r\n\n\r\n){2,}15\r\ntwo, which is longer\n\r\n(1\r\n\n\r\n){2,}0\r\n\r\n", body), body
-
-    run(main())
+    async with served(streaming([], 0.4)) as (_, dial):
+        reader, writer = await dial()
+        writer.write(question())
+        body = (await asyncio.wait_for(reader.read(), SOON)).partition(b"\r\n\r\n")[2]
+        assert re.fullmatch(rb"4\r\none\n\r\n(1\r\n\n\r\n){2,}15\r\ntwo, which is longer\n\r\n(1\r\n\n\r\n){2,}0\r\n\r\n", body), body
 
 
-def test_where_the_browser_leaves_its_lines_end() -> None:
-    async def main() -> None:
-        log: list[str] = []
-        async with served(streaming(log, 600)) as (web, dial):
-            reader, writer = await dial()
-            writer.write(question() + b"what follows is dropped")
-            await asyncio.wait_for(reader.readuntil(b"one\n"), SOON)
-            writer.close()
-            for _ in range(1500):
-                await asyncio.sleep(0.01)
-                if log and not web.count:
-                    return
-            raise AssertionError("its lines go on")
-
-    run(main())
-
-
-def test_lines_that_go_wrong_are_told_and_end(caplog: pytest.LogCaptureFixture) -> None:
-    faults: list[Any] = []
-
-    async def main() -> None:
-        asyncio.get_running_loop().set_exception_handler(lambda _, context: faults.append(context.get("exception")))
-        log: list[str] = []
-        async with served(streaming(log, fault=True)) as (_, dial):
-            reader, writer = await dial()
-            writer.write(question())
-            assert (await asyncio.wait_for(reader.read(), SOON)).endswith(b"4\r\none\n\r\n") and log == ["closed"]
-        for _ in range(100):
-            gc.collect()
+async def test_where_the_browser_leaves_its_lines_end() -> None:
+    log: list[str] = []
+    async with served(streaming(log, 600)) as (web, dial):
+        reader, writer = await dial()
+        writer.write(question() + b"what follows is dropped")
+        await asyncio.wait_for(reader.readuntil(b"one\n"), SOON)
+        writer.close()
+        for _ in range(1500):
             await asyncio.sleep(0.01)
-            if faults:
-                break
+            if log and not web.count:
+                return
+        raise AssertionError("its lines go on")
 
-    run(main())
+
+async def test_lines_that_go_wrong_are_told_and_end(caplog: pytest.LogCaptureFixture) -> None:
+    faults: list[Any] = []
+    asyncio.get_running_loop().set_exception_handler(lambda _, context: faults.append(context.get("exception")))
+    log: list[str] = []
+    async with served(streaming(log, fault=True)) as (_, dial):
+        reader, writer = await dial()
+        writer.write(question())
+        assert (await asyncio.wait_for(reader.read(), SOON)).endswith(b"4\r\none\n\r\n") and log == ["closed"]
+    for _ in range(100):
+        gc.collect()
+        await asyncio.sleep(0.01)
+        if faults:
+            break
     assert [type(fault) for fault in faults] == [KeyError]
 
 
-def test_end_ends_what_goes_on() -> None:
-    async def main() -> None:
-        log: list[str] = []
-        async with served(streaming(log, 600)) as (web, dial):
-            reader, writer = await dial()
-            writer.write(question())
-            await asyncio.wait_for(reader.readuntil(b"one\n"), SOON)
-            await asyncio.wait_for(web.end(), SOON)
-            assert log == ["closed"] and not web.count
-
-    run(main())
+async def test_end_ends_what_goes_on() -> None:
+    log: list[str] = []
+    async with served(streaming(log, 600)) as (web, dial):
+        reader, writer = await dial()
+        writer.write(question())
+        await asyncio.wait_for(reader.readuntil(b"one\n"), SOON)
+        await asyncio.wait_for(web.end(), SOON)
+        assert log == ["closed"] and not web.count
 
 
 def test_a_question_is_json() -> None:

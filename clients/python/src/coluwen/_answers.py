@@ -27,26 +27,24 @@ from .errors import Broken, Refused
 from .score import GREATEST
 
 LONGEST = 1115  # bytes of an answer, with its LF
-NUMBER = r"(?:0|[1-9][0-9]{0,7})"
-VALUE = r"(?:0|-?[1-9][0-9]{0,5})"
-PLACE = r"(?:[a-h][1-8]|pass)"
-ENTRY = re.compile(rf"({PLACE})([=<>])({VALUE})")
-ERR = re.compile(r"ERR ([1-9][0-9])")
-_ENDS = rf"(?P<state>DONE) (?P<job>{NUMBER}) (?P<value>{VALUE}) (?P<move>{PLACE}|-)|(?P<other>SPENT|CANCELLED) (?P<otherjob>{NUMBER})"
-_STATES = rf"(?P<other>PENDING|SPENT|CANCELLED) (?P<otherjob>{NUMBER})"
+SIGNS = {"N": "(?:0|[1-9][0-9]{0,7})", "V": "(?:0|-?[1-9][0-9]{0,5})", "P": "(?:[a-h][1-8]|pass)"}  # a number, a value, a square or a pass
 FORMS = {
-    "HELLO": re.compile(rf"WELCOME (?P<a>{NUMBER}) (?P<b>{NUMBER})"),
-    "RESERVE": re.compile(rf"RESERVED (?P<a>{NUMBER}) (?P<b>{NUMBER})"),
-    "ASK": re.compile(rf"JOB (?P<job>{NUMBER})"),
-    "GET": re.compile(_ENDS.replace("SPENT", "PENDING|SPENT")),
-    "WAIT": re.compile(_ENDS),
-    "TABLE": re.compile(rf"(?P<state>TABLE) (?P<job>{NUMBER})(?P<entries>(?: {ENTRY.pattern})*)|{_STATES}"),
-    "CANCEL": re.compile(rf"(?P<state>CANCELLED) (?P<job>{NUMBER})"),
-    "QUOTA": re.compile(rf"QUOTA (?P<a>{NUMBER}) (?P<b>{NUMBER}) (?P<c>{NUMBER})"),
-    "LIVE": re.compile(rf"LIVE (?P<a>{NUMBER}) (?P<b>{NUMBER})"),
-    "INFO": re.compile(rf"INFO (?P<a>{NUMBER})(?P<more>(?: [!-~]+)*)"),
-    "BYE": re.compile("BYE"),
+    word: re.compile(re.sub(r"\b[NVP]\b", lambda sign: SIGNS[str(sign[0])], form))
+    for word, form in {
+        "HELLO": "WELCOME N N",
+        "RESERVE": "RESERVED N N",
+        "ASK": "JOB N",
+        "GET": "DONE N V (?:P|-)|(?:PENDING|SPENT|CANCELLED) N",
+        "WAIT": "DONE N V (?:P|-)|(?:SPENT|CANCELLED) N",
+        "TABLE": "TABLE N(?: P[=<>]V)*|(?:PENDING|SPENT|CANCELLED) N",
+        "CANCEL": "CANCELLED N",
+        "QUOTA": "QUOTA N N N",
+        "LIVE": "LIVE N N",
+        "INFO": "INFO N(?: [!-~]+)*",
+        "BYE": "BYE",
+    }.items()
 }
+OF_JOBS = ("ASK", "GET", "WAIT", "TABLE", "CANCEL")
 
 
 @dataclasses.dataclass(frozen=True)
@@ -77,21 +75,19 @@ def parse(line: str, answer: bytes, jobs: int = 0) -> Answer:
     if not answer.endswith(b"\n") or len(answer) > LONGEST:
         raise misfit()
     text = answer[:-1].decode("latin-1")
-    if found := ERR.fullmatch(text):
-        raise Refused(int(found[1]))
-    fits = FORMS[word].fullmatch(text)
-    if not fits:
+    state, *told = text.split(" ")
+    if re.fullmatch("ERR [1-9][0-9]", text):
+        raise Refused(int(told[0]))
+    if not FORMS[word].fullmatch(text):
         raise misfit()
-    told = fits.groupdict()
-    state = told.get("state") or told.get("other") or text.split(" ")[0]
-    job = int(told.get("job") or told.get("otherjob") or 0)
-    numbers = tuple(int(told[name]) for name in "abc" if told.get(name) is not None)
-    entries = tuple((move, sign, int(value)) for move, sign, value in ENTRY.findall(told.get("entries") or ""))
-    value = int(told.get("value") or 0)
+    given = told[: 1 if word in OF_JOBS or word == "INFO" else 3]
+    value = int(told[1]) if state == "DONE" else 0
+    parts = [re.split("([=<>])", entry) for entry in told[1:]] if state == "TABLE" else []
+    entries = tuple((move, sign, int(worth)) for move, sign, worth in parts)
     wanted = {"HELLO": rest, "RESERVE": rest, "ASK": [str(jobs + 1)], "QUOTA": None, "LIVE": None, "INFO": None, "BYE": None}.get(word, rest)
-    given = [str(number) for number in numbers] if numbers else [str(job)]
     moves = [move for move, *_ in entries]
     values = [value, *(each for *_, each in entries)]
     if (wanted is not None and wanted != given) or len(set(moves)) != len(moves) or max(abs(each) for each in values) > GREATEST:
         raise misfit()
-    return Answer(state, job, value, told.get("move") or "", entries, numbers, tuple((told.get("more") or "").split()))
+    numbers, move, more = tuple(map(int, given)), told[2] if state == "DONE" else "", tuple(told[1:]) if word == "INFO" else ()
+    return Answer(state, numbers[0], value, move, entries, (), more) if word in OF_JOBS else Answer(state, numbers=numbers, more=more)

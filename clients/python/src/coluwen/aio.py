@@ -10,16 +10,17 @@ A task that is cancelled, as by `asyncio.timeout`, cancels its job at the server
 from __future__ import annotations
 
 import asyncio
-from collections.abc import AsyncIterable, AsyncIterator, Callable, Coroutine, Iterable
+import contextlib
+from collections.abc import AsyncIterable, AsyncIterator, Callable, Iterable
 from types import TracebackType
 from typing import Any
 
 from ._core import Info
 from ._driver import Driver
 from ._place import Served
-from .analyst import Asked, Many, Order, Outcome, Progress, Result, checked, moves_of, parts_of
+from .analyst import END, Asked, Many, Order, Outcome, Progress, Result, all_of, checked, moves_of, parts_of
 from .board import Position
-from .errors import Closed, TooDeep
+from .errors import Closed
 from .score import Entry
 
 
@@ -47,48 +48,36 @@ class AsyncClient(Served):
         """As `Client.analyse_all`."""
         place = checked(position, depth, 1)
         tasks = [asyncio.ensure_future(self.analyse(after, left, timeout=timeout)) for _, after, left in parts_of(place, depth)]
-        try:
+        with all_of(depth, tasks):
             return moves_of(place, depth, await asyncio.gather(*tasks))
-        except TooDeep as fault:
-            raise TooDeep(depth, fault.greatest and min(fault.greatest + 1, depth - 1)) from None
-        finally:
-            for task in tasks:
-                task.cancel()
 
     async def analyse_many(self, positions: Iterable[Asked] | AsyncIterable[Asked], depth: int | None = None, *, order: Order = "asked", timeout: float | None = None,
                            window: int | None = None, on_progress: Callable[[Progress], object] | None = None) -> AsyncIterator[Outcome]:  # fmt: skip
         """As `Client.analyse_many`; the positions may come from an asynchronous source."""
-        many = Many(positions, depth, order, 64 * self.parallel if window is None else window, on_progress)
+        ended: asyncio.Queue[tuple[int, Any, Any]] = asyncio.Queue()
+        many = Many(positions, depth, order, 64 * self.parallel if window is None else window, on_progress,
+                    lambda position, wanted: asyncio.ensure_future(self.analyse(position, wanted, timeout=timeout)), ended.put_nowait)  # fmt: skip
         source = aiter(positions) if isinstance(positions, AsyncIterable) else _slowly(positions)
-        ended: asyncio.Queue[tuple[Any, int, asyncio.Task[Any]]] = asyncio.Queue()
-        begun: dict[int, asyncio.Task[Any]] = {}  # by their numbers; -1 is the next of the source
-        is_over = False
-
-        def begin(number: int, asked: Any, call: Coroutine[Any, Any, Any]) -> None:
-            begun[number] = task = asyncio.ensure_future(call)
-            task.add_done_callback(lambda one: ended.put_nowait((asked, number, one)))
-
-        try:
-            while True:
-                for outcome in many.ready():
-                    yield outcome
-                if not is_over and many.has_room and -1 not in begun:
-                    begin(-1, None, _next(source))
-                if not begun:
-                    return
-                asked, number, task = await ended.get()
-                del begun[number]
-                if number >= 0:
-                    many.ended(asked, number, task)
-                elif (asked := task.result()) is _END:
-                    is_over = True
-                else:
-                    number, position, wanted = many.take(asked)
-                    if position:
-                        begin(number, asked, self.analyse(position, wanted, timeout=timeout))
-        finally:
-            for task in begun.values():
-                task.cancel()
+        coming: asyncio.Task[Any] | None = None  # the next of the source
+        with contextlib.closing(many):
+            try:
+                while True:
+                    for outcome in many.ready():
+                        yield outcome
+                    if many.has_room and not coming:
+                        coming = asyncio.ensure_future(_next(source))
+                        coming.add_done_callback(lambda one: ended.put_nowait((-1, None, one)))
+                    if not coming and not many.begun:
+                        return
+                    number, asked, future = await ended.get()
+                    if number >= 0:
+                        many.ended(number, asked, future)
+                    else:
+                        coming = None
+                        many.take(future.result())
+            finally:
+                if coming:
+                    coming.cancel()
 
     async def info(self) -> Info:
         """As `Client.info`."""
@@ -106,11 +95,8 @@ class AsyncClient(Served):
             await self._driver.close()
 
 
-_END = object()
-
-
 async def _next(source: AsyncIterator[Asked]) -> Any:
-    return await anext(source, _END)
+    return await anext(source, END)
 
 
 async def _slowly(positions: Iterable[Asked]) -> AsyncIterator[Asked]:

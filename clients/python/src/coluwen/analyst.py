@@ -10,9 +10,11 @@ from __future__ import annotations
 
 import abc
 import concurrent.futures
+import contextlib
 import dataclasses
+import functools
 import queue
-from collections.abc import Callable, Iterable, Iterator, Sized
+from collections.abc import Callable, Iterable, Iterator, Sequence, Sized
 from types import TracebackType
 from typing import Any, Literal, TypeVar
 
@@ -24,6 +26,7 @@ from .score import EXACT, Entry, Score
 Order = Literal["asked", "known"]
 Asked = str | Position | tuple[str | Position, int]
 Self = TypeVar("Self", bound="Analyst")
+END: Any = object()  # of a source
 
 
 @dataclasses.dataclass(frozen=True)
@@ -113,42 +116,60 @@ def moves_of(position: Position, depth: int, results: Iterable[Result]) -> list[
     return sorted(entries, key=lambda entry: -entry.score.value)
 
 
-class Many:
-    """The bookkeeping of `analyse_many`: what was taken from the source and isn't given on yet, in order or as it is known."""
+@contextlib.contextmanager
+def all_of(depth: int, futures: Sequence[Any]) -> Iterator[None]:
+    """Waits for the futures of all moves: `TooDeep` is said of the position itself, and what isn't wanted any more is cancelled."""
+    try:
+        yield
+    except TooDeep as fault:
+        raise TooDeep(depth, fault.greatest and min(fault.greatest + 1, depth - 1)) from None
+    finally:
+        for future in futures:
+            future.cancel()
 
-    def __init__(self, source: Any, depth: int | None, order: Order, window: int, on_progress: Callable[[Progress], object] | None):
+
+class Many:
+    """The bookkeeping of `analyse_many`: what was taken from the source and isn't given on yet, in order or as it is known. `begin` gives a question's
+    future, and `tell` is called with its number, itself and that once it has ended."""
+
+    def __init__(self, source: Any, depth: int | None, order: Order, window: int, on_progress: Callable[[Progress], object] | None, begin: Callable[[Position, int], Any],
+                 tell: Callable[[tuple[int, Any, Any]], object]):  # fmt: skip
         if order not in ("asked", "known"):
             raise ValueError(f"results come in the order 'asked' or 'known', and not {order!r}")
         if window < 1:
             raise ValueError(f"a window has at least one place, and not {window}")
-        self.depth, self.in_order, self.window, self.on_progress = depth, order == "asked", window, on_progress
+        self.depth, self.in_order, self.window, self.on_progress, self.begin, self.tell = depth, order == "asked", window, on_progress, begin, tell
         self.total = len(source) if isinstance(source, Sized) else None
+        self.is_over = False  # the source has no more
         self.taken = self.given = self.faults = 0
+        self.begun: dict[int, Any] = {}  # futures by their numbers
         self.known: dict[int, Outcome] = {}
 
     @property
     def has_room(self) -> bool:
-        return self.taken - self.given < self.window
+        return not self.is_over and self.taken - self.given < self.window
 
-    def take(self, asked: Any) -> tuple[int, Position | None, int]:
-        """One more of the source: its number, position and depth; no position where it is at fault, which is known then."""
+    def take(self, asked: Any) -> None:
+        """Begins one more of the source; one that is at fault is known at once; END is the source's."""
+        if asked is END:
+            self.is_over = True
+            return
         number, self.taken = self.taken, self.taken + 1
         position, depth = parted(asked, self.depth)
         try:
-            return number, checked(position, depth), depth
+            self.begun[number] = future = self.begin(checked(position, depth), depth)
         except Unfit as fault:
-            self.settle(asked, number, fault)
-            return number, None, 0
+            self.known[number] = Outcome(asked, fault, number)
+        else:
+            future.add_done_callback(lambda one: self.tell((number, asked, one)))
 
-    def settle(self, asked: Any, number: int, answer: Result | ColuwenError) -> None:
-        self.known[number] = Outcome(asked, answer, number)
-
-    def ended(self, asked: Any, number: int, future: Any) -> None:
+    def ended(self, number: int, asked: Any, future: Any) -> None:
         """A question's future has ended. A fault that isn't of this package is raised."""
+        del self.begun[number]
         fault = future.exception()
         if fault and not isinstance(fault, ColuwenError):
             raise fault
-        self.settle(asked, number, fault or future.result())
+        self.known[number] = Outcome(asked, fault or future.result(), number)
 
     def ready(self) -> Iterator[Outcome]:
         """What may be given on."""
@@ -159,6 +180,10 @@ class Many:
             if self.on_progress:
                 self.on_progress(Progress(self.given, self.faults, self.total))
             yield outcome
+
+    def close(self) -> None:
+        for future in self.begun.values():
+            future.cancel()
 
 
 class Analyst(abc.ABC):
@@ -203,15 +228,9 @@ class Analyst(abc.ABC):
         """Each move's value, exactly: one question for each of the positions that they lead to, a ply less deep. The best come first, of
         equals the one from a1 on; `pass` alone where the player must pass, and none where the game is over."""
         place = checked(position, depth, 1)
-        parts = parts_of(place, depth)
-        futures = [self.submit(after, left, timeout=timeout) for _, after, left in parts]
-        try:
+        futures = [self.submit(after, left, timeout=timeout) for _, after, left in parts_of(place, depth)]
+        with all_of(depth, futures):
             return moves_of(place, depth, [future.result() for future in futures])
-        except TooDeep as fault:
-            raise TooDeep(depth, fault.greatest and min(fault.greatest + 1, depth - 1)) from None
-        finally:
-            for future in futures:
-                future.cancel()
 
     def analyse_many(self, positions: Iterable[Asked], depth: int | None = None, *, order: Order = "asked", timeout: float | None = None, window: int | None = None,
                      on_progress: Callable[[Progress], object] | None = None) -> Iterator[Outcome]:  # fmt: skip
@@ -220,39 +239,18 @@ class Analyst(abc.ABC):
 
         Positions are taken as they are wanted: no more than `window` (64 for each that is worked on at once) are taken and not given on.
         `on_progress` is called with a `Progress` for each that is given on. What isn't wanted any more, as the loop was left, is cancelled."""
-        many = Many(positions, depth, order, 64 * self.parallel if window is None else window, on_progress)
-        return self._many(many, iter(positions), timeout)
+        ended: queue.SimpleQueue[tuple[int, Any, Any]] = queue.SimpleQueue()
+        begin = functools.partial(self.submit, timeout=timeout)
+        return self._many(Many(positions, depth, order, 64 * self.parallel if window is None else window, on_progress, begin, ended.put), ended, iter(positions))
 
-    def _many(self, many: Many, source: Iterator[Asked], timeout: float | None) -> Iterator[Outcome]:
-        ended: queue.SimpleQueue[tuple[Any, int, concurrent.futures.Future[Result]]] = queue.SimpleQueue()
-        begun: dict[int, concurrent.futures.Future[Result]] = {}
-        is_over = False
-        try:
+    @staticmethod
+    def _many(many: Many, ended: queue.SimpleQueue[tuple[int, Any, Any]], source: Iterator[Asked]) -> Iterator[Outcome]:
+        with contextlib.closing(many):
             while True:
-                while begun and (not ended.empty() or is_over or not many.has_room):
-                    asked, number, future = ended.get()
-                    del begun[number]
-                    many.ended(asked, number, future)
-                    if many.known and (not many.in_order or many.given in many.known):
-                        break
                 yield from many.ready()
-                if is_over and not begun:
+                if many.begun and not (many.has_room and ended.empty()):
+                    many.ended(*ended.get())
+                elif many.has_room:
+                    many.take(next(source, END))
+                elif not many.known:
                     return
-                if is_over or not many.has_room:
-                    continue
-                try:
-                    asked = next(source)
-                except StopIteration:
-                    is_over = True
-                    continue
-                number, position, wanted = many.take(asked)
-                if position:
-                    begun[number] = future = self.submit(position, wanted, timeout=timeout)
-                    future.add_done_callback(lambda one, asked=asked, number=number: ended.put((asked, number, one)))  # type: ignore[misc]
-        finally:
-            for future in begun.values():
-                future.cancel()
-
-    def limit(self, position: Position, depth: int) -> int:
-        """How deep a position is surely looked at where so many plies are wanted: to the end from 12 empty squares on."""
-        return min(depth, position.empties, DEEPEST) if position.empties <= DEEPEST else min(depth, self.info().sure)

@@ -255,11 +255,14 @@ class Board:
     start: Position = Position()
     moves: tuple[str, ...] = ()
 
+    _past: tuple[Position, ...] = dataclasses.field(default=(), repr=False, compare=False)  # the positions, where they are known
+
     def __post_init__(self) -> None:
-        past = [self.start]
-        for move in self.moves:
-            past.append(past[-1].play(move))
-        self.__dict__["_past"] = tuple(past)
+        if not self._past:
+            past = [self.start]
+            for move in self.moves:
+                past.append(past[-1].play(move))
+            object.__setattr__(self, "_past", tuple(past))
 
     @classmethod
     def parse(cls, text: str) -> Board:
@@ -269,16 +272,11 @@ class Board:
     @property
     def position(self) -> Position:
         """What the moves lead to."""
-        return self._positions[-1]
-
-    @property
-    def _positions(self) -> tuple[Position, ...]:
-        found: tuple[Position, ...] = self.__dict__["_past"]
-        return found
+        return self._past[-1]
 
     def positions(self) -> Iterator[tuple[Position, str]]:
         """Each position with the move that was played at it, passes among them."""
-        return zip(self._positions, self.moves)
+        return zip(self._past, self.moves)
 
     @property
     def side(self) -> str:
@@ -301,18 +299,14 @@ class Board:
         return board._pushed(move.lower())
 
     def _pushed(self, move: str) -> Board:
-        board = object.__new__(Board)
-        board.__dict__.update(start=self.start, moves=(*self.moves, move), _past=(*self._positions, self.position.play(move)))
-        return board
+        return Board(self.start, (*self.moves, move), (*self._past, self.position.play(move)))
 
     def pop(self) -> Board:
         """The board before the last move, and before a pass that stands before it; itself at the start."""
         count = len(self.moves) - 1
         while count > 0 and self.moves[count - 1] == PASS:
             count -= 1
-        board = object.__new__(Board)
-        board.__dict__.update(start=self.start, moves=self.moves[: max(count, 0)], _past=self._positions[: max(count, 0) + 1])
-        return board
+        return Board(self.start, self.moves[: max(count, 0)], self._past[: max(count, 0) + 1])
 
     def flip(self) -> Board:
         """The same game with the colours exchanged."""

@@ -42,8 +42,8 @@ HERE = pathlib.Path(__file__).resolve()
 
 
 def program_of(named: str | None = None) -> tuple[str, str]:
-    """The program, and its version: what is named, else by the variable COLUWEN_OTHELLO, else on PATH, else the package's own, else this checkout's,
-    if it is built. `Unreachable` where there is none."""
+    """The program, and its version: what is named, else by the variable COLUWEN_OTHELLO, else on PATH, else the package's own, else this archive's, or
+    this checkout's, if it is built. `Unreachable` where there is none."""
     named = named or os.environ.get(PROGRAM)
     if named:
         path = shutil.which(named)
@@ -59,9 +59,11 @@ def program_of(named: str | None = None) -> tuple[str, str]:
 
 def programs_here() -> list[str]:
     """Where the program may be, the first to be tried first: beside `othello` may lie `othello-v3`, built for processors with AVX2."""
-    own, built = HERE.parent / "program", HERE.parents[min(4, len(HERE.parents) - 1)] / "crates/othello_server/out"
-    fast = [own / "othello-v3"] if runs_v3() else []
-    there = [str(path) for path in (*fast, own / "othello", built / "othello_server", built / "unproved/othello") if os.access(path, os.X_OK)]
+    own, top = HERE.parent / "program", HERE.parents[min(4, len(HERE.parents) - 1)]
+    built = top / "crates/othello_server/out"  # of a checkout, whose own `othello` is a script
+    names = ["othello-v3", "othello"] if runs_v3() else ["othello"]
+    released = [folder / name for folder in (own, top) if folder == own or not (top / "crates").exists() for name in names]
+    there = [str(path) for path in (*released, built / "othello_server", built / "unproved/othello") if os.access(path, os.X_OK)]
     return [found, *there] if (found := shutil.which("othello")) else there
 
 

@@ -79,7 +79,7 @@ class Session:
         self._lock, self._wire = threading.Lock(), Wire()
         self._timeout, self._silence = timeout, silence
         self.reserved = Reservation(segments, nodes)
-        self._socket = socket.create_connection((host, port), silence)
+        self._socket = self._connect(host, port, silence)
         try:
             self._socket.setsockopt(socket.IPPROTO_TCP, socket.TCP_NODELAY, 1)
             if tls:
@@ -88,6 +88,10 @@ class Session:
         except BaseException:
             self._socket.close()
             raise
+
+    def _connect(self, host: str, port: int, silence: float | None) -> socket.socket:
+        """The connection; deploy/stage.py has sessions that come from other addresses of this host."""
+        return socket.create_connection((host, port), silence)
 
     @property
     def jobs(self) -> int:
@@ -116,7 +120,7 @@ class Session:
                 raise Silent(f"no answer to {line.partition(' ')[0]} in {limit or 0:.2g} s") from None
             except OSError as fault:
                 self._wire.broken = self._wire.broken or str(fault)
-                raise
+                raise Broken(self._wire.broken) from fault
         return found
 
     def reserve(self, segments: int, nodes: int) -> None:

@@ -1,11 +1,12 @@
 package coluwen;
 
 import java.time.Duration;
-import java.util.*;
+import java.util.Comparator;
+import java.util.List;
 import java.util.concurrent.CompletableFuture;
-import java.util.concurrent.CompletionException;
 import java.util.function.Consumer;
 import java.util.function.Function;
+import java.util.stream.IntStream;
 import java.util.stream.Stream;
 
 /** What a client of a server and an engine of this host have in common. Threads may share it. */
@@ -47,20 +48,16 @@ public interface Analyst extends AutoCloseable {
   default List<Entry> analyseAll(Position position, int depth) {
     Calls.checked(depth);
     if (depth < 1) throw new IllegalArgumentException("moves are looked at from depth 1 on");
-    var futures = new ArrayList<CompletableFuture<Entry>>();
-    var questions = new ArrayList<CompletableFuture<Result>>();
-    for (var move : position.legalMoves()) {
-      var left = move.equals(Position.PASS) ? depth : depth - 1; // a pass uses no ply
-      var question = analyseAsync(position.play(move), left);
-      questions.add(question);
-      futures.add(question.handle((result, fault) -> {
-        if (fault instanceof ColuwenException.TooDeep deep) throw new ColuwenException.TooDeep(depth, deep.greatest() == 0 ? 0 : deep.greatest() + depth - left);
-        if (fault != null) throw new CompletionException(fault);
-        return new Entry(move, new Score(-result.score().value(), '=', depth >= position.empties(), position.side()));
-      }));
-    }
+    var moves = position.legalMoves();
+    var left = moves.contains(Position.PASS) ? depth : depth - 1; // a pass uses no ply
+    var ends = depth >= position.empties();
+    var questions = moves.stream().map(move -> analyseAsync(position.play(move), left)).toList();
     try {
-      return futures.stream().map(Calls::joined).sorted(Comparator.comparing(Entry::score).reversed()).toList();
+      return IntStream.range(0, moves.size())
+          .mapToObj(at -> new Entry(moves.get(at), new Score(-Calls.joined(questions.get(at)).score().value(), '=', ends, position.side())))
+          .sorted(Comparator.comparing(Entry::score).reversed()).toList();
+    } catch (ColuwenException.TooDeep fault) {
+      throw new ColuwenException.TooDeep(depth, fault.greatest() == 0 ? 0 : fault.greatest() + depth - left);
     } finally {
       questions.forEach(question -> question.cancel(true));
     }
@@ -97,6 +94,6 @@ public interface Analyst extends AutoCloseable {
    */
   default <T> Stream<Outcome<T>> analyseMany(Iterable<T> questions, Function<? super T, Position> positionOf, int depth, Bulk how) {
     Calls.checked(depth);
-    return new Many<>(this, questions, positionOf, depth, how).stream();
+    return Many.of(this, questions, positionOf, depth, how);
   }
 }

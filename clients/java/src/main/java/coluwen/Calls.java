@@ -26,6 +26,12 @@ final class Calls {
     }
   }
 
+  static ScheduledThreadPoolExecutor clock() {
+    var clock = new ScheduledThreadPoolExecutor(1, task -> daemon(task, "coluwen-clock"));
+    clock.setRemoveOnCancelPolicy(true);
+    return clock;
+  }
+
   static Thread daemon(Runnable task, String name) {
     var thread = new Thread(task, name);
     thread.setDaemon(true);

@@ -38,9 +38,10 @@ public final class Client implements Analyst {
   private final Core core;
   private final Map<Core.Seat, Socket> sockets = new HashMap<>();
   private final Map<Core.Question, Consumer<Core.Question>> waiting = new HashMap<>();
-  private final ScheduledThreadPoolExecutor clock = new ScheduledThreadPoolExecutor(1, task -> Calls.daemon(task, "coluwen-clock"));
+  private final ScheduledThreadPoolExecutor clock = Calls.clock();
   private final long origin = System.nanoTime();
   private Future<?> alarm;
+  private CompletableFuture<Void> events = CompletableFuture.completedFuture(null); // what is told, one after another
 
   private Client(Builder options) {
     this.options = options;
@@ -48,7 +49,6 @@ public final class Client implements Analyst {
     var most = Core.LEVELS.get(1);
     var levels = isFree ? Core.LEVELS : List.of(new Core.Reservation(options.segments > 0 ? options.segments : most.segments(), options.nodes > 0 ? options.nodes : most.nodes()));
     core = new Core(new Core.Limits(levels, isFree, options.token, options.sessions, options.ahead, options.patience.toMillis(), options.silence.toMillis(), options.outage.toMillis()));
-    clock.setRemoveOnCancelPolicy(true);
   }
 
   /** How a server is spoken to; each has a default. */
@@ -193,14 +193,7 @@ public final class Client implements Analyst {
     Calls.checked(depth);
     var begun = System.nanoTime();
     var question = new Core.Question(Core.Kind.JOB, position.text(), depth, timeout == null ? 0 : Math.max(timeout.toNanos() / 1e6, 0.001));
-    return asked(question, done -> resultOf(position, depth, done, Duration.ofNanos(System.nanoTime() - begun)));
-  }
-
-  private static Result resultOf(Position position, int depth, Core.Question found, Duration taken) {
-    var ends = depth >= position.empties();
-    var table = found.entries.stream().map(entry -> new Entry(entry.move(), new Score(entry.value(), entry.sign(), ends, position.side()))).toList();
-    var best = java.util.Optional.of(found.done.move()).filter(move -> !move.equals("-"));
-    return new Result(position, depth, new Score(found.done.value(), '=', ends, position.side()), best, table, taken);
+    return asked(question, found -> Result.of(position, depth, found.done.value(), found.done.move(), found.entries, begun));
   }
 
   @Override
@@ -268,7 +261,7 @@ public final class Client implements Analyst {
       case OPEN -> Calls.daemon(() -> serve(action.seat()), "coluwen-session").start();
       case SEND -> write(action.seat(), action.text());
       case CLOSE -> shut(sockets.remove(action.seat()));
-      case TELL -> later.add(() -> tell(new Event(action.text(), action.detail())));
+      case TELL -> events = events.thenRunAsync(() -> tell(new Event(action.text(), action.detail())));
       case SETTLED -> {
         var question = (Core.Question) action.detail();
         var heard = waiting.remove(question);
@@ -303,9 +296,30 @@ public final class Client implements Analyst {
     }
   }
 
+  /** A connection, by TLS where there is a context; so many milliseconds at most. */
+  private static Socket connected(String host, int port, SSLContext tls, int milliseconds) throws IOException {
+    var plain = new Socket();
+    try {
+      plain.connect(new InetSocketAddress(host, port), milliseconds);
+      plain.setTcpNoDelay(true);
+      if (tls == null) return plain;
+      var secure = (SSLSocket) tls.getSocketFactory().createSocket(plain, host, port, true);
+      var parameters = secure.getSSLParameters();
+      parameters.setEndpointIdentificationAlgorithm("HTTPS"); // the certificate must be this host's
+      secure.setSSLParameters(parameters);
+      secure.setSoTimeout(milliseconds);
+      secure.startHandshake();
+      secure.setSoTimeout(0);
+      return secure;
+    } catch (IOException | RuntimeException failed) {
+      plain.close();
+      throw failed;
+    }
+  }
+
   /** A session's thread: connects, and reads until the connection ends. */
   private void serve(Core.Seat seat) {
-    try (var socket = Session.connected(options.host, options.port, options.tls, (int) Math.min(seat.silence(), Integer.MAX_VALUE))) {
+    try (var socket = connected(options.host, options.port, options.tls, (int) Math.min(seat.silence(), Integer.MAX_VALUE))) {
       act(now -> {
         if (!core.isOpen(seat)) return;
         sockets.put(seat, socket);

@@ -152,24 +152,23 @@ final class Core {
 
   void received(Seat seat, String bytes, double now) {
     if (!isOpen(seat)) return;
-    List<Wire.Reply> replies;
+    Wire.Reply reply;
     try {
-      replies = seat.wire.answers(bytes);
+      reply = seat.wire.receive(bytes);
     } catch (Broken fault) {
       lost(seat, fault, false, now);
       return;
     }
-    for (var reply : replies) {
-      heard = now;
-      trouble = NEVER;
-      var word = seat.word;
-      var question = seat.asked;
-      seat.word = null;
-      seat.asked = null;
-      seat.deadline = NEVER;
-      if (seat.probe != null && !word.equals("HELLO") && !word.equals("BYE")) probed(seat, reply, now);
-      else answered(word, seat, question, reply.answer(), reply.refusal(), now);
-    }
+    if (reply == null) return;
+    heard = now;
+    trouble = NEVER;
+    var word = seat.word;
+    var question = seat.asked;
+    seat.word = null;
+    seat.asked = null;
+    seat.deadline = NEVER;
+    if (seat.probe != null && !word.equals("HELLO") && !word.equals("BYE")) probed(seat, reply, now);
+    else answered(word, seat, question, reply.answer(), reply.refusal(), now);
     go(now);
   }
 
@@ -265,7 +264,7 @@ final class Core {
     seat.word = line.split(" ")[0];
     seat.asked = question;
     seat.deadline = now + seat.silence;
-    out.add(new Action(What.SEND, seat, seat.wire.line(line, seat.word.equals("HELLO") ? limits.token() : null), null));
+    out.add(new Action(What.SEND, seat, seat.wire.send(line, seat.word.equals("HELLO") ? limits.token() : null), null));
   }
 
   // What each line's answer brings.
@@ -485,7 +484,7 @@ final class Core {
   private void soon(double now, double... moments) { for (var each : moments) if (each > now) next = Math.min(next, each); }
 
   /** How long to wait before the next look at a job that was asked so long ago. */
-  static double pauseAfter(double taken) { return Math.min(Math.max(taken / 4, 0.2), 20); }
+  private static double pauseAfter(double taken) { return Math.min(Math.max(taken / 4, 0.2), 20); }
 
   private static Unreachable unreachable(ColuwenException fault) { return new Unreachable(fault.getMessage(), fault); }
 

@@ -31,7 +31,7 @@ public final class Engine implements Analyst {
   private final int workers;
   private final Duration timeout;
   private final ExecutorService threads;
-  private final ScheduledThreadPoolExecutor clock = new ScheduledThreadPoolExecutor(1, task -> Calls.daemon(task, "coluwen-clock"));
+  private final ScheduledThreadPoolExecutor clock = Calls.clock();
   private final Set<Running> processes = new HashSet<>(); // this and what follows is changed under its lock alone
   private final Deque<Running> spare = new ArrayDeque<>(); // those that search nothing
   private volatile boolean isClosed;
@@ -41,7 +41,6 @@ public final class Engine implements Analyst {
     this.workers = workers;
     this.timeout = timeout;
     threads = Executors.newFixedThreadPool(workers, task -> Calls.daemon(task, "coluwen-engine"));
-    clock.setRemoveOnCancelPolicy(true);
   }
 
   /** An engine with a process for each processor, of the program that {@code COLUWEN_OTHELLO} names, or that stands on PATH, or in this package. */
@@ -177,7 +176,7 @@ public final class Engine implements Analyst {
         for (int tries = 0; tries < TRIES; tries++) {
           var answer = Optional.ofNullable(said()).orElse("");
           var found = ANSWER.matcher(answer);
-          if (found.matches()) return result(Integer.parseInt(found.group(1)), found.group(2), Duration.ofNanos(System.nanoTime() - begun));
+          if (found.matches()) return result(Integer.parseInt(found.group(1)), found.group(2), begun);
           var refused = REFUSAL.matcher(answer);
           if (refused.matches()) throw new Refused(Integer.parseInt(refused.group(1)));
           end();
@@ -210,13 +209,10 @@ public final class Engine implements Analyst {
     }
 
     /** A value and a best move as a result. What is known of the other moves is that none is worth more. */
-    private Result result(int value, String move, Duration taken) {
-      var ends = depth >= position.empties();
-      var best = Optional.of(move).filter(each -> !each.equals("-"));
-      var moves = best.isEmpty() ? List.<String>of() : position.legalMoves();
+    private Result result(int value, String move, long begun) {
+      var moves = move.equals("-") ? List.<String>of() : position.legalMoves();
       var ordered = Stream.concat(CORNERS.stream().filter(moves::contains), moves.stream().filter(each -> !CORNERS.contains(each)));
-      var table = ordered.map(each -> new Entry(each, new Score(value, each.equals(move) ? '=' : '<', ends, position.side()))).toList();
-      return new Result(position, depth, new Score(value, '=', ends, position.side()), best, table, taken);
+      return Result.of(position, depth, value, move, ordered.map(each -> new Answer.Entry(each, each.equals(move) ? '=' : '<', value)).toList(), begun);
     }
 
     /** Ends the process that searches it, where one does; its thread notices. */

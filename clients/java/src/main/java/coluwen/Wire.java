@@ -2,46 +2,39 @@ package coluwen;
 
 import coluwen.ColuwenException.Broken;
 import coluwen.ColuwenException.Refused;
-import java.util.*;
 
-/** The lines of one session, and which answer is whose: without input and output. */
+/** The lines of one session, of which one at most isn't answered: without input and output. */
 final class Wire {
   /** What a line got: an answer, or a refusal. */
   record Reply(Answer answer, Refused refusal) {}
 
-  private final ArrayDeque<String> waiting = new ArrayDeque<>(); // lines that were sent and aren't answered
-  private final StringBuilder rest = new StringBuilder(); // what came behind the last LF
+  private String line; // that isn't answered
+  private String rest = ""; // what came of its answer
   private int jobs; // that were asked
 
   int jobs() { return jobs; }
 
   /** The bytes of a line. A token is its last word, and stands in no fault. */
-  String line(String line, String token) {
-    var all = token == null || token.isEmpty() ? line : line + " " + token;
-    if (!all.matches("[ -~]*")) throw new IllegalArgumentException("a line has ASCII's signs alone, and " + line + " has others");
-    waiting.add(line);
+  String send(String sent, String token) {
+    var all = token == null || token.isEmpty() ? sent : sent + " " + token;
+    if (!all.matches("[ -~]*")) throw new IllegalArgumentException("a line has ASCII's signs alone, and " + sent + " has others");
+    line = sent;
     return all + "\n";
   }
 
-  /** What the lines got that these bytes end. Broken where they are no answers. */
-  List<Reply> answers(String block) {
-    rest.append(block);
-    var found = new ArrayList<Reply>();
-    for (int end = rest.indexOf("\n"); end >= 0; end = rest.indexOf("\n")) {
-      var text = rest.substring(0, end);
-      rest.delete(0, end + 1);
-      found.add(answer(text));
-    }
-    if (rest.length() > 0 && waiting.isEmpty()) answer(rest.toString());
-    if (rest.length() >= Answer.LONGEST) throw new Broken("an answer has more than " + Answer.LONGEST + " bytes");
-    return found;
-  }
-
-  private Reply answer(String text) {
-    var line = waiting.poll();
-    if (line == null) throw new Broken("the server said what wasn't asked");
+  /** What the line got; null while that has no end. Broken where it is no answer. */
+  Reply receive(String bytes) {
+    rest += bytes;
+    var end = rest.indexOf('\n');
+    if (line == null || (end >= 0 && end < rest.length() - 1)) throw new Broken("the server said what wasn't asked");
+    if (rest.length() > Answer.LONGEST || (end < 0 && rest.length() == Answer.LONGEST)) throw new Broken("an answer has more than " + Answer.LONGEST + " bytes");
+    if (end < 0) return null;
+    var asked = line;
+    var text = rest.substring(0, end);
+    line = null;
+    rest = "";
     try {
-      var found = Answer.parse(line, text, jobs);
+      var found = Answer.parse(asked, text, jobs);
       if (found.state().equals("JOB")) jobs++;
       return new Reply(found, null);
     } catch (Refused refusal) {

@@ -11,7 +11,6 @@ import coluwen.ColuwenException;
 import coluwen.Info;
 import coluwen.Position;
 import coluwen.Score;
-import coluwen.Session;
 import java.io.IOException;
 import java.time.Duration;
 import java.util.ArrayList;
@@ -45,7 +44,7 @@ class ClientTest {
           case "HELLO" -> "WELCOME " + words[1] + " " + words[2] + "\n";
           case "RESERVE" -> "RESERVED " + words[1] + " " + words[2] + "\n";
           case "ASK" -> jobs.add(isDone.test(job, words[2] + " " + words[3]) ? "DONE" : "PENDING") ? "JOB " + jobs.size() + "\n" : "";
-          case "CANCEL" -> jobs.set(job - 1, "CANCELLED") + " " + job + "\n";
+          case "CANCEL" -> "CANCELLED " + job + "\n";
           case "GET", "WAIT" -> jobs.get(job - 1) + " " + job + (jobs.get(job - 1).equals("DONE") ? " 5 d3\n" : "\n");
           case "TABLE" -> "TABLE " + job + " d3=5 c4<-1\n";
           case "QUOTA" -> "QUOTA 256 8000 9000\n";
@@ -57,21 +56,13 @@ class ClientTest {
     };
   }
 
-  private static Supplier<Function<String, String>> cancelling() {
-    var inner = sound((depth, text) -> false);
-    return () -> {
-      var answers = inner.get();
-      return line -> line.startsWith("CANCEL") ? "CANCELLED " + line.split(" ")[1] + "\n" : answers.apply(line);
-    };
-  }
-
   private static Client.Builder at(Told server) {
     return Client.builder().port(server.port()).silence(Duration.ofSeconds(5));
   }
 
   @Test
   void resultsAreRecords() throws IOException {
-    try (var server = Told.answering(sound((depth, text) -> true)); Analyst client = at(server).build()) {
+    try (var server = new Told(sound((depth, text) -> true)); Analyst client = at(server).build()) {
       var found = client.analyse(OPENING, 6);
       assertEquals("+5 d3 [d3=5, c4<-1]", found.score() + " " + found.best().orElseThrow() + " " + found.table());
       assertEquals(new Info(2, 6, 7, java.util.Optional.empty()), client.info());
@@ -92,7 +83,7 @@ class ClientTest {
 
   @Test
   void whatCantBeIsToldBeforeAnythingIsSent() throws IOException {
-    try (var server = Told.answering(sound((depth, text) -> true)); var client = at(server).build()) {
+    try (var server = new Told(sound((depth, text) -> true)); var client = at(server).build()) {
       for (var depth : List.of(-1, 13)) {
         assertThrows(IllegalArgumentException.class, () -> client.analyse(OPENING, depth));
         assertThrows(IllegalArgumentException.class, () -> client.analyseMany(List.of(OPENING), depth));
@@ -110,7 +101,7 @@ class ClientTest {
   void anAddressNamesTheServer() throws IOException {
     var token = java.nio.file.Files.createTempFile("token", "");
     java.nio.file.Files.writeString(token, "secret\n");
-    try (var server = Told.answering(sound((depth, text) -> true));
+    try (var server = new Told(sound((depth, text) -> true));
         var client = Client.connect("othello://127.0.0.1:" + server.port() + "?tls=0&silence=5&nodes=4096&token=" + token)) {
       assertEquals(5, client.analyse(OPENING, 1).score().value());
       assertEquals("HELLO 1024 4096 secret", server.heard.get(0));
@@ -119,7 +110,7 @@ class ClientTest {
 
   @Test
   void noMoreSessionsThanAreAllowed() throws Exception {
-    try (var server = Told.answering(cancelling()); var client = at(server).sessions(3).ahead(2).build()) {
+    try (var server = new Told(sound((depth, text) -> false)); var client = at(server).sessions(3).ahead(2).build()) {
       var futures = IntStream.range(0, 20).mapToObj(each -> client.analyseAsync(OPENING, 6)).toList();
       while (server.heard.stream().filter(line -> line.startsWith("GET")).count() < 20) TimeUnit.MILLISECONDS.sleep(5);
       assertEquals(3, server.heard.stream().filter(line -> line.startsWith("HELLO")).count());
@@ -128,30 +119,12 @@ class ClientTest {
     }
   }
 
-  /** A session is asked 256 times at most, and no more once it says that it has had enough. */
-  @Test
-  void aSessionHasItsJobs() throws Exception {
-    for (var most : List.of(3, 256)) {
-      var counts = Collections.synchronizedList(new ArrayList<int[]>());
-      var right = sound((depth, text) -> true);
-      try (var server = Told.answering(() -> {
-        var count = new int[1];
-        counts.add(count);
-        var answers = right.get();
-        return line -> line.startsWith("ASK") && ++count[0] > most && most < 256 ? "ERR 13\n" : answers.apply(line);
-      }); var client = at(server).sessions(1).build()) {
-        assertEquals(most + 1, client.analyseMany(Collections.nCopies(most + 1, OPENING), 2).filter(one -> one.fault() == null).count());
-        assertEquals(List.of(most < 256 ? most + 1 : most, 1), counts.stream().map(count -> count[0]).toList());
-      }
-    }
-  }
-
   /** For longer than patience, too: that is for a server which grants no session at all. */
   @Test
   void whereThereIsRoomForFewerThoseDoTheWork() throws IOException {
     var isFirst = new AtomicBoolean(true);
     var right = sound((depth, text) -> true);
-    try (var server = Told.answering(() -> isFirst.getAndSet(false) ? slowly(right.get(), 600) : line -> "ERR 14\n"); var client = at(server).sessions(2).patience(Duration.ofMillis(200)).build()) {
+    try (var server = new Told(() -> isFirst.getAndSet(false) ? slowly(right.get(), 600) : line -> "ERR 14\n"); var client = at(server).sessions(2).patience(Duration.ofMillis(200)).build()) {
       for (var each : List.of(client.analyseAsync(OPENING, 6), client.analyseAsync(OPENING, 6))) assertEquals(5, each.join().score().value());
     }
   }
@@ -170,7 +143,7 @@ class ClientTest {
 
   @Test
   void aCancelledFutureCancelsItsJobAndItsPlaceIsFree() throws Exception {
-    try (var server = Told.answering(cancelling()); var client = at(server).sessions(1).ahead(1).build()) {
+    try (var server = new Told(sound((depth, text) -> false)); var client = at(server).sessions(1).ahead(1).build()) {
       var first = client.analyseAsync(OPENING, 6);
       var second = client.analyseAsync(OPENING, 4);
       while (server.heard.stream().noneMatch(line -> line.startsWith("GET"))) TimeUnit.MILLISECONDS.sleep(5);
@@ -182,7 +155,7 @@ class ClientTest {
 
   @Test
   void anInterruptCancelsTheJob() throws Exception {
-    try (var server = Told.answering(cancelling()); var client = at(server).build()) {
+    try (var server = new Told(sound((depth, text) -> false)); var client = at(server).build()) {
       var ended = new CompletableFuture<Throwable>();
       var thread = new Thread(() -> {
         try {
@@ -203,7 +176,7 @@ class ClientTest {
   void aFullServerIsToldAndAskedAgain() throws Exception {
     var right = sound((depth, text) -> true);
     var events = Collections.synchronizedList(new ArrayList<String>());
-    try (var server = Told.answering(() -> events.isEmpty() ? line -> "ERR 14\n" : right.get());
+    try (var server = new Told(() -> events.isEmpty() ? line -> "ERR 14\n" : right.get());
         var client = at(server).onEvent(event -> events.add(event.name())).build()) {
       assertEquals(5, client.analyse(OPENING, 1).score().value());
       while (events.size() < 2) TimeUnit.MILLISECONDS.sleep(5);
@@ -235,7 +208,7 @@ class ClientTest {
       }
     };
     var right = sound((depth, text) -> text.equals(OPENING.text()));
-    try (var server = Told.answering(right); var client = at(server).sessions(2).build()) {
+    try (var server = new Told(right); var client = at(server).sessions(2).build()) {
       try (var outcomes = client.analyseMany(source, Function.identity(), 3, client.bulk().asKnown().onProgress(progress::add))) {
         var iterator = outcomes.iterator();
         assertEquals(0, iterator.next().index());
@@ -252,7 +225,7 @@ class ClientTest {
     Iterable<Position> broken = () -> {
       throw new IllegalStateException("no more");
     };
-    try (var server = Told.answering(sound((depth, text) -> true)); var client = at(server).build()) {
+    try (var server = new Told(sound((depth, text) -> true)); var client = at(server).build()) {
       assertThrows(IllegalStateException.class, () -> client.analyseMany(broken, 3).count());
     }
   }
@@ -262,14 +235,12 @@ class ClientTest {
     var events = Collections.synchronizedList(new ArrayList<String>());
     var connections = new AtomicBoolean(true);
     var right = sound((depth, text) -> true);
-    Supplier<Told.Script> scripts = () -> {
+    Supplier<Function<String, String>> answers = () -> {
       var isFirst = connections.getAndSet(false);
-      var answers = right.get();
-      return lines -> {
-        for (String line = lines.next(); line != null; line = lines.next()) if (!isFirst || !line.startsWith("TABLE")) lines.send(answers.apply(line));
-      };
+      var answerOf = right.get();
+      return line -> isFirst && line.startsWith("TABLE") ? "" : answerOf.apply(line);
     };
-    try (var server = new Told(scripts); var client = Client.builder().port(server.port()).silence(Duration.ofSeconds(1)).onEvent(event -> events.add(event.name())).build()) {
+    try (var server = new Told(answers); var client = Client.builder().port(server.port()).silence(Duration.ofSeconds(1)).onEvent(event -> events.add(event.name())).build()) {
       assertEquals(5, client.analyse(OPENING, 6).score().value());
       while (events.size() < 3) TimeUnit.MILLISECONDS.sleep(5);
       assertEquals(List.of("opened", "silent", "opened"), events);
@@ -278,29 +249,12 @@ class ClientTest {
 
   @Test
   void aClosedClientSaysSo() throws Exception {
-    try (var server = Told.answering(cancelling()); var client = at(server).build()) {
+    try (var server = new Told(sound((depth, text) -> false)); var client = at(server).build()) {
       var future = client.analyseAsync(OPENING, 6);
       client.close();
       assertTrue(assertThrows(java.util.concurrent.ExecutionException.class, future::get).getCause() instanceof ColuwenException.Closed);
       assertThrows(ColuwenException.Closed.class, client::info);
       assertThrows(ColuwenException.Closed.class, () -> client.analyse(OPENING, 6));
-    }
-  }
-
-  @Test
-  void aSessionHasAMethodForEachLine() throws IOException {
-    try (var server = Told.answering(sound((depth, text) -> true))) {
-      var session = new Session("127.0.0.1", server.port(), null, "secret", 64, 4096, Duration.ofSeconds(5));
-      var job = session.ask(6, OPENING);
-      assertEquals(new Session.State(Session.Outcome.DONE, 5, "d3"), session.await(job));
-      assertEquals("[d3=5, c4<-1]", session.table(job, 'X', false).toString());
-      assertEquals(new Session.Quota(256, 8000, 9000), session.quota());
-      assertEquals(new Session.Live(0, 0), session.live());
-      session.reserve(128, 8192);
-      session.close();
-      assertThrows(ColuwenException.Closed.class, session::quota);
-      assertEquals("HELLO 64 4096 secret", server.heard.get(0));
-      assertEquals("BYE", server.heard.get(server.heard.size() - 1));
     }
   }
 }

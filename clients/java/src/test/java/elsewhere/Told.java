@@ -12,103 +12,52 @@ import java.util.concurrent.CopyOnWriteArrayList;
 import java.util.function.Function;
 import java.util.function.Supplier;
 
-/** A server of the tests: each connection is served by a thread of its own, and what it got is in {@code heard}. */
+/** A server that answers each line as a function of its connection says: null ends that. What came is in {@code heard}. */
 final class Told implements AutoCloseable {
-  /** Serves a connection to its end. */
-  interface Script {
-    void serve(Lines lines) throws Exception;
+  final List<String> heard = new CopyOnWriteArrayList<>();
+  private final ServerSocket listener = new ServerSocket(0, 50, InetAddress.getLoopbackAddress());
+
+  Told(Supplier<Function<String, String>> answers) throws IOException {
+    daemon(() -> {
+      while (true) {
+        var stream = listener.accept();
+        var answerOf = answers.get();
+        daemon(() -> serve(stream, answerOf));
+      }
+    });
   }
 
-  final ServerSocket listener = new ServerSocket(0, 50, InetAddress.getLoopbackAddress());
-  final List<String> heard = new CopyOnWriteArrayList<>();
-  final List<Throwable> faults = new CopyOnWriteArrayList<>();
-  final List<Thread> threads = new CopyOnWriteArrayList<>();
+  private interface Task {
+    void run() throws IOException;
+  }
 
-  Told(Supplier<Script> scripts) throws IOException {
+  private static void daemon(Task task) {
     var thread = new Thread(() -> {
-      while (true) {
-        try {
-          var stream = listener.accept();
-          var script = scripts.get();
-          var serving = new Thread(() -> serve(stream, script));
-          serving.setDaemon(true);
-          threads.add(serving);
-          serving.start();
-        } catch (IOException closed) {
-          return;
-        }
+      try {
+        task.run();
+      } catch (IOException left) {
+        // the client has left, or the server
       }
     });
     thread.setDaemon(true);
     thread.start();
   }
 
-  /** A server that answers each line as a function of its connection says; null ends the connection. */
-  static Told answering(Supplier<Function<String, String>> answers) throws IOException {
-    return new Told(() -> {
-      var answerOf = answers.get();
-      return lines -> {
-        for (String line = lines.next(); line != null; line = lines.next()) {
-          var answer = answerOf.apply(line);
-          if (answer == null) return;
-          lines.send(answer);
-        }
-      };
-    });
-  }
-
-  /** A connection's lines. */
-  final class Lines {
-    private final Socket stream;
-    private final BufferedReader reader;
-
-    private Lines(Socket stream) throws IOException {
-      stream.setTcpNoDelay(true);
-      this.stream = stream;
-      reader = new BufferedReader(new InputStreamReader(stream.getInputStream(), StandardCharsets.ISO_8859_1));
-    }
-
-    /** The next line; null at the end. */
-    String next() {
-      try {
-        var line = reader.readLine();
-        if (line != null) heard.add(line);
-        return line;
-      } catch (IOException fault) {
-        return null;
-      }
-    }
-
-    void limit(int milliseconds) throws IOException {
-      stream.setSoTimeout(milliseconds);
-    }
-
-    void send(String bytes) throws IOException {
-      stream.getOutputStream().write(bytes.getBytes(StandardCharsets.ISO_8859_1));
-    }
-
-    void end() throws IOException {
-      stream.shutdownOutput();
-    }
-  }
-
-  private void serve(Socket stream, Script script) {
+  private void serve(Socket stream, Function<String, String> answerOf) throws IOException {
     try (stream) {
-      script.serve(new Lines(stream));
-    } catch (IOException left) {
-      // the client has left
-    } catch (Throwable fault) {
-      faults.add(fault);
+      stream.setTcpNoDelay(true);
+      var lines = new BufferedReader(new InputStreamReader(stream.getInputStream(), StandardCharsets.ISO_8859_1));
+      for (String line = lines.readLine(); line != null; line = lines.readLine()) {
+        heard.add(line);
+        var answer = answerOf.apply(line);
+        if (answer == null) return;
+        stream.getOutputStream().write(answer.getBytes(StandardCharsets.ISO_8859_1));
+      }
     }
   }
 
   int port() {
     return listener.getLocalPort();
-  }
-
-  /** Waits for the connections' ends. */
-  void join() throws InterruptedException {
-    for (var thread : threads) thread.join(6000);
   }
 
   @Override
