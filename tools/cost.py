@@ -1,21 +1,19 @@
 #!/usr/bin/env python3
 """Says what a crate costs the gate, in processor seconds: its proof from nothing, its tests beside it, and its mutants.
 
-usage: tools/cost.py [-e] [-f] CRATE..
-Names are as in crates.txt. -e adds each mutant with its seconds, the dearest first; -f the ten functions (with their
-closures) that the proof, or the check of the tests, takes longest over.
+usage: tools/cost.py [-f] CRATE..
+Names are as in crates.txt. -f adds the ten functions (with their closures) that the proof, or the check of the tests, takes longest
+over.
 
 It works in this checkout: what the prover kept of the named crates is made anew, that of the crates below them is used (and
 made first where it is missing). `proof` is `rt check`, `tests` what `rt check --test` takes after it, `edits` is `rt must-fail
 --anew`, all on one processor each. tools/gate_cost.py measures the same of all crates at once, where tests and mutants of a crate
-include its proof, once each. A small crate takes a minute, a large one some ten.
+include its proof, once each, and of each mutant. A small crate takes a minute, a large one some ten.
 
 A function has two figures: its seconds within the proof of the whole crate, where whichever function is the first to use a
 contract or a library pays for reading it; and its seconds alone (`rattle check --only`), less those of the function that
 takes least. Where the first is much the greater, it was charged with what others read too; where the second is, others were.
 """
-import importlib.machinery
-import importlib.util
 import os
 import pathlib
 import re
@@ -24,19 +22,9 @@ import shutil
 import subprocess
 import sys
 import tempfile
-import threading
 import time
 
-HERE = pathlib.Path(__file__).resolve().parent
-TOP = HERE.parent
-
-
-def gate_script():
-    """tools/gate_cost.py as a module: it knows which process works on which mutant."""
-    loader = importlib.machinery.SourceFileLoader("gate", str(HERE / "gate_cost.py"))
-    module = importlib.util.module_from_spec(importlib.util.spec_from_loader("gate", loader))
-    loader.exec_module(module)
-    return module
+TOP = pathlib.Path(__file__).resolve().parent.parent
 
 
 def used():
@@ -123,29 +111,6 @@ def functions(folder, log, is_test):
     return [(name, each[name], alone(name) - least) for name in dearest[:10]], is_well
 
 
-def edits(gate, crate, log):
-    """The processor seconds of the mutants together, and of each."""
-    seen, over = {}, threading.Event()
-    child = subprocess.Popen(["rt", "must-fail", "--anew", crate], cwd=TOP, stdin=subprocess.DEVNULL, stdout=log, stderr=subprocess.STDOUT)
-
-    def watch():
-        while not over.is_set():
-            gate.look(seen, TOP, child.pid)
-            time.sleep(0.2)
-
-    watcher = threading.Thread(target=watch)
-    before = used()
-    watcher.start()
-    is_well = child.wait() == 0
-    over.set()
-    watcher.join()
-    each = {}
-    for kind, much in seen.values():
-        if kind and kind[0] == crate and kind[1] not in ("proof", "tests"):
-            each[kind[1]] = each.get(kind[1], 0) + much
-    return used() - before, each, is_well
-
-
 def main():
     words = sys.argv[1:]
     names = [it for it in words if not it.startswith("-")]
@@ -155,22 +120,19 @@ def main():
     unknown = [name for name in names if name not in listed]
     if unknown:
         sys.exit(f"crates.txt lists no {', '.join(unknown)}")
-    gate, failed = gate_script(), []
+    failed = []
     print(f"{'crate':18} {'proof':>6} {'tests':>6} {'edits':>6}", flush=True)
     for name in names:
         folder = TOP / "crates" / name
-        mutants = sorted(it.name for it in (folder / "must-fail").glob("*.edit"))
+        has_mutants = any((folder / "must-fail").glob("*.edit"))
         has_tests = any("#[test]" in it.read_text() for it in folder.glob("src/**/*.rt"))
         with open(f"/tmp/cost-{name}.log", "w") as log:
             _, was_well = seconds(["rt", "check", "--jobs", "1"], folder, log)
             shutil.rmtree(folder / "out", ignore_errors=True)
             proof, is_proved = seconds(["rt", "check", "--jobs", "1"], folder, log)
             tests, are_proved = seconds(["rt", "check", "--test", "--jobs", "1"], folder, log) if has_tests else (0, True)
-            whole, each, are_refused = edits(gate, name, log) if mutants else (0, {}, True)
+            whole, are_refused = seconds(["rt", "must-fail", "--anew", name], TOP, log) if has_mutants else (0, True)
         print(f"{name:18} {proof:6.0f} " + " ".join(f"{it:6.0f}" if it else f"{'-':>6}" for it in (tests, whole)), flush=True)
-        if "-e" in words:
-            for what, much in sorted(each.items(), key=lambda it: -it[1]):
-                print(f"    {mutants[int(what)] if what.isdigit() and int(what) < len(mutants) else what:46} {much:6.1f}")
         if "-f" in words:
             with open(f"/tmp/cost-{name}.log", "a") as log:
                 for is_test in [False, True][: 1 + has_tests]:

@@ -43,4 +43,3 @@ static R: Rays = rays();
 } }
 
 searches! { #[target_feature(enable = "avx2,bmi1,bmi2,lzcnt,movbe,popcnt")] }
-searches_kept! { #[target_feature(enable = "avx2,bmi1,bmi2,lzcnt,movbe,popcnt")] }

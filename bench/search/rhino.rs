@@ -1,8 +1,12 @@
 //! The proved search beside gtp-rhino: see the script `rhino`.
+mod clock;
 mod kernels;
+#[macro_use]
+mod searches;
 #[allow(dead_code)]
 mod vectors;
 
+use clock::processor_seconds;
 use kernels::{INF, Kernel, has_v3, kernel_search, kernel_search_v3, through};
 use std::io::{BufRead, BufReader, Write};
 use std::process::{Child, ChildStdin, ChildStdout, Command, Stdio};
@@ -97,34 +101,14 @@ impl Rhino {
     }
 }
 
-#[repr(C)]
-struct Timespec {
-    seconds: i64,
-    nanoseconds: i64,
-}
-
-unsafe extern "C" {
-    fn clock_gettime(clock: i32, now: *mut Timespec) -> i32;
-}
-
-/// The number of the clock of a thread's processor time, on Linux.
-const THREAD_PROCESSOR_TIME: i32 = 3;
-
-/// The processor milliseconds that this thread has used.
-fn own_used() -> f64 {
-    let mut now = Timespec { seconds: 0, nanoseconds: 0 };
-    unsafe { clock_gettime(THREAD_PROCESSOR_TIME, &mut now) };
-    now.seconds as f64 * 1e3 + now.nanoseconds as f64 / 1e6
-}
-
 /// Processor milliseconds a position of a kernel, the best of three rounds, and positions entered a second.
 fn ours(kernel: Kernel, games: &[Game], depth: u8) -> (f64, f64) {
     let mut best = f64::MAX;
     let mut visited = 0;
     for _ in 0..3 {
-        let before = own_used();
+        let before = processor_seconds();
         visited = games.iter().map(|game| through(kernel, game.own, game.opp, depth, -INF, INF).visited).sum::<u64>();
-        best = best.min(own_used() - before);
+        best = best.min(1e3 * (processor_seconds() - before));
     }
     (best / games.len() as f64, visited as f64 * 1000.0 / best)
 }

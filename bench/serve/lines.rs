@@ -3,7 +3,6 @@
 //!     lines echo                           listens, says `listening 127.0.0.1:port`, and echoes lines
 //!     lines lines PORT CONNECTIONS COUNT   each connection sends COUNT lines, each after the answer to the one before:
 //!                                          `QUOTA`, after a HELLO
-//!     lines visits PORT CONNECTIONS COUNT  each has COUNT sessions, one after another, of a HELLO and a BYE
 //!     lines leaves PORT CONNECTIONS COUNT  each asks for COUNT positions to depth 0 and waits for each, 250 in a session
 //!
 //! All but the first print the round trips (lines and answers) a second, over all connections.
@@ -86,18 +85,6 @@ fn lines(port: u16, connections: usize, count: usize) -> u64 {
 
 const OPENING: &str = "---------------------------OX------XO--------------------------- X";
 
-fn visits(port: u16, connections: usize, count: usize) -> u64 {
-    let hello = hello(connections);
-    let mut trips = 0;
-    for _ in 0..count {
-        let mut talk = Talk::open(port);
-        talk.expect(&format!("HELLO {hello}"), &format!("WELCOME {hello}"));
-        talk.expect("BYE", "BYE");
-        trips += talk.trips;
-    }
-    trips
-}
-
 fn leaves(port: u16, connections: usize, count: usize) -> u64 {
     const SESSION: usize = 250;
     let hello = hello(connections);
@@ -139,7 +126,6 @@ fn main() {
     match words.iter().map(String::as_str).collect::<Vec<_>>().as_slice() {
         ["echo"] => echo(),
         ["lines", _, _, _] => drive(lines, &words[1..]),
-        ["visits", _, _, _] => drive(visits, &words[1..]),
         ["leaves", _, _, _] => drive(leaves, &words[1..]),
         _ => fail("see the head of lines.rs".into()),
     }

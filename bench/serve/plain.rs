@@ -26,39 +26,16 @@ pub fn choices(own: u64, opp: u64) -> Vec<u8> {
 }
 
 #[derive(Clone, Copy, PartialEq)]
-enum State {
-    Ready(u8),
-    Running(u8),
-    Computing(u8),
-    Waiting,
-    Returned,
-}
+enum State { Ready(u8), Running(u8), Computing(u8), Waiting, Returned }
 
 #[derive(Clone, Copy, PartialEq)]
-enum Role {
-    Root,
-    First,
-    Test,
-    Again,
-}
+enum Role { Root, First, Test, Again }
 
 #[derive(Clone, Copy, PartialEq)]
-enum Phase {
-    New,
-    Computing,
-    First,
-    Tests,
-    Done,
-}
+enum Phase { New, Computing, First, Tests, Done }
 
 #[derive(Clone, Copy, PartialEq)]
-enum Status {
-    Unspawned,
-    Runs,
-    Settled,
-    Failed,
-    RunsAgain,
-}
+enum Status { Unspawned, Runs, Settled, Failed, RunsAgain }
 
 struct Frame {
     serial: u64,
@@ -162,6 +139,13 @@ impl Tenant {
         self.slots.get_mut(name.slot)?.as_mut().filter(|frame| frame.serial == name.serial)
     }
 
+    /// The frame of this name, which takes a step in this state.
+    fn stepping(&mut self, name: Name, state: State) -> Result<&mut Frame, Did> {
+        let steps = self.steps_left;
+        let frame = self.find(name).filter(|frame| frame.state == state).ok_or(Did::Refused)?;
+        if steps == 0 { Err(Did::Short) } else { Ok(frame) }
+    }
+
     fn set_state(&mut self, slot: usize, state: State) {
         self.ready.retain(|other| *other != slot);
         if let State::Ready(_) = state {
@@ -206,10 +190,16 @@ fn frame_of(parent: Option<usize>, home: u8, board: (u64, u64), depth: u8, (alph
     }
 }
 
-fn child_of(parent: &Frame, slot: usize, role: Role, number: usize, window: (i32, i32), home: u8) -> Frame {
+fn child_of(parent: &mut Frame, slot: usize, (role, status): (Role, Status), number: usize, window: (i32, i32), home: u8) -> Frame {
+    parent.statuses[number] = status;
     let choice = parent.choices[number];
     let depth = parent.depth - u8::from(choice != PASS);
     frame_of(Some(slot), home, play(parent.board.0, parent.board.1, choice), depth, window, (role, number))
+}
+
+/// Whether there is one left.
+fn has(nodes: u32) -> Result<(), Did> {
+    if nodes == 0 { Err(Did::Short) } else { Ok(()) }
 }
 
 impl Core {
@@ -234,31 +224,19 @@ impl Core {
         self.tenants[tenant].steps_left -= 1;
     }
 
-    pub fn take(&mut self, worker: u8, task: Task) -> Did {
+    pub fn take(&mut self, worker: u8, task: Task) -> Result<Did, Did> {
         let own = &mut self.tenants[task.name.tenant];
-        let steps = own.steps_left;
-        match own.find(task.name) {
-            Some(frame) if frame.state == State::Ready(task.home) => {}
-            _ => return Did::Refused,
-        }
-        if steps == 0 {
-            return Did::Short;
-        }
+        own.stepping(task.name, State::Ready(task.home))?;
         own.set_state(task.name.slot, State::Running(worker));
         self.tick(task.name.tenant);
-        Did::Took
+        Ok(Did::Took)
     }
 
-    pub fn advance(&mut self, worker: u8, name: Name) -> Did {
+    pub fn advance(&mut self, worker: u8, name: Name) -> Result<Did, Did> {
         let grain = self.grain;
         let own = &mut self.tenants[name.tenant];
-        let (steps, nodes) = (own.steps_left, own.nodes_left);
-        let Some(frame) = own.find(name).filter(|frame| frame.state == State::Running(worker)) else {
-            return Did::Refused;
-        };
-        if steps == 0 {
-            return Did::Short;
-        }
+        let nodes = own.nodes_left;
+        let frame = own.stepping(name, State::Running(worker))?;
         let floor = frame.alpha.max(frame.best);
         let did = match frame.phase {
             Phase::New => {
@@ -275,11 +253,8 @@ impl Core {
                 }
             }
             Phase::First if frame.statuses[0] == Status::Unspawned => {
-                if nodes == 0 {
-                    return Did::Short;
-                }
-                frame.statuses[0] = Status::Runs;
-                let child = child_of(frame, name.slot, Role::First, 0, (-frame.beta, -frame.alpha), worker);
+                has(nodes)?;
+                let child = child_of(frame, name.slot, (Role::First, Status::Runs), 0, (-frame.beta, -frame.alpha), worker);
                 self.spawned(name.tenant, child)
             }
             Phase::Tests => {
@@ -291,19 +266,13 @@ impl Core {
                         self.returned(name)
                     }
                     (Some(at), _) if frame.statuses[at] == Status::Failed => {
-                        if nodes == 0 {
-                            return Did::Short;
-                        }
-                        frame.statuses[at] = Status::RunsAgain;
-                        let child = child_of(frame, name.slot, Role::Again, at, (-frame.beta, -floor), worker);
+                        has(nodes)?;
+                        let child = child_of(frame, name.slot, (Role::Again, Status::RunsAgain), at, (-frame.beta, -floor), worker);
                         self.spawned(name.tenant, child)
                     }
                     (_, Some(at)) => {
-                        if nodes == 0 {
-                            return Did::Short;
-                        }
-                        frame.statuses[at] = Status::Runs;
-                        let child = child_of(frame, name.slot, Role::Test, at, (-(floor + 1), -floor), worker);
+                        has(nodes)?;
+                        let child = child_of(frame, name.slot, (Role::Test, Status::Runs), at, (-(floor + 1), -floor), worker);
                         self.spawned(name.tenant, child)
                     }
                     _ => self.waits(name),
@@ -313,7 +282,7 @@ impl Core {
             Phase::Done | Phase::Computing => self.returned(name),
         };
         self.tick(name.tenant);
-        did
+        Ok(did)
     }
 
     fn spawned(&mut self, tenant: usize, child: Frame) -> Did {
@@ -340,29 +309,16 @@ impl Core {
         Did::Returned(frame.parent.is_none())
     }
 
-    pub fn answer(&mut self, worker: u8, name: Name, score: i32, choice: u8) -> Did {
-        let own = &mut self.tenants[name.tenant];
-        let steps = own.steps_left;
-        let Some(frame) = own.find(name).filter(|frame| frame.state == State::Computing(worker)) else {
-            return Did::Refused;
-        };
-        if steps == 0 {
-            return Did::Short;
-        }
+    pub fn answer(&mut self, worker: u8, name: Name, score: i32, choice: u8) -> Result<Did, Did> {
+        let frame = self.tenants[name.tenant].stepping(name, State::Computing(worker))?;
         (frame.best, frame.choice, frame.phase, frame.state) = (score, choice, Phase::Done, State::Running(worker));
         self.tick(name.tenant);
-        Did::Answered
+        Ok(Did::Answered)
     }
 
-    pub fn inlet(&mut self, worker: u8, name: Name) -> Did {
+    pub fn inlet(&mut self, worker: u8, name: Name) -> Result<Did, Did> {
         let own = &mut self.tenants[name.tenant];
-        let steps = own.steps_left;
-        let Some(child) = own.find(name).filter(|frame| frame.state == State::Returned) else {
-            return Did::Refused;
-        };
-        if steps == 0 {
-            return Did::Short;
-        }
+        let child = own.stepping(name, State::Returned)?;
         let (score, role, number, least) = (-child.best, child.role, child.number, -child.beta);
         let above = child.parent.expect("a parent");
         own.remove(name.slot);
@@ -394,19 +350,17 @@ impl Core {
         }
         let serial = own.at(above).serial;
         self.tick(name.tenant);
-        Did::TakenIn(woken.then_some(Name { tenant: name.tenant, slot: above, serial }))
+        Ok(Did::TakenIn(woken.then_some(Name { tenant: name.tenant, slot: above, serial })))
     }
 
-    pub fn finish(&mut self, name: Name) -> Did {
+    pub fn finish(&mut self, name: Name) -> Result<Did, Did> {
         let own = &mut self.tenants[name.tenant];
-        let Some(frame) = own.find(name).filter(|frame| frame.state == State::Returned) else {
-            return Did::Refused;
-        };
+        let frame = own.find(name).filter(|frame| frame.state == State::Returned).ok_or(Did::Refused)?;
         let outcome = Outcome::Done(frame.best, frame.choice);
         own.remove(name.slot);
         own.outcome = Some(outcome);
         self.tick(name.tenant);
-        Did::Finished
+        Ok(Did::Finished)
     }
 
     pub fn spend(&mut self, name: Name) {

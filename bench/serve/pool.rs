@@ -7,6 +7,9 @@
 //!
 //! usage: pool WORKERS GRAIN DEPTH, which prints the microseconds until 40 positions are answered that four seats ask; or
 //! pool positions, which prints them
+#[path = "../search/searches.rs"]
+#[macro_use]
+mod searches;
 mod plain;
 #[path = "../search/vectors.rs"]
 mod vectors;
@@ -69,6 +72,7 @@ fn step(core: &mut Core, worker: u8, deed: &Deed) -> (Did, Name) {
         Deed::TakeIn(name) => (core.inlet(worker, name), name),
         Deed::Finish(name) => (core.finish(name), name),
     };
+    let did = did.unwrap_or_else(|refused| refused);
     if let Did::Short = did {
         core.spend(name);
     }

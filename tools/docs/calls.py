@@ -28,7 +28,7 @@ class Calls:
         if name not in self.read_crates:
             functions = {}
             for path in sorted((CRATES / name / "src").rglob("*.rt")):
-                if path.name == "tests.rt" or "tests" in path.parts:
+                if path.name == "tests.rt" or "tests" in path.relative_to(TOP).parts:
                     continue
                 clear = blanked(path.read_text())
                 imports = self.imports(clear)

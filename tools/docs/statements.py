@@ -62,7 +62,6 @@ class Call:
     signature: list
     clauses: list
     imports: dict
-    left_out: list = dataclasses.field(default_factory=list)  # the names of the clauses that a page of some doesn't show
 
     @property
     def title(self):
@@ -227,7 +226,7 @@ class Code:
                 continue
             self.exports[crate] = self.exported(root)
             for path in sorted((CRATES / crate / "src").rglob("*.rt")):
-                if "tests" not in path.parts and path.name != "tests.rt":
+                if "tests" not in path.relative_to(CRATES).parts and path.name != "tests.rt":
                     self.read(crate, path)
 
     @staticmethod
