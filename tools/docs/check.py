@@ -40,7 +40,7 @@ VERSIONED = {  # where the version stands beside VERSION itself; in documents it
     "CITATION.cff": r"^version: (.*)$",
     "crates/site_office/specs/Turns.antt": r'codes " (\d+\.\d+\.\d+)"',
 }
-MADE = [["tools/docs/promises.py"], ["docs/pictures/draw.py"]]
+MADE = [["tools/docs/promises.py"]]
 # Names of the toolchain, its library, the system and other tools, which the tree need not say.
 FOREIGN = set("""A B N T P Q S D K k n s t d r w x y z f g j rt sh check try lib gate test doc fmt lemma tidy must plant fail core
     callgrind valgrind perf compare_exchange venv site packages strace nice syscall nc logic rattle13b rattle13f
@@ -125,19 +125,47 @@ def figures(files):
     return {name: f"{round(number, -2) if name in rounded else number:,}" for name, number in found.items()}
 
 
-def crate_table():
-    """The crates by group, in the order of crates.txt, each with its sentence of tools/docs/about_crates.txt, or else the first of its head."""
-    said = dict(line.split(" | ", 1) for line in (HERE / "about_crates.txt").read_text().splitlines() if line and not line.startswith("#"))
-    rows = ["| Crate | What it is |", "|---|---|"]
+def read_crates():
+    """The crates by group, in the order of crates.txt, and of each those that its line names, without what another of these implies."""
+    groups, below, direct = {}, {}, {}
     for line in (TOP / "crates.txt").read_text().splitlines():
         if line.startswith("# ") and not line.startswith("# The crates, lowest first"):
-            rows.append(f"| **{said.pop(line[2:], line[2:])}** | |")
+            group = groups.setdefault(line[2:], [])
         elif line and not line.startswith("#"):
-            name = line.split(":")[0].split()[0]
+            name, named = line.split(":")
+            name, named = name.split()[0], [low for low in named.split() if low in below]
+            group.append(name)
+            below[name] = set(named).union(*(below[low] for low in named))
+            direct[name] = [low for low in named if not any(low in below[other] for other in named)]
+    return groups, direct
+
+
+def crate_map():
+    """The groups of crates.txt, but for those of tests, and on which others each rests."""
+    groups, direct = read_crates()
+    names = [name for name in groups if "est" not in name.split()[0] and "promises" not in name]
+    group_of = {crate: name for name in names for crate in groups[name]}
+    below, drawn = {}, ["```mermaid", "flowchart BT"]
+    for at, name in enumerate(names):
+        drawn.append(f'  g{at}["{name.split(",")[0].split(":")[0]}"]')
+        used = {names.index(group_of[low]) for crate in groups[name] for low in direct[crate]} - {at}
+        below[at] = used.union(*(below[low] for low in used))
+        drawn += [f"  g{at} --> g{low}" for low in sorted(used) if not any(low in below[other] for other in used)]
+    return "\n".join([*drawn, "```"]) + "\n"
+
+
+def crate_table():
+    """The crates by group, each with its sentence of tools/docs/about_crates.txt, or else the first of its head, and what it rests on."""
+    said = dict(line.split(" | ", 1) for line in (HERE / "about_crates.txt").read_text().splitlines() if line and not line.startswith("#"))
+    rows = ["| Crate | What it is | Rests on |", "|---|---|---|"]
+    groups, direct = read_crates()
+    for group, names in groups.items():
+        rows.append(f"| **{said.pop(group, group)}** | | |")
+        for name in names:
             root = next(path for path in (TOP / "crates" / name / "src/lib.rt", TOP / "crates" / name / "src/main.rt") if path.exists())
             head = " ".join(re.match(r"(?://! .*\n)+", root.read_text())[0].replace("//! ", "").split())
             first = re.split(r"(?<=[.]) ", head)[0].removeprefix(f"`{name}`: ")
-            rows.append(f"| `{name}` | {said.pop(name, first[0].upper() + first[1:])} |")
+            rows.append(f"| `{name}` | {said.pop(name, first[0].upper() + first[1:])} | {', '.join(direct[name])} |")
     if said:
         sys.exit(f"tools/docs/about_crates.txt names what isn't there: {', '.join(said)}")
     return "\n".join(rows) + "\n"
@@ -199,7 +227,7 @@ def chosen(text, names):
     return "```text\n" + head + "".join(clause for at, clause in enumerate(kept) if clause != "    ..\n" or kept[at - 1 : at] != [clause]) + "```\n"
 
 
-LISTS = {"crates": crate_table, "solve": solve_transcript, "session": session_transcript, "errors": error_table, "depths": depth_table, "excerpt": excerpt, "contract": contract}
+LISTS = {"map": crate_map, "crates": crate_table, "solve": solve_transcript, "session": session_transcript, "errors": error_table, "depths": depth_table, "excerpt": excerpt, "contract": contract}
 
 
 def with_lists(text):
