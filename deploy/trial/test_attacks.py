@@ -23,14 +23,15 @@ KINDS = [each.__name__ for each in hostile.KINDS]
 
 class Beside:
     """A named customer and guests, each of whom opens a session, asks what is left and for a value, and leaves, again and again. They go before
-    the attackers and the site, as if they were at a host of their own."""
+    the attackers and the site, as if they were at a host of their own. The attackers are guests too, so they share the guests' budget."""
 
     def __init__(self, site: Site, wanted: list[Answer]):
         self.site, self.wanted, self.stop = site, wanted, threading.Event()
-        self.took, self.faults = {"WELCOME": list[float](), "QUOTA": list[float](), "ASK": list[float]()}, list[str]()
-        self.threads = [threading.Thread(target=self.ask, args=(address,), daemon=True) for address in ("127.6.1.1", "127.3.1.1", "127.3.1.2")]
+        self.took, self.faults = {f"{name} of {whom}": list[float]() for whom in ("a customer", "guests") for name in ("WELCOME", "QUOTA", "ASK")}, list[str]()
+        whom = {"127.6.1.1": "a customer", "127.6.1.2": "a customer", "127.3.1.1": "guests", "127.3.1.2": "guests"}
+        self.threads = [threading.Thread(target=self.ask, args=each, daemon=True) for each in whom.items()]
 
-    def ask(self, address: str) -> None:
+    def ask(self, address: str, whom: str) -> None:
         number = 0
         with contextlib.suppress(PermissionError):
             os.setpriority(os.PRIO_PROCESS, threading.get_native_id(), -10)
@@ -44,8 +45,8 @@ class Beside:
                     if not session.is_answered(number, self.wanted):
                         self.faults.append("a wrong value")
                     moments.append(time.monotonic())
-                for name, begun, ended in zip(self.took, moments, moments[1:]):
-                    self.took[name].append(ended - begun)
+                for name, begun, ended in zip(("WELCOME", "QUOTA", "ASK"), moments, moments[1:]):
+                    self.took[f"{name} of {whom}"].append(ended - begun)
             except (OSError, Refused) as reason:
                 self.faults.append(f"{address} after {time.monotonic() - moments[0]:.2f} s: {reason!r}")
             number += 1

@@ -7,13 +7,13 @@ ghost use Rattle.fair_pool.specs.Waits.{is_ahead, Comes, Wakes, Rests, Serves, P
 ghost use Rattle.fair_pool.specs.Shares.{new_shares, tenant_entered, entered_place, customer_at, network_at, tenant_seen, left_all};
 ghost use Rattle.fair_pool.specs.Rows.{account, four, three, served};
 
-/// Thirty-one tasks of the deques are begun, and the 32nd is a pick. Where it finds none it stays due.
+/// Sixty-three tasks of the deques are begun, and the 64th is a pick. Where it finds none it stays due.
 pub fn many_tasks_and_a_pick()
     ensures first { is_due 0 ≡ false }
-    ensures last { is_due 30 ≡ false }
-    ensures pick { is_due 31 ≡ true }
-    ensures counts { since_after 30 ≡ 31 }
-    ensures stays { since_after 31 ≡ 31 }
+    ensures last { is_due 62 ≡ false }
+    ensures pick { is_due 63 ≡ true }
+    ensures counts { since_after 62 ≡ 63 }
+    ensures stays { since_after 63 ≡ 63 }
 {}
 
 /// Two were served as much: the one that has been active for longer comes before the other. One that was served less comes before
