@@ -17,9 +17,9 @@
 //!
 //! ```text
 //! let mut book = Book::new(rt.alloc(), 8, 32)?;
-//! reserve(&rt, &mut book, 1, 5, 8, Ok(()));
-//! reserve(&rt, &mut book, 2, 3, 8, Ok(()));
-//! reserve(&rt, &mut book, 3, 1, 1, Err(Refusal::Full));
+//! holds(&rt, reserves(&rt, &mut book, 1, 5) == Ok(()));
+//! holds(&rt, reserves(&rt, &mut book, 2, 3) == Ok(()));
+//! holds(&rt, reserves(&rt, &mut book, 3, 1) == Err(Refusal::Full));
 //! ```
 #![tactic(auto)]
 

@@ -3,11 +3,44 @@ ghost use Rattle.std.specs.Prelude.{◌≡◌, true};
 mod memory;
 mod search;
 
+use linked_list_allocator::LocalHeap;
+use othello_board::Board;
+use position_text::{Position, Side};
+use std::alloc::Global;
 use std::process::Abort;
+use tenant_quota::Left;
 
 /// Fails the test where this isn't so. An `assert!` in its place takes the prover twice as long.
 fn holds(rt: &impl Abort, is: bool)
     ensures { is ≡ true }
 {
     assert!(rt; is);
+}
+
+/// A heap of so many bytes.
+fn heap_of(rt: &impl Abort, alloc: Global, bytes: usize) -> LocalHeap {
+    LocalHeap::new(alloc, bytes).expect(rt, "room for a heap")
+}
+
+/// So much left of a reservation.
+fn left_of(segments: u32, nodes: u32, steps: u32) -> Left {
+    Left {
+        segments,
+        nodes,
+        steps,
+    }
+}
+
+/// The opening, seen by the player to move.
+const OPENING: Board = Board {
+    own: 1 << 28 | 1 << 35,
+    opp: 1 << 27 | 1 << 36,
+};
+
+/// The opening, Black to move.
+fn opening() -> Position {
+    Position {
+        board: OPENING,
+        side: Side::Black,
+    }
 }

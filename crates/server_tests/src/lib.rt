@@ -12,7 +12,7 @@
 //!
 //! ```text
 //! // a server of two sessions and two workers, and clients that are told what they should be told
-//! is_visited(rt, 2, Visit::Both)
+//! is_content(rt, 0, Guest::Both, 2, 2)
 //! ```
 #![tactic(auto)]
 

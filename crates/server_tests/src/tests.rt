@@ -1,12 +1,22 @@
 ghost use Rattle.std.specs.Prelude.{◌≡◌, true};
 
 mod bells;
+mod charges;
 mod servers;
 mod sites;
 
 use std::alloc::Global;
 use std::fmt::Display;
+use std::fs::Files;
 use std::process::Abort;
+use std::sync::Wait;
+use std::thread::Threads;
+use std::time::{Clock, CpuClock};
+
+/// What a server and its clients need of a runtime beside the net, and a test to fail.
+pub(crate) trait Host: AllocGlobal + Files + Threads + Wait + Clock + CpuClock + Abort {}
+
+impl<R: AllocGlobal + Files + Threads + Wait + Clock + CpuClock + Abort> Host for R {}
 
 /// Fails the test where this isn't so. An `assert!` in its place takes the prover twice as long.
 pub(crate) fn holds(rt: &impl Abort, is: bool)

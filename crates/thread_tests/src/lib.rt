@@ -9,8 +9,8 @@
 //! below are not proved once more with them; those of servers stand in `server_tests`, so that both are proved at once.
 //!
 //! ```text
-//! let mut seat = seat_of(rt, desk, 1, 1);
-//! talks(rt, desk, &mut seat, &[Said::Ask(0, Ok(1))]); // a job of one leaf
+//! let mut seat = at.seat_of(1, 1);                    // of a desk, where at = At { rt, desk }
+//! at.talks(&mut seat, &[Said::Ask(0, Ok(1))]);        // a job of one leaf
 //! thread::scope(thread::scope_env(), rt, |scope| ..)  // one waits for it, one does its steps: the first is woken
 //! ```
 #![tactic(auto)]

@@ -6,31 +6,29 @@
 //!
 //! Rows that begin with `?` ask for what was read last: `? config` for its numbers, `? halls` for the plans, `? who TOKEN CERTIFICATE
 //! ADDRESS` (`-` where there is none) for whose a connection is.
+use crate::compared::compare_text;
 use crate::file_lines::{FileLines, has_row, push_line};
 use crate::scenes::{Row, Scene};
-use crate::tally::Tally;
-use crate::turns::{Player, play_turns};
+use crate::tally::{Done, Tally};
+use crate::turns::Turn;
 use crate::words::{Words, first_word, rest_of, tell};
 use site_book::{Amount, Part, Plan, Who};
 use site_file::{Address, Config, FileFault, Limits, Terms, read_config, read_config_again};
-use std::alloc::{AllocError, Global};
+use std::alloc::Global;
 use std::fmt::Write;
 use std::net::{IpAddr, SocketAddr};
 
-/// Plays a scene of a file.
-pub(crate) fn play_config(
-    alloc: Global,
-    file: &str,
-    scene: &Scene<'_>,
-    tally: &mut Tally,
-) -> Result<(), AllocError> {
-    play_turns(
-        &mut ConfigFile::new(alloc),
-        alloc,
-        file,
-        scene.rows.as_slice(),
-        tally,
-    )
+/// Plays a scene of a file: turn by turn.
+pub(crate) fn play_config(alloc: Global, scene: &Scene<'_>, tally: &mut Tally) -> Done {
+    let mut file = ConfigFile::new(alloc);
+    let mut turn = Turn::new(alloc, scene.head);
+    for row in scene.rows.iter() {
+        if turn.is_over(*row) {
+            file.play(&mut turn, tally)?;
+        }
+        turn.take(*row)?;
+    }
+    file.play(&mut turn, tally)
 }
 
 /// A file, and what was read last.
@@ -52,7 +50,7 @@ impl ConfigFile {
     }
 
     /// Reads the file with what rows change in it, and says what comes of it.
-    fn read(&mut self, rows: &[Row<'_>], came: &mut String) -> Result<(), AllocError> {
+    fn read(&mut self, rows: &[Row<'_>], came: &mut String) -> Done {
         let text = self.lines.text(rows)?;
         match self.read_text(text.as_str(), has_row(rows, "again")) {
             Ok(config) => {
@@ -72,7 +70,7 @@ impl ConfigFile {
     }
 
     /// Tells what a row asks for.
-    fn tell(&self, row: &str, came: &mut String) -> Result<(), AllocError> {
+    fn tell(&self, row: &str, came: &mut String) -> Done {
         let Some(config) = &self.config else {
             return came.push_str("nothing was read\n");
         };
@@ -83,10 +81,9 @@ impl ConfigFile {
             _ => push_who(self.alloc, config, who_in(config, asked), came),
         }
     }
-}
 
-impl Player for ConfigFile {
-    fn play(&mut self, rows: &[Row<'_>], came: &mut String) -> Result<(), AllocError> {
+    /// Takes the rows of a turn, and tells what comes of them.
+    fn answer(&mut self, rows: &[Row<'_>], came: &mut String) -> Done {
         if !has_row(rows, "?") {
             self.lines.take(rows)?;
             return self.read(rows, came);
@@ -94,6 +91,15 @@ impl Player for ConfigFile {
         for row in rows {
             self.tell(row.text, came)?;
         }
+        Ok(())
+    }
+
+    /// Plays a turn, and compares what comes of it with what is due; then the turn has no rows.
+    fn play(&mut self, turn: &mut Turn<'_>, tally: &mut Tally) -> Done {
+        let mut came = String::new(self.alloc);
+        self.answer(turn.given.as_slice(), &mut came)?;
+        compare_text(tally, turn.end, turn.dues.as_slice(), came.as_str())?;
+        turn.clear();
         Ok(())
     }
 }
@@ -118,12 +124,7 @@ fn bytes_of(word: Option<&str>) -> Option<&[u8]> {
 }
 
 /// Appends a customer's name, behind its number where it is named.
-fn push_who(
-    alloc: Global,
-    config: &Config,
-    who: Option<Who>,
-    came: &mut String,
-) -> Result<(), AllocError> {
+fn push_who(alloc: Global, config: &Config, who: Option<Who>, came: &mut String) -> Done {
     let Some(who) = who else {
         return came.push_str("nobody\n");
     };
@@ -134,7 +135,7 @@ fn push_who(
 }
 
 /// Appends all numbers that aren't a plan's.
-fn push_config(config: &Config, came: &mut String) -> Result<(), AllocError> {
+fn push_config(config: &Config, came: &mut String) -> Done {
     let entrances = config.entrances;
     push_place(came, "listen", entrances.proxied)?;
     push_place(came, "plain", entrances.plain)?;
@@ -153,14 +154,14 @@ fn push_config(config: &Config, came: &mut String) -> Result<(), AllocError> {
     Ok(())
 }
 
-fn push_place(came: &mut String, word: &str, place: Option<SocketAddr>) -> Result<(), AllocError> {
+fn push_place(came: &mut String, word: &str, place: Option<SocketAddr>) -> Done {
     match place {
         Some(place) => tell(came, word, &[u64::from(place.port())]),
         None => Ok(()),
     }
 }
 
-fn push_limits(limits: Limits, came: &mut String) -> Result<(), AllocError> {
+fn push_limits(limits: Limits, came: &mut String) -> Done {
     tell(
         came,
         "limits",
@@ -176,7 +177,7 @@ fn push_limits(limits: Limits, came: &mut String) -> Result<(), AllocError> {
 }
 
 /// Appends a customer's name, connections, rate and home.
-fn push_terms(terms: &Terms, came: &mut String) -> Result<(), AllocError> {
+fn push_terms(terms: &Terms, came: &mut String) -> Done {
     tell(
         came,
         terms.name.as_str(),
@@ -190,14 +191,14 @@ fn push_terms(terms: &Terms, came: &mut String) -> Result<(), AllocError> {
 }
 
 /// Appends the plan of each hall.
-fn push_halls(config: &Config, came: &mut String) -> Result<(), AllocError> {
+fn push_halls(config: &Config, came: &mut String) -> Done {
     for plan in &config.halls {
         push_plan(plan, config.directory.customers.len(), came)?;
     }
     Ok(())
 }
 
-fn push_plan(plan: &Plan, customers: usize, came: &mut String) -> Result<(), AllocError> {
+fn push_plan(plan: &Plan, customers: usize, came: &mut String) -> Done {
     push_amount(came, "hall", plan.totals())?;
     push_amount(came, "each guest", plan.budget(Who::V4(0)))?;
     push_amount(came, "network", plan.limit(Part::Network(Who::V4(0))))?;
@@ -208,10 +209,7 @@ fn push_plan(plan: &Plan, customers: usize, came: &mut String) -> Result<(), All
     Ok(())
 }
 
-fn push_amount(came: &mut String, word: &str, amount: Amount) -> Result<(), AllocError> {
-    tell(
-        came,
-        word,
-        &[u64::from(amount.sessions), amount.segments, amount.nodes],
-    )
+fn push_amount(came: &mut String, word: &str, amount: Amount) -> Done {
+    let sessions = u64::from(amount.sessions);
+    tell(came, word, &[sessions, amount.segments, amount.nodes])
 }

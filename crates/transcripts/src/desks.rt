@@ -7,12 +7,11 @@ ghost use Rattle.std.specs.Prelude.{◌≡◌, ◌≤◌};
 use crate::crew::Crew;
 use crate::guests::House;
 use crate::playing::read_totals;
-use crate::scenes::{Row, Scene};
-use crate::sessions::Stage;
-use crate::tally::{Place, Tally};
+use crate::scenes::Scene;
+use crate::tally::{Done, Tally};
 use crate::words::option;
 use desk::{Config, Desk, DeskLedger, Hall, Jamboree, Opened, PARTS, Step, Worker};
-use std::alloc::{AllocError, Allocator, Global};
+use std::alloc::{Allocator, Global};
 use std::marker::Brand;
 use std::sync::Wait;
 use std::sync::ledger::Blank;
@@ -52,41 +51,20 @@ fn read_setting(head: &str) -> Option<Setting> {
 }
 
 /// Plays a scene at a desk of its own.
-pub fn play_sessions<R: Wait>(
-    rt: &R,
-    alloc: Global,
-    file: &str,
-    scene: &Scene<'_>,
-    tally: &mut Tally,
-) -> Result<(), AllocError> {
-    let place = Place {
-        file,
-        line: scene.head.line,
-    };
-    let Some(setting) = read_setting(scene.head.text) else {
-        return tally.miss(
-            place,
-            "segments, nodes, and a grain from 0 to 6",
-            scene.head.text,
-        );
+pub fn play_sessions<R: Wait>(rt: &R, alloc: Global, scene: &Scene<'_>, tally: &mut Tally) -> Done {
+    let head = scene.head;
+    let Some(setting) = read_setting(head.text) else {
+        return tally.miss(head, "segments, nodes, and a grain from 0 to 6", head.text);
     };
     let counted = Counted::new(alloc);
     let hall = Hall::new(&counted, setting.config, setting.grain)?;
     counted.refuse(setting.refuses);
-    play_at::<Brand, R, &Counted<Global>>(
-        rt,
-        alloc,
-        hall,
-        Blank::new(PARTS),
-        Opened::new(alloc)?,
-        setting,
-        place,
-        scene.rows.as_slice(),
-        tally,
-    )
+    let blank = Blank::new(PARTS);
+    let opened = Opened::new(alloc)?;
+    play_at::<Brand, R, &Counted<Global>>(rt, alloc, hall, blank, opened, setting, scene, tally)
 }
 
-/// Plays rows at a desk with this hall.
+/// Plays a scene at a desk with this hall.
 fn play_at<L: DeskLedger, R: Wait, A: Allocator + Clone>(
     rt: &R,
     alloc: Global,
@@ -94,41 +72,32 @@ fn play_at<L: DeskLedger, R: Wait, A: Allocator + Clone>(
     blank: Blank,
     opened: Opened<Step<Jamboree>>,
     setting: Setting,
-    place: Place<'_>,
-    rows: &[Row<'_>],
+    scene: &Scene<'_>,
     tally: &mut Tally,
-) -> Result<(), AllocError>
+) -> Done
     requires name { blank.name ≡ L.name }
     requires parts { (blank.parts ≡ L.parts) × (L.all ≡ L.parts) × (L.all ≡ 13835058055282163712) }
     requires history { opened ≡ L.table }
     requires begun { hall ≡ L.begun }
 {
     let desk: Desk<L, A> = Desk::new(hall, blank, opened);
-    play_rows(rt, alloc, &desk, setting, place, rows, tally)
+    play_rows(rt, alloc, &desk, setting, scene, tally)
 }
 
-/// Plays rows at a desk.
+/// Plays a scene at a desk.
 fn play_rows<L: DeskLedger, R: Wait, A: Allocator + Clone>(
     rt: &R,
     alloc: Global,
     desk: &Desk<L, A>,
     setting: Setting,
-    place: Place<'_>,
-    rows: &[Row<'_>],
+    scene: &Scene<'_>,
     tally: &mut Tally,
-) -> Result<(), AllocError>
+) -> Done
     requires { L.all ≡ L.parts }
 {
     let Some(crew) = Crew::new(alloc, rt, desk, setting.worker) else {
-        return tally.miss(place, "a badge", "none");
+        return tally.miss(scene.head, "a badge", "none");
     };
-    let mut stage = Stage {
-        rt,
-        alloc,
-        desk,
-        house: House::new(alloc, crew),
-        file: place.file,
-        pieces: setting.pieces,
-    };
-    stage.play(rows, tally)
+    let mut house = House::new(rt, alloc, desk, crew, setting.pieces);
+    house.play(scene.rows.as_slice(), tally)
 }

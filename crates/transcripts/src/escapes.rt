@@ -4,17 +4,6 @@ use std::alloc::AllocError;
 /// Ends a line.
 const LF: u8 = 10;
 
-/// What the text of a line ended with.
-#[derive(Clone, Copy, Debug, PartialEq, Eq)]
-pub enum Ending {
-    /// Its last byte: an LF follows.
-    Whole,
-    /// The sign `\-`: no LF follows, as the input ends there or is lost.
-    Cut,
-    /// An escape that is none.
-    Bad,
-}
-
 /// How much of an escape was read.
 #[derive(Clone, Copy)]
 enum Escape {
@@ -31,28 +20,22 @@ enum Escape {
 }
 
 /// Appends the bytes that a text stands for, and an LF. A byte stands for itself, but for the escapes: `\xHH` is the byte
-/// of these two hexadecimal digits, `\r` a CR, `\s` a space, `\\` a `\`, and `\-` at the end says that no LF follows.
-pub fn push_line(text: &str, bytes: &mut Vec<u8>) -> Result<Ending, AllocError> {
+/// of these two hexadecimal digits, `\r` a CR, `\s` a space, `\\` a `\`, and `\-` at the end says that no LF follows, as the
+/// input ends there or is lost. False where an escape is none of these.
+pub fn push_line(text: &str, bytes: &mut Vec<u8>) -> Result<bool, AllocError> {
     let mut escape = Escape::Plain;
     for byte in text.as_bytes() {
         let Some(next) = take(escape, *byte, bytes)? else {
-            return Ok(Ending::Bad);
+            return Ok(false);
         };
         escape = next;
     }
-    end(escape, bytes)
-}
-
-/// Appends the LF, where one follows.
-fn end(escape: Escape, bytes: &mut Vec<u8>) -> Result<Ending, AllocError> {
     match escape {
-        Escape::Plain => {
-            bytes.push(LF)?;
-            Ok(Ending::Whole)
-        }
-        Escape::Cut => Ok(Ending::Cut),
-        Escape::Begun | Escape::High | Escape::Low(_) => Ok(Ending::Bad),
+        Escape::Plain => bytes.push(LF)?,
+        Escape::Cut => {}
+        Escape::Begun | Escape::High | Escape::Low(_) => return Ok(false),
     }
+    Ok(true)
 }
 
 /// Takes the next byte of a text. None where it goes on with no escape.
@@ -95,8 +78,6 @@ fn finish(high: u8, byte: u8, bytes: &mut Vec<u8>) -> Result<Option<Escape>, All
 
 /// The value of a hexadecimal digit.
 fn hex_value(byte: u8) -> Option<u8> {
-    match char::from(byte).to_digit(16) {
-        Some(digit) => Some(digit as u8),
-        None => None,
-    }
+    let digit = char::from(byte).to_digit(16)?;
+    Some(digit as u8)
 }

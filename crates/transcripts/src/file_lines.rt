@@ -1,5 +1,6 @@
 //! The lines of a file in a scene, and what rows change in it.
 use crate::scenes::Row;
+use crate::tally::Done;
 use crate::words::{first_word, number, rest_of};
 use std::alloc::{AllocError, Global};
 
@@ -11,18 +12,13 @@ pub struct FileLines {
 }
 
 /// Appends a line.
-pub fn push_line(text: &mut String, line: &str) -> Result<(), AllocError> {
+pub fn push_line(text: &mut String, line: &str) -> Done {
     text.push_str(line)?;
     text.push_str("\n")
 }
 
 /// Appends the lines that stand in the place of the line of this number, or that line where none does.
-fn push_changed(
-    text: &mut String,
-    rows: &[Row<'_>],
-    place: u64,
-    line: &str,
-) -> Result<(), AllocError> {
+fn push_changed(text: &mut String, rows: &[Row<'_>], place: u64, line: &str) -> Done {
     let mut is_changed = false;
     for row in rows {
         if number(first_word(row.text)) == Some(place) {
@@ -56,7 +52,7 @@ impl FileLines {
     }
 
     /// Takes the lines of a file.
-    pub fn take(&mut self, rows: &[Row<'_>]) -> Result<(), AllocError> {
+    pub fn take(&mut self, rows: &[Row<'_>]) -> Done {
         for row in rows {
             match first_word(row.text) {
                 "file" => self.lines.clear(),

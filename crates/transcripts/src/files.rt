@@ -4,8 +4,8 @@ use crate::desks::play_sessions;
 use crate::playing::play_steps;
 use crate::scenes::{Scene, read_scenes};
 use crate::solving::play_solve;
-use crate::tally::{Place, Tally};
-use std::alloc::{AllocError, Global};
+use crate::tally::{Done, Tally};
+use std::alloc::Global;
 use std::process::ExitCode;
 use std::rt::Files;
 use std::sync::Wait;
@@ -67,19 +67,13 @@ enum Kind {
 /// What plays a file of this name, by its ending.
 fn kind_of(file: &str) -> Option<Kind> {
     let (_name, ending) = file.rsplit_once('.')?;
-    if ending == "solve" {
-        return Some(Kind::Solve);
+    match ending {
+        "solve" => Some(Kind::Solve),
+        "session" => Some(Kind::Session),
+        "steps" => Some(Kind::Steps),
+        "rows" => Some(Kind::Config),
+        _ => None,
     }
-    if ending == "session" {
-        return Some(Kind::Session);
-    }
-    if ending == "steps" {
-        return Some(Kind::Steps);
-    }
-    if ending == "rows" {
-        return Some(Kind::Config);
-    }
-    None
 }
 
 /// Plays the scenes of a text.
@@ -90,10 +84,10 @@ fn play_text<R: Wait>(
     file: &str,
     text: &str,
     tally: &mut Tally,
-) -> Result<(), AllocError> {
-    let scenes = read_scenes(alloc, text)?;
+) -> Done {
+    let scenes = read_scenes(alloc, file, text)?;
     for scene in scenes.iter() {
-        play_scene(rt, alloc, kind, file, scene, tally)?;
+        play_scene(rt, alloc, kind, scene, tally)?;
     }
     Ok(())
 }
@@ -103,30 +97,16 @@ fn play_scene<R: Wait>(
     rt: &R,
     alloc: Global,
     kind: Kind,
-    file: &str,
     scene: &Scene<'_>,
     tally: &mut Tally,
-) -> Result<(), AllocError> {
+) -> Done {
+    let head = scene.head.text;
     match kind {
-        Kind::Config if scene.head.text.starts_with("config") => {
-            play_config(alloc, file, scene, tally)
-        }
-        Kind::Solve if scene.head.text.starts_with("solve ") => {
-            play_solve(alloc, file, scene, tally)
-        }
-        Kind::Session if scene.head.text.starts_with("desk ") => {
-            play_sessions(rt, alloc, file, scene, tally)
-        }
-        Kind::Steps if scene.head.text.starts_with("core ") => {
-            play_steps(alloc, file, scene, tally)
-        }
-        _ => {
-            let place = Place {
-                file,
-                line: scene.head.line,
-            };
-            tally.miss(place, "a head of this kind of text", scene.head.text)
-        }
+        Kind::Config if head.starts_with("config") => play_config(alloc, scene, tally),
+        Kind::Solve if head.starts_with("solve ") => play_solve(alloc, scene, tally),
+        Kind::Session if head.starts_with("desk ") => play_sessions(rt, alloc, scene, tally),
+        Kind::Steps if head.starts_with("core ") => play_steps(alloc, scene, tally),
+        _ => tally.miss(scene.head, "a head of this kind of text", head),
     }
 }
 

@@ -61,11 +61,16 @@ impl<'t, 'a, L: DeskLedger, R: Wait, A: Allocator + Clone> Guest<'t, 'a, L, R, A
     }
 }
 
-/// The sessions at a desk so far, and the worker. It is the office of the part of a session that is served: it passes each
+/// A desk with its worker, and the sessions at it so far. It is the office of the part of a session that is served: it passes each
 /// call on to the tenant's office at the desk, and at `wait` the worker runs all jobs first.
 pub struct House<'t, 'a, L: DeskLedger, R: Wait, A: Allocator + Clone> {
+    pub rt: &'a R,
+    pub alloc: Global,
+    pub desk: &'a Desk<L, A>,
     /// The worker.
     pub crew: Crew<'a, L, R, A>,
+    /// The most bytes that a session's reader gives at once.
+    pieces: usize,
     /// The sessions.
     pub guests: Vec<Guest<'t, 'a, L, R, A>>,
     /// The place of the session that is served.
@@ -79,7 +84,11 @@ pub struct House<'t, 'a, L: DeskLedger, R: Wait, A: Allocator + Clone> {
 impl<L: DeskLedger, R: Wait, A: Allocator + Clone> Drop for House<'_, '_, L, R, A> {
     fn drop(self) {
         let House {
+            rt: _rt,
+            alloc: _alloc,
+            desk: _desk,
             crew: _crew,
+            pieces: _pieces,
             guests: _guests,
             at: _at,
             resumes: _resumes,
@@ -89,10 +98,20 @@ impl<L: DeskLedger, R: Wait, A: Allocator + Clone> Drop for House<'_, '_, L, R, 
 }
 
 impl<'t, 'a, L: DeskLedger, R: Wait, A: Allocator + Clone> House<'t, 'a, L, R, A> {
-    /// No session yet.
-    pub fn new(alloc: Global, crew: Crew<'a, L, R, A>) -> House<'t, 'a, L, R, A> {
+    /// No session yet at this desk, whose worker this is.
+    pub fn new(
+        rt: &'a R,
+        alloc: Global,
+        desk: &'a Desk<L, A>,
+        crew: Crew<'a, L, R, A>,
+        pieces: usize,
+    ) -> House<'t, 'a, L, R, A> {
         House {
+            rt,
+            alloc,
+            desk,
             crew,
+            pieces,
             guests: Vec::new(alloc),
             at: 0,
             resumes: false,
@@ -102,21 +121,18 @@ impl<'t, 'a, L: DeskLedger, R: Wait, A: Allocator + Clone> House<'t, 'a, L, R, A
 
     /// A part of the session at this place, and what it writes. The tenant stays at its end where `stays` says so, but not
     /// after a line BYE.
-    pub fn serve(
-        &mut self,
-        rt: &R,
-        alloc: Global,
-        at: usize,
-        pieces: Pieces<'_>,
-        stays: bool,
-    ) -> Vec<u8>
+    pub fn serve(&mut self, at: usize, sent: &[u8], stays: bool) -> Vec<u8>
         requires { L.all ≡ L.parts }
     {
         self.resumes = self.is_seated(at);
         self.at = at;
         self.stays = stays;
-        let mut source = pieces;
-        let mut sink = FromWriter::new(Vec::new(alloc));
+        let mut source = Pieces {
+            bytes: sent,
+            most: self.pieces,
+        };
+        let mut sink = FromWriter::new(Vec::new(self.alloc));
+        let rt = self.rt;
         let end = serve_lines(rt, &mut source, &mut sink, self);
         if end == Ok(End::Bye) {
             self.stays = false;

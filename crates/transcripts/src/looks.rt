@@ -1,82 +1,72 @@
 //! What is read of a core, as texts.
 use crate::answered::draw_frame;
+use crate::plain_core::Counting;
 use crate::reading::read_frame;
+use crate::tally::Done;
 use crate::words::Words;
 use cactus_stack::Words as FrameWords;
 use frame_tree::{FrameId, State};
-use sched_core::{Core, Job, Procedure};
-use std::alloc::{AllocError, Allocator};
+use sched_core::{Job, Procedure};
 
 /// What is said where there is nothing.
 const NONE: &str = "none";
 
-/// Appends what a look sees. False where the text is no look:
-///
-/// `left TENANT` (segments, nodes, steps), `live TENANT` (frames, words), `newest TENANT` (a ready frame and its home),
-/// `job TENANT NUMBER`, `frame FRAME` (its parent, state and words), `free` (segments), and `ready` (whether some frame is).
-pub fn look<P: Procedure, A: Allocator>(
-    text: &mut String,
-    core: &Core<P, A>,
-    asked: &str,
-) -> Result<bool, AllocError> {
+/// What is read of a core.
+#[derive(Clone, Copy, Debug)]
+pub enum Look {
+    /// How many segments are free.
+    Free,
+    /// Whether some frame is ready.
+    Ready,
+    /// A frame's parent, state and words.
+    Frame(FrameId),
+    /// A tenant's segments, nodes and steps that are left.
+    Left(u64),
+    /// How many frames and words a tenant has.
+    Live(u64),
+    /// A tenant's newest ready frame, and its home.
+    Newest(u64),
+    /// A tenant's job of this number.
+    Job(u64, u64),
+}
+
+/// The look that a text asks for; None where it asks for none: `free`, `ready`, `frame FRAME`, `left TENANT`, `live TENANT`,
+/// `newest TENANT`, `job TENANT NUMBER`.
+pub fn read_look(asked: &str) -> Option<Look> {
     let mut words = Words::of(asked);
-    match words.word() {
-        Some("free") => draw_free(text, core)?,
-        Some("ready") => draw_ready(text, core)?,
-        Some("frame") => return look_at_frame(text, core, &mut words),
-        Some(kind) => return look_at_tenant(text, core, kind, &mut words),
-        None => return Ok(false),
-    }
-    Ok(words.is_empty())
-}
-
-fn look_at_frame<P: Procedure, A: Allocator>(
-    text: &mut String,
-    core: &Core<P, A>,
-    words: &mut Words<'_>,
-) -> Result<bool, AllocError> {
-    let Some(name) = read_frame(words) else {
-        return Ok(false);
+    let look = match words.word()? {
+        "free" => Look::Free,
+        "ready" => Look::Ready,
+        "frame" => Look::Frame(read_frame(&mut words)?),
+        "left" => Look::Left(words.number()?),
+        "live" => Look::Live(words.number()?),
+        "newest" => Look::Newest(words.number()?),
+        "job" => Look::Job(words.number()?, words.number()?),
+        _ => return None,
     };
-    draw_entry(text, core, name)?;
-    Ok(words.is_empty())
+    if words.is_empty() { Some(look) } else { None }
 }
 
-fn look_at_tenant<P: Procedure, A: Allocator>(
-    text: &mut String,
-    core: &Core<P, A>,
-    kind: &str,
-    words: &mut Words<'_>,
-) -> Result<bool, AllocError> {
-    let Some(tenant) = words.number() else {
-        return Ok(false);
-    };
-    match kind {
-        "left" => draw_left(text, core, tenant)?,
-        "live" => draw_live(text, core, tenant)?,
-        "newest" => draw_newest(text, core, tenant)?,
-        "job" => match words.number() {
-            Some(number) => draw_job(text, core.job(tenant, number))?,
-            None => return Ok(false),
-        },
-        _ => return Ok(false),
+/// Appends what a look sees.
+pub fn draw_look<P: Procedure>(text: &mut String, core: &Counting<'_, P>, look: Look) -> Done {
+    match look {
+        Look::Free => draw_free(text, core),
+        Look::Ready => draw_ready(text, core),
+        Look::Frame(name) => draw_entry(text, core, name),
+        Look::Left(tenant) => draw_left(text, core, tenant),
+        Look::Live(tenant) => draw_live(text, core, tenant),
+        Look::Newest(tenant) => draw_newest(text, core, tenant),
+        Look::Job(tenant, number) => draw_job(text, core.job(tenant, number)),
     }
-    Ok(words.is_empty())
 }
 
-fn draw_free<P: Procedure, A: Allocator>(
-    text: &mut String,
-    core: &Core<P, A>,
-) -> Result<(), AllocError> {
+fn draw_free<P: Procedure>(text: &mut String, core: &Counting<'_, P>) -> Done {
     let free = core.free_segments();
     write!(text, "{free}")
 }
 
 /// A frame that is named as ready must be so, at the home that is named.
-fn draw_ready<P: Procedure, A: Allocator>(
-    text: &mut String,
-    core: &Core<P, A>,
-) -> Result<(), AllocError> {
+fn draw_ready<P: Procedure>(text: &mut String, core: &Counting<'_, P>) -> Done {
     let said = match core.any_ready() {
         None => NONE,
         Some((name, home)) if is_ready(core, name, home) => "some",
@@ -86,18 +76,14 @@ fn draw_ready<P: Procedure, A: Allocator>(
 }
 
 /// Whether a frame is ready at this home.
-fn is_ready<P: Procedure, A: Allocator>(core: &Core<P, A>, name: FrameId, home: u8) -> bool {
+fn is_ready<P: Procedure>(core: &Counting<'_, P>, name: FrameId, home: u8) -> bool {
     match core.frame(name) {
         Some((_, state)) => state == State::Ready(home),
         None => false,
     }
 }
 
-fn draw_left<P: Procedure, A: Allocator>(
-    text: &mut String,
-    core: &Core<P, A>,
-    tenant: u64,
-) -> Result<(), AllocError> {
+fn draw_left<P: Procedure>(text: &mut String, core: &Counting<'_, P>, tenant: u64) -> Done {
     let Some(left) = core.left(tenant) else {
         return text.push_str(NONE);
     };
@@ -107,22 +93,14 @@ fn draw_left<P: Procedure, A: Allocator>(
     write!(text, "{segments} {nodes} {steps}")
 }
 
-fn draw_live<P: Procedure, A: Allocator>(
-    text: &mut String,
-    core: &Core<P, A>,
-    tenant: u64,
-) -> Result<(), AllocError> {
+fn draw_live<P: Procedure>(text: &mut String, core: &Counting<'_, P>, tenant: u64) -> Done {
     match core.live(tenant) {
         Some((frames, words)) => write!(text, "{frames} {words}"),
         None => text.push_str(NONE),
     }
 }
 
-fn draw_newest<P: Procedure, A: Allocator>(
-    text: &mut String,
-    core: &Core<P, A>,
-    tenant: u64,
-) -> Result<(), AllocError> {
+fn draw_newest<P: Procedure>(text: &mut String, core: &Counting<'_, P>, tenant: u64) -> Done {
     let Some((name, home)) = core.newest_ready(tenant) else {
         return text.push_str(NONE);
     };
@@ -130,7 +108,7 @@ fn draw_newest<P: Procedure, A: Allocator>(
     write!(text, " at {home}")
 }
 
-fn draw_job(text: &mut String, job: Option<&Job>) -> Result<(), AllocError> {
+fn draw_job(text: &mut String, job: Option<&Job>) -> Done {
     match job {
         None => text.push_str(NONE),
         Some(Job::Live(root)) => write!(text, "live under {root}"),
@@ -143,18 +121,14 @@ fn draw_job(text: &mut String, job: Option<&Job>) -> Result<(), AllocError> {
     }
 }
 
-fn draw_list(text: &mut String, words: &[u64]) -> Result<(), AllocError> {
+fn draw_list(text: &mut String, words: &[u64]) -> Done {
     for word in words {
         write!(text, " {word}")?;
     }
     Ok(())
 }
 
-fn draw_entry<P: Procedure, A: Allocator>(
-    text: &mut String,
-    core: &Core<P, A>,
-    name: FrameId,
-) -> Result<(), AllocError> {
+fn draw_entry<P: Procedure>(text: &mut String, core: &Counting<'_, P>, name: FrameId) -> Done {
     let Some((parent, state)) = core.frame(name) else {
         return text.push_str(NONE);
     };
@@ -170,7 +144,7 @@ fn draw_entry<P: Procedure, A: Allocator>(
     }
 }
 
-fn draw_words(text: &mut String, words: &FrameWords) -> Result<(), AllocError> {
+fn draw_words(text: &mut String, words: &FrameWords) -> Done {
     for at in 0..words.len() {
         if let Some(word) = words.get(at) {
             write!(text, " {word}")?;
@@ -180,12 +154,12 @@ fn draw_words(text: &mut String, words: &FrameWords) -> Result<(), AllocError> {
 }
 
 /// Appends all that is read of a tenant: of its frames and jobs those up to this serial and number.
-pub fn draw_tenant<P: Procedure, A: Allocator>(
+pub fn draw_tenant<P: Procedure>(
     text: &mut String,
-    core: &Core<P, A>,
+    core: &Counting<'_, P>,
     tenant: u64,
     last: u64,
-) -> Result<(), AllocError> {
+) -> Done {
     draw_left(text, core, tenant)?;
     text.push_str(", ")?;
     draw_live(text, core, tenant)?;
@@ -195,12 +169,12 @@ pub fn draw_tenant<P: Procedure, A: Allocator>(
     draw_frames(text, core, tenant, last)
 }
 
-fn draw_jobs<P: Procedure, A: Allocator>(
+fn draw_jobs<P: Procedure>(
     text: &mut String,
-    core: &Core<P, A>,
+    core: &Counting<'_, P>,
     tenant: u64,
     last: u64,
-) -> Result<(), AllocError> {
+) -> Done {
     for number in 0..=last.min(257) {
         let job = core.job(tenant, number);
         if job.is_some() {
@@ -211,12 +185,12 @@ fn draw_jobs<P: Procedure, A: Allocator>(
     Ok(())
 }
 
-fn draw_frames<P: Procedure, A: Allocator>(
+fn draw_frames<P: Procedure>(
     text: &mut String,
-    core: &Core<P, A>,
+    core: &Counting<'_, P>,
     tenant: u64,
     last: u64,
-) -> Result<(), AllocError> {
+) -> Done {
     for serial in 0..=last.min(1 << 32) {
         let name = FrameId { tenant, serial };
         if core.frame(name).is_some() {

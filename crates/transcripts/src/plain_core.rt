@@ -1,34 +1,36 @@
 //! A core's calls without what their contracts say: no player needs it, and a function that knows it is dear to prove.
+use crate::tally::Done;
 use sched_core::{Config, Core, Did, Procedure, Refusal, Step};
-use std::alloc::{AllocError, Allocator};
+use std::alloc::{AllocError, Global};
+use toys::Counted;
+
+/// A core whose allocator is counted.
+pub type Counting<'c, P> = Core<P, &'c Counted<Global>>;
 
 /// A core of these totals.
-pub fn made<P: Procedure + Drop, A: Allocator + Clone>(
-    alloc: A,
+pub fn made<P: Procedure + Drop>(
+    counted: &Counted<Global>,
     config: Config,
     procedure: P,
-) -> Result<Core<P, A>, AllocError> {
-    Core::new(alloc, config, procedure)
+) -> Result<Counting<'_, P>, AllocError> {
+    Core::new(counted, config, procedure)
 }
 
 /// One step.
-pub fn step<P: Procedure, A: Allocator + Clone>(
-    core: &mut Core<P, A>,
-    step: &Step<P>,
-) -> Result<Did<P>, Refusal> {
+pub fn step<P: Procedure>(core: &mut Counting<'_, P>, step: &Step<P>) -> Result<Did<P>, Refusal> {
     core.step(step)
 }
 
 /// Why a step would be refused.
-pub fn foretell<P: Procedure, A: Allocator>(core: &Core<P, A>, step: &Step<P>) -> Option<Refusal> {
+pub fn foretell<P: Procedure>(core: &Counting<'_, P>, step: &Step<P>) -> Option<Refusal> {
     core.refusal(step)
 }
 
 /// A list of steps in one run.
-pub fn run<P: Procedure, A: Allocator + Clone>(
-    core: &mut Core<P, A>,
+pub fn run<'c, P: Procedure>(
+    core: &mut Counting<'c, P>,
     steps: &[Step<P>],
-    answers: &mut Vec<Result<Did<P>, Refusal>, A>,
-) -> Result<(), AllocError> {
+    answers: &mut Vec<Result<Did<P>, Refusal>, &'c Counted<Global>>,
+) -> Done {
     core.run(steps, answers)
 }

@@ -19,27 +19,18 @@
 //! ```
 use crate::answered::draw_answer;
 use crate::looks::draw_tenant;
-use crate::plain_core::{made, run};
-use crate::procedures::Made;
+use crate::plain_core::{Counting, made, run};
 use crate::reader::Reader;
 use crate::reading::tenant_of;
 use crate::scenes::{Row, Scene};
 use crate::stage::{Played, play_row, tell};
-use crate::tally::{Place, Tally};
+use crate::tally::{Done, Tally};
 use crate::values::{FromWords, Input};
-use crate::words::{option, small_option};
+use crate::words::{Words, option, small_option};
 use jamboree::Jamboree;
-use sched_core::{Config, Core, DidOf, Procedure, Refusal, Step};
-use std::alloc::{AllocError, Allocator, Global};
+use sched_core::{Config, Procedure};
+use std::alloc::{AllocError, Global};
 use toys::{Chain, Counted, Fan, Spin};
-
-/// A core, by its totals and its procedure's grain, and which of its growths is refused (0: none).
-#[derive(Clone, Copy)]
-struct Setting {
-    config: Config,
-    grain: u64,
-    refuses: u64,
-}
 
 /// The totals that a head asks for; None where a number is missing or not within its limits.
 pub fn read_totals(head: &str) -> Option<Config> {
@@ -48,186 +39,127 @@ pub fn read_totals(head: &str) -> Option<Config> {
     Config::new(segments, nodes)
 }
 
-/// What a head asks for; None where it asks for no totals.
-fn read_setting(head: &str) -> Option<Setting> {
-    Some(Setting {
-        config: read_totals(head)?,
-        grain: option(head, "grain").unwrap_or(0),
-        refuses: option(head, "refuses").unwrap_or(0),
-    })
+/// Jamboree of the grain that a head asks for, 0 where it names none; None where that is above 6.
+fn read_jamboree(head: &str) -> Option<Jamboree> {
+    Jamboree::new(u8::try_from(option(head, "grain").unwrap_or(0)).ok()?)
 }
 
 /// Plays a scene. Its head is `core PROCEDURE segments S nodes N`, with `grain G` for Jamboree (0 where it isn't named). Where it
 /// has `refuses K`, the K-th growth after the core was made is refused.
-pub fn play_steps(
+pub fn play_steps(alloc: Global, scene: &Scene<'_>, tally: &mut Tally) -> Done {
+    let head = scene.head;
+    let mut words = Words::of(head.text);
+    let _core = words.word();
+    let Some(config) = read_totals(head.text) else {
+        return tally.miss(head, "segments and nodes", head.text);
+    };
+    match words.word() {
+        Some("Fan") => play_on(alloc, Fan::new(), config, scene, tally),
+        Some("Chain") => play_on(alloc, Chain::new(), config, scene, tally),
+        Some("Spin") => play_on(alloc, Spin::new(), config, scene, tally),
+        Some("Reader") => play_on(alloc, Reader::new(), config, scene, tally),
+        Some("Jamboree") => match read_jamboree(head.text) {
+            Some(procedure) => play_on(alloc, procedure, config, scene, tally),
+            None => tally.miss(head, "a grain from 0 to 6", "another"),
+        },
+        _ => tally.miss(head, "a procedure", head.text),
+    }
+}
+
+/// What a scene is played by, and its head.
+#[derive(Clone, Copy)]
+struct Setting<'t, P> {
     alloc: Global,
-    file: &str,
+    procedure: P,
+    config: Config,
+    head: Row<'t>,
+}
+
+/// Plays a scene on a new core, and then its steps again: by `run` on a new core, and those of each tenant on a core of its own.
+fn play_on<P: Procedure<Answer: FromWords, Input: Input> + Copy>(
+    alloc: Global,
+    procedure: P,
+    config: Config,
     scene: &Scene<'_>,
     tally: &mut Tally,
-) -> Result<(), AllocError> {
-    let place = Place {
-        file,
-        line: scene.head.line,
-    };
-    let head = scene.head.text;
-    let rows = scene.rows.as_slice();
-    let Some(setting) = read_setting(head) else {
-        return tally.miss(place, "segments and nodes", head);
-    };
-    if head.starts_with("core Fan ") {
-        return play_on::<Fan>(alloc, setting, place, rows, tally);
-    }
-    if head.starts_with("core Chain ") {
-        return play_on::<Chain>(alloc, setting, place, rows, tally);
-    }
-    if head.starts_with("core Spin ") {
-        return play_on::<Spin>(alloc, setting, place, rows, tally);
-    }
-    if head.starts_with("core Reader ") {
-        return play_on::<Reader>(alloc, setting, place, rows, tally);
-    }
-    if head.starts_with("core Jamboree ") {
-        return play_on::<Jamboree>(alloc, setting, place, rows, tally);
-    }
-    tally.miss(place, "a procedure", head)
-}
-
-/// A new core; None where its procedure's grain is above 6.
-fn core_of<P: Made>(alloc: Global, setting: Setting) -> Result<Option<Core<P>>, AllocError> {
-    match P::made(setting.grain) {
-        Some(procedure) => Ok(Some(made(alloc, setting.config, procedure)?)),
-        None => Ok(None),
-    }
-}
-
-/// Plays rows by this procedure.
-fn play_on<P: Made>(
-    alloc: Global,
-    setting: Setting,
-    place: Place<'_>,
-    rows: &[Row<'_>],
-    tally: &mut Tally,
-) -> Result<(), AllocError>
-where
-    P::Answer: FromWords + Drop,
-    P::Input: Input,
-{
-    let Some(procedure) = P::made(setting.grain) else {
-        return tally.miss(place, "a grain from 0 to 6", "another");
-    };
+) -> Done {
     let counted = Counted::new(alloc);
-    let mut core = made(&counted, setting.config, procedure)?;
-    counted.refuse(setting.refuses);
-    play_in(alloc, &counted, &mut core, setting, place, rows, tally)
-}
-
-/// Plays rows on this new core, and then its steps again.
-fn play_in<P: Made, A: Allocator + Clone>(
-    alloc: Global,
-    counted: &Counted<Global>,
-    core: &mut Core<P, A>,
-    setting: Setting,
-    place: Place<'_>,
-    rows: &[Row<'_>],
-    tally: &mut Tally,
-) -> Result<(), AllocError>
-where
-    P::Answer: FromWords + Drop,
-    P::Input: Input,
-{
+    let mut core = made(&counted, config, procedure)?;
+    counted.refuse(option(scene.head.text, "refuses").unwrap_or(0));
     let mut played = Played::new(alloc);
-    for row in rows {
-        let at = Place {
-            file: place.file,
-            line: row.line,
-        };
-        play_row(alloc, counted, core, &mut played, at, *row, tally)?;
+    for row in scene.rows.iter() {
+        play_row(alloc, &counted, &mut core, &mut played, *row, tally)?;
     }
-    play_again(alloc, setting, core, &played, place, tally)
-}
-
-/// Plays the steps by `run` on a new core, and those of each tenant on a core of its own.
-fn play_again<P: Made, A: Allocator>(
-    alloc: Global,
-    setting: Setting,
-    core: &Core<P, A>,
-    played: &Played<P::Answer>,
-    place: Place<'_>,
-    tally: &mut Tally,
-) -> Result<(), AllocError>
-where
-    P::Answer: FromWords + Drop,
-    P::Input: Input,
-{
-    if let Some(mut again) = core_of::<P>(alloc, setting)? {
-        run_again(alloc, &mut again, played, place, tally)?;
-        compare_all(alloc, core, &again, played, place, tally)?;
-    }
-    for tenant in tenants(alloc, played)?.iter() {
-        play_alone(alloc, setting, core, played, *tenant, place, tally)?;
+    let setting = Setting {
+        alloc,
+        procedure,
+        config,
+        head: scene.head,
+    };
+    play_together(&setting, &core, &played, tally)?;
+    for tenant in tenants(alloc, &played)?.iter() {
+        play_alone(&setting, &core, &played, *tenant, tally)?;
     }
     Ok(())
+}
+
+/// Plays the steps by `run` on a new core, and compares the answers and all that is read.
+fn play_together<P: Procedure<Answer: FromWords, Input: Input> + Copy>(
+    setting: &Setting<'_, P>,
+    core: &Counting<'_, P>,
+    played: &Played<'_, P::Answer>,
+    tally: &mut Tally,
+) -> Done {
+    let counted = Counted::new(setting.alloc);
+    let mut again = made(&counted, setting.config, setting.procedure)?;
+    run_again(setting, &counted, &mut again, played, tally)?;
+    for tenant in tenants(setting.alloc, played)?.iter() {
+        compare_tenant(setting, core, &again, played, *tenant, tally)?;
+    }
+    if core.free_segments() == again.free_segments() {
+        return Ok(());
+    }
+    tally.miss(
+        setting.head,
+        "as many free segments by run",
+        "another count",
+    )
 }
 
 /// Plays the steps by `run`, and compares the answers.
-fn run_again<P: Procedure>(
-    alloc: Global,
-    core: &mut Core<P>,
-    played: &Played<P::Answer>,
-    place: Place<'_>,
+fn run_again<'c, P: Procedure<Answer: FromWords, Input: Input> + Copy>(
+    setting: &Setting<'_, P>,
+    counted: &'c Counted<Global>,
+    core: &mut Counting<'c, P>,
+    played: &Played<'_, P::Answer>,
     tally: &mut Tally,
-) -> Result<(), AllocError>
-where
-    P::Answer: Drop,
-    P::Input: Input,
-{
-    let mut answers = Vec::new(alloc);
+) -> Done {
+    let mut answers = Vec::new(counted);
     if run(core, played.steps.as_slice(), &mut answers).is_err() {
-        return tally.miss(place, "answers by run", "none for want of memory");
+        return tally.miss(setting.head, "answers by run", "none for want of memory");
     }
-    for ((answer, told), line) in answers
+    for ((answer, told), row) in answers
         .iter()
         .zip(played.told.iter())
-        .zip(played.lines.iter())
+        .zip(played.rows.iter())
     {
-        let at = Place {
-            file: place.file,
-            line: *line,
-        };
-        compare_answer(alloc, answer, told.as_str(), at, tally)?;
+        let mut text = String::new(setting.alloc);
+        draw_answer(&mut text, answer)?;
+        agree(*row, "by run", told.as_str(), text.as_str(), tally)?;
     }
     Ok(())
 }
 
-/// Compares an answer by `run` with the one that was given.
-fn compare_answer<I: Input>(
-    alloc: Global,
-    answer: &Result<DidOf<I>, Refusal>,
-    told: &str,
-    place: Place<'_>,
-    tally: &mut Tally,
-) -> Result<(), AllocError> {
-    let mut text = String::new(alloc);
-    draw_answer(&mut text, answer)?;
-    agree(place, "by run", told, text.as_str(), tally)
-}
-
 /// A row that is counted only where it disagrees.
-fn agree(
-    place: Place<'_>,
-    how: &str,
-    due: &str,
-    came: &str,
-    tally: &mut Tally,
-) -> Result<(), AllocError> {
+fn agree(row: Row<'_>, how: &str, due: &str, came: &str, tally: &mut Tally) -> Done {
     if due == came {
         return Ok(());
     }
-    tally.miss(place, how, came)
+    tally.miss(row, how, came)
 }
 
 /// The tenants of the steps, each once.
-fn tenants<A: Drop>(alloc: Global, played: &Played<A>) -> Result<Vec<u64>, AllocError> {
+fn tenants<A: Drop>(alloc: Global, played: &Played<'_, A>) -> Result<Vec<u64>, AllocError> {
     let mut tenants = Vec::new(alloc);
     for step in played.steps.iter() {
         let tenant = tenant_of(step);
@@ -239,7 +171,7 @@ fn tenants<A: Drop>(alloc: Global, played: &Played<A>) -> Result<Vec<u64>, Alloc
 }
 
 /// How many of the steps are this tenant's.
-fn steps_of<A: Drop>(played: &Played<A>, tenant: u64) -> u64 {
+fn steps_of<A: Drop>(played: &Played<'_, A>, tenant: u64) -> u64 {
     let mut count = 0u64;
     for step in played.steps.iter() {
         if tenant_of(step) == tenant {
@@ -249,111 +181,44 @@ fn steps_of<A: Drop>(played: &Played<A>, tenant: u64) -> u64 {
     count
 }
 
-/// Compares all that is read of each tenant in two cores.
-fn compare_all<P: Procedure, A: Allocator>(
-    alloc: Global,
-    one: &Core<P, A>,
-    other: &Core<P>,
-    played: &Played<P::Answer>,
-    place: Place<'_>,
-    tally: &mut Tally,
-) -> Result<(), AllocError>
-where
-    P::Answer: Drop,
-{
-    for tenant in tenants(alloc, played)?.iter() {
-        compare_tenant(alloc, one, other, played, *tenant, place, tally)?;
-    }
-    if one.free_segments() == other.free_segments() {
-        return Ok(());
-    }
-    tally.miss(place, "as many free segments by run", "another count")
-}
-
 /// Compares all that is read of a tenant in two cores.
-fn compare_tenant<P: Procedure, A: Allocator>(
-    alloc: Global,
-    one: &Core<P, A>,
-    other: &Core<P>,
-    played: &Played<P::Answer>,
+fn compare_tenant<P: Procedure<Answer: FromWords>>(
+    setting: &Setting<'_, P>,
+    one: &Counting<'_, P>,
+    other: &Counting<'_, P>,
+    played: &Played<'_, P::Answer>,
     tenant: u64,
-    place: Place<'_>,
     tally: &mut Tally,
-) -> Result<(), AllocError>
-where
-    P::Answer: Drop,
-{
+) -> Done {
     let last = steps_of(played, tenant).saturating_add(1);
-    let mut due = String::new(alloc);
-    let mut came = String::new(alloc);
+    let mut due = String::new(setting.alloc);
+    let mut came = String::new(setting.alloc);
     draw_tenant(&mut due, one, tenant, last)?;
     draw_tenant(&mut came, other, tenant, last)?;
-    agree(place, due.as_str(), due.as_str(), came.as_str(), tally)
+    let head = setting.head;
+    agree(head, due.as_str(), due.as_str(), came.as_str(), tally)
 }
 
 /// Plays the steps of a tenant that were taken on a core of its own, and compares answers and tenant.
-fn play_alone<P: Made, A: Allocator>(
-    alloc: Global,
-    setting: Setting,
-    together: &Core<P, A>,
-    played: &Played<P::Answer>,
+fn play_alone<P: Procedure<Answer: FromWords, Input: Input> + Copy>(
+    setting: &Setting<'_, P>,
+    together: &Counting<'_, P>,
+    played: &Played<'_, P::Answer>,
     tenant: u64,
-    place: Place<'_>,
     tally: &mut Tally,
-) -> Result<(), AllocError>
-where
-    P::Answer: FromWords + Drop,
-    P::Input: Input,
-{
-    let Some(mut core) = core_of::<P>(alloc, setting)? else {
-        return Ok(());
-    };
-    step_alone(alloc, &mut core, played, tenant, place, tally)?;
-    compare_tenant(alloc, together, &core, played, tenant, place, tally)
-}
-
-/// Takes the steps of a tenant that were taken.
-fn step_alone<P: Procedure>(
-    alloc: Global,
-    core: &mut Core<P>,
-    played: &Played<P::Answer>,
-    tenant: u64,
-    place: Place<'_>,
-    tally: &mut Tally,
-) -> Result<(), AllocError>
-where
-    P::Answer: Drop,
-    P::Input: Input,
-{
-    for ((step, told), line) in played
+) -> Done {
+    let counted = Counted::new(setting.alloc);
+    let mut core = made(&counted, setting.config, setting.procedure)?;
+    for ((step, told), row) in played
         .steps
         .iter()
         .zip(played.told.iter())
-        .zip(played.lines.iter())
+        .zip(played.rows.iter())
     {
         if tenant_of(step) == tenant && !told.as_str().starts_with("Err ") {
-            let at = Place {
-                file: place.file,
-                line: *line,
-            };
-            take_alone(alloc, core, step, told.as_str(), at, tally)?;
+            let answer = tell(setting.alloc, &counted, &mut core, step)?;
+            agree(*row, "alone", told.as_str(), answer.as_str(), tally)?;
         }
     }
-    Ok(())
-}
-
-/// Takes a step that was answered so.
-fn take_alone<P: Procedure>(
-    alloc: Global,
-    core: &mut Core<P>,
-    step: &Step<P>,
-    told: &str,
-    place: Place<'_>,
-    tally: &mut Tally,
-) -> Result<(), AllocError>
-where
-    P::Input: Input,
-{
-    let answer = tell(alloc, core, step)?;
-    agree(place, "alone", told, answer.as_str(), tally)
+    compare_tenant(setting, together, &core, played, tenant, tally)
 }

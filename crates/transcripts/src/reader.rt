@@ -1,4 +1,7 @@
 //! The procedure Reader: a frame does what its words say.
+ghost use Rattle.std.specs.Prelude.{◌≡◌};
+ghost use Rattle.transcripts.specs.Reading.{act_with_stores};
+
 use cactus_stack::Words;
 use sched_core::{Act, Continuation, GivenWords, InletAct, Stores};
 use toys::{Play, Toy, ToyAnswer, word};
@@ -33,6 +36,13 @@ impl ToyAnswer for ReaderAnswer {
     }
 }
 
+/// The act that stores this and then does that.
+fn then_do(stores: Stores, after: Continuation) -> Act
+    ensures { result ≡ act_with_stores stores after }
+{
+    Act { stores, after }
+}
+
 /// What Reader's frames do.
 #[derive(Clone, Copy, Debug)]
 pub struct ReaderPlay;
@@ -50,38 +60,14 @@ impl Play for ReaderPlay {
     fn act(acts: u64, below: u64) -> Act {
         let rest = Stores::new().then(0, acts / 8);
         match acts % 8 {
-            0 => Act {
-                stores: Stores::new(),
-                after: Continuation::Return,
-            },
-            1 => Act {
-                stores: rest,
-                after: Continuation::Go,
-            },
-            2 => Act {
-                stores: rest,
-                after: Continuation::Grow(16),
-            },
-            3 => Act {
-                stores: rest,
-                after: Continuation::Spawn(GivenWords::two(below, 0), 4),
-            },
-            4 => Act {
-                stores: rest,
-                after: Continuation::Wait,
-            },
-            5 => Act {
-                stores: rest,
-                after: Continuation::Compute,
-            },
-            6 => Act {
-                stores: Stores::new().then(NOWHERE, acts),
-                after: Continuation::Go,
-            },
-            _ => Act {
-                stores: Stores::new(),
-                after: Continuation::Go,
-            },
+            0 => then_do(Stores::new(), Continuation::Return),
+            1 => then_do(rest, Continuation::Go),
+            2 => then_do(rest, Continuation::Grow(16)),
+            3 => then_do(rest, Continuation::Spawn(GivenWords::two(below, 0), 4)),
+            4 => then_do(rest, Continuation::Wait),
+            5 => then_do(rest, Continuation::Compute),
+            6 => then_do(Stores::new().then(NOWHERE, acts), Continuation::Go),
+            _ => then_do(Stores::new(), Continuation::Go),
         }
     }
 

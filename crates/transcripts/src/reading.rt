@@ -10,7 +10,7 @@ use tenant_quota::Reserve;
 /// `Admit TENANT SEGMENTS NODES`, `AdmitMore TENANT SEGMENTS NODES`, `Submit TENANT SIZE WORDS..`, `Take WORKER FRAME`,
 /// `Steal WORKER HOME FRAME`, `Advance WORKER FRAME`, `Answer WORKER FRAME ANSWER..`, `Inlet WORKER FRAME`,
 /// `Finish WORKER FRAME`, `Spend FRAME`, `Cancel TENANT JOB`, `Leave TENANT`.
-pub fn read_step<A: FromWords + Drop>(text: &str) -> Option<StepOf<A>> {
+pub fn read_step<A: FromWords>(text: &str) -> Option<StepOf<A>> {
     let mut words = Words::of(text);
     let kind = words.word()?;
     let step = read_kind(kind, &mut words)?;
@@ -18,35 +18,19 @@ pub fn read_step<A: FromWords + Drop>(text: &str) -> Option<StepOf<A>> {
 }
 
 /// A step of this kind.
-fn read_kind<A: FromWords + Drop>(kind: &str, words: &mut Words<'_>) -> Option<StepOf<A>> {
+fn read_kind<A: FromWords>(kind: &str, words: &mut Words<'_>) -> Option<StepOf<A>> {
     match kind {
-        "Admit" => read_admit(words),
-        "AdmitMore" => read_more(words),
+        "Admit" => Some(StepOf::Admit(words.number()?, read_reserve(words)?)),
+        "AdmitMore" => Some(StepOf::AdmitMore(words.number()?, read_reserve(words)?)),
         "Submit" => read_submit(words),
         "Spend" => Some(StepOf::Spend(read_frame(words)?)),
-        "Cancel" => read_cancel(words),
+        "Cancel" => Some(StepOf::Cancel(words.number()?, words.number()?)),
         "Leave" => Some(StepOf::Leave(words.number()?)),
         _ => {
-            let worker = read_worker(words)?;
+            let worker = Worker::new(words.byte()?)?;
             read_work(kind, worker, words)
         }
     }
-}
-
-fn read_admit<A>(words: &mut Words<'_>) -> Option<StepOf<A>> {
-    let tenant = words.number()?;
-    Some(StepOf::Admit(tenant, read_reserve(words)?))
-}
-
-fn read_more<A>(words: &mut Words<'_>) -> Option<StepOf<A>> {
-    let tenant = words.number()?;
-    Some(StepOf::AdmitMore(tenant, read_reserve(words)?))
-}
-
-fn read_cancel<A>(words: &mut Words<'_>) -> Option<StepOf<A>> {
-    let tenant = words.number()?;
-    let job = words.number()?;
-    Some(StepOf::Cancel(tenant, job))
 }
 
 /// The tenant, the size, and at most eight words.
@@ -72,31 +56,20 @@ fn read_reserve(words: &mut Words<'_>) -> Option<Reserve> {
     Reserve::new(segments, nodes)
 }
 
-fn read_worker(words: &mut Words<'_>) -> Option<Worker> {
-    Worker::new(words.byte()?)
-}
-
 /// A step by this worker.
 fn read_work<A: FromWords>(kind: &str, worker: Worker, words: &mut Words<'_>) -> Option<StepOf<A>> {
     match kind {
         "Take" => Some(StepOf::Take(worker, read_frame(words)?)),
-        "Steal" => read_steal(worker, words),
+        "Steal" => Some(StepOf::Steal(worker, words.byte()?, read_frame(words)?)),
         "Advance" => Some(StepOf::Advance(worker, read_frame(words)?)),
-        "Answer" => read_answer(worker, words),
+        "Answer" => {
+            let frame = read_frame(words)?;
+            Some(StepOf::Answer(worker, frame, A::from_words(words)?))
+        }
         "Inlet" => Some(StepOf::Inlet(worker, read_frame(words)?)),
         "Finish" => Some(StepOf::Finish(worker, read_frame(words)?)),
         _ => None,
     }
-}
-
-fn read_steal<A>(worker: Worker, words: &mut Words<'_>) -> Option<StepOf<A>> {
-    let home = words.byte()?;
-    Some(StepOf::Steal(worker, home, read_frame(words)?))
-}
-
-fn read_answer<A: FromWords>(worker: Worker, words: &mut Words<'_>) -> Option<StepOf<A>> {
-    let frame = read_frame(words)?;
-    Some(StepOf::Answer(worker, frame, A::from_words(words)?))
 }
 
 /// The frame that the next word names.

@@ -1,14 +1,38 @@
 //! A text as its scenes. A scene begins with a head, a line `= ` and words: what is played, and its options, each a word and its numbers.
 //! The lines up to the next head are its rows. Empty lines and those that begin with `#` are remarks.
+use crate::tally::Done;
 use std::alloc::{AllocError, Global};
+use std::fmt;
 
 /// A line of a text.
 #[derive(Clone, Copy, Debug)]
 pub struct Row<'t> {
+    /// The name of its file.
+    pub file: &'t str,
     /// Its number, from 1 on.
     pub line: u32,
     /// What it says, without its end.
     pub text: &'t str,
+}
+
+/// Where it stands.
+impl fmt::Display for Row<'_> {
+    fn fmt<W: fmt::Write>(&self, f: &mut fmt::Formatter<W>) -> fmt::Result {
+        let file = self.file;
+        let line = self.line;
+        write!(f, "{file}:{line}")
+    }
+}
+
+impl<'t> Row<'t> {
+    /// The same line, of which this is taken.
+    pub fn with(self, text: &'t str) -> Row<'t> {
+        Row {
+            file: self.file,
+            line: self.line,
+            text,
+        }
+    }
 }
 
 /// A head, and the rows up to the next one.
@@ -20,37 +44,34 @@ pub struct Scene<'t> {
     pub rows: Vec<Row<'t>>,
 }
 
-/// The scenes of a text, in their order.
-pub fn read_scenes<'t>(alloc: Global, text: &'t str) -> Result<Vec<Scene<'t>>, AllocError> {
+/// The scenes of a file's text, in their order.
+pub fn read_scenes<'t>(
+    alloc: Global,
+    file: &'t str,
+    text: &'t str,
+) -> Result<Vec<Scene<'t>>, AllocError> {
     let mut scenes = Vec::new(alloc);
     let mut line = 0u32;
     for text in text.lines() {
         line = line.saturating_add(1);
-        take(alloc, &mut scenes, Row { line, text })?;
+        take(alloc, &mut scenes, Row { file, line, text })?;
     }
     Ok(scenes)
 }
 
 /// Takes the next line of a text.
-fn take<'t>(alloc: Global, scenes: &mut Vec<Scene<'t>>, row: Row<'t>) -> Result<(), AllocError> {
+fn take<'t>(alloc: Global, scenes: &mut Vec<Scene<'t>>, row: Row<'t>) -> Done {
     if row.text.is_empty() || row.text.starts_with('#') {
         return Ok(());
     }
     match row.text.strip_prefix("= ") {
-        Some(text) => begin(
-            alloc,
-            scenes,
-            Row {
-                line: row.line,
-                text,
-            },
-        ),
+        Some(text) => begin(alloc, scenes, row.with(text)),
         None => go_on(alloc, scenes, row),
     }
 }
 
 /// Begins a scene with this head.
-fn begin<'t>(alloc: Global, scenes: &mut Vec<Scene<'t>>, head: Row<'t>) -> Result<(), AllocError> {
+fn begin<'t>(alloc: Global, scenes: &mut Vec<Scene<'t>>, head: Row<'t>) -> Done {
     scenes.push(Scene {
         head,
         rows: Vec::new(alloc),
@@ -59,16 +80,9 @@ fn begin<'t>(alloc: Global, scenes: &mut Vec<Scene<'t>>, head: Row<'t>) -> Resul
 }
 
 /// Appends a row to the last scene.
-fn go_on<'t>(alloc: Global, scenes: &mut Vec<Scene<'t>>, row: Row<'t>) -> Result<(), AllocError> {
+fn go_on<'t>(alloc: Global, scenes: &mut Vec<Scene<'t>>, row: Row<'t>) -> Done {
     if scenes.is_empty() {
-        begin(
-            alloc,
-            scenes,
-            Row {
-                line: row.line,
-                text: "",
-            },
-        )?;
+        begin(alloc, scenes, row.with(""))?;
     }
     if let Some(scene) = scenes.last_mut() {
         scene.rows.push(row)?;

@@ -5,83 +5,30 @@
 ghost use Rattle.std.specs.Prelude.{◌≤◌, IfSome};
 
 use crate::compared::compare_lines;
-use crate::escapes::{Ending, push_line};
 use crate::scenes::{Row, Scene};
-use crate::talk_line::{TalkLine, read_talk_line};
-use crate::tally::{Place, Tally};
-use crate::words::{has_word, next_number, options};
+use crate::talks::{Part, gather};
+use crate::tally::{Done, Tally};
+use crate::words::{behind, has_word};
 use line_io::{FromReader, FromWriter};
 use solve_engine::{solve_bytes, solve_visited};
-use std::alloc::{AllocError, Global};
-
-/// What a scene sends, and what is due.
-#[derive(Drop)]
-struct Lines<'t> {
-    sent: Vec<u8>,
-    dues: Vec<Row<'t>>,
-}
+use std::alloc::Global;
 
 /// Plays a scene at each grain that its head names, and by `visited` where its head says so.
-pub fn play_solve(
-    alloc: Global,
-    file: &str,
-    scene: &Scene<'_>,
-    tally: &mut Tally,
-) -> Result<(), AllocError> {
-    let lines = gather(alloc, file, scene.rows.as_slice(), tally)?;
-    let head = scene.head.text;
-    if has_word(head, "visited") {
-        let came = visited(alloc, lines.sent.as_slice());
-        let dues = lines.dues.as_slice();
-        return compare_lines(tally, file, scene.head.line, dues, came.as_slice());
+pub fn play_solve(alloc: Global, scene: &Scene<'_>, tally: &mut Tally) -> Done {
+    let part = gather(alloc, b"", scene.rows.as_slice(), tally)?;
+    let head = scene.head;
+    if has_word(head.text, "visited") {
+        let came = visited(alloc, part.sent.as_slice());
+        return compare_lines(tally, head, part.dues.as_slice(), came.as_slice());
     }
-    let mut grains = options(head, "grain");
+    let mut grains = behind(head.text, "grain");
     for _ in 0..7u8 {
-        let Some((grain, others)) = next_number(grains) else {
+        let Some(grain) = grains.number() else {
             break;
         };
-        play_at(alloc, file, scene.head.line, &lines, grain, tally)?;
-        grains = others;
+        play_at(alloc, head, &part, grain, tally)?;
     }
     Ok(())
-}
-
-/// The lines that are sent and due.
-fn gather<'t>(
-    alloc: Global,
-    file: &str,
-    rows: &[Row<'t>],
-    tally: &mut Tally,
-) -> Result<Lines<'t>, AllocError> {
-    let mut lines = Lines {
-        sent: Vec::new(alloc),
-        dues: Vec::new(alloc),
-    };
-    for row in rows {
-        if !take(&mut lines, *row)? {
-            let place = Place {
-                file,
-                line: row.line,
-            };
-            tally.miss(place, "a line that is sent or due", row.text)?;
-        }
-    }
-    Ok(lines)
-}
-
-/// Takes a row. False where it is none of such a scene.
-fn take<'t>(lines: &mut Lines<'t>, row: Row<'t>) -> Result<bool, AllocError> {
-    match read_talk_line(row.text) {
-        TalkLine::Sent(_, text) => Ok(push_line(text, &mut lines.sent)? != Ending::Bad),
-        TalkLine::Due(_, text) => {
-            lines.dues.push(Row {
-                line: row.line,
-                text,
-            })?;
-            Ok(true)
-        }
-        TalkLine::Between(_, _) | TalkLine::Nothing => Ok(false),
-    }
 }
 
 /// The number as a grain.
@@ -95,19 +42,12 @@ fn grain_of(number: u64) -> Option<u8>
 }
 
 /// Plays lines at a grain.
-fn play_at(
-    alloc: Global,
-    file: &str,
-    line: u32,
-    lines: &Lines<'_>,
-    grain: u64,
-    tally: &mut Tally,
-) -> Result<(), AllocError> {
+fn play_at(alloc: Global, head: Row<'_>, part: &Part<'_>, grain: u64, tally: &mut Tally) -> Done {
     let Some(grain) = grain_of(grain) else {
-        return tally.miss(Place { file, line }, "a grain from 0 to 6", "another");
+        return tally.miss(head, "a grain from 0 to 6", "another");
     };
-    let came = solved(alloc, lines.sent.as_slice(), grain);
-    compare_lines(tally, file, line, lines.dues.as_slice(), came.as_slice())
+    let came = solved(alloc, part.sent.as_slice(), grain);
+    compare_lines(tally, head, part.dues.as_slice(), came.as_slice())
 }
 
 /// What `solve` writes.

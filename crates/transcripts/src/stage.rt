@@ -1,58 +1,61 @@
 //! A list of steps on a core.
 use crate::answered::draw_answer;
-use crate::looks::look;
-use crate::plain_core::{foretell, step as do_step};
+use crate::looks::{draw_look, read_look};
+use crate::plain_core::{Counting, foretell, step as do_step};
 use crate::reading::{may_call_allocator, read_step};
 use crate::scenes::Row;
-use crate::tally::{Place, Tally};
+use crate::tally::{Done, Tally};
 use crate::values::{FromWords, Input};
-use sched_core::{Core, Procedure, Step, StepOf};
-use std::alloc::{AllocError, Allocator, Global};
+use sched_core::{Procedure, Step, StepOf};
+use std::alloc::{AllocError, Global};
 use toys::Counted;
 
-/// Steps, what each was answered, and the line of each.
+/// Steps, what each was answered, and the row of each.
 #[derive(Drop)]
-pub struct Played<A: Drop> {
+pub struct Played<'t, A: Drop> {
     pub steps: Vec<StepOf<A>>,
     pub told: Vec<String>,
-    pub lines: Vec<u32>,
+    pub rows: Vec<Row<'t>>,
 }
 
-impl<A: Drop> Played<A> {
+impl<'t, A: Drop> Played<'t, A> {
     /// No step yet.
-    pub fn new(alloc: Global) -> Played<A> {
+    pub fn new(alloc: Global) -> Played<'t, A> {
         Played {
             steps: Vec::new(alloc),
             told: Vec::new(alloc),
-            lines: Vec::new(alloc),
+            rows: Vec::new(alloc),
         }
     }
 
     /// Notes a step.
-    fn note(&mut self, line: u32, step: StepOf<A>, told: String) -> Result<(), AllocError> {
+    fn note(&mut self, row: Row<'t>, step: StepOf<A>, told: String) -> Done {
         self.steps.push(step)?;
         self.told.push(told)?;
-        self.lines.push(line)?;
+        self.rows.push(row)?;
         Ok(())
     }
 }
 
 /// Takes a step, and returns its answer as a text. Where `refusal`, asked before, said something else, the text says so, but
-/// not of a refusal for want of memory, which nobody can foretell.
-pub fn tell<P: Procedure, A: Allocator + Clone>(
+/// not of a refusal for want of memory, which nobody can foretell; and where the allocator was called by a step that may not.
+pub fn tell<P: Procedure<Input: Input>>(
     alloc: Global,
-    core: &mut Core<P, A>,
+    counted: &Counted<Global>,
+    core: &mut Counting<'_, P>,
     step: &Step<P>,
-) -> Result<String, AllocError>
-where
-    P::Input: Input,
-{
+) -> Result<String, AllocError> {
+    let before = counted.calls();
     let foretold = foretell(core, step);
     let answer = do_step(core, step);
+    let is_silent = counted.calls() == before || may_call_allocator(step);
     let mut text = String::new(alloc);
     draw_answer(&mut text, &answer)?;
     if foretold != answer.err() && !is_wanting(text.as_str()) {
         write!(text, ", but foretold was {foretold:?}")?;
+    }
+    if !is_silent {
+        text.push_str(", and the allocator was called")?;
     }
     Ok(text)
 }
@@ -62,69 +65,46 @@ fn is_wanting(told: &str) -> bool {
     told.ends_with(" OutOfMemory")
 }
 
-/// Takes a step on a core whose allocator is counted, and returns its answer as a text. Where the allocator was called by
-/// a step that may not, the text says so.
-fn tell_counted<P: Procedure, A: Allocator + Clone>(
-    alloc: Global,
-    counted: &Counted<Global>,
-    core: &mut Core<P, A>,
-    step: &Step<P>,
-) -> Result<String, AllocError>
-where
-    P::Input: Input,
-{
-    let before = counted.calls();
-    let mut text = tell(alloc, core, step)?;
-    if counted.calls() != before && !may_call_allocator(step) {
-        text.push_str(", and the allocator was called")?;
-    }
-    Ok(text)
-}
-
 /// Plays a row on a core: a step `STEP -> ANSWER`, which is noted unless memory was wanting, as it isn't where the steps are
 /// played again; or a look `LOOK = WHAT IS SEEN`.
-pub fn play_row<P: Procedure, A: Allocator + Clone>(
+pub fn play_row<'t, P: Procedure<Answer: FromWords, Input: Input>>(
     alloc: Global,
     counted: &Counted<Global>,
-    core: &mut Core<P, A>,
-    played: &mut Played<P::Answer>,
-    place: Place<'_>,
-    row: Row<'_>,
+    core: &mut Counting<'_, P>,
+    played: &mut Played<'t, P::Answer>,
+    row: Row<'t>,
     tally: &mut Tally,
-) -> Result<(), AllocError>
-where
-    P::Answer: FromWords + Drop,
-    P::Input: Input,
-{
+) -> Done {
     if let Some((step, due)) = row.text.split_once(" -> ") {
         let Some(step) = read_step::<P::Answer>(step) else {
-            return tally.miss(place, "a step", row.text);
+            return tally.miss(row, "a step", row.text);
         };
-        let told = tell_counted(alloc, counted, core, &step)?;
-        tally.compare(place, due, told.as_str())?;
+        let told = tell(alloc, counted, core, &step)?;
+        tally.compare(row, due, told.as_str())?;
         if is_wanting(told.as_str()) {
             return Ok(());
         }
-        return played.note(row.line, step, told);
+        return played.note(row, step, told);
     }
     match row.text.split_once(" = ") {
-        Some((asked, due)) => play_look(alloc, core, place, asked, due, tally),
-        None => tally.miss(place, "a step or a look", row.text),
+        Some((asked, due)) => play_look(alloc, core, row, asked, due, tally),
+        None => tally.miss(row, "a step or a look", row.text),
     }
 }
 
 /// Plays a look.
-fn play_look<P: Procedure, A: Allocator>(
+fn play_look<P: Procedure>(
     alloc: Global,
-    core: &Core<P, A>,
-    place: Place<'_>,
+    core: &Counting<'_, P>,
+    row: Row<'_>,
     asked: &str,
     due: &str,
     tally: &mut Tally,
-) -> Result<(), AllocError> {
+) -> Done {
+    let Some(look) = read_look(asked) else {
+        return tally.miss(row, "a look", asked);
+    };
     let mut seen = String::new(alloc);
-    if !look(&mut seen, core, asked)? {
-        return tally.miss(place, "a look", asked);
-    }
-    tally.compare(place, due, seen.as_str())
+    draw_look(&mut seen, core, look)?;
+    tally.compare(row, due, seen.as_str())
 }

@@ -1,28 +1,14 @@
 //! Counting rows.
 ghost use Rattle.std.specs.Prelude.{◌≡◌, ◌≢◌, ◌<◌, ◌≤◌};
 
+use crate::scenes::Row;
 use std::alloc::{AllocError, Global};
-use std::fmt;
 
 /// How many rows that don't agree are told of.
 const TOLD: u64 = 40;
 
-/// Where a row stands.
-#[derive(Clone, Copy, Debug)]
-pub struct Place<'t> {
-    /// The name of its file.
-    pub file: &'t str,
-    /// The number of its line.
-    pub line: u32,
-}
-
-impl fmt::Display for Place<'_> {
-    fn fmt<W: fmt::Write>(&self, f: &mut fmt::Formatter<W>) -> fmt::Result {
-        let file = self.file;
-        let line = self.line;
-        write!(f, "{file}:{line}")
-    }
-}
+/// That all was done; Err where memory was wanting.
+pub type Done = Result<(), AllocError>;
 
 /// How the rows that were played came out.
 #[derive(Drop)]
@@ -50,7 +36,7 @@ impl Tally {
 
     /// Counts a row where this was due and this came. One that doesn't agree is always counted, also where there is no
     /// memory to tell of it.
-    pub fn compare(&mut self, place: Place<'_>, due: &str, came: &str) -> Result<(), AllocError>
+    pub fn compare(&mut self, row: Row<'_>, due: &str, came: &str) -> Done
         ensures agrees { due.now ≡ came.now → self.new.missed ≡ self.old.missed }
         ensures differs { due.now ≢ came.now → 0 < self.new.missed }
         ensures kept { self.old.missed ≤ self.new.missed }
@@ -59,17 +45,17 @@ impl Tally {
             self.agreed = self.agreed.saturating_add(1);
             return Ok(());
         }
-        self.miss(place, due, came)
+        self.miss(row, due, came)
     }
 
     /// Counts a row that doesn't agree.
-    pub fn miss(&mut self, place: Place<'_>, due: &str, came: &str) -> Result<(), AllocError>
+    pub fn miss(&mut self, row: Row<'_>, due: &str, came: &str) -> Done
         ensures counted { 0 < self.new.missed }
         ensures kept { self.old.missed ≤ self.new.missed }
     {
         self.missed = self.missed.saturating_add(1);
         if self.missed <= TOLD {
-            writeln!(self.told, "{place}: due {due}, came {came}")?;
+            writeln!(self.told, "{row}: due {due}, came {came}")?;
         }
         Ok(())
     }

@@ -2,14 +2,15 @@
 ghost use Rattle.std.specs.Prelude.{◌≤◌};
 
 use crate::reader::ReaderAnswer;
+use crate::tally::Done;
 use crate::words::Words;
 use jamboree::{Leaf, LeafAnswer};
 use othello_board::Board;
-use std::alloc::AllocError;
+use std::fmt::Debug;
 use toys::FanAnswer;
 
 /// An answer that a computation gave, as the words of a text have it.
-pub trait FromWords: Sized {
+pub trait FromWords: Drop + Sized {
     /// Reads the words; None where they are no answer.
     fn from_words(words: &mut Words<'_>) -> Option<Self>;
 }
@@ -44,45 +45,40 @@ impl FromWords for LeafAnswer {
     }
 }
 
-/// A leaf: the words of the mover's and of the other's squares, the depth, alpha and beta.
+/// A leaf: the words of the mover's and of the other's squares, the depth, alpha and beta; None where they are beyond their limits.
 fn read_leaf(words: &mut Words<'_>) -> Option<Leaf> {
     let own = words.number()?;
     let opp = words.number()?;
     let board = Board::new(own, opp)?;
-    let depth = words.number()?;
+    let depth = words.byte()?;
     let alpha = words.score()?;
     let beta = words.score()?;
-    leaf_of(board, depth, alpha, beta)
-}
-
-/// The leaf, if its numbers are within their limits.
-fn leaf_of(board: Board, depth: u64, alpha: i32, beta: i32) -> Option<Leaf> {
     if depth > 12 || alpha < -200_000 || alpha >= beta || beta > 200_000 {
         return None;
     }
     Some(Leaf {
         board,
-        depth: depth as u8,
+        depth,
         alpha,
         beta,
     })
 }
 
 /// What a frame gives out to be computed, as a text.
-pub trait Input: Copy {
+pub trait Input: Copy + Debug {
     /// Appends it.
-    fn draw(&self, text: &mut String) -> Result<(), AllocError>;
+    fn draw(&self, text: &mut String) -> Done;
 }
 
 impl Input for u64 {
-    fn draw(&self, text: &mut String) -> Result<(), AllocError> {
+    fn draw(&self, text: &mut String) -> Done {
         write!(text, "{self}")
     }
 }
 
 /// As it is read.
 impl Input for Leaf {
-    fn draw(&self, text: &mut String) -> Result<(), AllocError> {
+    fn draw(&self, text: &mut String) -> Done {
         let own = self.board.own;
         let opp = self.board.opp;
         let depth = self.depth;

@@ -1,5 +1,5 @@
 //! Words and numbers of a line, words of rows, and lines of words.
-use std::alloc::AllocError;
+use crate::tally::Done;
 use std::fmt::Write;
 
 /// The number that a word stands for: decimal digits, or `0o` and octal ones.
@@ -20,42 +20,26 @@ pub fn has_word(line: &str, word: &str) -> bool {
     false
 }
 
-/// What stands behind a word of a line.
-fn behind<'t>(line: &'t str, word: &str) -> &'t str {
-    let mut rest = line;
+/// The words behind a word of a line.
+pub fn behind<'t>(line: &'t str, word: &str) -> Words<'t> {
+    let mut words = Words::of(line);
     for _ in 0..line.len() {
-        match rest.split_once(' ') {
-            Some((first, others)) if first == word => return others,
-            Some((_, others)) => rest = others,
-            None => return "",
+        match words.word() {
+            Some(first) if first != word => {}
+            _ => return words,
         }
     }
-    ""
+    words
 }
 
 /// The number behind a word of a line; None where there is none.
 pub fn option(line: &str, word: &str) -> Option<u64> {
-    let (first, _others) = next_number(behind(line, word))?;
-    Some(first)
+    behind(line, word).number()
 }
 
 /// The same of a number of 32 bits.
 pub fn small_option(line: &str, word: &str) -> Option<u32> {
-    u32::try_from(option(line, word)?).ok()
-}
-
-/// The numbers that stand right behind a word of a line, as a text.
-pub fn options<'t>(line: &'t str, word: &str) -> &'t str {
-    behind(line, word)
-}
-
-/// The number that a text begins with, and what follows after one space; None where it begins with none.
-pub fn next_number(text: &str) -> Option<(u64, &str)> {
-    let (first, others) = match text.split_once(' ') {
-        Some(parts) => parts,
-        None => (text, ""),
-    };
-    Some((number(first)?, others))
+    behind(line, word).small()
 }
 
 /// The words of a line that are not read yet. Words are parted by single spaces.
@@ -134,7 +118,7 @@ pub fn rest_of(row: &str) -> &str {
 }
 
 /// Appends a line: a word, and numbers.
-pub fn tell(came: &mut String, word: &str, numbers: &[u64]) -> Result<(), AllocError> {
+pub fn tell(came: &mut String, word: &str, numbers: &[u64]) -> Done {
     came.push_str(word)?;
     for number in numbers {
         write!(came, " {number}")?;

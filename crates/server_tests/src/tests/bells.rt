@@ -1,15 +1,14 @@
 //! Whom a site's desk wakes: of sixty-four sessions that wait at once each once its own job ends, or as it is told to end; and none for
 //! another's job.
 use super::holds;
-use super::sites::{amount, seat_of};
+use super::sites::{amount, desk_of, seat_of};
 use desk_rules::Backoff;
-use fair_pool::FairShare;
 use frame_tree::FrameId;
-use hall::{Config, DidOf, Hall, LeafAnswer, Outcome, StepOf, Worker};
+use hall::{DidOf, LeafAnswer, Outcome, StepOf, Worker};
 use othello_board::Board;
 use position_text::{Position, Side};
-use site_book::{Amount, Book, Plan, Told, Who, Whom};
-use site_desk::{BookedHall, Seat, SiteDesk, SiteGuard};
+use site_book::{Told, Who, Whom};
+use site_desk::{Seat, SiteDesk, SiteGuard};
 use std::alloc::Global;
 use std::process::Abort;
 use std::sync::Wait;
@@ -31,7 +30,7 @@ const TURNS: u64 = 4;
 const SILENT: u64 = 300;
 
 /// The opening.
-const OPENING: Position = Position {
+pub(super) const OPENING: Position = Position {
     board: Board {
         own: 0x8_1000_0000,
         opp: 0x10_0800_0000,
@@ -39,20 +38,11 @@ const OPENING: Position = Position {
     side: Side::Black,
 };
 
-/// The desk of a hall where sixty-four guests may have one session each; none where memory is refused.
-fn desk_of(alloc: Global) -> Option<SiteDesk> {
-    let each: Amount = amount(1, 8, 80);
-    let all: Amount = amount(64, 512, 5_120);
-    let plan = Plan::new(all, Vec::new(alloc), each, all, all)?;
-    let totals = Config::new(512, 5_120)?;
-    let (Ok(book), Ok(hall), Ok(shares)) = (
-        Book::new(alloc, plan),
-        Hall::new(alloc, totals, 4),
-        FairShare::new(alloc, 1),
-    ) else {
-        return None;
-    };
-    Some(SiteDesk::new(BookedHall::new(hall, book), shares))
+/// The desk of a hall where sixty-four guests may have one session each.
+pub(super) fn desk_for_all(rt: &impl Abort, alloc: Global) -> SiteDesk {
+    let all = amount(64, 512, 5_120);
+    let guests = (amount(1, 8, 80), all, all);
+    desk_of(alloc, (64, 512, 5_120), Vec::new(alloc), guests).expect(rt, "a desk")
 }
 
 /// How many have come to wait, how many are back, and how many of these were told that their job is done.
@@ -257,7 +247,7 @@ where
 #[test]
 fn each_session_is_woken_for_its_own_job(rt: HostRuntime) {
     let rt = &rt;
-    let desk = &desk_of(rt.alloc()).expect(rt, "a desk");
+    let desk = &desk_for_all(rt, rt.alloc());
     let watch = &Watch::new();
     thread::scope(thread::scope_env(), rt, |scope| {
         end_all(scope, rt, desk, watch)
@@ -268,7 +258,7 @@ fn each_session_is_woken_for_its_own_job(rt: HostRuntime) {
 #[test]
 fn nobody_is_woken_for_anothers_job(rt: HostRuntime) {
     let rt = &rt;
-    let desk = &desk_of(rt.alloc()).expect(rt, "a desk");
+    let desk = &desk_for_all(rt, rt.alloc());
     let watch = &Watch::new();
     let alloc = rt.alloc();
     thread::scope(thread::scope_env(), rt, |scope| {

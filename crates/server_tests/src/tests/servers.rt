@@ -8,8 +8,8 @@ mod looked_at;
 mod programs;
 mod tables;
 
-use super::holds;
-use doors::{Attended, Guest};
+use super::{Host, holds};
+use doors::Guest;
 use sched_rules::{Config, Worker};
 use std::alloc::Global;
 use std::io::{Read, Write};
@@ -20,9 +20,9 @@ use std::sync::Wait;
 use std::sync::atomic::{AtomicU32, Ordering};
 use std::sync::ledger::Blank;
 use std::thread::Threads;
-use std::time::{Clock, CpuClock, Duration};
+use std::time::Duration;
 use tcp_server::desk::{Desk, DeskLedger, Hall, Jamboree, Opened, PARTS, Step};
-use tcp_server::steal_pool::{Announce, Gate, OpenGate, PoolEnd};
+use tcp_server::steal_pool::{Announce, OpenGate, PoolEnd};
 use tcp_server::{ServeFault, ServerConfig, serve, serve_announced};
 
 /// A line, and its answer.
@@ -31,29 +31,41 @@ type Row = (&'static str, &'static str);
 /// The last line of a session.
 const LAST: Row = ("BYE\n", "BYE\n");
 
+/// The opening, to depths.
+const ASK_0: &str = "ASK 0 ---------------------------OX------XO--------------------------- X\n";
+
+const ASK_1: &str = "ASK 1 ---------------------------OX------XO--------------------------- X\n";
+
+const ASK_2: &str = "ASK 2 ---------------------------OX------XO--------------------------- X\n";
+
+const ASK_3: &str = "ASK 3 ---------------------------OX------XO--------------------------- X\n";
+
+const ASK_7: &str = "ASK 7 ---------------------------OX------XO--------------------------- X\n";
+
+/// A position that ends with the next move, one whose mover passes, and one with two moves.
+const ENDS: &str = "ASK 1 XO-------------------------------------------------------------- X\n";
+
+const PASSES: &str = "ASK 1 XO-------------------------------------------------------------- O\n";
+
+const MOVES: &str = "ASK 1 -OXO------------------------------------------------------------ X\n";
+
 /// A job that is answered.
 const ANSWERED: [Row; 5] = [
     ("HELLO 4 8\n", "WELCOME 4 8\n"),
-    (
-        "ASK 0 ---------------------------OX------XO--------------------------- X\n",
-        "JOB 1\n",
-    ),
+    (ASK_0, "JOB 1\n"),
     ("WAIT 1\n", "DONE 1 0 -\n"),
     ("QUOTA\n", "QUOTA 4 7 123\n"),
-    ("BYE\n", "BYE\n"),
+    LAST,
 ];
 
 /// A job that is spent, at grain 0.
 const SPENT: [Row; 6] = [
     ("HELLO 8 1\n", "WELCOME 8 1\n"),
-    (
-        "ASK 3 ---------------------------OX------XO--------------------------- X\n",
-        "JOB 1\n",
-    ),
+    (ASK_3, "JOB 1\n"),
     ("WAIT 1\n", "SPENT 1\n"),
     ("QUOTA\n", "QUOTA 8 0 14\n"),
     ("LIVE\n", "LIVE 0 0\n"),
-    ("BYE\n", "BYE\n"),
+    LAST,
 ];
 
 /// Lines that reserve all there is, and wait for a job that takes a while.
@@ -62,41 +74,14 @@ const LONG_WAIT: &str =
 
 /// Jobs, each with its answer as a first and as a second job.
 const JOBS: [(&str, &str, &str); 4] = [
-    (
-        "ASK 1 ---------------------------OX------XO--------------------------- X\n",
-        "DONE 1 -3 d3\n",
-        "DONE 2 -3 d3\n",
-    ),
-    (
-        "ASK 1 XO-------------------------------------------------------------- X\n",
-        "DONE 1 6000 c1\n",
-        "DONE 2 6000 c1\n",
-    ),
-    (
-        "ASK 1 XO-------------------------------------------------------------- O\n",
-        "DONE 1 -6000 pass\n",
-        "DONE 2 -6000 pass\n",
-    ),
-    (
-        "ASK 1 -OXO------------------------------------------------------------ X\n",
-        "DONE 1 89 a1\n",
-        "DONE 2 89 a1\n",
-    ),
+    (ASK_1, "DONE 1 -3 d3\n", "DONE 2 -3 d3\n"),
+    (ENDS, "DONE 1 6000 c1\n", "DONE 2 6000 c1\n"),
+    (PASSES, "DONE 1 -6000 pass\n", "DONE 2 -6000 pass\n"),
+    (MOVES, "DONE 1 89 a1\n", "DONE 2 89 a1\n"),
 ];
 
 /// How often a client asks again for what another one has still reserved.
 const TURNS: u32 = 1_000_000;
-
-/// What the clients of a server do.
-#[derive(Clone, Copy)]
-enum Visit {
-    /// A job is answered and another is spent at once, line by line.
-    Both,
-    /// A connection is lost while its session waits; another one then gets what it had reserved.
-    Lost,
-    /// Each connection has two jobs of its own.
-    Many,
-}
 
 /// Sends bytes, and tells whether they were sent.
 fn is_sent(mut stream: &TcpStream, bytes: &[u8]) -> bool {
@@ -138,7 +123,8 @@ fn are_answered(stream: &TcpStream, rows: &[Row]) -> bool {
 }
 
 /// Whether two sessions at once are answered as each is alone.
-fn are_both_answered(one: &TcpStream, two: &TcpStream) -> bool {
+fn are_both_answered(streams: &[TcpStream]) -> bool {
+    let [one, two] = streams else { return false };
     for number in 0..ANSWERED.len() {
         if !is_answered(two, SPENT[number]) || !is_answered(one, ANSWERED[number]) {
             return false;
@@ -150,10 +136,8 @@ fn are_both_answered(one: &TcpStream, two: &TcpStream) -> bool {
 /// The next byte that the server says.
 fn next_byte(mut stream: &TcpStream) -> Option<u8> {
     let mut told = [0; 1];
-    match stream.read_exact(&mut told) {
-        Ok(()) => Some(told[0]),
-        Err(_) => None,
-    }
+    stream.read_exact(&mut told).ok()?;
+    Some(told[0])
 }
 
 /// Whether all that there is can be reserved, within so many turns.
@@ -204,31 +188,22 @@ fn are_told_of_their_own(streams: &[TcpStream]) -> bool {
 }
 
 /// Whether a session whose connection is lost gives back what it had reserved.
-fn is_given_back(lost: TcpStream, kept: &TcpStream) -> bool {
+fn is_given_back(mut streams: Vec<TcpStream>) -> bool {
+    let (Some(lost), Some(kept)) = (streams.pop(), streams.pop()) else {
+        return false;
+    };
     let told = is_answered(&lost, (LONG_WAIT, "WELCOME 4096 65536\n"));
     drop(lost);
-    told && is_welcome(kept)
-}
-
-/// Whether the clients at these connections are told what they should be told.
-fn are_served(visit: Visit, mut streams: Vec<TcpStream>) -> bool {
-    match (visit, streams.as_slice()) {
-        (Visit::Both, [one, two]) => are_both_answered(one, two),
-        (Visit::Many, many) => are_told_of_their_own(many),
-        _ => match (streams.pop(), streams.pop()) {
-            (Some(lost), Some(kept)) => is_given_back(lost, &kept),
-            _ => false,
-        },
-    }
+    told && is_welcome(&kept)
 }
 
 /// What is tried at a server.
-#[derive(Drop)]
+#[derive(Clone, Copy)]
 enum Trial {
-    /// A guest comes.
-    Attended(Attended),
-    /// The server doesn't begin.
-    Unserved(Unserved),
+    /// This guest comes to a server of so many sessions and workers.
+    Attended(Guest, u16, u8),
+    /// The server's workers can't have threads, where it can say that it has begun; or it can't.
+    Unserved(bool),
     /// Its sessions can't have threads.
     Threadless,
     /// Its workers can't have threads: who takes its own connection knows that it has stopped.
@@ -246,21 +221,17 @@ fn is_tried<L: DeskLedger + Send + Sync, R>(
     rt: &R,
     desk: Desk<L>,
     listener: TcpListener,
-    trial: &Trial,
+    trial: Trial,
 ) -> bool
 where
-    R: Net<Listener = TcpListener, Stream = TcpStream>
-        + AllocGlobal
-        + Threads
-        + Wait
-        + Clock
-        + CpuClock
-        + Sync,
+    R: Net<Listener = TcpListener, Stream = TcpStream> + Host + Sync,
     requires { L.all ≡ L.parts }
 {
     match trial {
-        Trial::Attended(attended) => doors::is_attended(rt, desk, listener, attended),
-        Trial::Unserved(unserved) => is_unserved(rt, desk, listener, unserved),
+        Trial::Attended(guest, sessions, workers) => {
+            doors::is_attended(rt, desk, listener, guest, server_of(sessions, workers))
+        }
+        Trial::Unserved(works) => is_unserved(rt, desk, listener, works),
         Trial::Threadless => is_threadless(rt, desk, listener),
         Trial::Stopped => doors::is_stopped(rt, desk, listener),
         Trial::Hasty => failing::is_hasty(rt, desk, listener),
@@ -275,52 +246,38 @@ fn is_well_at<L: DeskLedger + Send + Sync, R>(
     hall: Hall,
     blank: Blank,
     opened: Opened<Step<Jamboree>>,
-    trial: &Trial,
+    trial: Trial,
 ) -> bool
 where
-    R: Net<Listener = TcpListener, Stream = TcpStream>
-        + AllocGlobal
-        + Threads
-        + Wait
-        + Clock
-        + CpuClock
-        + Sync,
+    R: Net<Listener = TcpListener, Stream = TcpStream> + Host + Sync,
     requires name { blank.name ≡ L.name }
     requires parts { (blank.parts ≡ L.parts) × (L.all ≡ L.parts) × (L.all ≡ PARTS) }
     requires history { opened ≡ L.table }
     requires begun { hall ≡ L.begun }
 {
     let desk: Desk<L> = Desk::new(hall, blank, opened);
-    match TcpListener::bind(rt, "127.0.0.1:0") {
-        Ok(listener) => is_tried(rt, desk, listener, trial),
-        Err(_) => false,
-    }
+    is_tried(rt, desk, listener_of(rt), trial)
 }
 
-/// A hall of so many segments and nodes.
-fn hall_of(alloc: Global, segments: u32, nodes: u32, grain: u8) -> Option<Hall> {
-    let config = Config::new(segments, nodes)?;
-    Hall::new(alloc, config, grain.min(6)).ok()
-}
-
-/// Whether all is as it should be where this is tried at a hall of so many segments and nodes.
-fn is_well<R>(rt: &R, totals: (u32, u32), grain: u8, trial: &Trial) -> bool
+/// The same at a hall of this grain.
+fn is_well<R>(rt: &R, grain: u8, trial: Trial) -> bool
 where
-    R: Net<Listener = TcpListener, Stream = TcpStream>
-        + AllocGlobal
-        + Threads
-        + Wait
-        + Clock
-        + CpuClock
-        + Sync,
+    R: Net<Listener = TcpListener, Stream = TcpStream> + Host + Sync,
 {
-    let Ok(opened) = Opened::new(rt.alloc()) else {
-        return false;
-    };
-    match hall_of(rt.alloc(), totals.0, totals.1, grain) {
-        Some(hall) => is_well_at::<Brand, R>(rt, hall, Blank::new(PARTS), opened, trial),
-        None => false,
-    }
+    let config = Config::new(4096, 65536).expect(rt, "totals");
+    let hall = Hall::new(rt.alloc(), config, grain.min(6)).expect(rt, "a hall");
+    let opened = Opened::new(rt.alloc()).expect(rt, "a history");
+    is_well_at::<Brand, R>(rt, hall, Blank::new(PARTS), opened, trial)
+}
+
+/// A listener of its own.
+fn listener_of<R: Net<Listener = TcpListener, Stream = TcpStream> + Abort>(rt: &R) -> TcpListener {
+    TcpListener::bind(rt, "127.0.0.1:0").expect(rt, "a listener")
+}
+
+/// Where it listens.
+fn address_of(rt: &impl Abort, listener: &TcpListener) -> SocketAddr {
+    listener.local_addr().expect(rt, "an address")
 }
 
 /// A server for so many sessions with so many workers, of which there is one at least and 32 at most.
@@ -328,46 +285,30 @@ fn server_of(sessions: u16, workers: u8) -> ServerConfig {
     ServerConfig::new(sessions, Worker::new(workers.clamp(1, 32)).unwrap())
 }
 
-/// Whether a connection now answers within ten seconds or fails.
-fn is_limited(stream: &TcpStream) -> bool {
-    stream
-        .set_read_timeout(Some(Duration::from_secs(10)))
-        .is_ok()
+/// A connection that answers within ten seconds or fails; None where nobody listens.
+fn come<R: Net<Stream = TcpStream>>(rt: &R, address: SocketAddr) -> Option<TcpStream> {
+    let stream = TcpStream::connect(rt, address).ok()?;
+    let ten_seconds = Some(Duration::from_secs(10));
+    stream.set_read_timeout(ten_seconds).ok()?;
+    Some(stream)
 }
 
-/// A connection that answers within ten seconds or fails.
-fn visitor<R: Net<Stream = TcpStream>>(rt: &R, address: SocketAddr) -> Option<TcpStream> {
-    match TcpStream::connect(rt, address) {
-        Ok(stream) if is_limited(&stream) => Some(stream),
-        _ => None,
-    }
-}
-
-/// Whether one more such connection joins these.
-fn has_joined<R: Net<Stream = TcpStream>>(
-    rt: &R,
-    address: SocketAddr,
-    streams: &mut Vec<TcpStream>,
-) -> bool {
-    match visitor(rt, address) {
-        Some(stream) => streams.push(stream).is_ok(),
-        None => false,
-    }
+/// The same where somebody listens.
+fn visitor<R: Net<Stream = TcpStream> + Abort>(rt: &R, address: SocketAddr) -> TcpStream {
+    come(rt, address).expect(rt, "a connection")
 }
 
 /// So many such connections.
-fn visitors<R: Net<Stream = TcpStream> + AllocGlobal>(
+fn visitors<R: Net<Stream = TcpStream> + Host>(
     rt: &R,
     address: SocketAddr,
     many: u16,
-) -> Option<Vec<TcpStream>> {
+) -> Vec<TcpStream> {
     let mut streams = Vec::new(rt.alloc());
     for _ in 0..many {
-        if !has_joined(rt, address, &mut streams) {
-            return None;
-        }
+        holds(rt, streams.push(visitor(rt, address)).is_ok());
     }
-    Some(streams)
+    streams
 }
 
 /// Whether a server has ended well, and all steps are accounted for.
@@ -380,58 +321,42 @@ fn is_whole<L: DeskLedger>(desk: Desk<L>, served: Result<PoolEnd<L>, ServeFault>
     }
 }
 
-/// Clients at a server for so many sessions: they are told what they should be told, and all steps are accounted for at
-/// the end.
-fn is_visited<R>(rt: &R, sessions: u16, visit: Visit) -> bool
-where
-    R: Net<Listener = TcpListener, Stream = TcpStream>
-        + AllocGlobal
-        + Threads
-        + Wait
-        + Clock
-        + CpuClock
-        + Sync,
-{
-    let attended = Attended {
-        guest: Guest::Visit(visit),
-        sessions,
-        workers: 2,
-    };
-    is_well(rt, (4096, 65536), 0, &Trial::Attended(attended))
-}
-
-/// A server whose workers go through a gate: why it failed.
-fn fault_of<
-    L: DeskLedger + Send + Sync,
-    R: Net + Threads + Wait + Sync,
-    N: OpenListener<Stream = TcpStream> + Drop + Send,
-    G: Gate + Sync,
->(
+/// Why a server failed.
+fn fault_of<L: DeskLedger + Send + Sync, R: Net + Threads + Wait + Sync, N>(
     rt: &R,
     alloc: Global,
     desk: &Desk<L>,
     listener: N,
     server: ServerConfig,
-    gate: &G,
 ) -> Option<ServeFault>
+where
+    N: OpenListener<Stream = TcpStream> + Drop + Send,
     requires { L.all ≡ L.parts }
 {
-    serve(rt, alloc, desk, listener, server, gate).err()
+    serve(rt, alloc, desk, listener, server, &OpenGate).err()
+}
+
+/// Whether a guest at a server of this grain is content, and all steps are accounted for at the end.
+fn is_content<R>(rt: &R, grain: u8, guest: Guest, sessions: u16, workers: u8) -> bool
+where
+    R: Net<Listener = TcpListener, Stream = TcpStream> + Host + Sync,
+{
+    is_well(rt, grain, Trial::Attended(guest, sessions, workers))
 }
 
 #[test]
 fn two_at_once_are_served_as_each_alone(rt: HostRuntime) {
-    holds(&rt, is_visited(&rt, 2, Visit::Both));
+    holds(&rt, is_content(&rt, 0, Guest::Both, 2, 2));
 }
 
 #[test]
 fn a_lost_connection_gives_all_back(rt: HostRuntime) {
-    holds(&rt, is_visited(&rt, 2, Visit::Lost));
+    holds(&rt, is_content(&rt, 0, Guest::Lost, 2, 2));
 }
 
 #[test]
 fn sixty_four_are_told_of_their_own(rt: HostRuntime) {
-    holds(&rt, is_visited(&rt, 64, Visit::Many));
+    holds(&rt, is_content(&rt, 0, Guest::Many, 64, 2));
 }
 
 /// Counts how often it is said that a server has begun.
@@ -452,38 +377,29 @@ impl Announce for Counted<'_> {
     }
 }
 
-/// A server of two sessions, at whose desk nobody sits, with workers of these stacks, and whose beginning can be said or
-/// can't.
-#[derive(Drop)]
-struct Unserved {
-    stack: Option<usize>,
-    works: bool,
-}
-
-/// Whether it is so, and its listener is closed.
+/// Whether a server at whose desk nobody sits fails, and its listener is closed: its workers have no threads, where it can say that it
+/// has begun; or it can't.
 fn is_unserved<L: DeskLedger + Send + Sync, R>(
     rt: &R,
     desk: Desk<L>,
     listener: TcpListener,
-    trial: &Unserved,
+    works: bool,
 ) -> bool
 where
-    R: Net<Listener = TcpListener, Stream = TcpStream> + AllocGlobal + Threads + Wait + Sync,
+    R: Net<Listener = TcpListener, Stream = TcpStream> + Host + Sync,
     requires { L.all ≡ L.parts }
 {
-    let Ok(address) = listener.local_addr() else {
-        return false;
-    };
+    let address = address_of(rt, &listener);
     let mut server = server_of(2, 2);
-    server.pool.stack = trial.stack;
+    server.pool.stack = if works { Some(usize::MAX) } else { None };
     let count = AtomicU32::new(0);
     let call = Counted {
         count: &count,
-        works: trial.works,
+        works,
     };
     let served = serve_announced(rt, rt.alloc(), &desk, listener, server, &OpenGate, call);
     let said = count.load(Ordering::SeqCst);
-    let is_so = is_said_so(trial.works, &served.err(), said);
+    let is_so = is_said_so(works, &served.err(), said);
     is_so && TcpStream::connect(rt, address).is_err()
 }
 
@@ -500,21 +416,13 @@ fn is_said_so(works: bool, fault: &Option<ServeFault>, said: u32) -> bool {
 /// Nothing is said, and the listener is closed.
 #[test]
 fn nothing_is_said_where_the_pool_cannot_begin(rt: HostRuntime) {
-    let unserved = Unserved {
-        stack: Some(usize::MAX),
-        works: true,
-    };
-    holds(&rt, is_well(&rt, (8, 8), 0, &Trial::Unserved(unserved)));
+    holds(&rt, is_well(&rt, 0, Trial::Unserved(true)));
 }
 
 /// It was tried once, and the listener is closed.
 #[test]
 fn a_beginning_that_cannot_be_said_ends_the_server(rt: HostRuntime) {
-    let unserved = Unserved {
-        stack: None,
-        works: false,
-    };
-    holds(&rt, is_well(&rt, (8, 8), 0, &Trial::Unserved(unserved)));
+    holds(&rt, is_well(&rt, 0, Trial::Unserved(false)));
 }
 
 /// Whether both clients of a server of two sessions that can't have a thread for either are let go.
@@ -524,18 +432,13 @@ fn is_threadless<L: DeskLedger + Send + Sync, R>(
     listener: TcpListener,
 ) -> bool
 where
-    R: Net<Listener = TcpListener, Stream = TcpStream> + AllocGlobal + Threads + Wait + Sync,
+    R: Net<Listener = TcpListener, Stream = TcpStream> + Host + Sync,
     requires { L.all ≡ L.parts }
 {
-    let Ok(address) = listener.local_addr() else {
-        return false;
-    };
-    let Some(streams) = visitors(rt, address, 2) else {
-        return false;
-    };
+    let streams = visitors(rt, address_of(rt, &listener), 2);
     let mut server = server_of(2, 2);
     server.sessions.stack = Some(usize::MAX);
-    let fault = fault_of(rt, rt.alloc(), &desk, listener, server, &OpenGate);
+    let fault = fault_of(rt, rt.alloc(), &desk, listener, server);
     fault.is_none() && are_closed(&streams)
 }
 
@@ -551,5 +454,5 @@ fn are_closed(streams: &[TcpStream]) -> bool {
 
 #[test]
 fn a_connection_without_a_thread_is_closed_and_counts(rt: HostRuntime) {
-    holds(&rt, is_well(&rt, (8, 8), 0, &Trial::Threadless));
+    holds(&rt, is_well(&rt, 0, Trial::Threadless));
 }

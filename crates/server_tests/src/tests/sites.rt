@@ -37,38 +37,42 @@ pub(super) fn amount(sessions: u32, segments: u64, nodes: u64) -> Amount
     }
 }
 
+/// The desk of a hall for so many sessions, with so many segments and nodes; its customers' budgets, and what a guest, a network and all
+/// guests may have. None where memory is refused.
+pub(super) fn desk_of(
+    alloc: Global,
+    all: (u32, u32, u32),
+    customers: Vec<Amount>,
+    guests: (Amount, Amount, Amount),
+) -> Option<SiteDesk> {
+    let (sessions, segments, nodes) = all;
+    let totals = amount(sessions, u64::from(segments), u64::from(nodes));
+    let (guest, network, guests) = guests;
+    let plan = Plan::new(totals, customers, guest, network, guests)?;
+    let config = Config::new(segments, nodes)?;
+    let (Ok(book), Ok(hall), Ok(shares)) = (
+        Book::new(alloc, plan),
+        Hall::new(alloc, config, 4),
+        FairShare::new(alloc, 8),
+    ) else {
+        return None;
+    };
+    Some(SiteDesk::new(BookedHall::new(hall, book), shares))
+}
+
 /// The desk of a hall where the school may have two sessions, and two guests one each.
 fn desks_of(rt: &impl Abort, alloc: Global) -> Vec<SiteDesk> {
     let mut customers: Vec<Amount> = Vec::new(alloc);
     holds(rt, customers.push(amount(2, 16, 160)).is_ok());
-    let plan = Plan::new(
-        amount(4, 32, 320),
-        customers,
-        amount(1, 8, 80),
-        amount(1, 8, 80),
-        amount(2, 16, 160),
-    );
+    let guests = (amount(1, 8, 80), amount(1, 8, 80), amount(2, 16, 160));
+    let desk = desk_of(alloc, (4, 32, 320), customers, guests).expect(rt, "a desk");
     let mut desks: Vec<SiteDesk> = Vec::new(alloc);
-    let (Some(plan), Some(totals)) = (plan, Config::new(32, 320)) else {
-        return desks;
-    };
-    let (Ok(book), Ok(hall), Ok(shares)) = (
-        Book::new(alloc, plan),
-        Hall::new(alloc, totals, 4),
-        FairShare::new(alloc, 8),
-    ) else {
-        return desks;
-    };
-    holds(
-        rt,
-        desks
-            .push(SiteDesk::new(BookedHall::new(hall, book), shares))
-            .is_ok(),
-    );
+    holds(rt, desks.push(desk).is_ok());
     desks
 }
 
 /// A house whose clock goes on at each look, and in which one other session may be that leaves when it is told.
+#[derive(Drop)]
 struct TestHouse<'a, R> {
     rt: &'a R,
     desk: &'a SiteDesk,
@@ -140,61 +144,48 @@ impl<R: Wait> House for TestHouse<'_, R> {
     }
 }
 
-/// A house for a connection of this customer.
-fn house<'a, R>(rt: &'a R, alloc: Global, desk: &'a SiteDesk, own: Who) -> TestHouse<'a, R> {
+/// A house for a connection of a guest.
+fn house<'a, R: AllocGlobal>(rt: &'a R, desk: &'a SiteDesk) -> TestHouse<'a, R> {
     TestHouse {
         rt,
         desk,
-        own,
+        own: GUEST,
         now: std::cell::Cell::new(100_000),
         step: 10,
         paid: 99,
         is_crowded: false,
         other: None,
-        told: Vec::new(alloc),
+        told: Vec::new(rt.alloc()),
     }
 }
 
+/// What is said in a session, what is answered, and what its house is told.
+type Talk = (&'static str, &'static str, &'static str);
+
 /// Plays a session, and fails the test unless it is answered so and its house is told so.
-fn plays<R: Wait + Clock + Abort>(
+fn plays<R: Wait + Clock + Abort + AllocGlobal>(
     rt: &R,
-    alloc: Global,
     desks: &[SiteDesk],
-    desk: &SiteDesk,
     house: TestHouse<'_, R>,
-    said: &str,
-    answered: &str,
-    told: &str,
+    talk: Talk,
 ) {
-    let own = house.own;
+    let (said, answered, told) = talk;
+    let (desk, own) = (house.desk, house.own);
     let mut source = FromReader {
         reader: said.as_bytes(),
     };
-    let mut sink = FromWriter::new(Vec::new(alloc));
+    let mut sink = FromWriter::new(Vec::new(rt.alloc()));
     let mut office = SiteOffice::new(rt, desks, desk, house, own, 4);
     let end = serve_connection(rt, &mut source, &mut sink, &mut office);
     holds(rt, end.is_ok());
-    let house = office.close();
+    let TestHouse { told: noted, .. } = office.close();
     holds(rt, sink.writer.as_slice() == answered.as_bytes());
-    holds(rt, house.told.as_slice() == told.as_bytes());
-    let TestHouse {
-        rt: _,
-        desk: _,
-        own: _,
-        now: _,
-        step: _,
-        paid: _,
-        is_crowded: _,
-        other: _other,
-        told: _told,
-    } = house;
+    holds(rt, noted.as_slice() == told.as_bytes());
 }
 
 /// A seat of a customer that came then.
 pub(super) fn seat_of<R: Wait + Abort>(rt: &R, desk: &SiteDesk, who: Who, at: u64) -> Option<Seat> {
-    let Some(ask) = Reserve::new(8, 80) else {
-        return None;
-    };
+    let ask = Reserve::new(8, 80)?;
     let comer = Comer {
         who,
         ask,
@@ -207,85 +198,78 @@ pub(super) fn seat_of<R: Wait + Abort>(rt: &R, desk: &SiteDesk, who: Who, at: u6
     }
 }
 
+/// Whose seat this is leaves.
+fn leaves<R: Wait + Abort>(rt: &R, desk: &SiteDesk, seat: Option<Seat>) {
+    desk.leave(rt, seat.expect(rt, "a seat"));
+}
+
 /// A session of a guest, from its first line to its last.
+const WHOLE: Talk = (
+    "INFO\nHELLO 9 8\nHELLO 4 8\nINFO\nRESERVE 4 8\nRESERVE 8 81\r\r\nRESERVE 8 81\nRESERVE 8 80\nINFO\nQUOTA\nHELLO 1 1\nBYE\nQUOTA\n",
+    "ERR 28\nERR 14\nWELCOME 4 8\nINFO 4 8 80 4 8 1.0.0\nERR 20\nERR 23\nERR 14\nRESERVED 8 80\nINFO 4 8 80 8 80 1.0.0\nQUOTA 8 80 1280\nERR 29\nBYE\n",
+    "bBbE",
+);
+
 #[test]
 fn a_guests_session(rt: HostRuntime) {
     let desks = desks_of(&rt, rt.alloc());
     for desk in &desks {
-        plays(
-            &rt,
-            rt.alloc(),
-            desks.as_slice(),
-            desk,
-            house(&rt, rt.alloc(), desk, GUEST),
-            "INFO\nHELLO 9 8\nHELLO 4 8\nINFO\nRESERVE 4 8\nRESERVE 8 81\r\r\nRESERVE 8 81\nRESERVE 8 80\nINFO\nQUOTA\nHELLO 1 1\nBYE\nQUOTA\n",
-            "ERR 28\nERR 14\nWELCOME 4 8\nINFO 4 8 80 4 8 1.0.0\nERR 20\nERR 23\nERR 14\nRESERVED 8 80\nINFO 4 8 80 8 80 1.0.0\nQUOTA 8 80 1280\nERR 29\nBYE\n",
-            "bBbE",
-        );
+        plays(&rt, desks.as_slice(), house(&rt, desk), WHOLE);
         holds(&rt, desk.roll(&rt).is_empty());
     }
 }
+
+/// The school's token, behind one that nobody has.
+const SCHOOLS: Talk = (
+    "HELLO 16 160 sesam\nHELLO 16 160 sesame\nINFO\n",
+    "ERR 30\nWELCOME 16 160\nINFO 4 16 160 16 160 1.0.0\n",
+    "tNE",
+);
+
+/// A guest's session, behind two tokens.
+const OWN_AGAIN: Talk = (
+    "HELLO 17 160 sesame\nHELLO 9 80 sesam\nHELLO 9 80\nHELLO 8 80\nINFO\n",
+    "ERR 14\nERR 30\nERR 14\nWELCOME 8 80\nINFO 4 8 80 8 80 1.0.0\n",
+    "btbBE",
+);
 
 /// A token says whose a session is; one that nobody has is refused, and then the connection is its own again.
 #[test]
 fn whose_a_session_is(rt: HostRuntime) {
     let desks = desks_of(&rt, rt.alloc());
     for desk in &desks {
-        plays(
-            &rt,
-            rt.alloc(),
-            desks.as_slice(),
-            desk,
-            house(&rt, rt.alloc(), desk, GUEST),
-            "HELLO 16 160 sesam\nHELLO 16 160 sesame\nINFO\n",
-            "ERR 30\nWELCOME 16 160\nINFO 4 16 160 16 160 1.0.0\n",
-            "tNE",
-        );
-        plays(
-            &rt,
-            rt.alloc(),
-            desks.as_slice(),
-            desk,
-            house(&rt, rt.alloc(), desk, GUEST),
-            "HELLO 17 160 sesame\nHELLO 9 80 sesam\nHELLO 9 80\nHELLO 8 80\nINFO\n",
-            "ERR 14\nERR 30\nERR 14\nWELCOME 8 80\nINFO 4 8 80 8 80 1.0.0\n",
-            "btbBE",
-        );
+        plays(&rt, desks.as_slice(), house(&rt, desk), SCHOOLS);
+        plays(&rt, desks.as_slice(), house(&rt, desk), OWN_AGAIN);
     }
 }
+
+/// A guest that can pay for two lines.
+const POOR: Talk = (
+    "HELLO 9 8\nQUOTA\nHELLO 4 8\nQUOTA\nINFO\nRESERVE 5 8\nLIVE\n",
+    "ERR 14\nERR 28\nWELCOME 4 8\nQUOTA 4 8 128\nINFO 4 8 80 4 8 1.0.0\nERR 31\nLIVE 0 0\n",
+    "bBrE",
+);
+
+/// A guest that can pay for one line, where all connections are taken.
+const CROWDED: Talk = ("HELLO 4 8\nHELLO 4 8\n", "ERR 14\nERR 31\n", "ccr");
 
 /// Lines that ask for a reservation are paid for, and no others.
 #[test]
 fn lines_that_are_paid_for(rt: HostRuntime) {
     let desks = desks_of(&rt, rt.alloc());
     for desk in &desks {
-        let mut poor = house(&rt, rt.alloc(), desk, GUEST);
+        let mut poor = house(&rt, desk);
         poor.paid = 2;
-        plays(
-            &rt,
-            rt.alloc(),
-            desks.as_slice(),
-            desk,
-            poor,
-            "HELLO 9 8\nQUOTA\nHELLO 4 8\nQUOTA\nINFO\nRESERVE 5 8\nLIVE\n",
-            "ERR 14\nERR 28\nWELCOME 4 8\nQUOTA 4 8 128\nINFO 4 8 80 4 8 1.0.0\nERR 31\nLIVE 0 0\n",
-            "bBrE",
-        );
-        let mut crowded = house(&rt, rt.alloc(), desk, GUEST);
+        plays(&rt, desks.as_slice(), poor, POOR);
+        let mut crowded = house(&rt, desk);
         crowded.is_crowded = true;
         crowded.paid = 1;
-        plays(
-            &rt,
-            rt.alloc(),
-            desks.as_slice(),
-            desk,
-            crowded,
-            "HELLO 4 8\nHELLO 4 8\n",
-            "ERR 14\nERR 31\n",
-            "ccr",
-        );
+        plays(&rt, desks.as_slice(), crowded, CROWDED);
     }
 }
+
+/// A guest has its place once another one has left.
+const SEATED: Talk = ("HELLO 8 80\nBYE\n", "WELCOME 8 80\nBYE\n", "TBE");
 
 /// Where all guests' places are taken the one goes that has been idle for longest, and the comer has its place once that has left.
 #[test]
@@ -295,24 +279,18 @@ fn a_guest_goes_for_another(rt: HostRuntime) {
         let idle = seat_of(&rt, desk, OTHER, 1_000);
         let busy = seat_of(&rt, desk, THIRD, 99_000);
         holds(&rt, idle.is_some() && busy.is_some());
-        let mut waiting = house(&rt, rt.alloc(), desk, GUEST);
+        let mut waiting = house(&rt, desk);
         waiting.other = idle;
-        plays(
-            &rt,
-            rt.alloc(),
-            desks.as_slice(),
-            desk,
-            waiting,
-            "HELLO 8 80\nBYE\n",
-            "WELCOME 8 80\nBYE\n",
-            "TBE",
-        );
+        plays(&rt, desks.as_slice(), waiting, SEATED);
         holds(&rt, desk.roll(&rt).len() == 1);
-        if let Some(seat) = busy {
-            desk.leave(&rt, seat);
-        }
+        leaves(&rt, desk, busy);
     }
 }
+
+/// A guest gives up, after it was told that another one was told to end; and where none is.
+const GIVES_UP: Talk = ("HELLO 8 80\n", "ERR 14\n", "Tg");
+
+const FINDS_NO_PLACE: Talk = ("HELLO 8 80\n", "ERR 14\n", "g");
 
 /// Who waits for one that doesn't leave gives up after 2 seconds of the clock; and nobody goes where none is idle.
 #[test]
@@ -321,37 +299,15 @@ fn a_guest_that_does_not_leave(rt: HostRuntime) {
     for desk in &desks {
         let idle = seat_of(&rt, desk, OTHER, 1_000);
         let busy = seat_of(&rt, desk, THIRD, 99_000);
-        let mut waiting = house(&rt, rt.alloc(), desk, GUEST);
+        let mut waiting = house(&rt, desk);
         waiting.step = 950;
-        plays(
-            &rt,
-            rt.alloc(),
-            desks.as_slice(),
-            desk,
-            waiting,
-            "HELLO 8 80\n",
-            "ERR 14\n",
-            "Tg",
-        );
+        plays(&rt, desks.as_slice(), waiting, GIVES_UP);
         holds(&rt, desk.roll(&rt).len() == 2);
-        if let Some(seat) = idle {
-            desk.leave(&rt, seat);
-        }
+        leaves(&rt, desk, idle);
         let other = seat_of(&rt, desk, OTHER, 99_000);
-        plays(
-            &rt,
-            rt.alloc(),
-            desks.as_slice(),
-            desk,
-            house(&rt, rt.alloc(), desk, GUEST),
-            "HELLO 8 80\n",
-            "ERR 14\n",
-            "g",
-        );
-        if let (Some(seat), Some(other)) = (busy, other) {
-            desk.leave(&rt, seat);
-            desk.leave(&rt, other);
-        }
+        plays(&rt, desks.as_slice(), house(&rt, desk), FINDS_NO_PLACE);
+        leaves(&rt, desk, busy);
+        leaves(&rt, desk, other);
         holds(&rt, desk.roll(&rt).is_empty());
     }
 }

@@ -15,45 +15,53 @@ use std::alloc::Global;
 use std::sync::Wait;
 use tenant_quota::{Left, Reserve};
 
-/// The opening, Black to move.
-pub(crate) fn opening() -> Position {
+/// This board, Black to move.
+pub fn black(board: Board) -> Position {
     Position {
-        board: Board {
-            own: 0x8_1000_0000,
-            opp: 0x10_0800_0000,
-        },
+        board,
         side: Side::Black,
     }
 }
 
-/// A disc of each player in the corner, Black to move: one move ends the game.
-pub(crate) fn corner() -> Position {
-    Position {
-        board: Board { own: 1, opp: 2 },
-        side: Side::Black,
-    }
+/// The opening.
+pub fn opening() -> Position {
+    black(Board {
+        own: 0x8_1000_0000,
+        opp: 0x10_0800_0000,
+    })
 }
 
-/// All discs are White's, and Black is to move.
-pub(crate) fn all_white() -> Position {
-    Position {
-        board: Board {
-            own: 0,
-            opp: u64::MAX,
-        },
-        side: Side::Black,
-    }
+/// A disc of each player in the corner: one move ends the game.
+pub fn corner() -> Position {
+    black(Board { own: 1, opp: 2 })
+}
+
+/// All discs are White's.
+pub fn all_white() -> Position {
+    black(Board {
+        own: 0,
+        opp: u64::MAX,
+    })
 }
 
 /// A new hall, if there is memory for it, whose workers search what is at most so deep (and 6) by themselves.
-pub(crate) fn hall_of(alloc: Global, segments: u32, nodes: u32, grain: u8) -> Option<Hall> {
+pub fn hall_of(alloc: Global, segments: u32, nodes: u32, grain: u8) -> Option<Hall> {
     let config = Config::new(segments, nodes)?;
     Hall::new(alloc, config, grain.min(6)).ok()
 }
 
+/// So much left of a reservation.
+pub fn left_of(segments: u32, nodes: u32, steps: u32) -> Left {
+    Left {
+        segments,
+        nodes,
+        steps,
+    }
+}
+
 /// What is found of a job.
 #[derive(Clone, Copy, PartialEq, Eq)]
-pub(crate) enum Found {
+pub enum Found {
     /// It goes on.
     Pending,
     /// It is done, with this value and choice.
@@ -77,86 +85,85 @@ fn told(answer: Result<Outcome, Refusal>) -> Found {
     }
 }
 
-/// A new tenant's seat, which reserves so much, or why there is none.
-pub(crate) fn admit<L: DeskLedger, R: Wait>(
-    rt: &R,
-    desk: &Desk<L>,
-    segments: u32,
-    nodes: u32,
-) -> Result<Seat<L>, Refusal> {
-    match Reserve::new(segments, nodes) {
-        Some(reserve) => desk.admit(rt, reserve),
-        None => Err(Refusal::NoJob),
+/// Where one speaks: at a desk, in a thread that may wait.
+#[derive(Drop)]
+pub struct At<'a, L: DeskLedger, R: Wait> {
+    pub rt: &'a R,
+    pub desk: &'a Desk<L>,
+}
+
+impl<L: DeskLedger, R: Wait> At<'_, L, R> {
+    /// A new tenant's seat, which reserves so much, or why there is none.
+    pub fn admit(&self, segments: u32, nodes: u32) -> Result<Seat<L>, Refusal> {
+        match Reserve::new(segments, nodes) {
+            Some(reserve) => self.desk.admit(self.rt, reserve),
+            None => Err(Refusal::NoJob),
+        }
     }
-}
 
-/// A seat asks for a position to this depth, at most 12: what it is answered.
-pub(crate) fn ask<L: DeskLedger, R: Wait>(
-    rt: &R,
-    desk: &Desk<L>,
-    seat: &mut Seat<L>,
-    position: &Position,
-    depth: u8,
-) -> Result<u64, Refusal> {
-    desk.ask(rt, seat, position, depth.min(12))
-}
+    /// A seat asks for a position to this depth, at most 12: the number of its job.
+    pub fn ask(&self, seat: &mut Seat<L>, board: &Position, depth: u8) -> Result<u64, Refusal> {
+        self.desk.ask(self.rt, seat, board, depth.min(12))
+    }
 
-/// What a seat finds of a job.
-pub(crate) fn get<L: DeskLedger, R: Wait>(
-    rt: &R,
-    desk: &Desk<L>,
-    seat: &Seat<L>,
-    job: u64,
-) -> Found {
-    told(desk.get(rt, seat, job))
-}
+    /// What a seat finds of a job.
+    pub fn get(&self, seat: &Seat<L>, job: u64) -> Found {
+        told(self.desk.get(self.rt, seat, job))
+    }
 
-/// What a seat finds of a job once it has waited for it.
-pub(crate) fn wait<L: DeskLedger, R: Wait>(
-    rt: &R,
-    desk: &Desk<L>,
-    seat: &Seat<L>,
-    job: u64,
-) -> Found {
-    told(desk.wait(rt, seat, job))
-}
+    /// What a seat finds of a job once it has waited for it.
+    pub fn wait(&self, seat: &Seat<L>, job: u64) -> Found {
+        told(self.desk.wait(self.rt, seat, job))
+    }
 
-/// A seat cancels a job: what it is answered.
-pub(crate) fn cancel<L: DeskLedger, R: Wait>(
-    rt: &R,
-    desk: &Desk<L>,
-    seat: &mut Seat<L>,
-    job: u64,
-) -> Result<(), Refusal> {
-    desk.cancel(rt, seat, job)
-}
+    /// A seat cancels a job: what it is answered.
+    pub fn cancel(&self, seat: &mut Seat<L>, job: u64) -> Result<(), Refusal> {
+        self.desk.cancel(self.rt, seat, job)
+    }
 
-/// What a seat's tenant has left, if it is there.
-pub(crate) fn quota<L: DeskLedger, R: Wait>(
-    rt: &R,
-    desk: &Desk<L>,
-    seat: &Seat<L>,
-) -> Option<Left> {
-    desk.quota(rt, seat).ok()
-}
+    /// What a seat's tenant has left, if it is there.
+    pub fn quota(&self, seat: &Seat<L>) -> Option<Left> {
+        self.desk.quota(self.rt, seat).ok()
+    }
 
-/// How many frames a seat's tenant has, and how many words, if it is there.
-pub(crate) fn live<L: DeskLedger, R: Wait>(
-    rt: &R,
-    desk: &Desk<L>,
-    seat: &Seat<L>,
-) -> Option<(usize, usize)> {
-    desk.live(rt, seat).ok()
-}
+    /// How many frames a seat's tenant has, and how many words, if it is there.
+    pub fn live(&self, seat: &Seat<L>) -> Option<(usize, usize)> {
+        self.desk.live(self.rt, seat).ok()
+    }
 
-/// A badge, if there is one.
-pub(crate) fn badge<L: DeskLedger, R: Wait>(rt: &R, desk: &Desk<L>) -> Option<Badge<L>> {
-    desk.badge(rt)
+    /// A seat's tenant leaves.
+    pub fn leave(&self, seat: Seat<L>)
+        requires { L.all ≡ L.parts }
+    {
+        self.desk.leave(self.rt, seat);
+    }
+
+    /// A badge, if there is one.
+    pub fn badge(&self) -> Option<Badge<L>> {
+        self.desk.badge(self.rt)
+    }
+
+    /// Whether no frame is ready, at a desk that is closed.
+    pub fn is_bare(&self) -> bool {
+        self.desk.next_ready(self.rt).is_none()
+    }
+
+    /// A worker does this with a frame: what it is answered.
+    pub fn offer(
+        &self,
+        badge: &mut Badge<L>,
+        worker: Worker,
+        frame: FrameId,
+        turn: Turn,
+    ) -> StepAnswer {
+        let step = step_of(worker, frame, turn);
+        self.desk.offer(self.rt, badge, &step)
+    }
 }
 
 /// What a worker does with a frame.
 #[derive(Clone, Copy)]
-pub(crate) enum Turn {
+pub enum Turn {
     /// It takes the frame, whose home is this worker, or 0, the hall.
     Steal(u8),
     /// The frame does its next act.
@@ -182,20 +189,8 @@ fn step_of(worker: Worker, frame: FrameId, turn: Turn) -> Step<Jamboree>
     }
 }
 
-/// A worker does this with a frame: what it is answered.
-pub(crate) fn offer<L: DeskLedger, R: Wait>(
-    rt: &R,
-    desk: &Desk<L>,
-    badge: &mut Badge<L>,
-    worker: Worker,
-    frame: FrameId,
-    turn: Turn,
-) -> StepAnswer {
-    desk.offer(rt, badge, &step_of(worker, frame, turn))
-}
-
-/// The same of a worker that holds the desk.
-pub(crate) fn offer_held<L: DeskLedger, R: Wait>(
+/// A worker that holds the desk does this with a frame: what it is answered.
+pub fn offer_held<L: DeskLedger, R: Wait>(
     rt: &R,
     held: &mut DeskGuard<'_, L>,
     badge: &mut Badge<L>,
@@ -208,21 +203,21 @@ pub(crate) fn offer_held<L: DeskLedger, R: Wait>(
 
 /// What a desk ends with.
 #[derive(Clone, Copy)]
-pub(crate) struct Ended {
+pub struct Ended {
     /// How many steps its hall has taken.
-    pub(crate) count: u128,
+    pub count: u128,
     /// How many of them it keeps: those before the desk, and those of seats that have left.
-    pub(crate) kept: u128,
+    pub kept: u128,
     /// How many of them were let go with journals.
-    pub(crate) gone: u128,
+    pub gone: u128,
     /// Whether all shares are there.
-    pub(crate) is_whole: bool,
+    pub is_whole: bool,
     /// How many segments are free.
-    pub(crate) free: usize,
+    pub free: usize,
 }
 
 /// The end of a desk.
-pub(crate) fn end<L: DeskLedger>(desk: Desk<L>, badge: Badge<L>) -> Ended
+pub fn end<L: DeskLedger>(desk: Desk<L>, badge: Badge<L>) -> Ended
     requires { L.all ≡ L.parts }
 {
     let (hall, whole) = desk.into_hall(badge);

@@ -1,5 +1,5 @@
 //! Deques in one thread: what is taken, in which order, and the sums.
-ghost use Rattle.std.specs.Prelude.{◌≡◌, ◌≤◌, ◌<◌, ◌+◌, map, vec_len};
+ghost use Rattle.std.specs.Prelude.{◌≡◌, ◌≤◌, ◌<◌, map, vec_len};
 ghost use Rattle.task_deques.specs.Deals.{posts, IsWhole};
 
 use super::{holds, holds_that};
@@ -104,17 +104,6 @@ fn the_next_worker_is_tried_first(rt: HostRuntime) {
     }
 }
 
-/// So many tasks pushed, taken and left.
-fn sums_of(pushed: u128, taken: u128, left: u128) -> Sums
-    requires { pushed ≡ taken + left }
-{
-    Sums {
-        pushed,
-        taken,
-        left,
-    }
-}
-
 /// Whether three tasks of worker 1 and two of worker 2 find room, and a fourth of worker 1 doesn't.
 fn are_kept(all: &mut Vec<DequeEnds<Global>>) -> bool
     ensures posts { map posts all.new.items ≡ map posts all.old.items }
@@ -146,7 +135,8 @@ fn own_newest_else_the_next_workers_oldest(rt: HostRuntime) {
     let three = worker(3);
     let mut all = dealt(&rt, rt.alloc(), three, 3);
     holds(&rt, are_kept(&mut all) && are_taken(&mut all));
-    holds(&rt, sums(rt.alloc(), three, all) == Ok(sums_of(5, 5, 0)));
+    let sums = sums(rt.alloc(), three, all).expect(&rt, "there is memory");
+    holds(&rt, (sums.pushed, sums.taken, sums.left) == (5, 5, 0));
 }
 
 /// How many of so many pushes by a worker are kept.

@@ -1,18 +1,15 @@
 //! A desk in one thread and in several. Each test tries something at a desk of its own.
 ghost use Rattle.std.specs.Prelude.{◌≡◌};
 
-mod endings;
 mod holds;
 mod waiting;
 mod wakes;
 
-use super::calls::{
-    self, Found, Turn, admit, ask, cancel, end, get, hall_of, live, offer, opening, quota, wait,
-};
+use super::calls::{At, Found, Turn, end, hall_of, left_of, opening};
 use super::{holds, holds_of};
 use desk::{
-    Badge, Desk, DeskLedger, DidOf, Hall, Jamboree, Leaf, LeafAnswer, Opened, PARTS, Refusal, Seat,
-    Step, Worker,
+    Badge, Desk, DeskLedger, DidOf, Hall, Jamboree, LeafAnswer, Opened, PARTS, Refusal, Seat, Step,
+    Worker,
 };
 use frame_tree::FrameId;
 use std::alloc::Global;
@@ -22,16 +19,13 @@ use std::sync::Wait;
 use std::sync::ledger::Blank;
 use std::thread::Threads;
 use std::time::{Clock, CpuClock};
-use tenant_quota::Left;
 use waiting::{What, Who};
 
 /// What is tried at a new desk.
 #[derive(Clone, Copy)]
 enum Trial {
-    /// One seat, and one badge for its worker.
-    One,
-    /// All calls after the closing.
-    Closed,
+    /// One seat, and one badge for its worker: whether the desk is closed before they come.
+    One(bool),
     /// So many wait at once, and this comes to them.
     Crowd(Who, u64, What),
 }
@@ -67,8 +61,7 @@ where
     requires { L.all ≡ L.parts }
 {
     match trial {
-        Trial::One => one_stays(rt, desk),
-        Trial::Closed => endings::go_on(rt, desk),
+        Trial::One(is_closed) => one_stays(rt, desk, is_closed),
         Trial::Crowd(who, many, what) => waiting::come_back_there(rt, &desk, who, many, what),
     }
 }
@@ -76,84 +69,6 @@ where
 /// The worker of this number.
 fn worker_of(rt: &impl Abort, number: u8) -> Worker {
     Worker::new(number).expect(rt, "a worker's number")
-}
-
-/// A worker does this with a frame, and it is taken.
-fn does<L: DeskLedger, R: Wait>(
-    rt: &R,
-    desk: &Desk<L>,
-    badge: &mut Badge<L>,
-    worker: Worker,
-    frame: FrameId,
-    turn: Turn,
-) -> bool {
-    offer(rt, desk, badge, worker, frame, turn).is_ok()
-}
-
-/// What a worker that takes the root of a job is to compute.
-fn begun<L: DeskLedger, R: Wait>(
-    rt: &R,
-    desk: &Desk<L>,
-    badge: &mut Badge<L>,
-    worker: Worker,
-    root: FrameId,
-) -> Option<Leaf> {
-    if !does(rt, desk, badge, worker, root, Turn::Steal(0)) {
-        return None;
-    }
-    match offer(rt, desk, badge, worker, root, Turn::Advance) {
-        Ok(DidOf::Computing(leaf)) => Some(leaf),
-        _ => None,
-    }
-}
-
-/// Which job is done by the last three of a worker's steps with its root.
-fn finished<L: DeskLedger, R: Wait>(
-    rt: &R,
-    desk: &Desk<L>,
-    badge: &mut Badge<L>,
-    worker: Worker,
-    root: FrameId,
-    leaf: Leaf,
-) -> Option<u64> {
-    for turn in [Turn::Answer(LeafAnswer::compute(leaf)), Turn::Advance] {
-        if !does(rt, desk, badge, worker, root, turn) {
-            return None;
-        }
-    }
-    match offer(rt, desk, badge, worker, root, Turn::Finish) {
-        Ok(DidOf::Finished(job)) => Some(job),
-        _ => None,
-    }
-}
-
-/// The five steps of a worker that compute and finish the job under this root.
-fn compute<L: DeskLedger, R: Wait>(
-    rt: &R,
-    desk: &Desk<L>,
-    badge: &mut Badge<L>,
-    worker: Worker,
-    root: FrameId,
-) -> Option<u64> {
-    match begun(rt, desk, badge, worker, root) {
-        Some(leaf) => finished(rt, desk, badge, worker, root, leaf),
-        None => None,
-    }
-}
-
-/// A seat of a new tenant that reserves so much.
-fn seat_of<L: DeskLedger, R: Wait + Abort>(
-    rt: &R,
-    desk: &Desk<L>,
-    segments: u32,
-    nodes: u32,
-) -> Seat<L> {
-    admit(rt, desk, segments, nodes).expect(rt, "there is room")
-}
-
-/// A badge.
-fn badge_of<L: DeskLedger, R: Wait + Abort>(rt: &R, desk: &Desk<L>) -> Badge<L> {
-    calls::badge(rt, desk).expect(rt, "there are badges")
 }
 
 /// The root of a tenant's job of this serial.
@@ -174,8 +89,8 @@ enum Said {
     Wait(u64, Found),
     /// Its tenant has so many segments, nodes and steps left.
     Left(u32, u32, u32),
-    /// Its tenant has so many frames of 12 words.
-    Frames(u32),
+    /// Its tenant has so many frames, and so many words.
+    Live(usize, usize),
     /// Its share is this, and it has asked so often.
     Share(u128, usize),
     /// The desk has taken so many steps.
@@ -184,156 +99,135 @@ enum Said {
     NoneReady,
 }
 
-/// Whether a seat that says this is answered so.
-fn is_answered<L: DeskLedger, R: Wait>(
-    rt: &R,
-    desk: &Desk<L>,
-    seat: &mut Seat<L>,
-    said: Said,
-) -> bool {
-    match said {
-        Said::Ask(depth, answer) => ask(rt, desk, seat, &opening(), depth) == answer,
-        Said::Cancel(job, answer) => cancel(rt, desk, seat, job) == answer,
-        _ => is_seen(rt, desk, seat, said),
+impl<L: DeskLedger, R: Wait> At<'_, L, R> {
+    /// Which job is done by the five steps of a worker that compute and finish the job under this root.
+    fn compute(&self, badge: &mut Badge<L>, worker: Worker, root: FrameId) -> Option<u64> {
+        let _took = self.offer(badge, worker, root, Turn::Steal(0)).ok()?;
+        let Ok(DidOf::Computing(leaf)) = self.offer(badge, worker, root, Turn::Advance) else {
+            return None;
+        };
+        for turn in [Turn::Answer(LeafAnswer::compute(leaf)), Turn::Advance] {
+            let _did = self.offer(badge, worker, root, turn).ok()?;
+        }
+        match self.offer(badge, worker, root, Turn::Finish) {
+            Ok(DidOf::Finished(job)) => Some(job),
+            _ => None,
+        }
+    }
+
+    /// Whether a seat that says this is answered so.
+    fn is_answered(&self, seat: &mut Seat<L>, said: Said) -> bool {
+        match said {
+            Said::Ask(depth, answer) => self.ask(seat, &opening(), depth) == answer,
+            Said::Cancel(job, answer) => self.cancel(seat, job) == answer,
+            Said::Get(job, found) => self.get(seat, job) == found,
+            Said::Wait(job, found) => self.wait(seat, job) == found,
+            Said::Left(segments, nodes, steps) => {
+                self.quota(seat) == Some(left_of(segments, nodes, steps))
+            }
+            Said::Live(frames, words) => self.live(seat) == Some((frames, words)),
+            Said::Share(share, asked) => seat.share() == share && seat.asked().len() == asked,
+            Said::Count(count) => self.desk.count(self.rt) == count,
+            Said::NoneReady => self.is_bare(),
+        }
     }
 }
 
-/// Whether a seat sees this.
-fn is_seen<L: DeskLedger, R: Wait>(rt: &R, desk: &Desk<L>, seat: &Seat<L>, said: Said) -> bool {
-    match said {
-        Said::Get(job, found) => get(rt, desk, seat, job) == found,
-        Said::Wait(job, found) => wait(rt, desk, seat, job) == found,
-        Said::Left(segments, nodes, steps) => has_left(rt, desk, seat, segments, nodes, steps),
-        Said::Frames(many) => has_frames(rt, desk, seat, many),
-        Said::Share(share, asked) => seat.share() == share && seat.asked().len() == asked,
-        Said::Count(count) => desk.count(rt) == count,
-        Said::NoneReady => desk.next_ready(rt).is_none(),
-        _ => false,
+impl<L: DeskLedger, R: Wait + Abort> At<'_, L, R> {
+    /// A seat of a new tenant that reserves so much.
+    fn seat_of(&self, segments: u32, nodes: u32) -> Seat<L> {
+        self.admit(segments, nodes).expect(self.rt, "there is room")
+    }
+
+    /// A badge.
+    fn badge_of(&self) -> Badge<L> {
+        self.badge().expect(self.rt, "there are badges")
+    }
+
+    /// A seat says these in turn, and is answered so.
+    fn talks(&self, seat: &mut Seat<L>, turns: &[Said]) {
+        let mut number = 0u64;
+        for said in turns {
+            number = number.saturating_add(1);
+            holds_of(self.rt, self.is_answered(seat, *said), "turn", number);
+        }
+    }
+
+    /// A worker does the first job, the opening at depth 0, and the seat that waited for it has its reply.
+    fn do_first(&self, seat: &Seat<L>, badge: &mut Badge<L>) {
+        let root = root_of(seat.tenant(), 1);
+        let done = self.compute(badge, worker_of(self.rt, 1), root);
+        holds(self.rt, done == Some(1) && badge.share() == 5);
+        holds(self.rt, self.wait(seat, 1) == Found::Done(0, None));
+    }
+
+    /// All that a seat does, until it leaves, at a desk that is closed before or isn't: its first job is done, where who
+    /// waits for it at a closed desk finds it pending before, and its second is cancelled.
+    fn stay(&self, is_closed: bool) -> Badge<L>
+        requires { L.all ≡ L.parts }
+    {
+        if is_closed {
+            self.desk.close(self.rt);
+        }
+        let (mut seat, mut badge) = (self.seat_of(4, 8), self.badge_of());
+        self.talks(&mut seat, &[Said::Ask(0, Ok(1))]);
+        if is_closed {
+            self.talks(&mut seat, &[Said::NoneReady, Said::Wait(1, Found::Pending)]);
+        }
+        self.do_first(&seat, &mut badge);
+        self.talks(&mut seat, &FIRST_IS_DONE);
+        self.talks(&mut seat, &SECOND_IS_CANCELLED);
+        self.leave(seat);
+        badge
     }
 }
 
-/// Whether a seat's tenant has this left.
-fn has_left<L: DeskLedger, R: Wait>(
-    rt: &R,
-    desk: &Desk<L>,
-    seat: &Seat<L>,
-    segments: u32,
-    nodes: u32,
-    steps: u32,
-) -> bool {
-    quota(rt, desk, seat)
-        == Some(Left {
-            segments,
-            nodes,
-            steps,
-        })
-}
-
-/// Whether a seat's tenant has so many frames of 12 words.
-fn has_frames<L: DeskLedger, R: Wait>(rt: &R, desk: &Desk<L>, seat: &Seat<L>, many: u32) -> bool {
-    let frames = many as usize;
-    live(rt, desk, seat) == Some((frames, 12 * frames))
-}
-
-/// A seat says these in turn, and is answered so.
-fn talks<L: DeskLedger, R: Wait + Abort>(
-    rt: &R,
-    desk: &Desk<L>,
-    seat: &mut Seat<L>,
-    turns: &[Said],
-) {
-    let mut number = 0u64;
-    for said in turns {
-        number = number.saturating_add(1);
-        holds_of(rt, is_answered(rt, desk, seat, *said), "turn", number);
-    }
-}
-
-/// A worker does the first job, the opening at depth 0, and the seat that waited for it has its reply.
-fn do_first<L: DeskLedger, R: Wait + Abort>(
-    rt: &R,
-    desk: &Desk<L>,
-    seat: &Seat<L>,
-    badge: &mut Badge<L>,
-    worker: Worker,
-) {
-    let root = root_of(seat.tenant(), 1);
-    holds(rt, compute(rt, desk, badge, worker, root) == Some(1));
-    holds(rt, wait(rt, desk, seat, 1) == Found::Done(0, None));
-}
-
-/// The end of a desk: so many steps its hall has taken, keeps, and let go with journals; and whether all
-/// shares are there.
-fn has_ended<L: DeskLedger, R: Wait + Abort>(
-    rt: &R,
-    desk: Desk<L>,
-    badge: Badge<L>,
-    count: u128,
-    kept: u128,
-    gone: u128,
-    is_whole: bool,
-)
-    requires { L.all ≡ L.parts }
-{
-    let ended = end(desk, badge);
-    holds(rt, ended.count == count && ended.kept == kept);
-    holds(rt, ended.gone == gone && ended.is_whole == is_whole);
-}
+/// The seat's first job, which is done.
+const FIRST_IS_DONE: [Said; 4] = [
+    Said::Left(4, 7, 123),
+    Said::Share(2, 1),
+    Said::Cancel(1, Err(Refusal::NoJob)),
+    Said::Count(7),
+];
 
 /// The seat's second job, which is cancelled.
-const SECOND_IS_CANCELLED: [Said; 6] = [
+const SECOND_IS_CANCELLED: [Said; 7] = [
     Said::Ask(0, Ok(2)),
-    Said::Frames(1),
+    Said::Live(1, 12),
     Said::Cancel(2, Ok(())),
     Said::Get(2, Found::Cancelled),
     Said::Left(4, 6, 123),
     Said::Share(4, 2),
+    Said::Count(9),
 ];
 
-/// One seat, and one badge for its worker.
-fn one_stays<L: DeskLedger, R: Wait + Abort>(rt: &R, desk: Desk<L>)
+/// One seat, and one badge for its worker. At the end the hall has taken ten steps, keeps five, and let ten go with
+/// journals; and all shares are there.
+fn one_stays<L: DeskLedger, R: Wait + Abort>(rt: &R, desk: Desk<L>, is_closed: bool)
     requires { L.all ≡ L.parts }
 {
-    let mut badge = badge_of(rt, &desk);
-    stay(rt, &desk, &mut badge);
-    has_ended(rt, desk, badge, 10, 5, 10, true);
-}
-
-/// All that the seat does, until it leaves.
-fn stay<L: DeskLedger, R: Wait + Abort>(rt: &R, desk: &Desk<L>, badge: &mut Badge<L>)
-    requires { L.all ≡ L.parts }
-{
-    let mut seat = seat_of(rt, desk, 4, 8);
-    work(rt, desk, &mut seat, badge);
-    talks(rt, desk, &mut seat, &SECOND_IS_CANCELLED);
-    holds(rt, desk.count(rt) == 9);
-    desk.leave(rt, seat);
+    let badge = At { rt, desk: &desk }.stay(is_closed);
     holds(rt, desk.count(rt) == 10);
-}
-
-/// The seat's first job, which is done.
-fn work<L: DeskLedger, R: Wait + Abort>(
-    rt: &R,
-    desk: &Desk<L>,
-    seat: &mut Seat<L>,
-    badge: &mut Badge<L>,
-) {
-    talks(rt, desk, seat, &[Said::Ask(0, Ok(1))]);
-    do_first(rt, desk, seat, badge, worker_of(rt, 1));
-    holds(rt, badge.share() == 5);
-    let after = [
-        Said::Left(4, 7, 123),
-        Said::Share(2, 1),
-        Said::Cancel(1, Err(Refusal::NoJob)),
-        Said::Count(7),
-    ];
-    talks(rt, desk, seat, &after);
+    let ended = end(desk, badge);
+    holds(rt, (ended.count, ended.kept, ended.gone) == (10, 5, 10));
+    holds(rt, ended.is_whole);
 }
 
 #[test]
 fn a_seat_and_a_badge(rt: HostRuntime) {
-    try_out(&rt, rt.alloc(), Trial::One);
+    try_out(&rt, rt.alloc(), Trial::One(false));
 }
 
-/// At a closed desk no frame is ready, and who waits finds the job pending.
-const WAIT_CLOSED: [Said; 2] = [Said::NoneReady, Said::Wait(1, Found::Pending)];
+/// A closed desk takes asks, and all else that doesn't wait.
+#[test]
+fn a_closed_desk_goes_on(rt: HostRuntime) {
+    try_out(&rt, rt.alloc(), Trial::One(true));
+}
+
+/// So many wait at a desk, and this comes to them.
+fn crowd<R>(rt: &R, alloc: Global, who: Who, many: u64, what: What)
+where
+    R: Wait + Abort + Threads + Clock + CpuClock + Sync,
+{
+    try_out(rt, alloc, Trial::Crowd(who, many, what));
+}

@@ -12,7 +12,7 @@ mod rows;
 mod searches;
 mod seats;
 
-use super::calls::{end, hall_of};
+use super::calls::{At, end, hall_of};
 use desk::{Badge, Desk, DeskLedger, Hall, Jamboree, Opened, PARTS, Step};
 use sched_rules::Worker;
 use std::alloc::Global;
@@ -23,10 +23,10 @@ use std::thread;
 use std::thread::Threads;
 use steal_pool::{Announce, Gate, NotRun, PoolEnd, PoolSizes, run_pool, run_pool_sized};
 
-/// What is said at the desk while a pool runs; true where all was as it should be.
+/// What is said at the desk while a pool runs.
 pub(crate) trait Scenario {
-    /// Plays at the desk. It leaves no seat behind.
-    fn play<L: DeskLedger, R: Wait>(&self, rt: &R, desk: &Desk<L>) -> bool
+    /// Plays at the desk: true where all was as it should be, None where a seat is wanting. It leaves no seat behind.
+    fn play<L: DeskLedger, R: Wait>(&self, at: &At<'_, L, R>) -> Option<bool>
         requires { L.all ≡ L.parts };
 }
 
@@ -164,31 +164,7 @@ fn run_sized<L: DeskLedger + Send + Sync, G: Gate + Sync, R: Threads + Wait + Sy
     (call.count, ended)
 }
 
-/// Runs the pool, with the usual room or with so much.
-fn run<L: DeskLedger + Send + Sync, G: Gate + Sync, R: Threads + Wait + Sync>(
-    rt: &R,
-    alloc: Global,
-    desk: &Desk<L>,
-    workers: u8,
-    gate: &G,
-    room: Option<usize>,
-) -> Option<PoolEnd<L>>
-    requires { L.all ≡ L.parts }
-{
-    let workers = Worker::new(workers)?;
-    match room {
-        Some(room) => {
-            let sizes = PoolSizes {
-                room,
-                ..PoolSizes::usual(workers)
-            };
-            run_sized(rt, alloc, desk, sizes, gate, true).1.ok()
-        }
-        None => run_pool(rt, alloc, desk, workers, gate).ok(),
-    }
-}
-
-/// Runs the pool as `run` does, and gives back what its thread brings.
+/// Runs the pool, with the usual room or with so much, and gives back what its thread brings.
 fn run_there<L: DeskLedger + Send + Sync, G: Gate + Sync, R: Threads + Wait + Sync>(
     rt: &R,
     alloc: Global,
@@ -199,7 +175,16 @@ fn run_there<L: DeskLedger + Send + Sync, G: Gate + Sync, R: Threads + Wait + Sy
 ) -> Option<Ended<L>>
     requires { L.all ≡ L.parts }
 {
-    let end = run(rt, alloc, desk, workers, gate, room)?;
+    let workers = Worker::new(workers)?;
+    let ended = match room {
+        Some(room) => {
+            let mut sizes = PoolSizes::usual(workers);
+            sizes.room = room;
+            run_sized(rt, alloc, desk, sizes, gate, true).1.ok()
+        }
+        None => run_pool(rt, alloc, desk, workers, gate).ok(),
+    };
+    let end = ended?;
     Some(Ended {
         pushed: end.pushed,
         taken: end.taken,
@@ -231,7 +216,7 @@ fn beside<L: DeskLedger + Send + Sync, S: Scenario, G: Gate + Sync, R: Threads +
                 { run_there(rt, alloc, desk, workers, gate, room) },
             );
             let Ok(pool) = started else { return None };
-            let is_content = scenario.play(rt, desk);
+            let is_content = matches!(scenario.play(&At { rt, desk }), Some(true));
             desk.close(rt);
             match pool.join(rt) {
                 Some(ended) if is_content => Some(ended),

@@ -103,3 +103,13 @@ pub(crate) fn others_work<C: Clock + CpuClock>(clock: &C, before: Duration) -> b
     }
     false
 }
+
+/// Whether less than a twentieth of a second's processor time is used in a second.
+pub(crate) fn is_silent<C: Clock + CpuClock>(clock: &C) -> bool {
+    let before = clock.process_cpu_time().ok();
+    pass(clock, 1_000);
+    match (before, clock.process_cpu_time().ok()) {
+        (Some(before), Some(after)) => after.saturating_sub(before) < Duration::from_millis(50),
+        _ => false,
+    }
+}

@@ -2,7 +2,7 @@
 ghost use Rattle.std.specs.Prelude.{◌≤◌};
 
 use crate::tests::memory::frames::{add, make_places, name, table_of};
-use crate::tests::memory::{heap_of, holds};
+use crate::tests::{heap_of, holds};
 use frame_tree::FrameTable;
 use linked_list_allocator::LocalHeap;
 use segment_region::Region;
@@ -68,9 +68,9 @@ fn tables_of_all_sizes(rt: HostRuntime) {
 
 /// Fills a tenant's places with frames, all but the first under that.
 fn fill(rt: &impl Abort, table: &mut FrameTable<u64, &LocalHeap>, tenant: u64, places: u64) {
-    for serial in 1..places.saturating_add(1) {
-        let parent = if serial == 1 { None } else { Some(1) };
-        add(rt, table, name(tenant, serial), parent);
+    add(rt, table, name(tenant, 1), None);
+    for serial in 2..places.saturating_add(1) {
+        add(rt, table, name(tenant, serial), Some(name(tenant, 1)));
     }
 }
 
@@ -88,9 +88,7 @@ fn full_tables_of_all_sizes(rt: HostRuntime) {
     let heap = heap_of(&rt, rt.alloc(), 1 << 21);
     let at_once = used_after_a_raise(&rt, &heap, 4096);
     for places in [1, 2, 63, 64, 65, 500, 1000, 2032] {
-        holds(
-            &rt,
-            used_after_a_raise_of_frames(&rt, &heap, places) == at_once,
-        );
+        let used = used_after_a_raise_of_frames(&rt, &heap, places);
+        holds(&rt, used == at_once);
     }
 }

@@ -1,18 +1,16 @@
 //! Searches whose core has little memory, and how far a core goes.
 ghost use Rattle.std.specs.Prelude.{◌≤◌};
 
-use super::{heap_of, holds, holds_at, opening};
+use super::{heap_of, holds, holds_at, left_of, opening};
 use frame_tree::FrameId;
-use linked_list_allocator::LocalHeap;
-use othello_eval::Valued;
 use othello_moves::Choice;
-use pool_rules::{Action, Holding, Task, Turn};
+use pool_rules::{Action, Holding};
 use position_text::{Position, read};
 use sched_rules::{DidOf, Worker};
 use solve_engine::{Searched, Way, search_within, solve_by_core};
 use std::alloc::{AllocError, Allocator, Global};
 use std::process::Abort;
-use tenant_quota::{Left, Reserve};
+use tenant_quota::Reserve;
 use toys::Counted;
 
 /// Five squares are empty, White to move. It takes a corner, and wins by 26 discs.
@@ -39,12 +37,7 @@ fn is_done(found: &Searched) -> bool {
 
 /// Whether a core of 4,096 segments did the search, and its tenant had all of them left, and so many nodes and steps.
 fn is_done_with(found: &Searched, nodes: u32, steps: u32) -> bool {
-    let left = Left {
-        segments: 4096,
-        nodes,
-        steps,
-    };
-    is_done(found) && found.left == left
+    is_done(found) && found.left == left_of(4096, nodes, steps)
 }
 
 /// The frame of tenant 1 of this serial.
@@ -57,50 +50,37 @@ fn frame(serial: u64) -> FrameId {
 fn a_child_is_a_task(rt: HostRuntime) {
     let root = Holding::Next(Action::Run(frame(1)));
     let turn = root.turned(Worker::new(2).unwrap(), Ok(DidOf::Spawned(frame(2))));
-    let task = Task {
-        frame: frame(2),
-        home: 2,
-    };
-    let wanted = Turn {
-        holding: root,
-        task: Some(task),
-    };
-    holds(&rt, turn == wanted);
+    let is_task = matches!(turn.task, Some(task) if task.frame == frame(2) && task.home == 2);
+    holds(&rt, turn.holding == root && is_task);
 }
 
 /// Whether the opening is searched with a node for each of its four moves to one ply more than the grain, and with more
 /// to two plies more.
-fn has_grain(alloc: Global, grain: u8) -> bool
+fn has_grain(alloc: Global, grain: u8) -> Result<bool, AllocError>
     requires { grain ≤ 6 }
 {
-    match (
-        solved(alloc, &opening(), grain + 1, grain),
-        solved(alloc, &opening(), grain + 2, grain),
-    ) {
-        (Ok(near), Ok(shared)) => {
-            is_done_with(&near, 65_531, 1_048_544) && is_done(&shared) && shared.left.nodes < 65_531
-        }
-        _ => false,
-    }
+    let near = solved(alloc, &opening(), grain + 1, grain)?;
+    let shared = solved(alloc, &opening(), grain + 2, grain)?;
+    let has_more = is_done(&shared) && shared.left.nodes < 65_531;
+    Ok(has_more && is_done_with(&near, 65_531, 1_048_544))
 }
 
-/// Searches at each grain.
-fn grains(rt: &impl Abort, alloc: Global) {
+/// To one ply more than the grain each of the four moves, which are equal, is computed by itself: five nodes and 32
+/// steps. To two plies more the moves have nodes of their own.
+#[test]
+fn the_grain_is_the_one_that_is_asked(rt: HostRuntime) {
     for grain in 0..7 {
-        holds_at(rt, grain as usize, has_grain(alloc, grain));
+        let has_it = has_grain(rt.alloc(), grain);
+        holds_at(&rt, grain as usize, has_it == Ok(true));
     }
-}
-
-/// Whether this is the corner and its value.
-fn is_the_corner(answer: Valued) -> bool {
-    answer.value == 52_000 && matches!(answer.choice, Some(Choice::Square(0)))
 }
 
 /// Whether a core of 4,096 segments found the corner and its value, with so few nodes as it has at this grain.
 fn is_deep(found: &Searched, grain: u8) -> bool {
     let nodes = found.left.nodes;
     is_done(found)
-        && is_the_corner(found.answer)
+        && found.answer.value == 52_000
+        && matches!(found.answer.choice, Some(Choice::Square(0)))
         && found.left.segments == 4096
         && nodes > 60_000
         && (grain > 0 || nodes < 65_520)
@@ -120,59 +100,56 @@ fn is_done_deep(alloc: Global, depth: u8, grain: u8) -> bool
     }
 }
 
-/// Searches to each depth above 6, at each grain.
-fn deep_searches(rt: &impl Abort, alloc: Global) {
+/// Deep searches are done by their core, which is that of 4,096 segments and 65,536 nodes, at each grain.
+#[test]
+fn deep_searches_are_done_by_a_core(rt: HostRuntime) {
     for depth in 7..13 {
         for grain in 0..7 {
             // Case 75 is depth 7 at grain 5.
             let case = depth * 10 + grain;
-            holds_at(rt, case as usize, is_done_deep(alloc, depth, grain));
+            holds_at(&rt, case as usize, is_done_deep(rt.alloc(), depth, grain));
         }
     }
 }
 
-/// Whether the core of the opening's search to 11 plies comes to its last node.
-fn is_spent(alloc: Global) -> bool {
-    match solved(alloc, &opening(), 11, 0) {
-        Ok(found) => {
-            matches!(found.way, Way::Spent) && found.left.segments == 4096 && found.left.nodes == 0
-        }
-        Err(AllocError) => false,
-    }
+/// A search that needs more nodes than there are goes on until none is left: that of the opening to 11 plies.
+#[test]
+fn a_search_goes_on_to_its_last_node(rt: HostRuntime) {
+    let found = solved(rt.alloc(), &opening(), 11, 0).expect(&rt, "there is memory");
+    holds(&rt, matches!(found.way, Way::Spent));
+    holds(&rt, found.left.segments == 4096 && found.left.nodes == 0);
 }
 
-/// Whether a small search is done in this heap; None where memory was wanting.
-fn is_done_in(heap: &LocalHeap, reserve: Reserve) -> Option<bool> {
-    match search_within(heap, &opening(), 0, 0, reserve) {
-        Ok(found) => Some(is_done(&found)),
-        Err(AllocError) => None,
-    }
-}
-
-/// The same in a heap of so many kilobytes, to which all is given back.
-fn is_done_within(rt: &impl Abort, alloc: Global, units: usize, reserve: Reserve) -> Option<bool>
+/// Whether a small search is done in a heap of so many kilobytes, to which all is given back; None where memory was
+/// wanting.
+fn is_done_within(rt: &impl Abort, alloc: Global, units: usize) -> Option<bool>
     requires { units ≤ 320 }
 {
     let heap = heap_of(rt, alloc, units * 1024);
-    let is_done = is_done_in(&heap, reserve);
+    let reserve = Reserve::new(2, 4).unwrap();
+    let is_done = match search_within(&heap, &opening(), 0, 0, reserve) {
+        Ok(found) => Some(is_done(&found)),
+        Err(AllocError) => None,
+    };
     holds(rt, heap.used() == 0);
     is_done
 }
 
-/// Searches in heaps with more and more room.
-fn growths(rt: &impl Abort, alloc: Global) {
-    let reserve = Reserve::new(2, 4).unwrap();
+/// In heaps with more and more room each growth of the core and of the admission is refused in turn, and all that was
+/// taken is given back. What is found is found by the core.
+#[test]
+fn each_growth_is_refused_in_turn(rt: HostRuntime) {
     let (mut refused, mut done) = (0u32, 0u32);
     for units in 0..320usize {
-        match is_done_within(rt, alloc, units, reserve) {
+        match is_done_within(&rt, rt.alloc(), units) {
             None => refused = refused.saturating_add(1),
             Some(is_by_the_core) => {
-                holds(rt, is_by_the_core);
+                holds(&rt, is_by_the_core);
                 done = done.saturating_add(1);
             }
         }
     }
-    holds(rt, refused > 16 && done > 0);
+    holds(&rt, refused > 16 && done > 0);
 }
 
 /// How often a search that is done by its core calls its allocator; 0 where it isn't.
@@ -186,69 +163,13 @@ fn calls_of(counted: &Counted<Global>, depth: u8) -> u64
     }
 }
 
-/// Searches that call their allocator no more often than the first.
-fn calls_of_searches(rt: &impl Abort, alloc: Global) {
-    let counted = Counted::new(alloc);
-    let once = calls_of(&counted, 0);
-    holds(rt, once > 0);
-    for depth in 1..5u8 {
-        holds_at(rt, depth as usize, calls_of(&counted, depth) == once);
-    }
-}
-
-/// What is tried of searches.
-enum Trial {
-    /// The grain that is asked.
-    Grain,
-    /// Deep searches.
-    Deep,
-    /// A search to its last node.
-    Spent,
-    /// Growths that are refused.
-    Growths,
-    /// The calls of an allocator.
-    Calls,
-}
-
-/// Tries it. All tests call this function, since each function that searches takes the prover two seconds more.
-fn tries(rt: &impl Abort, alloc: Global, trial: Trial) {
-    match trial {
-        Trial::Grain => grains(rt, alloc),
-        Trial::Deep => deep_searches(rt, alloc),
-        Trial::Spent => holds(rt, is_spent(alloc)),
-        Trial::Growths => growths(rt, alloc),
-        Trial::Calls => calls_of_searches(rt, alloc),
-    }
-}
-
-/// To one ply more than the grain each of the four moves, which are equal, is computed by itself: five nodes and 32
-/// steps. To two plies more the moves have nodes of their own.
-#[test]
-fn the_grain_is_the_one_that_is_asked(rt: HostRuntime) {
-    tries(&rt, rt.alloc(), Trial::Grain);
-}
-
-/// Deep searches are done by their core, which is that of 4,096 segments and 65,536 nodes, at each grain.
-#[test]
-fn deep_searches_are_done_by_a_core(rt: HostRuntime) {
-    tries(&rt, rt.alloc(), Trial::Deep);
-}
-
-/// A search that needs more nodes than there are goes on until none is left.
-#[test]
-fn a_search_goes_on_to_its_last_node(rt: HostRuntime) {
-    tries(&rt, rt.alloc(), Trial::Spent);
-}
-
-/// In heaps with more and more room each growth of the core and of the admission is refused in turn, and all that was
-/// taken is given back. What is found is found by the core.
-#[test]
-fn each_growth_is_refused_in_turn(rt: HostRuntime) {
-    tries(&rt, rt.alloc(), Trial::Growths);
-}
-
 /// What a search takes of its allocator doesn't grow with it: the core takes its memory when it is made.
 #[test]
 fn searches_take_no_memory(rt: HostRuntime) {
-    tries(&rt, rt.alloc(), Trial::Calls);
+    let counted = Counted::new(rt.alloc());
+    let once = calls_of(&counted, 0);
+    holds(&rt, once > 0);
+    for depth in 1..5u8 {
+        holds_at(&rt, depth as usize, calls_of(&counted, depth) == once);
+    }
 }

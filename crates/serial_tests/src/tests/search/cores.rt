@@ -78,14 +78,11 @@ fn many_steps(alloc: Global) -> Result<Vec<Step<Jamboree>>, AllocError> {
 }
 
 /// Whether a list of 662 steps as one call has as many answers, of which 11 are that a step was taken.
-fn is_list_run(alloc: Global, core: &mut Core<Jamboree>) -> bool {
-    let Ok(steps) = many_steps(alloc) else {
-        return false;
-    };
+fn is_list_run(alloc: Global, core: &mut Core<Jamboree>) -> Result<bool, AllocError> {
+    let steps = many_steps(alloc)?;
     let mut answers = Vec::new(alloc);
-    run_searches(core, &steps, &mut answers).is_ok()
-        && answers.len() == 662
-        && taken(&answers) == 11
+    run_searches(core, &steps, &mut answers)?;
+    Ok(answers.len() == 662 && taken(&answers) == 11)
 }
 
 /// The example at the head of the crate, and more: one answer each. The seven are taken, and then four Submits, for which
@@ -93,7 +90,7 @@ fn is_list_run(alloc: Global, core: &mut Core<Jamboree>) -> bool {
 #[test]
 fn a_list_of_steps(rt: HostRuntime) {
     let mut core = Core::new(rt.alloc(), totals(), grain_2()).expect(&rt, "there is memory");
-    holds(&rt, is_list_run(rt.alloc(), &mut core));
+    holds(&rt, is_list_run(rt.alloc(), &mut core) == Ok(true));
     holds(&rt, is_done_with(core.job(7, 1), 1_000_000, 65));
 }
 
@@ -120,19 +117,15 @@ fn is_run(after: &After<Jamboree, Global>) -> bool {
 }
 
 /// Whether both laws run the seven steps.
-fn are_run(alloc: Global) -> bool {
+fn are_run(alloc: Global) -> Option<bool> {
     let steps = seven_steps();
-    match (
-        ran(alloc, steps.as_slice()),
-        ran_twice(alloc, steps.as_slice()),
-    ) {
-        (Some(after), Some((one, other))) => is_run(&after) && is_run(&one) && is_run(&other),
-        _ => false,
-    }
+    let after = ran(alloc, steps.as_slice())?;
+    let (one, other) = ran_twice(alloc, steps.as_slice())?;
+    Some(is_run(&after) && is_run(&one) && is_run(&other))
 }
 
 /// The laws of lists run their lists: where they always said that memory is wanting, they would promise nothing.
 #[test]
 fn laws_of_lists_are_run(rt: HostRuntime) {
-    holds(&rt, are_run(rt.alloc()));
+    holds(&rt, are_run(rt.alloc()) == Some(true));
 }

@@ -156,14 +156,14 @@ fn whole_blocks_are_read_and_written_and_errors_answered_at_once(rt: HostRuntime
 
 /// What the two ends know of each other.
 #[derive(Drop)]
-struct Ear {
+pub struct Ear {
     asked: Cell<usize>,
     answered: Cell<usize>,
     too_early: Cell<bool>,
 }
 
 impl Ear {
-    fn new() -> Ear {
+    pub fn new() -> Ear {
         Ear {
             asked: Cell::new(0),
             answered: Cell::new(0),
@@ -172,7 +172,7 @@ impl Ear {
     }
 
     /// Whether so many lines were asked for and answered, none of them too early.
-    fn has_heard(&self, lines: usize) -> bool {
+    pub fn has_heard(&self, lines: usize) -> bool {
         self.asked.get() == lines && self.answered.get() == lines && !self.too_early.get()
     }
 }
@@ -180,9 +180,9 @@ impl Ear {
 /// Gives one line a call, and notes where it is asked before the last answer was written, or has no room for a
 /// block.
 #[derive(Drop)]
-struct Asking<'a> {
-    ear: &'a Ear,
-    lines: &'a [[u8; 4]],
+pub struct Asking<'a> {
+    pub ear: &'a Ear,
+    pub lines: &'a [&'a [u8]],
 }
 
 impl Source for Asking<'_> {
@@ -193,36 +193,35 @@ impl Source for Asking<'_> {
         if self.ear.answered.get() != asked || block.len() < 4096 {
             self.ear.too_early.set(true);
         }
-        match self.lines.split_first() {
-            Some((line, rest)) if block.len() >= 4 => {
+        let lines = self.lines;
+        match lines.get(asked) {
+            Some(line) => {
                 self.ear.asked.set(asked.saturating_add(1));
-                self.lines = rest;
-                Ok(given(block, line.as_slice()))
+                Ok(given(block, line))
             }
-            _ => Ok(0),
+            None => Ok(0),
         }
     }
 }
 
 /// Counts the answers, of which each has to come by one call.
 #[derive(Drop)]
-struct Hearing<'a>(&'a Ear);
+pub struct Hearing<'a>(pub &'a Ear);
 
 impl Sink for Hearing<'_> {
     ghost takes = { λ _ _ _. Unit {0} };
 
     fn put(&mut self, bytes: &[u8]) -> Result<usize, WriteFailed> {
-        let answered = self.0.answered.get();
-        if bytes.len() != 4 || answered == usize::MAX {
+        if bytes.last() != Some(&b'\n') {
             return Err(WriteFailed);
         }
-        self.0.answered.set(answered + 1);
+        self.0.answered.set(self.0.answered.get().saturating_add(1));
         Ok(bytes.len())
     }
 }
 
 /// Three lines.
-const THREE: [[u8; 4]; 3] = [*b"one\n", *b"two\n", *b"six\n"];
+const THREE: [&[u8]; 3] = [b"one\n", b"two\n", b"six\n"];
 
 /// Whether all of three lines are answered, none too late.
 fn is_heard_to_its_end() -> bool {

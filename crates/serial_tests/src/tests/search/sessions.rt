@@ -1,15 +1,13 @@
 //! Sessions over memory, with an office of prepared replies.
 mod tables;
 
-ghost use Rattle.std.specs.Prelude.{◌≤◌};
-
-use super::{given, holds, holds_at, joined};
-use line_io::{FromWriter, ReadFailed, Sink, Source, WriteFailed};
+use super::lines::{Asking, Ear, Hearing};
+use super::{given, holds, holds_at, joined, left_of};
+use line_io::{FromWriter, ReadFailed, Sink, Source};
 use othello_eval::Valued;
 use sched_rules::Refusal;
 use session::{Analysis, Bounds, End, Live, Office, Question, SessionFault, Standing, serve_lines};
 use std::alloc::{AllocError, Global};
-use std::cell::Cell;
 use std::io::{self, ErrorKind, Write};
 use std::process::Abort;
 use std::sync::Wait;
@@ -25,14 +23,10 @@ struct Prepared {
 }
 
 impl Prepared {
-    fn new(standing: Standing, segments: u32, nodes: u32, steps: u32) -> Prepared {
+    fn new(standing: Standing) -> Prepared {
         Prepared {
             standing,
-            left: Left {
-                segments,
-                nodes,
-                steps,
-            },
+            left: left_of(4, 7, 123),
             jobs: 0,
             here: false,
         }
@@ -197,7 +191,7 @@ impl Write for Narrow {
     }
 }
 
-/// Whether a session of these blocks, on a sink that takes so many bytes a call for so many calls, ends so, has written
+/// Whether a session of these blocks, whose sink takes so many bytes a call for so many calls, ends so, has written
 /// this, and its tenant is gone.
 fn is_left<R: Wait>(
     rt: &R,
@@ -206,193 +200,90 @@ fn is_left<R: Wait>(
     end: Result<End, SessionFault>,
     due: &[u8],
 ) -> bool {
-    let mut office = Prepared::new(NOTHING_TO_PLAY, 4, 7, 123);
+    let mut office = Prepared::new(NOTHING_TO_PLAY);
     let mut sink = FromWriter::new(narrow);
     let result = session(rt, &mut source, &mut sink, &mut office);
     result == end && !office.here && sink.writer.taken.as_slice() == due
 }
 
-/// The same where the sink takes all.
-fn is_heard<R: Wait>(
-    rt: &R,
-    alloc: Global,
-    source: Blocks<'_>,
-    end: Result<End, SessionFault>,
-    due: &[u8],
-) -> bool {
-    let wide = Narrow {
-        taken: Vec::new(alloc),
-        most: 200,
-        calls: usize::MAX,
-        fails: true,
-    };
-    is_left(rt, source, wide, end, due)
-}
-
-/// The same where a write fails.
-fn is_broken<R: Wait>(rt: &R, blocks: &[&[u8]], narrow: Narrow, due: &[u8]) -> bool {
-    let source = Blocks {
+/// These blocks, at whose end the source fails, or ends.
+fn blocks_of<'a>(blocks: &'a [&'a [u8]], fails: bool) -> Blocks<'a> {
+    Blocks {
         blocks,
         given: 0,
-        fails: false,
-    };
-    is_left(rt, source, narrow, Err(SessionFault::Write), due)
-}
-
-/// The end of a session whose source fails at its end, or doesn't.
-fn end_of(fails: bool, end: End) -> Result<End, SessionFault> {
-    if fails {
-        Err(SessionFault::Read)
-    } else {
-        Ok(end)
-    }
-}
-
-/// Whether a session of so many lines, whose source fails at its end or doesn't, writes this.
-fn is_heard_after<R: Wait>(rt: &R, alloc: Global, count: usize, fails: bool, due: &[u8]) -> bool
-    requires { count ≤ 10 }
-{
-    let source = Blocks {
-        blocks: &LINES[..count],
-        given: 0,
         fails,
-    };
-    is_heard(rt, alloc, source, end_of(fails, End::EndOfInput), due)
-}
-
-/// Whether it writes their answers in both cases.
-fn is_answered_after<R: Wait>(rt: &R, alloc: Global, count: usize) -> bool
-    requires { count ≤ 10 }
-{
-    match joined(alloc, &ANSWERS[..count]) {
-        Ok(due) => {
-            is_heard_after(rt, alloc, count, true, due.as_slice())
-                && is_heard_after(rt, alloc, count, false, due.as_slice())
-        }
-        Err(AllocError) => false,
     }
 }
 
-/// Whether a session whose sink takes so many single bytes, and then fails or takes none, writes this.
-fn is_broken_at<R: Wait>(rt: &R, alloc: Global, calls: usize, fails: bool, due: &[u8]) -> bool {
-    let narrow = Narrow {
+/// So many bytes a call for so many calls; then the sink fails, or takes none.
+fn narrow_of(alloc: Global, most: usize, calls: usize, fails: bool) -> Narrow {
+    Narrow {
         taken: Vec::new(alloc),
-        most: 1,
+        most,
         calls,
         fails,
+    }
+}
+
+/// Whether a session of so many lines, whose source fails at their end or doesn't, writes their answers.
+fn reads<R: Wait>(rt: &R, alloc: Global, count: usize, fails: bool) -> Result<bool, AllocError> {
+    let due = joined(alloc, &ANSWERS[..count.min(10)])?;
+    let end = if fails {
+        Err(SessionFault::Read)
+    } else {
+        Ok(End::EndOfInput)
     };
-    is_broken(rt, LINES.as_slice(), narrow, due)
+    let source = blocks_of(&LINES[..count.min(10)], fails);
+    let wide = narrow_of(alloc, 200, usize::MAX, true);
+    Ok(is_left(rt, source, wide, end, due.as_slice()))
 }
 
 /// How many bytes the answers have.
 const BYTES: usize = 98;
 
-/// Whether it writes so many bytes of the answers in both cases.
-fn is_begun_after<R: Wait>(rt: &R, alloc: Global, calls: usize) -> bool {
-    match joined(alloc, ANSWERS.as_slice()) {
-        Ok(all) => {
-            all.len() == BYTES
-                && calls < BYTES
-                && is_broken_at(rt, alloc, calls, true, &all.as_slice()[..calls])
-                && is_broken_at(rt, alloc, calls, false, &all.as_slice()[..calls])
-        }
-        Err(AllocError) => false,
+/// Whether a session whose sink takes so many single bytes, and then fails or takes none, writes so many bytes of the
+/// answers.
+fn writes<R: Wait>(rt: &R, alloc: Global, calls: usize, fails: bool) -> Result<bool, AllocError> {
+    let all = joined(alloc, ANSWERS.as_slice())?;
+    if all.len() != BYTES || calls >= BYTES {
+        return Ok(false);
     }
+    let source = blocks_of(LINES.as_slice(), false);
+    let narrow = narrow_of(alloc, 1, calls, fails);
+    let due = &all.as_slice()[..calls];
+    Ok(is_left(rt, source, narrow, Err(SessionFault::Write), due))
 }
 
-/// Whether a session of lines that come at once, whose sink takes so many writes and then fails, writes this.
-fn is_broken_after<R: Wait>(rt: &R, alloc: Global, lines: &[u8], calls: usize, due: &[u8]) -> bool {
-    let narrow = Narrow {
-        taken: Vec::new(alloc),
-        most: 200,
-        calls,
-        fails: true,
-    };
-    let at_once = [lines];
-    is_broken(rt, at_once.as_slice(), narrow, due)
-}
-
-/// Whether it writes so many answers.
-fn is_whole_after<R: Wait>(rt: &R, alloc: Global, calls: usize) -> bool
-    requires { calls ≤ 10 }
-{
-    match (
-        joined(alloc, LINES.as_slice()),
-        joined(alloc, &ANSWERS[..calls]),
-    ) {
-        (Ok(lines), Ok(due)) => {
-            is_broken_after(rt, alloc, lines.as_slice(), calls, due.as_slice())
-        }
-        _ => false,
-    }
-}
-
-/// What the two ends of a session know of each other.
-#[derive(Drop)]
-struct Wire {
-    asked: Cell<usize>,
-    answered: Cell<usize>,
-    too_early: Cell<bool>,
-}
-
-/// Gives one line a call, and notes where it is asked before the last answer was written.
-#[derive(Drop)]
-struct Asking<'a>(&'a Wire);
-
-impl Source for Asking<'_> {
-    ghost gives = { λ _ _ _. Unit {0} };
-
-    fn fill(&mut self, block: &mut [u8]) -> Result<usize, ReadFailed> {
-        let asked = self.0.asked.get();
-        if self.0.answered.get() != asked {
-            self.0.too_early.set(true);
-        }
-        self.0.asked.set(asked.saturating_add(1));
-        match LINES.get(asked) {
-            Some(line) => Ok(given(block, line)),
-            None => Ok(0),
-        }
-    }
-}
-
-/// Takes each answer by one call.
-#[derive(Drop)]
-struct Hearing<'a>(&'a Wire);
-
-impl Sink for Hearing<'_> {
-    ghost takes = { λ _ _ _. Unit {0} };
-
-    fn put(&mut self, bytes: &[u8]) -> Result<usize, WriteFailed> {
-        if bytes.last() != Some(&b'\n') {
-            return Err(WriteFailed);
-        }
-        self.0.answered.set(self.0.answered.get().saturating_add(1));
-        Ok(bytes.len())
-    }
+/// Whether a session of lines that come at once, whose sink takes so many writes and then fails, writes so many answers.
+fn writes_whole<R: Wait>(rt: &R, alloc: Global, calls: usize) -> Result<bool, AllocError> {
+    let lines = joined(alloc, LINES.as_slice())?;
+    let due = joined(alloc, &ANSWERS[..calls.min(10)])?;
+    let at_once = [lines.as_slice()];
+    let source = blocks_of(at_once.as_slice(), false);
+    let narrow = narrow_of(alloc, 200, calls, true);
+    let fault = Err(SessionFault::Write);
+    Ok(is_left(rt, source, narrow, fault, due.as_slice()))
 }
 
 /// Whether no answer of a session of ten lines comes too late.
 fn is_answered_in_time<R: Wait>(rt: &R) -> bool {
-    let wire = Wire {
-        asked: Cell::new(0),
-        answered: Cell::new(0),
-        too_early: Cell::new(false),
+    let ear = Ear::new();
+    let mut office = Prepared::new(NOTHING_TO_PLAY);
+    let mut source = Asking {
+        ear: &ear,
+        lines: LINES.as_slice(),
     };
-    let mut office = Prepared::new(NOTHING_TO_PLAY, 4, 7, 123);
-    let result = session(rt, &mut Asking(&wire), &mut Hearing(&wire), &mut office);
-    matches!(result, Ok(End::EndOfInput))
-        && !office.here
-        && wire.answered.get() == 10
-        && !wire.too_early.get()
+    let result = session(rt, &mut source, &mut Hearing(&ear), &mut office);
+    matches!(result, Ok(End::EndOfInput)) && !office.here && ear.has_heard(10)
 }
 
 /// What sessions meet.
 #[derive(Drop)]
 enum Trial {
-    /// A read that fails.
-    Read,
-    /// A write of a byte that fails.
-    Write,
+    /// A source that fails at its end, or doesn't.
+    Read(bool),
+    /// A write of a byte that fails, or takes none.
+    Write(bool),
     /// A write of an answer that fails.
     Answer,
     /// A source and a sink that know of each other.
@@ -402,39 +293,42 @@ enum Trial {
 /// How many cases a trial has.
 fn cases(trial: &Trial) -> usize {
     match trial {
-        Trial::Read => 11,
-        Trial::Write => BYTES,
+        Trial::Read(_) => 11,
+        Trial::Write(_) => BYTES,
         Trial::Answer => 10,
         Trial::Wire => 1,
     }
 }
 
 /// Whether a case of it is as it should be.
-fn is_so<R: Wait>(rt: &R, alloc: Global, trial: &Trial, case: usize) -> bool {
+fn is_so<R: Wait>(rt: &R, alloc: Global, trial: &Trial, case: usize) -> Result<bool, AllocError> {
     match trial {
-        Trial::Read => case <= 10 && is_answered_after(rt, alloc, case),
-        Trial::Write => is_begun_after(rt, alloc, case),
-        Trial::Answer => case <= 10 && is_whole_after(rt, alloc, case),
-        Trial::Wire => is_answered_in_time(rt),
+        Trial::Read(fails) => reads(rt, alloc, case, *fails),
+        Trial::Write(fails) => writes(rt, alloc, case, *fails),
+        Trial::Answer => writes_whole(rt, alloc, case),
+        Trial::Wire => Ok(is_answered_in_time(rt)),
     }
 }
 
 /// Tries all its cases. The tests share this loop, since each loop takes the prover two seconds more.
 fn tries<R: Wait + Abort>(rt: &R, alloc: Global, trial: Trial) {
     for case in 0..cases(&trial) {
-        holds_at(rt, case, is_so(rt, alloc, &trial, case));
+        let is_so = is_so(rt, alloc, &trial, case);
+        holds_at(rt, case, is_so == Ok(true));
     }
 }
 
 #[test]
 fn a_read_that_fails_leaves_the_answers_before_it(rt: HostRuntime) {
-    tries(&rt, rt.alloc(), Trial::Read);
+    tries(&rt, rt.alloc(), Trial::Read(true));
+    tries(&rt, rt.alloc(), Trial::Read(false));
     holds(&rt, SessionFault::Read.number() == 1);
 }
 
 #[test]
 fn a_write_that_fails_leaves_a_beginning(rt: HostRuntime) {
-    tries(&rt, rt.alloc(), Trial::Write);
+    tries(&rt, rt.alloc(), Trial::Write(true));
+    tries(&rt, rt.alloc(), Trial::Write(false));
     holds(&rt, SessionFault::Write.number() == 2);
 }
 

@@ -67,10 +67,8 @@ fn are_answered(alloc: Global, heap: &LocalHeap, answers: &[u8]) -> bool {
 #[test]
 fn refused_growths_are_told(rt: HostRuntime) {
     let heap = heap_of(&rt, rt.alloc(), ROOM);
-    holds(
-        &rt,
-        are_answered(rt.alloc(), &heap, b"ERR 19\n-3 d3\nERR 19\n"),
-    );
+    let answers = b"ERR 19\n-3 d3\nERR 19\n";
+    holds(&rt, are_answered(rt.alloc(), &heap, answers));
     holds(&rt, heap.used() == 0);
 }
 
@@ -89,8 +87,6 @@ fn are_faults_told(alloc: Global, heap: &LocalHeap, answers: &[u8]) -> bool {
 #[test]
 fn faults_ask_for_no_memory(rt: HostRuntime) {
     let heap = heap_of(&rt, rt.alloc(), 0);
-    holds(
-        &rt,
-        are_faults_told(rt.alloc(), &heap, b"ERR 23\nERR 27\nERR 24\nERR 19\n"),
-    );
+    let answers = b"ERR 23\nERR 27\nERR 24\nERR 19\n";
+    holds(&rt, are_faults_told(rt.alloc(), &heap, answers));
 }

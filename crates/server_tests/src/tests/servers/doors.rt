@@ -1,23 +1,22 @@
 //! What lies between a server and those who come: its listener, its descriptors, its threads.
 ghost use Rattle.std.specs.Prelude.{◌≡◌};
 
-use super::failing::next_of;
 use super::{
-    ANSWERED, LAST, Row, TURNS, Trial, Visit, are_answered, are_served, are_told, fault_of, holds,
-    is_answered, is_closed, is_sent, is_well, is_whole, server_of, visitor, visitors,
+    ANSWERED, ASK_0, Host, LAST, Row, TURNS, Trial, address_of, are_answered, are_both_answered,
+    are_told, are_told_of_their_own, come, fault_of, holds, is_answered, is_closed, is_content,
+    is_given_back, is_well, is_whole, server_of, visitor, visitors,
 };
 use sched_rules::Worker;
-use std::io::{self, Error, ErrorKind, Read, Write};
-use std::net::{Net, OpenListener, SocketAddr, TcpListener, TcpStream};
+use std::io::{self, ErrorKind, Read, Write};
+use std::net::{Net, SocketAddr, TcpListener, TcpStream};
+use std::process::Abort;
 use std::sync::Wait;
 use std::sync::atomic::{AtomicBool, AtomicU32, Ordering};
-use std::test::Fail;
 use std::thread::{self, Threads};
 use std::time::{Clock, CpuClock, Duration};
-use tcp_door::Door;
 use tcp_server::desk::{Desk, DeskLedger};
-use tcp_server::serve;
-use tcp_server::steal_pool::{Gate, OpenGate, Task};
+use tcp_server::steal_pool::{Gate, Task};
+use tcp_server::{ServerConfig, serve};
 
 /// A job with a long table: one of Black's fourteen moves takes all of White's discs.
 const TABLED: [Row; 3] = [
@@ -36,27 +35,15 @@ const TABLES: &str =
 /// Four jobs that are asked at once, and then awaited.
 const FOUR: [Row; 10] = [
     ("HELLO 4 8\n", "WELCOME 4 8\n"),
-    (
-        "ASK 0 ---------------------------OX------XO--------------------------- X\n",
-        "JOB 1\n",
-    ),
-    (
-        "ASK 0 ---------------------------OX------XO--------------------------- X\n",
-        "JOB 2\n",
-    ),
-    (
-        "ASK 0 ---------------------------OX------XO--------------------------- X\n",
-        "JOB 3\n",
-    ),
-    (
-        "ASK 0 ---------------------------OX------XO--------------------------- X\n",
-        "JOB 4\n",
-    ),
+    (ASK_0, "JOB 1\n"),
+    (ASK_0, "JOB 2\n"),
+    (ASK_0, "JOB 3\n"),
+    (ASK_0, "JOB 4\n"),
     ("WAIT 1\n", "DONE 1 0 -\n"),
     ("WAIT 2\n", "DONE 2 0 -\n"),
     ("WAIT 3\n", "DONE 3 0 -\n"),
     ("WAIT 4\n", "DONE 4 0 -\n"),
-    ("BYE\n", "BYE\n"),
+    LAST,
 ];
 
 /// How often somebody tries again, with a twentieth of a second in between.
@@ -68,8 +55,12 @@ const MOST_DESCRIPTORS: usize = 1 << 21;
 /// Who comes to a server.
 #[derive(Clone, Copy)]
 pub(super) enum Guest {
-    /// Those who came before the server began.
-    Visit(Visit),
+    /// Two: a job is answered and another is spent at once, line by line.
+    Both,
+    /// One whose connection is lost while its session waits; another one then gets what it had reserved.
+    Lost,
+    /// Many, each with two jobs of its own.
+    Many,
     /// One who is told these answers to these lines, to the end of the session.
     Told(&'static [Row]),
     /// The only one, who is followed by others once it is there.
@@ -80,6 +71,25 @@ pub(super) enum Guest {
     Four,
     /// Three who came before it began, where there are descriptors for one, and a fourth later.
     Crowd,
+}
+
+impl Guest {
+    /// How many come to a server for so many sessions before it begins, and how many descriptors are taken up before, but two.
+    fn before(self, sessions: u16) -> (u16, usize) {
+        match self {
+            Guest::Both | Guest::Lost | Guest::Many => (sessions, 0),
+            Guest::Crowd => (3, MOST_DESCRIPTORS),
+            _ => (0, 0),
+        }
+    }
+
+    /// How many are there before any computation of its server ends.
+    fn at_once(self) -> u32 {
+        match self {
+            Guest::Four => 4,
+            _ => 1,
+        }
+    }
 }
 
 /// Those who are there: workers in the midst of a computation, each of which stays until so many are there, within a limit.
@@ -100,15 +110,10 @@ impl Together {
         }
     }
 
-    /// One more is there.
-    pub(super) fn enter(&self) {
-        self.there.fetch_add(1, Ordering::SeqCst);
-    }
-
-    /// Whether so many are there, within a limit.
-    pub(super) fn are_there(&self, many: u32) -> bool {
+    /// Whether all are there, within a limit.
+    fn are_there(&self) -> bool {
         for _ in 0..TURNS {
-            if self.there.load(Ordering::SeqCst) >= many {
+            if self.there.load(Ordering::SeqCst) >= self.many {
                 return true;
             }
             thread::yield_now();
@@ -121,41 +126,35 @@ impl Gate for Together {
     fn before(&self, _worker: Worker, _task: &Task) {}
 
     fn inside(&self, _worker: Worker, _number: u64) {
-        self.enter();
-        if !self.are_there(self.many) {
+        self.there.fetch_add(1, Ordering::SeqCst);
+        if !self.are_there() {
             self.late.store(true, Ordering::SeqCst);
         }
     }
 }
 
-/// Where a server listens, who came there before it began, and what takes up all descriptors but two.
-#[derive(Drop)]
-struct Before {
-    address: SocketAddr,
-    streams: Vec<TcpStream>,
-    taken: Vec<TcpListener>,
-}
-
-/// Takes up all descriptors but two, by more names of the listener. None where there are too many: set a limit then, as by
-/// `ulimit -n`.
-fn taken_up<R: AllocGlobal>(rt: &R, listener: &TcpListener) -> Option<Vec<TcpListener>> {
+/// Takes up to so many descriptors by more names of the listener: all but two. Where there are more, the test fails: set a limit then, as
+/// by `ulimit -n`.
+fn taken_up<R: Host>(rt: &R, listener: &TcpListener, most: usize) -> Vec<TcpListener> {
     let mut taken = Vec::new(rt.alloc());
-    for _ in 0..MOST_DESCRIPTORS {
+    for _ in 0..most {
         let Ok(one) = listener.try_clone() else {
             let _two = (taken.pop(), taken.pop());
-            return Some(taken);
+            return taken;
         };
-        taken.push(one).ok()?;
+        holds(rt, taken.push(one).is_ok());
     }
-    None
+    holds(rt, most == 0);
+    taken
 }
 
 /// Whether somebody comes, and is answered so to the end of the session.
-fn is_visited<R: Net<Stream = TcpStream>>(rt: &R, address: SocketAddr, rows: &[Row]) -> bool {
-    match visitor(rt, address) {
-        Some(stream) => are_answered(&stream, rows),
-        None => false,
-    }
+fn is_visited<R: Net<Stream = TcpStream> + Abort>(
+    rt: &R,
+    address: SocketAddr,
+    rows: &[Row],
+) -> bool {
+    are_answered(&visitor(rt, address), rows)
 }
 
 /// Whether a connection is answered, or its session is still there.
@@ -181,7 +180,7 @@ enum Reception {
 
 /// How somebody is received who comes now.
 fn received<R: Net<Stream = TcpStream>>(rt: &R, address: SocketAddr) -> Reception {
-    match visitor(rt, address) {
+    match come(rt, address) {
         Some(stream) if is_alive(&stream) => Reception::LetIn,
         Some(_) => Reception::Closed,
         None => Reception::Refused,
@@ -201,39 +200,25 @@ fn is_refused<R: Net<Stream = TcpStream> + Clock>(rt: &R, address: SocketAddr) -
 }
 
 /// Whether the listener is closed while its only session goes on.
-fn is_followed<R: Net<Stream = TcpStream> + Clock>(rt: &R, address: SocketAddr) -> bool {
-    match visitor(rt, address) {
-        Some(one) => {
-            is_answered(&one, ANSWERED[0])
-                && is_refused(rt, address)
-                && are_answered(&one, &ANSWERED[1..])
-        }
-        None => false,
-    }
+fn is_followed<R: Net<Stream = TcpStream> + Clock + Abort>(rt: &R, address: SocketAddr) -> bool {
+    let one = visitor(rt, address);
+    is_answered(&one, ANSWERED[0]) && is_refused(rt, address) && are_answered(&one, &ANSWERED[1..])
 }
 
 /// Whether somebody is answered while another's answers find no room any more.
-fn is_answered_beside<R: Net<Stream = TcpStream> + Clock + CpuClock>(
+fn is_answered_beside<R: Net<Stream = TcpStream> + Clock + CpuClock + Abort>(
     rt: &R,
     address: SocketAddr,
 ) -> bool {
-    match visitor(rt, address) {
-        Some(silent) => {
-            are_told(&silent, &TABLED)
-                && is_stuffed(rt, &silent)
-                && is_visited(rt, address, &ANSWERED)
-        }
-        None => false,
-    }
+    let silent = visitor(rt, address);
+    are_told(&silent, &TABLED) && is_stuffed(rt, &silent) && is_visited(rt, address, &ANSWERED)
 }
 
 /// Sends lines until their answers, which nobody reads, have filled what there is between the server and its peer: nobody
 /// works any more, and no line can be sent. Whether it comes to that.
-fn is_stuffed<R: Clock + CpuClock>(rt: &R, stream: &TcpStream) -> bool {
+fn is_stuffed<R: Clock + CpuClock + Abort>(rt: &R, stream: &TcpStream) -> bool {
     let half = Duration::from_millis(500);
-    if stream.set_write_timeout(Some(half)).is_err() {
-        return false;
-    }
+    holds(rt, stream.set_write_timeout(Some(half)).is_ok());
     for _ in 0..TRIES {
         fill(stream);
         if is_idle(rt) && !is_any_sent(stream) {
@@ -268,22 +253,9 @@ fn is_idle<R: Clock + CpuClock>(rt: &R) -> bool {
     }
 }
 
-/// Whether of three who came at once the first is served and two are turned away, while no processor is used.
-fn is_one_served<R: Clock + CpuClock>(
-    rt: &R,
-    one: &TcpStream,
-    two: &TcpStream,
-    three: &TcpStream,
-) -> bool {
-    are_told(one, &ANSWERED[..4])
-        && is_closed(two)
-        && is_closed(three)
-        && is_idle(rt)
-        && are_answered(one, &[LAST])
-}
-
-/// Whether it is so, and a fourth is served once the first has ended.
-fn are_turned_away<R: Net<Stream = TcpStream> + Clock + CpuClock>(
+/// Whether of three who came at once the first is served and two are turned away, while no processor is used; and a fourth is served once
+/// the first has ended.
+fn are_turned_away<R: Net<Stream = TcpStream> + Clock + CpuClock + Abort>(
     rt: &R,
     address: SocketAddr,
     mut streams: Vec<TcpStream>,
@@ -293,143 +265,63 @@ fn are_turned_away<R: Net<Stream = TcpStream> + Clock + CpuClock>(
     let (Some(third), Some(second), Some(first)) = three else {
         return false;
     };
-    let is_one_served = is_one_served(rt, &first, &second, &third);
+    let is_one_served = are_told(&first, &ANSWERED[..4])
+        && is_closed(&second)
+        && is_closed(&third)
+        && is_idle(rt)
+        && are_answered(&first, &[LAST]);
     drop(first);
     let is_fourth_served = is_visited(rt, address, &ANSWERED);
     drop(taken);
     is_one_served && is_fourth_served && is_refused(rt, address)
 }
 
-/// Whether a guest is content.
-fn is_guest_content<R: Net<Stream = TcpStream> + Clock + CpuClock>(
+/// Whether a guest is content with a server at this address, to which these came before.
+fn is_guest_content<R: Net<Stream = TcpStream> + Clock + CpuClock + Abort>(
     rt: &R,
     guest: Guest,
-    before: Before,
+    address: SocketAddr,
+    streams: Vec<TcpStream>,
+    taken: Vec<TcpListener>,
 ) -> bool {
-    let Before {
-        address,
-        streams,
-        taken,
-    } = before;
     match guest {
-        Guest::Visit(visit) => are_served(visit, streams),
+        Guest::Both => are_both_answered(&streams),
+        Guest::Lost => is_given_back(streams),
+        Guest::Many => are_told_of_their_own(&streams),
+        Guest::Told(rows) => is_visited(rt, address, rows),
         Guest::Followed => is_followed(rt, address),
         Guest::Silent => is_answered_beside(rt, address),
         Guest::Four => is_visited(rt, address, &FOUR),
-        Guest::Told(rows) => is_visited(rt, address, rows),
         Guest::Crowd => are_turned_away(rt, address, streams, taken),
     }
 }
 
-/// How many come to a server for so many sessions before it begins.
-fn count_before(guest: Guest, sessions: u16) -> u16 {
-    match guest {
-        Guest::Visit(_) => sessions,
-        Guest::Crowd => 3,
-        _ => 0,
-    }
-}
-
-/// What is taken up before a server begins.
-fn taken_before<R: AllocGlobal>(
-    rt: &R,
-    listener: &TcpListener,
-    guest: Guest,
-) -> Option<Vec<TcpListener>> {
-    match guest {
-        Guest::Crowd => taken_up(rt, listener),
-        _ => Some(Vec::new(rt.alloc())),
-    }
-}
-
-/// Who has come to a listener before its server begins.
-fn come_before<R: Net<Stream = TcpStream> + AllocGlobal>(
-    rt: &R,
-    listener: &TcpListener,
-    attended: &Attended,
-) -> Option<Before> {
-    let address = listener.local_addr().ok()?;
-    let many = count_before(attended.guest, attended.sessions);
-    match (
-        visitors(rt, address, many),
-        taken_before(rt, listener, attended.guest),
-    ) {
-        (Some(streams), Some(taken)) => Some(Before {
-            address,
-            streams,
-            taken,
-        }),
-        _ => None,
-    }
-}
-
-/// How many are there before any computation of this guest's server ends.
-fn at_once(guest: Guest) -> u32 {
-    match guest {
-        Guest::Four => 4,
-        _ => 1,
-    }
-}
-
-/// A guest at a server of so many sessions and workers.
-#[derive(Drop)]
-pub(super) struct Attended {
-    pub(super) guest: Guest,
-    pub(super) sessions: u16,
-    pub(super) workers: u8,
-}
-
-/// Whether the guest is content, so many as it asks for were there at once, and all steps are accounted for at the end.
+/// Whether a guest at a server is content, so many as it asks for were there at once, and all steps are accounted for at the end.
 pub(super) fn is_attended<L: DeskLedger + Send + Sync, R>(
     rt: &R,
     desk: Desk<L>,
     listener: TcpListener,
-    trial: &Attended,
+    guest: Guest,
+    server: ServerConfig,
 ) -> bool
 where
-    R: Net<Listener = TcpListener, Stream = TcpStream>
-        + AllocGlobal
-        + Threads
-        + Wait
-        + Clock
-        + CpuClock
-        + Sync,
+    R: Net<Listener = TcpListener, Stream = TcpStream> + Host + Sync,
     requires { L.all ≡ L.parts }
 {
-    let Some(before) = come_before(rt, &listener, trial) else {
-        return false;
-    };
-    let guest = trial.guest;
-    let server = server_of(trial.sessions, trial.workers);
-    let gate = Together::new(at_once(guest));
+    let address = address_of(rt, &listener);
+    let (many, most) = guest.before(server.sessions.count);
+    let streams = visitors(rt, address, many);
+    let taken = taken_up(rt, &listener, most);
+    let gate = Together::new(guest.at_once());
     let there = &gate;
     let (content, served) = thread::join(
         rt,
-        move || is_guest_content(rt, guest, before),
+        move || is_guest_content(rt, guest, address, streams, taken),
         ||
             requires { L.all ≡ L.parts }
         { serve(rt, rt.alloc(), &desk, listener, server, there) },
     );
     content && is_whole(desk, served) && !gate.late.load(Ordering::SeqCst)
-}
-
-/// Whether a guest at a server of this grain is content, and so many as it asks for were there at once.
-pub(super) fn is_content<R>(rt: &R, grain: u8, guest: Guest, sessions: u16, workers: u8) -> bool
-where
-    R: Net<Listener = TcpListener, Stream = TcpStream>
-        + AllocGlobal
-        + Threads
-        + Wait
-        + Clock
-        + CpuClock
-        + Sync,
-{
-    let attended = Attended {
-        guest,
-        sessions,
-        workers,
-    };
-    is_well(rt, (256, 64), grain, &Trial::Attended(attended))
 }
 
 /// The listener is closed with the last connection, while its session lives.
@@ -454,49 +346,6 @@ fn as_many_workers_run_as_were_asked(rt: HostRuntime) {
 #[test]
 fn descriptors_are_used_up(rt: HostRuntime) {
     holds(&rt, is_content(&rt, 0, Guest::Crowd, 4, 1));
-}
-
-/// A listener whose first connections are lost before they can be taken.
-#[derive(Drop)]
-struct Flaky {
-    listener: TcpListener,
-    lost: AtomicU32,
-}
-
-impl OpenListener for Flaky {
-    type Stream = TcpStream;
-
-    fn accept(&self) -> io::Result<(TcpStream, SocketAddr)> {
-        match self.lost.fetch_add(1, Ordering::SeqCst) {
-            0 => Err(Error::from(ErrorKind::ConnectionAborted)),
-            1 => Err(Error::from(ErrorKind::Interrupted)),
-            _ => self.listener.accept(),
-        }
-    }
-}
-
-/// Whether a door passes over the connections that were lost, and takes the next one.
-fn passes_over<R: Net<Stream = TcpStream> + Wait>(rt: &R, listener: TcpListener) -> bool {
-    let Ok(address) = listener.local_addr() else {
-        return false;
-    };
-    let stream = TcpStream::connect(rt, address);
-    let door = Door::new(Flaky {
-        listener,
-        lost: AtomicU32::new(0),
-    });
-    match (stream, next_of(rt, door)) {
-        (Ok(stream), Ok(Some(taken))) => is_sent(&taken, b"?") && !is_closed(&stream),
-        _ => false,
-    }
-}
-
-/// A connection that was lost before it could be taken is passed over.
-#[test]
-fn lost_connections_are_passed_over(rt: HostRuntime) -> Result<(), Fail> {
-    let listener = TcpListener::bind(&rt, "127.0.0.1:0")?;
-    holds(&rt, passes_over(&rt, listener));
-    Ok(())
 }
 
 /// A runtime whose connections wait until the server has closed them, and note it.
@@ -536,7 +385,7 @@ pub(super) fn is_stopped<L: DeskLedger + Send + Sync, R>(
     listener: TcpListener,
 ) -> bool
 where
-    R: Net<Listener = TcpListener, Stream = TcpStream> + AllocGlobal + Threads + Wait + Sync,
+    R: Net<Listener = TcpListener, Stream = TcpStream> + Host + Sync,
     requires { L.all ≡ L.parts }
 {
     let waiting = Waiting {
@@ -545,7 +394,7 @@ where
     };
     let mut server = server_of(1, 1);
     server.pool.stack = Some(usize::MAX);
-    let fault = fault_of(&waiting, rt.alloc(), &desk, listener, server, &OpenGate);
+    let fault = fault_of(&waiting, rt.alloc(), &desk, listener, server);
     fault.is_some() && waiting.is_closed.load(Ordering::SeqCst)
 }
 
@@ -553,5 +402,5 @@ where
 /// already that nobody is served any more.
 #[test]
 fn a_stop_comes_before_its_connection(rt: HostRuntime) {
-    holds(&rt, is_well(&rt, (8, 8), 0, &Trial::Stopped));
+    holds(&rt, is_well(&rt, 0, Trial::Stopped));
 }

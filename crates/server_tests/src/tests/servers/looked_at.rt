@@ -2,12 +2,13 @@
 ghost use Rattle.std.specs.Prelude.{◌≡◌};
 
 use super::{
-    ANSWERED, LAST, Trial, are_answered, are_told, fault_of, holds, is_well, is_whole, server_of,
-    visitor,
+    ANSWERED, Host, LAST, Trial, address_of, are_answered, are_told, fault_of, holds, is_well,
+    is_whole, server_of, visitor,
 };
 use std::io::{self, Error};
 use std::net::{Net, OpenListener, SocketAddr, TcpListener, TcpStream};
 use std::os::fd::{AsRawFd, RawFd};
+use std::process::Abort;
 use std::sync::{Mutex, Wait};
 use std::thread::{self, Threads};
 use tcp_server::desk::{Desk, DeskLedger};
@@ -49,19 +50,13 @@ fn has_no_delay(last: &Mutex<Option<TcpStream>>) -> bool {
 }
 
 /// Whether somebody is answered over a connection that has no delay at the server's end.
-fn is_answered_at_once<R: Net<Stream = TcpStream>>(
+fn is_answered_at_once<R: Net<Stream = TcpStream> + Abort>(
     rt: &R,
     address: SocketAddr,
     last: &Mutex<Option<TcpStream>>,
 ) -> bool {
-    match visitor(rt, address) {
-        Some(stream) => {
-            are_told(&stream, &ANSWERED[..4])
-                && has_no_delay(last)
-                && are_answered(&stream, &[LAST])
-        }
-        None => false,
-    }
+    let stream = visitor(rt, address);
+    are_told(&stream, &ANSWERED[..4]) && has_no_delay(last) && are_answered(&stream, &[LAST])
 }
 
 /// Whether a server answers without a delay.
@@ -71,12 +66,10 @@ pub(super) fn is_prompt<L: DeskLedger + Send + Sync, R>(
     listener: TcpListener,
 ) -> bool
 where
-    R: Net<Listener = TcpListener, Stream = TcpStream> + AllocGlobal + Threads + Wait + Sync,
+    R: Net<Listener = TcpListener, Stream = TcpStream> + Host + Sync,
     requires { L.all ≡ L.parts }
 {
-    let Ok(address) = listener.local_addr() else {
-        return false;
-    };
+    let address = address_of(rt, &listener);
     let kept = Mutex::new(None);
     let last = &kept;
     let keeping = Keeping { listener, last };
@@ -93,11 +86,16 @@ where
 /// Nagle's delay is switched off, so that an answer never waits until its peer has acknowledged the one before.
 #[test]
 fn an_answer_waits_for_no_acknowledgement(rt: HostRuntime) {
-    holds(&rt, is_well(&rt, (8, 8), 0, &Trial::Prompt));
+    holds(&rt, is_well(&rt, 0, Trial::Prompt));
 }
 
 /// The system's number of an error: no buffer space.
 const NO_SPACE: i32 = 105;
+
+/// The error of a listener whose address can't be had.
+pub(super) fn no_address() -> Error {
+    Error::from_raw_os_error(NO_SPACE)
+}
 
 /// A listener whose address can't be had.
 #[derive(Drop)]
@@ -119,7 +117,7 @@ impl OpenListener for Unnamed {
     }
 
     fn local_addr(&self) -> io::Result<SocketAddr> {
-        Err(Error::from_raw_os_error(NO_SPACE))
+        Err(no_address())
     }
 }
 
@@ -138,18 +136,18 @@ pub(super) fn is_unnamed<L: DeskLedger + Send + Sync, R>(
     listener: TcpListener,
 ) -> bool
 where
-    R: Net<Listener = TcpListener, Stream = TcpStream> + AllocGlobal + Threads + Wait + Sync,
+    R: Net<Listener = TcpListener, Stream = TcpStream> + Host + Sync,
     requires { L.all ≡ L.parts }
 {
     let unnamed = Unnamed { listener };
-    let fault = fault_of(rt, rt.alloc(), &desk, unnamed, server_of(2, 2), &OpenGate);
+    let fault = fault_of(rt, rt.alloc(), &desk, unnamed, server_of(2, 2));
     is_unnamed_fault(&fault) && desk.next_ready(rt).is_none()
 }
 
 /// A server whose listener's address can't be had ends: its desk is closed, so that nobody waits there.
 #[test]
 fn a_listener_without_an_address_ends_the_server(rt: HostRuntime) {
-    holds(&rt, is_well(&rt, (8, 8), 0, &Trial::Unnamed));
+    holds(&rt, is_well(&rt, 0, Trial::Unnamed));
 }
 
 /// A runtime whose listeners' addresses can't be had.
@@ -175,9 +173,4 @@ impl<R: Net<Listener = TcpListener, Stream = TcpStream>> Net for Nameless<'_, R>
     fn connect(&self, address: SocketAddr) -> io::Result<TcpStream> {
         self.rt.connect(address)
     }
-}
-
-/// The error of a listener whose address can't be had.
-pub(super) fn no_address() -> Error {
-    Error::from_raw_os_error(NO_SPACE)
 }

@@ -5,7 +5,7 @@ mod served;
 mod streams;
 mod words;
 
-use super::holds;
+use super::{Host, holds};
 use commands::{Explained, Input, Output, Streams, run};
 use line_io::{FromReader, FromWriter, Sink};
 use std::alloc::Global;
@@ -85,18 +85,6 @@ impl Write for Broken {
 /// Does what the words ask for: the exit status. It says nothing of what `run` promises, so that a call is cheap to prove.
 fn status_of<S: Input, K: Output, E: Sink, R>(
     rt: &R,
-    words: &[&str],
-    streams: &mut Streams<S, K, E>,
-) -> u8
-where
-    R: Net<Listener = TcpListener, Stream = TcpStream> + AllocGlobal + Threads + Wait + Sync,
-{
-    status_in(rt, rt.alloc(), words, streams)
-}
-
-/// The same under a runtime of another kind.
-fn status_in<S: Input, K: Output, E: Sink, R>(
-    rt: &R,
     alloc: Global,
     words: &[&str],
     streams: &mut Streams<S, K, E>,
@@ -111,19 +99,21 @@ where
 /// The exit status with this input and this output, the output then, and what was said on the errors.
 fn followed<S: Input + Drop, K: Output, R>(
     rt: &R,
+    alloc: Global,
     words: &[&str],
     source: S,
     sink: K,
 ) -> (u8, K, Vec<u8>)
 where
-    R: Net<Listener = TcpListener, Stream = TcpStream> + AllocGlobal + Threads + Wait + Sync,
+    R: Net<Stream = TcpStream> + Threads + Wait + Sync,
+    R::Listener: Send,
 {
     let mut streams = Streams {
         source,
         sink,
-        errors: memory(rt.alloc()),
+        errors: memory(alloc),
     };
-    let status = status_of(rt, words, &mut streams);
+    let status = status_of(rt, alloc, words, &mut streams);
     let Streams { sink, errors, .. } = streams;
     (status, sink, errors.writer)
 }
@@ -131,9 +121,10 @@ where
 /// The exit status with this input, and what was written on the output and on the errors.
 fn written<R>(rt: &R, words: &[&str], source: FromReader<Keys>) -> (u8, Vec<u8>, Vec<u8>)
 where
-    R: Net<Listener = TcpListener, Stream = TcpStream> + AllocGlobal + Threads + Wait + Sync,
+    R: Net<Listener = TcpListener, Stream = TcpStream> + Host + Sync,
 {
-    let (status, sink, errors) = followed(rt, words, source, memory(rt.alloc()));
+    let alloc = rt.alloc();
+    let (status, sink, errors) = followed(rt, alloc, words, source, memory(alloc));
     (status, sink.writer, errors)
 }
 
@@ -142,8 +133,11 @@ fn begins(text: &[u8], beginning: &str) -> bool {
     text.starts_with(beginning.as_bytes()) && text.is_empty() == beginning.is_empty()
 }
 
+/// Words of a command line.
+type Words = &'static [&'static str];
+
 /// Words, the exit status with the line of the opening as input, and how the output and the errors begin.
-type Text = (&'static [&'static str], u8, &'static str, &'static str);
+type Text = (Words, u8, &'static str, &'static str);
 
 const TEXTS: [Text; 12] = [
     (&["othello", "solve", "--"], 0, "-4 d3\n", ""),
@@ -173,7 +167,7 @@ const TEXTS: [Text; 12] = [
 /// Whether words have this status and these texts.
 fn have_texts<R>(rt: &R, text: &Text) -> bool
 where
-    R: Net<Listener = TcpListener, Stream = TcpStream> + AllocGlobal + Threads + Wait + Sync,
+    R: Net<Listener = TcpListener, Stream = TcpStream> + Host + Sync,
 {
     let (words, status, output, error) = *text;
     let (found, answers, errors) = written(rt, words, typed(LINE, false));
@@ -219,67 +213,38 @@ othello: no space and side after the cells
 othello: the depth is over 12
 ";
 
-/// Whether the input is a terminal, and the words.
-type Explaining = (bool, &'static [&'static str]);
+/// Whether the input is a terminal, the words, and what is said of the faults.
+type Explaining = (bool, Words, &'static [u8]);
 
 const EXPLAINING: [Explaining; 4] = [
-    (false, &["othello", "solve"]),
-    (false, &["othello", "solve", "--visited"]),
-    (true, &["othello", "solve"]),
-    (true, &["othello", "solve", "--visited"]),
+    (false, &["othello", "solve"], b""),
+    (false, &["othello", "solve", "--visited"], b""),
+    (true, &["othello", "solve"], IN_WORDS),
+    (true, &["othello", "solve", "--visited"], IN_WORDS),
 ];
 
-/// What a program says to lines with each fault.
-#[derive(Drop)]
-struct Said {
-    status: u8,
-    answers: Vec<u8>,
-    in_words: Vec<u8>,
-    errors: Vec<u8>,
-}
-
-fn said_of_faults<R>(rt: &R, explaining: &Explaining) -> Said
-where
-    R: Net<Listener = TcpListener, Stream = TcpStream> + AllocGlobal + Threads + Wait + Sync,
-{
-    let (is_terminal, words) = *explaining;
-    let source = typed(FAULTY, is_terminal);
-    let alloc = rt.alloc();
-    let mut streams = Streams::explained(source, memory(alloc), memory(alloc), memory(alloc));
-    let status = status_of(rt, words, &mut streams);
-    let Streams { sink, errors, .. } = streams;
-    let Explained {
-        sink,
-        errors: in_words,
-        ..
-    } = sink;
-    Said {
-        status,
-        answers: sink.writer,
-        in_words: in_words.writer,
-        errors: errors.writer,
-    }
-}
-
 /// Whether faults are said in words at a terminal, behind the line of hints, and nowhere else.
-fn is_explained(said: &Said, explaining: &Explaining) -> bool {
-    let (is_terminal, words) = *explaining;
-    let in_words = if is_terminal {
-        IN_WORDS
-    } else {
-        b"".as_slice()
-    };
-    said.status == 0
-        && said.in_words.as_slice() == in_words
-        && said.errors.is_empty() != is_terminal
-        && (words.len() > 2 || said.answers.as_slice() == NUMBERS)
+fn is_explained<R>(rt: &R, explaining: &Explaining) -> bool
+where
+    R: Net<Listener = TcpListener, Stream = TcpStream> + Host + Sync,
+{
+    let (is_terminal, words, said) = *explaining;
+    let alloc = rt.alloc();
+    let source = typed(FAULTY, is_terminal);
+    let mut streams = Streams::explained(source, memory(alloc), memory(alloc), memory(alloc));
+    let status = status_of(rt, alloc, words, &mut streams);
+    let Streams { sink, errors, .. } = streams;
+    let answers = sink.sink.writer.as_slice();
+    status == 0
+        && sink.errors.writer.as_slice() == said
+        && errors.writer.is_empty() != is_terminal
+        && (words.len() > 2 || answers == NUMBERS)
 }
 
 #[test]
 fn faults_are_said_in_words_at_a_terminal(rt: HostRuntime) {
     for explaining in &EXPLAINING {
-        let said = said_of_faults(&rt, explaining);
-        assert!(rt; is_explained(&said, explaining), "{explaining:?}");
+        assert!(rt; is_explained(&rt, explaining), "{explaining:?}");
     }
 }
 

@@ -1,33 +1,17 @@
 //! Tables of jobs, over TCP, and what jobs leave, at each grain and by one worker and by eight.
 
-use super::doors::{Guest, is_content};
-use super::{ANSWERED, Row, SPENT};
+use super::doors::Guest;
+use super::{ANSWERED, ASK_0, ASK_1, Host, LAST, MOVES, PASSES, Row, SPENT, is_content};
 use std::net::{Net, TcpListener, TcpStream};
-use std::process::Abort;
-use std::sync::Wait;
-use std::thread::Threads;
-use std::time::{Clock, CpuClock};
 
 /// Jobs of depth 0 and 1 with their tables, which don't depend on who searched them: the first move is searched in full,
 /// and each of the others is found to be no better.
 const TABLES: [Row; 15] = [
     ("HELLO 32 64\n", "WELCOME 32 64\n"),
-    (
-        "ASK 0 ---------------------------OX------XO--------------------------- X\n",
-        "JOB 1\n",
-    ),
-    (
-        "ASK 1 ---------------------------OX------XO--------------------------- X\n",
-        "JOB 2\n",
-    ),
-    (
-        "ASK 1 XO-------------------------------------------------------------- O\n",
-        "JOB 3\n",
-    ),
-    (
-        "ASK 1 -OXO------------------------------------------------------------ X\n",
-        "JOB 4\n",
-    ),
+    (ASK_0, "JOB 1\n"),
+    (ASK_1, "JOB 2\n"),
+    (PASSES, "JOB 3\n"),
+    (MOVES, "JOB 4\n"),
     ("WAIT 1\n", "DONE 1 0 -\n"),
     ("WAIT 2\n", "DONE 2 -3 d3\n"),
     ("WAIT 3\n", "DONE 3 -6000 pass\n"),
@@ -37,7 +21,7 @@ const TABLES: [Row; 15] = [
     ("TABLE 3\n", "TABLE 3 pass=-6000\n"),
     ("TABLE 4\n", "TABLE 4 a1=89 e1<40\n"),
     ("TABLE 5\n", "ERR 17\n"),
-    ("BYE\n", "BYE\n"),
+    LAST,
 ];
 
 /// A grain, and how many workers.
@@ -52,14 +36,7 @@ const FINEST: [Grain; 2] = [(0, 1), (0, 8)];
 /// Fails the test where these lines aren't told at each of these grains.
 fn are_told_at<R>(rt: &R, rows: &'static [Row], grains: &[Grain])
 where
-    R: Net<Listener = TcpListener, Stream = TcpStream>
-        + AllocGlobal
-        + Threads
-        + Wait
-        + Clock
-        + CpuClock
-        + Sync
-        + Abort,
+    R: Net<Listener = TcpListener, Stream = TcpStream> + Host + Sync,
 {
     for (grain, workers) in grains {
         let told = is_content(rt, *grain, Guest::Told(rows), 1, *workers);

@@ -1,12 +1,12 @@
 //! Threads that wait at a desk: each is counted when it comes and when it is back, and tells whether it found what it
 //! should.
-use super::holds::{Call, is_told_twice, name};
-use super::wakes::{come, opens};
-use super::{Said, Trial, badge_of, does, root_of, seat_of, talks, try_out, worker_of};
-use crate::tests::calls::{Found, Turn, wait};
+use super::holds::{Call, name};
+use super::wakes::opens;
+use super::{Said, crowd, root_of, worker_of};
+use crate::tests::calls::{At, Found, Turn};
 use crate::tests::signs::{add, comes, none, pass, reaches, value};
 use crate::tests::{holds, holds_of, holds_that};
-use desk::{Badge, Desk, DeskLedger, Seat, Worker};
+use desk::{Desk, DeskLedger, Seat};
 use frame_tree::FrameId;
 use std::process::Abort;
 use std::sync::Wait;
@@ -134,63 +134,68 @@ fn is_shown(what: What, ready: Option<(FrameId, u8)>) -> bool {
     }
 }
 
-/// Waits, and tells whether it found what it should.
-fn finds<L: DeskLedger, R: Wait>(rt: &R, desk: &Desk<L>, waiter: Waiter<L>, what: What) -> bool {
-    match waiter {
-        Waiter::Seat(seat, job) => wait(rt, desk, &seat, job) == end_by(what),
-        Waiter::Worker => is_shown(what, desk.next_ready(rt)),
-        Waiter::Caller(seat, call) => is_told_twice(rt, desk, &seat, call),
+impl<L: DeskLedger, R: Wait> At<'_, L, R> {
+    /// One waits, and tells whether it found what it should.
+    fn finds(&self, waiter: Waiter<L>, what: What) -> bool {
+        match waiter {
+            Waiter::Seat(seat, job) => self.wait(&seat, job) == end_by(what),
+            Waiter::Worker => is_shown(what, self.desk.next_ready(self.rt)),
+            Waiter::Caller(seat, call) => self.is_told_twice(&seat, call),
+        }
     }
 }
 
 /// The same in a thread of its own, where it is counted.
 fn waits<L: DeskLedger, R: Wait>(rt: &R, desk: &Desk<L>, waiter: Waiter<L>, watch: &Watch) {
+    let at = At { rt, desk };
     add(&watch.there);
-    if finds(rt, desk, waiter, watch.what) {
+    if at.finds(waiter, watch.what) {
         add(&watch.content);
     }
     add(&watch.back);
 }
 
-/// A seat that has asked for the opening to this depth, as its first job.
-fn asked<L: DeskLedger, R: Wait + Abort>(rt: &R, desk: &Desk<L>, nodes: u32, depth: u8) -> Seat<L> {
-    let mut seat = seat_of(rt, desk, 1, nodes);
-    talks(rt, desk, &mut seat, &[Said::Ask(depth, Ok(1))]);
-    seat
-}
+impl<L: DeskLedger, R: Wait + Abort> At<'_, L, R> {
+    /// A seat that has asked for the opening to this depth, as its first job.
+    fn asked(&self, segments: u32, nodes: u32, depth: u8) -> Seat<L> {
+        let mut seat = self.seat_of(segments, nodes);
+        self.talks(&mut seat, &[Said::Ask(depth, Ok(1))]);
+        seat
+    }
 
-/// A seat that has asked for a second job, at depth 0, after it has cancelled its first.
-fn asked_again<L: DeskLedger, R: Wait + Abort>(rt: &R, desk: &Desk<L>) -> Seat<L> {
-    let mut seat = asked(rt, desk, 2, 0);
-    let turns = [Said::Cancel(1, Ok(())), Said::Ask(0, Ok(2))];
-    talks(rt, desk, &mut seat, &turns);
-    seat
-}
+    /// A seat that has asked for a second job, at depth 0, after it has cancelled its first.
+    fn asked_again(&self) -> Seat<L> {
+        let mut seat = self.asked(1, 2, 0);
+        let turns = [Said::Cancel(1, Ok(())), Said::Ask(0, Ok(2))];
+        self.talks(&mut seat, &turns);
+        seat
+    }
 
-/// The seat of a search beyond the grain, whose root this worker has taken: no frame is ready.
-pub(super) fn with_taken_root<L: DeskLedger, R: Wait + Abort>(
-    rt: &R,
-    desk: &Desk<L>,
-    badge: &mut Badge<L>,
-    worker: Worker,
-) -> Seat<L> {
-    let mut seat = seat_of(rt, desk, 4, 4);
-    talks(rt, desk, &mut seat, &[Said::Ask(7, Ok(1))]);
-    let root = root_of(seat.tenant(), 1);
-    holds(rt, does(rt, desk, badge, worker, root, Turn::Steal(0)));
-    seat
-}
+    /// The seat of a search beyond the grain, whose root the worker of this number has taken: no frame is ready.
+    fn with_taken_root(&self, number: u8) -> Seat<L> {
+        let (seat, mut badge) = (self.asked(4, 4, 7), self.badge_of());
+        let root = root_of(seat.tenant(), 1);
+        let worker = worker_of(self.rt, number);
+        let taken = self.offer(&mut badge, worker, root, Turn::Steal(0));
+        holds(self.rt, taken.is_ok());
+        seat
+    }
 
-/// One who is to wait.
-fn waiter_of<L: DeskLedger, R: Wait + Abort>(rt: &R, desk: &Desk<L>, who: Who) -> Waiter<L> {
-    match who {
-        Who::Seat(depth) => Waiter::Seat(asked(rt, desk, 1, depth), 1),
-        Who::Seats => Waiter::Seat(asked_again(rt, desk), 2),
-        Who::Workers => Waiter::Worker,
-        Who::Caller(call) => {
-            let mut badge = badge_of(rt, desk);
-            let seat = with_taken_root(rt, desk, &mut badge, worker_of(rt, 1));
-            Waiter::Caller(seat, call)
+    /// One who is to wait.
+    fn waiter_of(&self, who: Who) -> Waiter<L> {
+        match who {
+            Who::Seat(depth) => Waiter::Seat(self.asked(1, 1, depth), 1),
+            Who::Seats => Waiter::Seat(self.asked_again(), 2),
+            Who::Workers => Waiter::Worker,
+            Who::Caller(call) => Waiter::Caller(self.with_taken_root(1), call),
+        }
+    }
+
+    /// The roots that are to have children are taken, the first by worker 1 and the second by worker 2.
+    fn take_roots(&self, what: What) {
+        if matches!(what, What::Children | What::InVain) {
+            drop(self.with_taken_root(1));
+            drop(self.with_taken_root(2));
         }
     }
 }
@@ -213,11 +218,12 @@ where
     L: DeskLedger + Send + Sync,
     R: Wait + Abort + Clock + CpuClock + Sync,
 {
+    let at = At { rt, desk };
     for _ in 0..watch.many {
-        start(scope, rt, desk, watch, waiter_of(rt, desk, watch.who));
+        start(scope, rt, desk, watch, at.waiter_of(watch.who));
     }
     all_wait(rt, watch);
-    come(rt, desk, watch);
+    at.come(watch);
 }
 
 /// One waits at a desk that is held, until a child is opened and the desk is let go.
@@ -226,25 +232,14 @@ where
     L: DeskLedger + Send + Sync,
     R: Wait + Abort + Clock + Sync,
 {
-    let waiter = waiter_of(rt, desk, watch.who);
-    let mut badge = badge_of(rt, desk);
+    let at = At { rt, desk };
+    let waiter = at.waiter_of(watch.who);
+    let mut badge = at.badge_of();
     let mut held = desk.hold(rt, &mut badge);
     start(scope, rt, desk, watch, waiter);
     all_wait(rt, watch);
-    opens(rt, &mut held, &mut badge, worker_of(rt, 1), root_of(1, 1));
+    opens(rt, &mut held, &mut badge, 1);
     held.release();
-}
-
-/// Takes the roots that are to have children, the first by worker 1 and the second by worker 2.
-fn take_roots<L: DeskLedger, R: Wait + Abort>(rt: &R, desk: &Desk<L>, what: What) {
-    let roots = match what {
-        What::Children | What::InVain => 2u8,
-        _ => 0,
-    };
-    for before in 0..roots {
-        let mut badge = badge_of(rt, desk);
-        drop(with_taken_root(rt, desk, &mut badge, worker_of(rt, before + 1)));
-    }
 }
 
 /// So many wait at a desk, and this comes to them: each is back, and has found what it should.
@@ -255,21 +250,18 @@ where
 {
     let watched = watch_of(who, many, what);
     let watch = &watched;
-    take_roots(rt, desk, what);
+    let at = At { rt, desk };
+    at.take_roots(what);
     thread::scope(thread::scope_env(), rt, |scope| match watch.what {
         What::Release => meet_held(scope, rt, desk, watch),
         _ => meet(scope, rt, desk, watch),
     });
-    are_content(rt, watch);
-}
-
-/// Each has found what it should.
-fn are_content(rt: &impl Abort, watch: &Watch) {
-    should_be(rt, watch, value(&watch.content) == watch.many, watch.many);
+    let are_content = value(&watch.content) == many;
+    should_be(rt, watch, are_content, many);
 }
 
 /// A seat that waits is woken where its job is spent.
 #[test]
 fn a_spend_wakes_a_seat(rt: HostRuntime) {
-    try_out(&rt, rt.alloc(), Trial::Crowd(Who::Seat(7), 1, What::Spend));
+    crowd(&rt, rt.alloc(), Who::Seat(7), 1, What::Spend);
 }

@@ -1,14 +1,13 @@
 //! Tasks are announced before they are done.
 ghost use Rattle.std.specs.Prelude.{◌≡◌};
 
-use super::seats::{asks, ends, seat};
 use super::{Scenario, Table, play};
-use crate::tests::calls::{Found, get, quota};
+use crate::tests::calls::{At, Found, left_of};
 use crate::tests::holds;
 use crate::tests::signs::{
     MOST_TURNS, add, becomes_set, is_set, keep, none, reaches, set, unset, value,
 };
-use desk::{Desk, DeskLedger, Seat};
+use desk::{DeskLedger, Seat};
 use sched_rules::Worker;
 use std::alloc::Global;
 use std::sync::Wait;
@@ -16,7 +15,6 @@ use std::sync::atomic::{AtomicBool, AtomicU64};
 use std::thread;
 use std::thread::Threads;
 use steal_pool::{Gate, Task};
-use tenant_quota::Left;
 
 /// Each task waits within a limit, before it is done, until the scenario has seen that none was; how many
 /// were announced is counted. A brief one is also told of tasks under the desk's lock.
@@ -48,27 +46,16 @@ struct Untouched<'g> {
     gate: &'g Announced,
 }
 
-/// Whether nothing was done of a seat's only job.
-fn is_untouched<L: DeskLedger, R: Wait>(rt: &R, desk: &Desk<L>, seat: &Seat<L>) -> bool {
-    let left = Left {
-        segments: 7,
-        nodes: 7,
-        steps: 128,
-    };
-    quota(rt, desk, seat) == Some(left) && get(rt, desk, seat, 1) == Found::Pending
-}
-
 impl Scenario for Untouched<'_> {
-    fn play<L: DeskLedger, R: Wait>(&self, rt: &R, desk: &Desk<L>) -> bool {
-        let Some(mut seat) = seat(rt, desk, 8, 8) else {
-            return false;
-        };
-        let began = asks(rt, desk, &mut seat, 1, 1) && becomes_set(&self.gate.began);
-        let is_untouched = is_untouched(rt, desk, &seat);
+    fn play<L: DeskLedger, R: Wait>(&self, at: &At<'_, L, R>) -> Option<bool> {
+        let mut seat = at.seat(8, 8)?;
+        let began = at.asks(&mut seat, 1, 1) && becomes_set(&self.gate.began);
+        let is_untouched = at.quota(&seat) == Some(left_of(7, 7, 128));
+        let is_pending = at.get(&seat, 1) == Found::Pending;
         set(&self.gate.let_go);
-        let ended = ends(rt, desk, &seat, 1, 1);
-        desk.leave(rt, seat);
-        began && is_untouched && ended
+        let ended = at.ends(&seat, 1, 1);
+        at.leave(seat);
+        Some(began && is_untouched && is_pending && ended)
     }
 }
 
@@ -121,10 +108,10 @@ struct Watching<'g> {
 }
 
 /// Looks at the desk, within a limit, until a seat's first job has ended; after each look the gate is told.
-fn look<L: DeskLedger, R: Wait>(rt: &R, desk: &Desk<L>, seat: &Seat<L>, gate: &Watched) {
+fn look<L: DeskLedger, R: Wait>(at: &At<'_, L, R>, seat: &Seat<L>, gate: &Watched) {
     for _ in 0..MOST_TURNS {
         let announced = value(&gate.announced);
-        let is_pending = get(rt, desk, seat, 1) == Found::Pending;
+        let is_pending = at.get(seat, 1) == Found::Pending;
         keep(&gate.looked, announced);
         if !is_pending {
             break;
@@ -134,15 +121,13 @@ fn look<L: DeskLedger, R: Wait>(rt: &R, desk: &Desk<L>, seat: &Seat<L>, gate: &W
 }
 
 impl Scenario for Watching<'_> {
-    fn play<L: DeskLedger, R: Wait>(&self, rt: &R, desk: &Desk<L>) -> bool {
-        let Some(mut seat) = seat(rt, desk, 8, 8) else {
-            return false;
-        };
-        let asked = asks(rt, desk, &mut seat, 1, 1);
-        look(rt, desk, &seat, self.gate);
-        let ended = ends(rt, desk, &seat, 1, 1);
-        desk.leave(rt, seat);
-        asked && ended
+    fn play<L: DeskLedger, R: Wait>(&self, at: &At<'_, L, R>) -> Option<bool> {
+        let mut seat = at.seat(8, 8)?;
+        let asked = at.asks(&mut seat, 1, 1);
+        look(at, &seat, self.gate);
+        let ended = at.ends(&seat, 1, 1);
+        at.leave(seat);
+        Some(asked && ended)
     }
 }
 

@@ -1,11 +1,11 @@
 //! Many short jobs: none of many workers is lost, and each has room on its stack.
 ghost use Rattle.std.specs.Prelude.{◌≡◌};
 
-use super::seats::{asks_many, ends, seat};
 use super::{Scenario, Table, play};
+use crate::tests::calls::At;
 use crate::tests::signs::{add, is_set, none, reaches, set, unset};
 use crate::tests::{holds, holds_that, says};
-use desk::{Desk, DeskLedger};
+use desk::DeskLedger;
 use sched_rules::Worker;
 use std::alloc::Global;
 use std::sync::Wait;
@@ -56,15 +56,13 @@ impl Gate for AllCome {
 }
 
 /// A new seat asks for so many short searches, has the reply to the last, and leaves.
-fn sits<L: DeskLedger, R: Wait>(rt: &R, desk: &Desk<L>, most: u32, many: u64) -> bool
+fn sits<L: DeskLedger, R: Wait>(at: &At<'_, L, R>, most: u32, many: u64) -> Option<bool>
     requires { L.all ≡ L.parts }
 {
-    let Some(mut seat) = seat(rt, desk, most, most) else {
-        return false;
-    };
-    let is_well = asks_many(rt, desk, &mut seat, many) && ends(rt, desk, &seat, many, 0);
-    desk.leave(rt, seat);
-    is_well
+    let mut seat = at.seat(most, most)?;
+    let is_well = at.asks_many(&mut seat, many) && at.ends(&seat, many, 0);
+    at.leave(seat);
+    Some(is_well)
 }
 
 /// Eight seats one after another, and then a job for each worker.
@@ -74,14 +72,14 @@ struct Many<'g> {
 }
 
 impl Scenario for Many<'_> {
-    fn play<L: DeskLedger, R: Wait>(&self, rt: &R, desk: &Desk<L>) -> bool {
+    fn play<L: DeskLedger, R: Wait>(&self, at: &At<'_, L, R>) -> Option<bool> {
         for _ in 0..8 {
-            if !sits(rt, desk, 256, JOBS) {
-                return false;
+            if !sits(at, 256, JOBS)? {
+                return Some(false);
             }
         }
         set(&self.gate.is_said);
-        sits(rt, desk, 16, u64::from(WORKERS))
+        sits(at, 16, u64::from(WORKERS))
     }
 }
 

@@ -1,12 +1,11 @@
 //! Computations at the same time, and answers that come too late.
 ghost use Rattle.std.specs.Prelude.{◌≡◌};
 
-use super::seats::{asks, asks_many, ends, has_reply, seat};
-use super::{Played, Scenario, Table, play};
-use crate::tests::calls::cancel;
+use super::{Scenario, Table, play};
+use crate::tests::calls::At;
 use crate::tests::holds;
 use crate::tests::signs::{becomes_set, is_set, pass, set, unset};
-use desk::{Desk, DeskLedger, Seat};
+use desk::{DeskLedger, Seat};
 use sched_rules::Worker;
 use std::alloc::Global;
 use std::sync::Wait;
@@ -57,14 +56,12 @@ impl Gate for HoldingGate {
 struct TwoJobs;
 
 impl Scenario for TwoJobs {
-    fn play<L: DeskLedger, R: Wait>(&self, rt: &R, desk: &Desk<L>) -> bool {
-        let Some(mut seat) = seat(rt, desk, 8, 8) else {
-            return false;
-        };
-        let asked = asks_many(rt, desk, &mut seat, 2);
-        let ended = ends(rt, desk, &seat, 1, 0) && ends(rt, desk, &seat, 2, 0);
-        desk.leave(rt, seat);
-        asked && ended
+    fn play<L: DeskLedger, R: Wait>(&self, at: &At<'_, L, R>) -> Option<bool> {
+        let mut seat = at.seat(8, 8)?;
+        let asked = at.asks_many(&mut seat, 2);
+        let ended = at.ends(&seat, 1, 0) && at.ends(&seat, 2, 0);
+        at.leave(seat);
+        Some(asked && ended)
     }
 }
 
@@ -104,14 +101,12 @@ struct OneJob<'c, C> {
 }
 
 impl<C: Clock> Scenario for OneJob<'_, C> {
-    fn play<L: DeskLedger, R: Wait>(&self, rt: &R, desk: &Desk<L>) -> bool {
-        let Some(mut seat) = seat(rt, desk, 16, 16) else {
-            return false;
-        };
+    fn play<L: DeskLedger, R: Wait>(&self, at: &At<'_, L, R>) -> Option<bool> {
+        let mut seat = at.seat(16, 16)?;
         pass(self.clock, 100);
-        let is_replied = has_reply(rt, desk, &mut seat, 1);
-        desk.leave(rt, seat);
-        is_replied
+        let is_replied = at.has_reply(&mut seat, 1);
+        at.leave(seat);
+        Some(is_replied)
     }
 }
 
@@ -131,65 +126,55 @@ struct Late<'g> {
 }
 
 impl Scenario for Late<'_> {
-    fn play<L: DeskLedger, R: Wait>(&self, rt: &R, desk: &Desk<L>) -> bool {
-        let (Some(first), Some(second)) = (seat(rt, desk, 4, 4), seat(rt, desk, 4, 4)) else {
-            return false;
-        };
-        let gone = goes(rt, desk, self, first);
-        goes_on(rt, desk, self.gate, second) && gone
+    fn play<L: DeskLedger, R: Wait>(&self, at: &At<'_, L, R>) -> Option<bool> {
+        let first = at.seat(4, 4)?;
+        let second = at.seat(4, 4)?;
+        let gone = goes(at, self, first);
+        let ended = goes_on(at, self.gate, second);
+        Some(gone && ended)
     }
 }
 
 /// A seat asks, and leaves once its job is computed; or cancels it first.
-fn goes<L: DeskLedger, R: Wait>(rt: &R, desk: &Desk<L>, late: &Late<'_>, seat: Seat<L>) -> bool
+fn goes<L: DeskLedger, R: Wait>(at: &At<'_, L, R>, late: &Late<'_>, seat: Seat<L>) -> bool
     requires { L.all ≡ L.parts }
 {
     let mut seat = seat;
-    let began = asks(rt, desk, &mut seat, 1, 0) && becomes_set(&late.gate.began);
-    let cancelled = late.leaves || cancel(rt, desk, &mut seat, 1).is_ok();
-    desk.leave(rt, seat);
+    let began = at.asks(&mut seat, 1, 0) && becomes_set(&late.gate.began);
+    let cancelled = late.leaves || at.cancel(&mut seat, 1).is_ok();
+    at.leave(seat);
     began && cancelled
 }
 
 /// The computation is let go on, and another seat's job ends.
-fn goes_on<L: DeskLedger, R: Wait>(
-    rt: &R,
-    desk: &Desk<L>,
-    gate: &HoldingGate,
-    seat: Seat<L>,
-) -> bool
+fn goes_on<L: DeskLedger, R: Wait>(at: &At<'_, L, R>, gate: &HoldingGate, seat: Seat<L>) -> bool
     requires { L.all ≡ L.parts }
 {
     let mut seat = seat;
-    let asked = asks(rt, desk, &mut seat, 1, 0);
+    let asked = at.asks(&mut seat, 1, 0);
     set(&gate.let_go);
-    let ended = ends(rt, desk, &seat, 1, 0);
-    desk.leave(rt, seat);
+    let ended = at.ends(&seat, 1, 0);
+    at.leave(seat);
     asked && ended
 }
 
-/// What a pool comes to where the first seat leaves, or cancels its job.
-fn played_late<R: Threads + Wait + Sync>(rt: &R, alloc: Global, leaves: bool) -> Option<Played> {
+/// The share of the joined badge where the first seat leaves, or cancels its job.
+fn share_of<R: Threads + Wait + Sync>(rt: &R, alloc: Global, leaves: bool) -> Option<u128> {
     let gate = is_held(1, false);
     let late = Late {
         gate: &gate,
         leaves,
     };
-    play(rt, alloc, &Table::of(&late, &gate, 2, 0, 8))
-}
-
-/// Whether the badge's share is two steps of a job that went, and the five of the other job.
-fn has_seven(played: Option<Played>) -> bool {
-    match played {
-        Some(played) => played.share == 2 + 5,
-        None => false,
-    }
+    let played = play(rt, alloc, &Table::of(&late, &gate, 2, 0, 8))?;
+    Some(played.share)
 }
 
 /// An answer that comes after its tenant has left, or after its job was cancelled, is refused, and the
 /// pool goes on: the badge counts the two steps before the answer, and the five of the other job.
 #[test]
 fn late_answers(rt: HostRuntime) {
-    holds(&rt, has_seven(played_late(&rt, rt.alloc(), true)));
-    holds(&rt, has_seven(played_late(&rt, rt.alloc(), false)));
+    for leaves in [true, false] {
+        let share = share_of(&rt, rt.alloc(), leaves);
+        holds(&rt, share == Some(2 + 5));
+    }
 }

@@ -1,14 +1,13 @@
 //! Searches at the same time: a short one is over before a long one that began earlier.
 ghost use Rattle.std.specs.Prelude.{◌≡◌};
 
-use super::seats::{asks_many, ends, seat};
 use super::{Scenario, Table, play};
-use crate::tests::calls::ask;
+use crate::tests::calls::{At, black};
 use crate::tests::holds_that;
 use crate::tests::signs::{add, comes, is_set, keep, none, set, unset, value};
-use desk::{Desk, DeskLedger, Seat};
+use desk::DeskLedger;
 use othello_board::Board;
-use position_text::{Position, Side};
+use position_text::Position;
 use sched_rules::Worker;
 use std::alloc::Global;
 use std::io;
@@ -108,16 +107,13 @@ impl<C: Clock + CpuClock> Gate for Long<'_, C> {
     }
 }
 
-/// A position whose first leaf at grain 6 is a long search, Black to move: some 3.1 million positions, a quarter of a
+/// A position whose first leaf at grain 6 is a long search: some 3.1 million positions, a quarter of a
 /// second of a processor. So the short ones are asked in time on a busy machine too.
 fn wide() -> Position {
-    Position {
-        board: Board {
-            own: 0x9860_044a_8024_5600,
-            opp: 0x209e_0020_5e4a_0804,
-        },
-        side: Side::Black,
-    }
+    black(Board {
+        own: 0x9860_044a_8024_5600,
+        opp: 0x209e_0020_5e4a_0804,
+    })
 }
 
 /// A job whose first leaf is a long search, and short ones once it has begun. The first is left before it ends.
@@ -127,29 +123,16 @@ struct Beside<'g, 'c, C> {
 }
 
 impl<C: Clock + CpuClock> Scenario for Beside<'_, '_, C> {
-    fn play<L: DeskLedger, R: Wait>(&self, rt: &R, desk: &Desk<L>) -> bool {
-        let (Some(mut long), Some(mut short)) = (seat(rt, desk, 64, 512), seat(rt, desk, 64, 64))
-        else {
-            return false;
-        };
-        let began = ask(rt, desk, &mut long, &wide(), 7) == Ok(1) && self.gate.begins();
-        let are_over = are_short_over(rt, desk, &mut short, self.gate);
-        desk.leave(rt, long);
-        desk.leave(rt, short);
-        began && are_over
+    fn play<L: DeskLedger, R: Wait>(&self, at: &At<'_, L, R>) -> Option<bool> {
+        let mut long = at.seat(64, 512)?;
+        let mut short = at.seat(64, 64)?;
+        let began = at.ask(&mut long, &wide(), 7) == Ok(1) && self.gate.begins();
+        let asked = at.asks_many(&mut short, SHORT);
+        let are_over = self.gate.are_over() && at.ends(&short, SHORT, 0);
+        at.leave(long);
+        at.leave(short);
+        Some(began && asked && are_over)
     }
-}
-
-/// Whether all short searches are asked and over, and the last has its reply.
-fn are_short_over<L: DeskLedger, R: Wait, C: Clock + CpuClock>(
-    rt: &R,
-    desk: &Desk<L>,
-    seat: &mut Seat<L>,
-    gate: &Long<'_, C>,
-) -> bool {
-    let asked = asks_many(rt, desk, seat, SHORT);
-    let are_over = gate.are_over();
-    asked && are_over && ends(rt, desk, seat, SHORT, 0)
 }
 
 /// One try: whether all was as it should be, and whether the short ones were over before the long one.

@@ -2,92 +2,68 @@
 ghost use Rattle.jamboree_core.specs.Replies.{IsSearch};
 
 use super::*;
+use frame_tree::FrameId;
+use hall::{LeafAnswer, Worker};
 
 /// A worker's last step: its frame, and what was answered. None where the worker is to take a ready frame next.
-pub type Last = Option<(FrameId, StepAnswer)>;
+type Last = Option<(FrameId, StepAnswer)>;
+
+/// A worker offers this step for a frame, with which it then goes on, unless the frame waits or has ended.
+fn go_on<A: Allocator + Clone>(hall: &mut Hall<A>, frame: FrameId, step: Step<Jamboree>) -> Last
+    requires { IsSearch step }
+{
+    match offer(hall, &step) {
+        Ok(DidOf::Waited | DidOf::Finished(_) | DidOf::TakenIn(_, _) | DidOf::Spent(_)) => None,
+        answer => Some((frame, answer)),
+    }
+}
 
 /// Takes the tenant's newest ready frame, by Take where it is the worker's own.
 fn pick<A: Allocator + Clone>(hall: &mut Hall<A>, worker: Worker, tenant: u64) -> Last {
     let (frame, home) = hall.core().newest_ready(tenant)?;
-    let taken = if home == worker.number() {
-        offer(hall, &StepOf::Take(worker, frame))
+    if home == worker.number() {
+        go_on(hall, frame, StepOf::Take(worker, frame))
     } else {
-        offer(hall, &StepOf::Steal(worker, home, frame))
-    };
-    Some((frame, taken))
-}
-
-/// A step that ends a worker's work on a frame, unless it is refused.
-fn end_by<A: Allocator + Clone>(hall: &mut Hall<A>, frame: FrameId, step: Step<Jamboree>) -> Last
-    requires { IsSearch step }
-{
-    let answer = offer(hall, &step);
-    if answer.is_ok() {
-        None
-    } else {
-        Some((frame, answer))
+        go_on(hall, frame, StepOf::Steal(worker, home, frame))
     }
 }
 
-/// A frame does its next act, after which it waits or goes on.
-fn act<A: Allocator + Clone>(hall: &mut Hall<A>, worker: Worker, frame: FrameId) -> Last {
-    let answer = offer(hall, &StepOf::Advance(worker, frame));
-    if answer == Ok(DidOf::Waited) {
-        None
-    } else {
-        Some((frame, answer))
-    }
-}
-
-/// A worker brings what its frame is to compute, where that was answered last.
-fn go_on<A: Allocator + Clone>(
+/// What a worker does after this answer: it brings what the frame was to compute, ends the frame where that has returned,
+/// gives the job up where it was refused something, and else lets the frame do its next act.
+fn turn<A: Allocator + Clone>(
     hall: &mut Hall<A>,
     worker: Worker,
     frame: FrameId,
     answer: StepAnswer,
 ) -> Last {
-    match computed(answer) {
-        Some(computed) => {
-            let bring = StepOf::Answer(worker, frame, computed);
-            Some((frame, offer(hall, &bring)))
+    match answer {
+        Ok(DidOf::Computing(leaf)) => {
+            let computed = LeafAnswer::compute(leaf);
+            go_on(hall, frame, StepOf::Answer(worker, frame, computed))
         }
-        None => act_or_end(hall, worker, frame, answer),
-    }
-}
-
-/// What a worker does that has nothing to compute. Its frame does its next act, or ends where it has returned; where it
-/// was refused something, the job is given up.
-fn act_or_end<A: Allocator + Clone>(
-    hall: &mut Hall<A>,
-    worker: Worker,
-    frame: FrameId,
-    answer: StepAnswer,
-) -> Last {
-    if answer == Ok(DidOf::Returned(true)) {
-        end_by(hall, frame, StepOf::Finish(worker, frame))
-    } else if answer == Ok(DidOf::Returned(false)) {
-        end_by(hall, frame, StepOf::Inlet(worker, frame))
-    } else if answer.is_err() {
-        end_by(hall, frame, StepOf::Spend(frame))
-    } else {
-        act(hall, worker, frame)
+        Ok(DidOf::Returned(true)) => go_on(hall, frame, StepOf::Finish(worker, frame)),
+        Ok(DidOf::Returned(false)) => go_on(hall, frame, StepOf::Inlet(worker, frame)),
+        Ok(_) => go_on(hall, frame, StepOf::Advance(worker, frame)),
+        Err(_) => go_on(hall, frame, StepOf::Spend(frame)),
     }
 }
 
 /// The worker's next step for the tenant.
-fn turn<A: Allocator + Clone>(hall: &mut Hall<A>, worker: Worker, tenant: u64, last: Last) -> Last {
+fn act<A: Allocator + Clone>(hall: &mut Hall<A>, worker: Worker, tenant: u64, last: Last) -> Last {
     match last {
         None => pick(hall, worker, tenant),
-        Some((frame, answer)) => go_on(hall, worker, frame, answer),
+        Some((frame, answer)) => turn(hall, worker, frame, answer),
     }
 }
 
 /// The jobs of tenants 1 and 2 to their ends: worker 1 serves the one, worker 2 the other, a step each in
 /// turns.
-pub fn play<A: Allocator + Clone>(hall: &mut Hall<A>, workers: (Worker, Worker)) {
+pub fn play<A: Allocator + Clone>(rt: &impl Abort, hall: &mut Hall<A>) {
+    let one = Worker::new(1).expect(rt, "a worker's number");
+    let two = Worker::new(2).expect(rt, "a worker's number");
     let (mut first, mut second) = (None, None);
     for _turn in 0..4096 {
-        first = turn(hall, workers.0, 1, first);
-        second = turn(hall, workers.1, 2, second);
+        first = act(hall, one, 1, first);
+        second = act(hall, two, 2, second);
     }
 }

@@ -7,23 +7,6 @@ use session::{Analysis, Bounds, End, Standing};
 use std::alloc::{AllocError, Global};
 use std::sync::Wait;
 
-/// A job that is done, with these entries, of at most 64.
-fn done(value: i32, choice: Choice, entries: &[Bound]) -> Standing {
-    let mut bounds = Bounds::NONE;
-    for entry in entries {
-        if bounds.as_slice().len() < 64 {
-            bounds.push(*entry);
-        }
-    }
-    Standing::Done(Analysis {
-        best: Valued {
-            value,
-            choice: Some(choice),
-        },
-        bounds,
-    })
-}
-
 /// Takes each answer by one call, and keeps the last.
 #[derive(Drop)]
 struct Last {
@@ -44,30 +27,37 @@ impl Sink for Last {
     }
 }
 
-/// A table of 64 entries that are as long as an entry can be.
+/// A job that is done, with a table of 64 entries that are as long as an entry can be.
 fn longest() -> Standing {
     let entry = Bound {
         choice: Choice::Pass,
         score: i32::MIN,
         kind: BoundKind::Low,
     };
-    done(0, Choice::Pass, [entry; 64].as_slice())
+    let mut bounds = Bounds::NONE;
+    for _ in 0..64 {
+        if bounds.as_slice().len() < 64 {
+            bounds.push(entry);
+        }
+    }
+    let best = Valued {
+        value: 0,
+        choice: Some(Choice::Pass),
+    };
+    Standing::Done(Analysis { best, bounds })
 }
 
 /// What is written of it as the job of the greatest number.
 fn longest_text(alloc: Global) -> Result<Vec<u8>, AllocError> {
     let entries = joined(alloc, [b" pass<-2147483648".as_slice(); 64].as_slice())?;
-    let texts = [
-        b"TABLE 99999999".as_slice(),
-        entries.as_slice(),
-        b"\n".as_slice(),
-    ];
+    let title = b"TABLE 99999999".as_slice();
+    let texts = [title, entries.as_slice(), b"\n".as_slice()];
     joined(alloc, texts.as_slice())
 }
 
 /// Whether it is written so, by one call beside that of HELLO.
 fn is_written_at_once<R: Wait>(rt: &R, alloc: Global, due: &[u8]) -> bool {
-    let mut office = Prepared::new(longest(), 4, 7, 123);
+    let mut office = Prepared::new(longest());
     office.jobs = 99_999_999;
     let mut sink = Last {
         answer: Vec::new(alloc),

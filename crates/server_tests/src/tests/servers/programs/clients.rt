@@ -1,32 +1,70 @@
-//! Servers of the program, and clients that come once they are told where a server listens.
+//! Servers of the program, and callers that come once they are told where a server listens.
+use super::grains::is_served;
+use super::served::has_many_sessions;
 use super::{followed, typed, written};
-use crate::tests::servers::{LAST, Row, SPENT, are_told, holds, is_answered};
+use crate::tests::servers::{ASK_2, LAST, Row, SPENT, are_told, is_answered};
+use crate::tests::{Host, holds};
 use commands::Output;
 use line_io::{Sink, WriteFailed};
 use std::net::{Net, TcpListener, TcpStream};
+use std::sync::Arc;
 use std::sync::atomic::{AtomicBool, Ordering};
-use std::sync::{Arc, Wait};
 use std::test::Fail;
 use std::thread::{self, JoinHandle, Threads};
 
-/// Who hears what a server says.
-pub(super) trait Client {
-    /// A line of the server.
-    fn hear(&mut self, line: &[u8]);
+/// Who comes to a server as soon as it says where it listens.
+#[derive(Clone, Copy)]
+pub(super) enum Caller {
+    /// Two sessions, one after the other, in a thread of their own.
+    Two,
+    /// A session with a job of this line, which ends so.
+    Asker(&'static str, &'static str),
+    /// Sessions one after another.
+    Many,
 }
 
-/// An output that keeps what it is told, and lets a client hear it.
+/// An output that keeps what it is told, and lets a caller come.
 #[derive(Drop)]
-pub(super) struct Told<C> {
-    pub(super) text: Vec<u8>,
-    pub(super) client: C,
+struct Told<'r, R: Threads> {
+    rt: &'r R,
+    caller: Caller,
+    text: Vec<u8>,
+    /// Whether the server has said that it ended.
+    is_over: Arc<AtomicBool>,
+    /// Whether the caller is content.
+    is_content: bool,
+    /// The caller, where it has a thread of its own.
+    thread: Option<JoinHandle<bool>>,
 }
 
-impl<C: Client> Sink for Told<C> {
+impl<R: Net<Stream = TcpStream> + Host> Told<'_, R> {
+    /// A line of the server.
+    fn hear(&mut self, line: &[u8]) {
+        let Some(address) = address_in(line) else {
+            self.is_over.store(true, Ordering::SeqCst);
+            return;
+        };
+        match self.caller {
+            Caller::Two => self.thread = self.visit(address),
+            Caller::Asker(ask, end) => self.is_content = is_served(self.rt, address, ask, end),
+            Caller::Many => self.is_content = has_many_sessions(self.rt, address),
+        }
+    }
+
+    /// Starts both sessions at this address.
+    fn visit(&self, address: &str) -> Option<JoinHandle<bool>> {
+        let one = TcpStream::connect(self.rt, address).ok()?;
+        let two = TcpStream::connect(self.rt, address).ok()?;
+        let is_over = Arc::try_clone(&self.is_over).ok()?;
+        thread::spawn(self.rt, move || are_answered(&one, &two, &is_over)).ok()
+    }
+}
+
+impl<R: Net<Stream = TcpStream> + Host> Sink for Told<'_, R> {
     ghost takes = { λ _ _ _. Unit {0} };
 
     fn put(&mut self, bytes: &[u8]) -> Result<usize, WriteFailed> {
-        self.client.hear(bytes);
+        self.hear(bytes);
         match self.text.extend_from_slice(bytes) {
             Ok(()) => Ok(bytes.len()),
             Err(_) => Err(WriteFailed),
@@ -34,29 +72,45 @@ impl<C: Client> Sink for Told<C> {
     }
 }
 
-impl<C: Client> Output for Told<C> {
+impl<R: Net<Stream = TcpStream> + Host> Output for Told<'_, R> {
     fn is_closed(&self) -> bool {
         false
     }
 }
 
 /// The address in the line that says where a server listens; None in another line.
-pub(super) fn address_in(line: &[u8]) -> Option<&str> {
+fn address_in(line: &[u8]) -> Option<&str> {
     let line = str::from_utf8(line).ok()?;
     Some(line.strip_prefix("listening ")?.trim_end())
 }
 
-/// The exit status of a server that these words ask for, its client then and what it was told, and what was said on the
-/// errors.
-pub(super) fn served<C: Client, R>(rt: &R, words: &[&str], client: C) -> (u8, Told<C>, Vec<u8>)
+/// Whether a server that these words ask for ends well, has said where it listens and this at the end, and its caller is content.
+pub(super) fn is_called<R>(rt: &R, words: &[&str], caller: Caller, end: &[u8]) -> bool
 where
-    R: Net<Listener = TcpListener, Stream = TcpStream> + AllocGlobal + Threads + Wait + Sync,
+    R: Net<Listener = TcpListener, Stream = TcpStream> + Host + Sync,
 {
     let told = Told {
+        rt,
+        caller,
         text: Vec::new(rt.alloc()),
-        client,
+        is_over: Arc::new(rt.alloc(), AtomicBool::new(false)).expect(rt, "a flag"),
+        is_content: false,
+        thread: None,
     };
-    followed(rt, words, typed(b"", false), told)
+    let (status, told, errors) = followed(rt, rt.alloc(), words, typed(b"", false), told);
+    let Told {
+        text,
+        is_content,
+        thread,
+        ..
+    } = told;
+    let is_content = match thread {
+        Some(thread) => thread.join(rt),
+        None => is_content,
+    };
+    let text = text.as_slice();
+    let has_said = text.starts_with(b"listening 127.0.0.1:") && text.ends_with(end);
+    status == 0 && is_content && has_said && errors.is_empty()
 }
 
 /// What can't be reserved at a server of 8 segments and 1 node.
@@ -68,10 +122,7 @@ const FULL: Row = ("HELLO 1 1\n", "ERR 14\n");
 /// A job for which one node doesn't suffice, up to the last line.
 const AGAIN: [Row; 3] = [
     ("HELLO 8 1\n", "WELCOME 8 1\n"),
-    (
-        "ASK 2 ---------------------------OX------XO--------------------------- X\n",
-        "JOB 1\n",
-    ),
+    (ASK_2, "JOB 1\n"),
     ("WAIT 1\n", "SPENT 1\n"),
 ];
 
@@ -85,34 +136,6 @@ fn are_answered(one: &TcpStream, two: &TcpStream, is_over: &AtomicBool) -> bool 
         && are_told(two, &AGAIN)
         && !is_over.load(Ordering::SeqCst)
         && is_answered(two, LAST)
-}
-
-/// A client of two sessions in a thread of its own.
-#[derive(Drop)]
-struct Visitor<'a, R: Threads> {
-    rt: &'a R,
-    /// Whether the server has said that it ended.
-    is_over: Arc<AtomicBool>,
-    thread: Option<JoinHandle<bool>>,
-}
-
-impl<R: Net<Stream = TcpStream> + Threads> Visitor<'_, R> {
-    /// Starts both sessions at this address.
-    fn visit(&self, address: &str) -> Option<JoinHandle<bool>> {
-        let one = TcpStream::connect(self.rt, address).ok()?;
-        let two = TcpStream::connect(self.rt, address).ok()?;
-        let is_over = Arc::try_clone(&self.is_over).ok()?;
-        thread::spawn(self.rt, move || are_answered(&one, &two, &is_over)).ok()
-    }
-}
-
-impl<R: Net<Stream = TcpStream> + Threads> Client for Visitor<'_, R> {
-    fn hear(&mut self, line: &[u8]) {
-        match address_in(line) {
-            Some(address) => self.thread = self.visit(address),
-            None => self.is_over.store(true, Ordering::SeqCst),
-        }
-    }
 }
 
 /// The words for a server of two sessions with 8 segments and 1 node, at grain 0.
@@ -129,36 +152,16 @@ const WORDS: [&str; 10] = [
     "1",
 ];
 
-/// Whether a server has said where it listens, and at the end how many sessions have ended.
-pub(super) fn has_said(text: &[u8], end: &[u8]) -> bool {
-    text.starts_with(b"listening 127.0.0.1:") && text.ends_with(end)
-}
-
 #[test]
-fn a_server_says_where_it_listens_and_serves_as_asked(rt: HostRuntime) -> Result<(), Fail> {
-    let visitor = Visitor {
-        rt: &rt,
-        is_over: Arc::new(rt.alloc(), AtomicBool::new(false))?,
-        thread: None,
-    };
-    let (status, told, errors) = served(&rt, WORDS.as_slice(), visitor);
-    let Told { text, client } = told;
-    let Visitor { thread, .. } = client;
-    let Some(thread) = thread else {
-        panic!(rt; "no client came");
-    };
-    assert!(rt; thread.join(&rt), "its sessions");
-    holds(
-        &rt,
-        status == 0 && has_said(&text, b"\nended 2\n") && errors.is_empty(),
-    );
-    Ok(())
+fn a_server_says_where_it_listens_and_serves_as_asked(rt: HostRuntime) {
+    let is_content = is_called(&rt, WORDS.as_slice(), Caller::Two, b"\nended 2\n");
+    holds(&rt, is_content);
 }
 
 /// The status of a server at this port, whether it has said where it listens, and what is said on the errors.
 fn served_at<R>(rt: &R, port: &str) -> (u8, Vec<u8>, Vec<u8>)
 where
-    R: Net<Listener = TcpListener, Stream = TcpStream> + AllocGlobal + Threads + Wait + Sync,
+    R: Net<Listener = TcpListener, Stream = TcpStream> + Host + Sync,
 {
     let words = ["othello", "serve", "--sessions", "1", "--port", port];
     written(rt, words.as_slice(), typed(b"", false))

@@ -1,73 +1,47 @@
 //! A server has the grain that it is asked for: jobs for which its nodes suffice at one grain alone.
-use super::clients::{Client, address_in, served};
-use crate::tests::servers::{LAST, is_answered};
+use super::clients::{Caller, is_called};
+use crate::tests::Host;
+use crate::tests::servers::{ASK_3, ASK_7, LAST, is_answered};
 use std::net::{Net, TcpListener, TcpStream};
-use std::sync::Wait;
-use std::thread::Threads;
 
-/// The opening to depth 3: a root and its four children, of which each is searched once more at most, are eight nodes;
-/// where children have children of their own they are many more.
-const THREE: &str = "ASK 3 ---------------------------OX------XO--------------------------- X\n";
-
-/// The same to depth 7.
-const SEVEN: &str = "ASK 7 ---------------------------OX------XO--------------------------- X\n";
-
-/// A grain, the line of a job, and how that ends.
+/// A grain, the line of a job, and how that ends. The opening to depth 3: a root and its four children, of which each is searched once
+/// more at most, are eight nodes; where children have children of their own they are many more.
 type Grain = (&'static str, &'static str, &'static str);
 
 const GRAINS: [Grain; 7] = [
-    ("0", THREE, "SPENT 1\n"),
-    ("1", THREE, "SPENT 1\n"),
-    ("2", THREE, "DONE 1 9 d3\n"),
-    ("3", THREE, "DONE 1 9 d3\n"),
-    ("2", SEVEN, "SPENT 1\n"),
-    ("5", SEVEN, "SPENT 1\n"),
-    ("6", SEVEN, "DONE 1 6 d3\n"),
+    ("0", ASK_3, "SPENT 1\n"),
+    ("1", ASK_3, "SPENT 1\n"),
+    ("2", ASK_3, "DONE 1 9 d3\n"),
+    ("3", ASK_3, "DONE 1 9 d3\n"),
+    ("2", ASK_7, "SPENT 1\n"),
+    ("5", ASK_7, "SPENT 1\n"),
+    ("6", ASK_7, "DONE 1 6 d3\n"),
 ];
 
-/// Who has a session with one job as soon as it hears where the server listens.
-#[derive(Drop)]
-struct Asker<'r, R> {
-    rt: &'r R,
-    line: &'static str,
+/// Whether a session with one job is answered as it should be at this address.
+pub(super) fn is_served<R: Net<Stream = TcpStream> + Host>(
+    rt: &R,
+    address: &str,
+    ask: &'static str,
     end: &'static str,
-    /// Whether each line was answered as it should be.
-    is_answered: bool,
-}
-
-impl<R: Net<Stream = TcpStream>> Asker<'_, R> {
-    /// Whether each line is answered as it should be at this address.
-    fn asks(&self, address: &str) -> bool {
-        let Ok(stream) = TcpStream::connect(self.rt, address) else {
-            return false;
-        };
-        is_answered(&stream, ("HELLO 64 8\n", "WELCOME 64 8\n"))
-            && is_answered(&stream, (self.line, "JOB 1\n"))
-            && is_answered(&stream, ("WAIT 1\n", self.end))
-            && is_answered(&stream, LAST)
-    }
-}
-
-impl<R: Net<Stream = TcpStream>> Client for Asker<'_, R> {
-    fn hear(&mut self, line: &[u8]) {
-        if let Some(address) = address_in(line) {
-            self.is_answered = self.asks(address);
+) -> bool {
+    match TcpStream::connect(rt, address) {
+        Ok(stream) => {
+            is_answered(&stream, ("HELLO 64 8\n", "WELCOME 64 8\n"))
+                && is_answered(&stream, (ask, "JOB 1\n"))
+                && is_answered(&stream, ("WAIT 1\n", end))
+                && is_answered(&stream, LAST)
         }
+        Err(_) => false,
     }
 }
 
 /// Whether a server of eight nodes has the grain that it is asked for.
 fn has_grain<R>(rt: &R, grain: &Grain) -> bool
 where
-    R: Net<Listener = TcpListener, Stream = TcpStream> + AllocGlobal + Threads + Wait + Sync,
+    R: Net<Listener = TcpListener, Stream = TcpStream> + Host + Sync,
 {
-    let (grain, line, end) = *grain;
-    let asker = Asker {
-        rt,
-        line,
-        end,
-        is_answered: false,
-    };
+    let (grain, ask, end) = *grain;
     let words = [
         "othello",
         "serve",
@@ -80,8 +54,8 @@ where
         "--grain",
         grain,
     ];
-    let (status, told, _errors) = served(rt, words.as_slice(), asker);
-    status == 0 && told.client.is_answered
+    let asker = Caller::Asker(ask, end);
+    is_called(rt, words.as_slice(), asker, b"\nended 1\n")
 }
 
 /// At each grain eight nodes suffice for a root one ply deeper, and not for one beyond.

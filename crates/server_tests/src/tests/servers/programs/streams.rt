@@ -1,14 +1,12 @@
 //! Streams that fail by each error that a process can meet, and terminals.
-use super::{Broken, LINE, followed, input, memory, status_in, status_of, typed, written};
+use super::{Broken, LINE, Words, followed, input, memory, status_of, typed, written};
 use crate::tests::servers::looked_at::{Nameless, no_address};
-use crate::tests::{holds, says};
+use crate::tests::{Host, holds, says};
 use commands::{Streams, Unserved};
 use line_io::FromWriter;
-use std::alloc::{AllocError, Global};
+use std::alloc::AllocError;
 use std::io::ErrorKind;
 use std::net::{Net, TcpListener, TcpStream};
-use std::sync::Wait;
-use std::thread::Threads;
 use tcp_server::ServeFault;
 
 /// Where the output couldn't be written.
@@ -21,19 +19,12 @@ const UNREAD: &str = "othello: the input could not be read\n";
 const HINT: &str =
     "othello: reading lines `depth position`; `othello solve --help` explains them\n";
 
-const SOLVE: &[&str] = &["othello", "solve"];
+const SOLVE: Words = &["othello", "solve"];
 
-const SERVE: &[&str] = &["othello", "serve", "--sessions", "1"];
+const SERVE: Words = &["othello", "serve", "--sessions", "1"];
 
 /// Words, how the input fails, whether it is a terminal, how the output fails, the exit status, and the errors.
-type Failing = (
-    &'static [&'static str],
-    Option<ErrorKind>,
-    bool,
-    ErrorKind,
-    u8,
-    &'static str,
-);
+type Failing = (Words, Option<ErrorKind>, bool, ErrorKind, u8, &'static str);
 
 const FAILING: [Failing; 11] = [
     (SOLVE, None, false, ErrorKind::BrokenPipe, 1, ""),
@@ -66,11 +57,12 @@ const FAILING: [Failing; 11] = [
 /// Whether a program whose input and output fail so has this status and says this on its errors.
 fn is_told<R>(rt: &R, failing: &Failing) -> bool
 where
-    R: Net<Listener = TcpListener, Stream = TcpStream> + AllocGlobal + Threads + Wait + Sync,
+    R: Net<Listener = TcpListener, Stream = TcpStream> + Host + Sync,
 {
     let (words, failure, is_terminal, broken, status, said) = *failing;
+    let source = input(LINE, failure, is_terminal);
     let sink = FromWriter::new(Broken(broken));
-    let (found, _sink, errors) = followed(rt, words, input(LINE, failure, is_terminal), sink);
+    let (found, _sink, errors) = followed(rt, rt.alloc(), words, source, sink);
     found == status && errors.as_slice() == said.as_bytes()
 }
 
@@ -86,14 +78,14 @@ fn each_error_of_an_output(rt: HostRuntime) {
 /// The status of words that are refused where that can't be said.
 fn refused_in_silence<R>(rt: &R) -> u8
 where
-    R: Net<Listener = TcpListener, Stream = TcpStream> + AllocGlobal + Threads + Wait + Sync,
+    R: Net<Listener = TcpListener, Stream = TcpStream> + Host + Sync,
 {
     let mut streams = Streams {
         source: typed(LINE, false),
         sink: FromWriter::new(Broken(ErrorKind::Other)),
         errors: FromWriter::new(Broken(ErrorKind::Other)),
     };
-    status_of(rt, &["othello", "solved"], &mut streams)
+    status_of(rt, rt.alloc(), &["othello", "solved"], &mut streams)
 }
 
 #[test]
@@ -114,7 +106,7 @@ const READINGS: [Reading; 4] = [
 /// Whether a program with this input has this status, says this on its errors, and answers where it could read.
 fn is_read<R>(rt: &R, reading: &Reading) -> bool
 where
-    R: Net<Listener = TcpListener, Stream = TcpStream> + AllocGlobal + Threads + Wait + Sync,
+    R: Net<Listener = TcpListener, Stream = TcpStream> + Host + Sync,
 {
     let (is_terminal, failure, status, said) = *reading;
     let (found, answers, errors) = written(rt, SOLVE, input(LINE, failure, is_terminal));
@@ -135,20 +127,15 @@ fn each_input(rt: HostRuntime) {
 #[test]
 fn faults_of_the_program_are_told(rt: HostRuntime) {
     let alloc = rt.alloc();
+    let unwritten = Unserved::Unwritten;
     let unsaid = Unserved::from(ServeFault::Unsaid);
     let refused = Unserved::from(AllocError);
     let no_memory = Unserved::from(ServeFault::OutOfMemory);
     let no_thread = Unserved::from(ServeFault::NoThread);
+    let no_output = "the output could not be written";
     holds(&rt, says(alloc, refused, "no memory for the segments"));
-    holds(
-        &rt,
-        says(
-            alloc,
-            Unserved::Unwritten,
-            "the output could not be written",
-        ),
-    );
-    holds(&rt, says(alloc, unsaid, "the output could not be written"));
+    holds(&rt, says(alloc, unwritten, no_output));
+    holds(&rt, says(alloc, unsaid, no_output));
     holds(&rt, says(alloc, no_memory, "no memory for the workers"));
     holds(&rt, says(alloc, no_thread, "no thread for a worker"));
 }
@@ -156,16 +143,18 @@ fn faults_of_the_program_are_told(rt: HostRuntime) {
 /// The status of a server whose listener has no address, what it says, and what on the errors.
 fn unnamed<R>(rt: &R) -> (u8, Vec<u8>, Vec<u8>)
 where
-    R: Net<Listener = TcpListener, Stream = TcpStream> + AllocGlobal + Threads + Wait + Sync,
+    R: Net<Listener = TcpListener, Stream = TcpStream> + Host + Sync,
 {
-    let mut streams = Streams {
-        source: typed(LINE, false),
-        sink: memory(rt.alloc()),
-        errors: memory(rt.alloc()),
-    };
-    let status = status_in(&Nameless { rt }, rt.alloc(), SERVE, &mut streams);
-    let Streams { sink, errors, .. } = streams;
-    (status, sink.writer, errors.writer)
+    let nameless = Nameless { rt };
+    let alloc = rt.alloc();
+    let (status, sink, errors) = followed(
+        &nameless,
+        alloc,
+        SERVE,
+        typed(LINE, false),
+        memory(alloc),
+    );
+    (status, sink.writer, errors)
 }
 
 /// It is told why, and not that anything couldn't be written.

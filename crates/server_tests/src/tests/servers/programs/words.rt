@@ -1,5 +1,5 @@
 //! Words of the command line: how they are read, and what is said of those that are refused.
-use super::memory;
+use super::{Words, memory};
 use crate::tests::holds;
 use command_line::{Options, WordsFault};
 use commands::words_of;
@@ -23,10 +23,8 @@ fn words_are_read(rt: HostRuntime) {
         grain: 2,
         visited: true,
     };
-    holds(
-        &rt,
-        ask_for(rt.alloc(), &["othello", "solve", "--visited"], solve),
-    );
+    let words = ["othello", "solve", "--visited"];
+    holds(&rt, ask_for(rt.alloc(), words.as_slice(), solve));
     let serve = Options::Serve {
         sessions: 2,
         port: 80,
@@ -40,7 +38,7 @@ fn words_are_read(rt: HostRuntime) {
 }
 
 /// Words that are refused, the exit status, how the text begins, and what stands in it.
-type Refused = (&'static [&'static str], u8, &'static str, &'static str);
+type Refused = (Words, u8, &'static str, &'static str);
 
 const REFUSED: [Refused; 4] = [
     (
@@ -77,23 +75,21 @@ fn text_of(alloc: Global, fault: WordsFault) -> Option<String> {
     }
 }
 
-/// Whether a fault has this status and this text.
-fn is_told(alloc: Global, fault: WordsFault, refused: &Refused) -> bool {
-    let (_, status, beginning, usage) = *refused;
-    let is_of_status = fault.status() == status;
-    match text_of(alloc, fault) {
-        Some(text) => {
-            is_of_status && text.as_str().starts_with(beginning) && text.as_str().contains(usage)
-        }
-        None => false,
-    }
+/// Whether a text begins so, and has this in it.
+fn tells(text: &str, beginning: &str, usage: &str) -> bool {
+    text.starts_with(beginning) && text.contains(usage)
 }
 
 /// Whether words are refused with this status and this text.
 fn are_refused(alloc: Global, refused: &Refused) -> bool {
-    match read(alloc, refused.0) {
-        Ok(_) => false,
-        Err(fault) => is_told(alloc, fault, refused),
+    let (words, status, beginning, usage) = *refused;
+    let Err(fault) = read(alloc, words) else {
+        return false;
+    };
+    let is_of_status = fault.status() == status;
+    match text_of(alloc, fault) {
+        Some(text) => is_of_status && tells(text.as_str(), beginning, usage),
+        None => false,
     }
 }
 
@@ -115,14 +111,9 @@ fn are_lost(alloc: Global, kind: ErrorKind, status: u8, said: &str) -> bool {
 
 #[test]
 fn words_that_are_no_text_are_refused(rt: HostRuntime) {
+    let alloc = rt.alloc();
     let no_text = "othello: a word of the command line is no text in UTF-8\n";
-    holds(
-        &rt,
-        are_lost(rt.alloc(), ErrorKind::InvalidData, 2, no_text),
-    );
+    holds(&rt, are_lost(alloc, ErrorKind::InvalidData, 2, no_text));
     let no_memory = "othello: no memory to read the command line\n";
-    holds(
-        &rt,
-        are_lost(rt.alloc(), ErrorKind::OutOfMemory, 1, no_memory),
-    );
+    holds(&rt, are_lost(alloc, ErrorKind::OutOfMemory, 1, no_memory));
 }

@@ -1,8 +1,9 @@
-//! An office that has no tenant refuses by number, and one that has a tenant takes no other. Sessions ask neither of it.
+//! Offices of a desk: no contract says that HELLO ever succeeds, nor what an office answers that has no tenant. It refuses
+//! by number, and one that has a tenant takes no other. Sessions ask neither of it.
 ghost use Rattle.std.specs.Prelude.{◌≡◌};
 
-use super::{holds, small_hall};
-use desk::{Desk, DeskLedger, Hall, Jamboree, Opened, PARTS, Refusal, Step};
+use super::holds;
+use desk::{Config, Desk, DeskLedger, Hall, Jamboree, Opened, PARTS, Refusal, Step};
 use desk_office::DeskOffice;
 use session::Office;
 use std::marker::Brand;
@@ -10,34 +11,18 @@ use std::sync::Wait;
 use std::sync::ledger::Blank;
 use tenant_quota::Reserve;
 
-/// Whether there is no job 1 to be shown.
-fn shows_no_job<O: Office>(office: &mut O) -> bool {
+/// Whether an office has no job 1 to show, to wait for or to cancel.
+fn has_no_job<O: Office>(office: &mut O) -> bool {
     matches!(office.get(1), Err(Refusal::NoJob))
+        && matches!(office.wait(1), Err(Refusal::NoJob))
+        && matches!(office.cancel(1), Err(Refusal::NoJob))
 }
 
-/// Whether there is none to wait for.
-fn awaits_no_job<O: Office>(office: &mut O) -> bool {
-    matches!(office.wait(1), Err(Refusal::NoJob))
-}
-
-/// Whether there is none to cancel.
-fn cancels_no_job<O: Office>(office: &mut O) -> bool {
-    matches!(office.cancel(1), Err(Refusal::NoJob))
-}
-
-/// Whether there is no tenant to reserve more for.
-fn reserves_for_nobody<O: Office>(office: &mut O, reserve: Reserve) -> bool {
+/// Whether it has no tenant to reserve more for, nor one that has anything left or alive.
+fn has_no_tenant<O: Office>(office: &mut O, reserve: Reserve) -> bool {
     matches!(office.reserve(reserve), Err(Refusal::NoTenant))
-}
-
-/// Whether there is none that has anything left.
-fn has_no_quota<O: Office>(office: &mut O) -> bool {
-    matches!(office.quota(), Err(Refusal::NoTenant))
-}
-
-/// Whether there is none that has anything alive.
-fn has_none_alive<O: Office>(office: &mut O) -> bool {
-    matches!(office.live(), Err(Refusal::NoTenant))
+        && matches!(office.quota(), Err(Refusal::NoTenant))
+        && matches!(office.live(), Err(Refusal::NoTenant))
 }
 
 /// Whether it takes a tenant, and no other after it.
@@ -45,25 +30,15 @@ fn takes_one<O: Office>(office: &mut O, reserve: Reserve) -> bool {
     office.hello(reserve).is_ok() && matches!(office.hello(reserve), Err(Refusal::OldTenant))
 }
 
-/// Whether an office refuses all that has to do with a tenant, and then takes just one.
-fn is_as_it_says<O: Office>(office: &mut O, reserve: Reserve) -> bool {
-    shows_no_job(office)
-        && awaits_no_job(office)
-        && cancels_no_job(office)
-        && reserves_for_nobody(office, reserve)
-        && has_no_quota(office)
-        && has_none_alive(office)
-        && takes_one(office, reserve)
-}
-
-/// Whether a new office of a desk is so.
+/// Whether a new office of a desk refuses all that has to do with a tenant, and then takes just one.
 fn is_new_office_as_it_says<L: DeskLedger, R: Wait>(
     rt: &R,
     desk: &Desk<L>,
     reserve: Reserve,
 ) -> bool {
     let mut office = DeskOffice::new(rt, desk);
-    let answer = is_as_it_says(&mut office, reserve);
+    let is_empty = has_no_job(&mut office) && has_no_tenant(&mut office, reserve);
+    let answer = is_empty && takes_one(&mut office, reserve);
     office.close();
     answer
 }
@@ -98,7 +73,8 @@ fn are_offices_as_they_say<R: Wait>(
 #[test]
 fn an_office_has_one_tenant_and_says_where_it_has_none(rt: HostRuntime) {
     let reserve = Reserve::new(1, 1).unwrap();
-    let hall = small_hall(rt.alloc(), 0).expect(&rt, "there is memory");
+    let config = Config::new(8, 8).unwrap();
+    let hall = Hall::new(rt.alloc(), config, 0).expect(&rt, "there is memory");
     let opened = Opened::new(rt.alloc()).expect(&rt, "there is memory");
     holds(&rt, are_offices_as_they_say(&rt, hall, opened, reserve));
 }

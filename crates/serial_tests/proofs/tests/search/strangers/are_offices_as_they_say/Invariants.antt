@@ -1,4 +1,4 @@
-use Rattle.serial_tests.proofs.tests.search.offices.strangers.are_offices_as_they_say.Given as goal
+use Rattle.serial_tests.proofs.tests.search.strangers.are_offices_as_they_say.Given as goal
 
 abbrev pub ghosts-is_new_desk_as_it_says-L-Ledger : goal.ghosts-is_new_desk_as_it_says-L-Ledger
 ghosts-is_new_desk_as_it_says-L-Ledger g a = record { name = a.blank.name; parts = a.blank.parts }

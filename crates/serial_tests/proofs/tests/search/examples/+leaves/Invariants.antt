@@ -1,4 +1,4 @@
-use Rattle.serial_tests.proofs.tests.search.leaves.examples.+leaves.Given as goal
+use Rattle.serial_tests.proofs.tests.search.examples.+leaves.Given as goal
 
 abbrev pub decreases-leaves : goal.decreases-leaves
 decreases-leaves l = l.depth

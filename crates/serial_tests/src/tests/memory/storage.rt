@@ -1,0 +1,136 @@
+//! What a core's store stands on: the examples at the heads of its crates, and what is made where an allocator gives.
+ghost use Rattle.number_index.specs.Places.{AreRising};
+
+use crate::tests::memory::reserve_of;
+use crate::tests::{holds, left_of};
+use cactus_stack::{Sight, Stack};
+use number_index::{Guesses, TenantIndex};
+use segment_region::Region;
+use std::alloc::{AllocError, Allocator};
+use std::process::Abort;
+use std::test::Fail;
+use tenant_quota::{Book, Refusal};
+
+/// A segment is written, and given back.
+#[test]
+fn segments_are_taken_written_and_given_back(rt: HostRuntime) -> Result<(), Fail> {
+    let mut region = Region::new(rt.alloc(), 4)?;
+    let first = region.take().expect(&rt, "four are free");
+    region.words_mut(first)[3] = 7;
+    holds(&rt, region.words(first)[3] == 7);
+    region.give(first);
+    holds(&rt, region.free_count() == 4);
+    Ok(())
+}
+
+/// Makes a region of two segments, which lends one.
+pub fn make_region<A: Allocator>(rt: &impl Abort, alloc: A) -> Result<(), AllocError> {
+    let mut region = Region::new(alloc, 2)?;
+    holds(rt, region.free_count() == 2);
+    holds(rt, region.take().is_some());
+    Ok(())
+}
+
+/// The child's words and the root's, some of each.
+fn has_both(sight: &Sight<'_>) -> bool {
+    match (sight.up(0), sight.up(1)) {
+        (Some(child), Some(root)) => {
+            child.len() == 16
+                && (child.get(0), child.get(15), child.get(16)) == (Some(7), Some(9), None)
+                && root.len() == 20
+                && (root.get(1), root.get(19), root.get(20)) == (Some(2), Some(0), None)
+        }
+        _ => false,
+    }
+}
+
+/// The child's words are seen, and then the root's, which a write to the child leaves.
+#[test]
+fn a_root_and_its_child_in_four_segments(rt: HostRuntime) -> Result<(), Fail> {
+    let mut stack = Stack::new(rt.alloc(), 4)?;
+    let root = stack.open(None, &[1, 2], 20).expect(&rt, "four are free");
+    let child = stack.open(Some(root), &[7], 16).expect(&rt, "two are free");
+    stack.store(child, 15, 9);
+    holds(&rt, has_both(&stack.sight(child)));
+    Ok(())
+}
+
+fn may_cross_threads<T: Send + Sync>(_value: &T) {}
+
+#[test]
+fn a_stack_may_cross_threads(rt: HostRuntime) -> Result<(), Fail> {
+    may_cross_threads(&Stack::new(rt.alloc(), 1)?);
+    Ok(())
+}
+
+/// Makes a stack with room for a node.
+pub fn make_stack<A: Allocator + Clone>(rt: &impl Abort, alloc: A) -> Result<(), AllocError> {
+    let mut stack = Stack::new(alloc, 2)?;
+    let node = stack.open(None, &[7], 20).expect(rt, "two are free");
+    holds(rt, stack.own(node).get(0) == Some(7));
+    Ok(())
+}
+
+/// Whether the thing of a number stands, or would stand, at this place, with this value; 0 where there is none.
+fn stands(index: &TenantIndex, all: &[(u64, u32)], number: u64, place: usize, value: u32) -> bool
+    requires { AreRising (λ pair. pair.0) all.now }
+{
+    let found = match index.find(all, number) {
+        Some(pair) => pair.1,
+        None => 0,
+    };
+    index.place_of(all, number) == place && found == value
+}
+
+/// Each of three things is found, and one that isn't there isn't.
+fn are_found(rt: &impl Abort, index: &TenantIndex, all: &[(u64, u32)])
+    requires { AreRising (λ pair. pair.0) all.now }
+{
+    for (number, place, value) in [(3, 0, 30), (7, 1, 70), (263, 2, 2630), (8, 2, 0)] {
+        holds(rt, stands(index, all, number, place, value));
+    }
+}
+
+/// Before the guesses are made anew, and after.
+#[test]
+fn a_tenant_is_found_whatever_is_guessed(rt: HostRuntime) {
+    let mut index = TenantIndex::new();
+    let tenants = [(3u64, 30u32), (7, 70), (263, 2630)];
+    are_found(&rt, &index, &tenants);
+    index.guess_anew(&tenants);
+    are_found(&rt, &index, &tenants);
+}
+
+/// Makes a table with room for 16 places, 64 bytes.
+pub fn make_guesses<A: Allocator>(rt: &impl Abort, alloc: A) -> Result<(), AllocError> {
+    let guesses = Guesses::new(alloc, 16)?;
+    holds(rt, guesses.guess(5) == 0);
+    Ok(())
+}
+
+/// A tenant that isn't there reserves so many segments, and eight nodes.
+fn reserves(rt: &impl Abort, book: &mut Book, tenant: u64, segments: u32) -> Result<(), Refusal> {
+    holds(rt, book.left(tenant).is_none());
+    book.reserve(tenant, reserve_of(rt, segments, 8))
+}
+
+/// Two tenants reserve all segments, and a third none. What the first is charged, the second has left.
+#[test]
+fn two_tenants_share_a_book(rt: HostRuntime) -> Result<(), Fail> {
+    let mut book = Book::new(rt.alloc(), 8, 32)?;
+    holds(&rt, reserves(&rt, &mut book, 1, 5) == Ok(()));
+    holds(&rt, reserves(&rt, &mut book, 2, 3) == Ok(()));
+    holds(&rt, reserves(&rt, &mut book, 3, 1) == Err(Refusal::Full));
+    holds(&rt, book.left(1).is_some());
+    holds(&rt, book.charge(1, 5, 1) == Ok(()));
+    holds(&rt, book.left(1) == Some(left_of(0, 7, 128)));
+    holds(&rt, book.left(2) == Some(left_of(3, 8, 128)));
+    Ok(())
+}
+
+/// Makes a book with places for 64 tenants, of which none is there.
+pub fn make_book<A: Allocator>(rt: &impl Abort, alloc: A) -> Result<(), AllocError> {
+    let book = Book::new(alloc, 8, 32)?;
+    holds(rt, book.rest().tenants == 64 && book.left(1).is_none());
+    Ok(())
+}

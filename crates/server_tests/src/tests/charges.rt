@@ -1,0 +1,56 @@
+//! What tenants owe for what a worker does under one lock: each is charged for it before anything is picked.
+use super::bells::{OPENING, desk_for_all};
+use super::holds;
+use super::sites::seat_of;
+use desk_rules::Backoff;
+use fair_pool::Hands;
+use hall::{LeafAnswer, Worker};
+use site_book::Who;
+use site_desk::{Seat, SiteDesk};
+use std::process::Abort;
+use std::sync::Wait;
+use task_deques::deal;
+use task_deques::pool_rules::{Action, Holding, Task};
+
+/// The seat of a guest of this number that has asked for two jobs of one frame.
+fn asked_twice<R: Wait + Abort>(rt: &R, desk: &SiteDesk, number: u32) -> Seat {
+    let mut seat = seat_of(rt, desk, Who::V4(number), 1_000).expect(rt, "there is room");
+    for job in 1..3u64 {
+        holds(rt, desk.ask(rt, &mut seat, &OPENING, 0) == Ok(job));
+    }
+    seat
+}
+
+/// What is picked next, which is a frame of this tenant.
+fn picked<R: Wait + Abort>(rt: &R, desk: &SiteDesk, tenant: u64) -> Task {
+    let task = desk.pick(rt).expect(rt, "a frame is ready");
+    holds(rt, task.frame.tenant == tenant);
+    task
+}
+
+/// Of two guests as they came the first is picked, and when its first job was begun, the second. Then the first job's answer, which cost 5,
+/// is brought and the second guest's job begun under one lock: the second is the one that was served less.
+#[test]
+fn who_was_served_owes_it(rt: HostRuntime) {
+    let rt = &rt;
+    let desk = &desk_for_all(rt, rt.alloc());
+    let worker = Worker::new(1).expect(rt, "a worker");
+    let mut ends = deal(rt.alloc(), worker, 8).expect(rt, "there is memory");
+    let mut hands = Hands::new(ends.pop().expect(rt, "the worker's ends"));
+    let backoff = &mut Backoff::new();
+    let _first = asked_twice(rt, desk, 1);
+    let _second = asked_twice(rt, desk, 2);
+    let begun = Holding::Next(Action::Get(picked(rt, desk, 1)));
+    let Holding::Computing(frame, leaf) = desk.work(rt, backoff, worker, &mut hands, begun) else {
+        return holds(rt, false);
+    };
+    let task = picked(rt, desk, 2);
+    holds(rt, hands.ends.push(task).is_ok());
+    hands.cost = 5;
+    let brings = Holding::Next(Action::Bring(frame, LeafAnswer::compute(leaf)));
+    let Holding::Computing(next, _) = desk.work(rt, backoff, worker, &mut hands, brings) else {
+        return holds(rt, false);
+    };
+    holds(rt, next.tenant == 2 && hands.cost == 0);
+    let _task = picked(rt, desk, 2);
+}
