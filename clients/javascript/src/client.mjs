@@ -1,8 +1,4 @@
 // Values of positions from a server, by as many sessions as they need.
-//
-//   await using client = connect();                               // COLUWEN_URL, or othello://127.0.0.1:4711
-//   const result = await client.analyse(Position.opening(), 6);
-//   console.log(String(result.score), result.best, ...result.table.map(String));     // 0 d3 d3=0 c4<0 f5<0 e6<0
 import { Analyst, checked, resultOf } from "./analyst.mjs";
 import { Core } from "./core.mjs";
 import { Broken } from "./faults.mjs";
@@ -88,11 +84,7 @@ export class Client extends Analyst {
         if ("fault" in question) reject(question.fault);
         else resolve(question.found);
       };
-      try {
-        this.#act((now) => this.#core.ask(question, now));
-      } catch (fault) {
-        Object.assign(question, { fault }).settled();
-      }
+      this.#act((now) => this.#core.ask(question, now));
     });
   }
 

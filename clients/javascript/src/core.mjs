@@ -118,9 +118,9 @@ export class Core {
   get isEmpty() { return !this.#seats.size; }
 
   ask(question, now) {
-    if (this.#isEnded) throw new Closed("client");
     Object.assign(question, { level: 0, isAlone: false, job: 0, losses: 0, isSettled: false, until: Infinity, limit: Infinity, pollAt: Infinity, refusedAt: null });
-    if (question.kind === "info") this.#tooDeep(question);
+    if (this.#isEnded) this.#settle(question, { fault: new Closed("client") });
+    else if (question.kind === "info") this.#tooDeep(question);
     else this.#queue.push(question);
     this.#go(now);
   }
@@ -326,28 +326,22 @@ export class Core {
 
   /** What asks for the server's grain, or can't be answered at it. */
   #tooDeep(question) {
-    if (question.kind === "info" ? this.#info : this.#info || !this.isFree) {
-      const greatest = this.isFree ? Math.min(this.#info.sure, question.depth - 1) : 0;
-      this.#settle(question, question.kind === "info" ? { found: this.#info } : { fault: new TooDeep(question.depth, greatest) });
-    } else {
-      this.#deep.push(question);
-    }
+    const isInfo = question.kind === "info";
+    if (!this.#info && (isInfo || this.isFree)) return void this.#deep.push(question);
+    const greatest = this.isFree ? Math.min(this.#info.sure, question.depth - 1) : 0;
+    this.#settle(question, isInfo ? { found: this.#info } : { fault: new TooDeep(question.depth, greatest) });
   }
 
   /** A probe goes on, where its line isn't refused for another reason than what it asks for. */
   #probed(seat, word, answer, refusal, now) {
-    if (answer || (word === "INFO" && refusal.number === UNKNOWN) || (word === "ASK" && USED_UP.includes(refusal.number))) {
-      if (answer?.state === "PENDING") seat.freeAt = now + 1;
-      const { done, value } = seat.probe.next(answer);
-      seat.line = done ? null : value;
-      if (!done) return;
-      const [grain, version] = value;
-      if (this.#deep.length) this.#info = { grain, sure: Math.min(grain + 4, DEEPEST), mostly: Math.min(grain + 5, DEEPEST), version };
-      for (const one of this.#deep.splice(0)) this.#tooDeep(one);
-    } else {
-      seat.line = null;
-      this.#failDeep(refusal);
-    }
+    seat.line = null;
+    if (refusal && !(word === "INFO" && refusal.number === UNKNOWN) && !(word === "ASK" && USED_UP.includes(refusal.number))) return this.#failDeep(refusal);
+    if (answer?.state === "PENDING") seat.freeAt = now + 1;
+    const { done, value } = seat.probe.next(answer);
+    if (!done) return void (seat.line = value);
+    const [grain, version] = value;
+    if (this.#deep.length) this.#info = { grain, sure: Math.min(grain + 4, DEEPEST), mostly: Math.min(grain + 5, DEEPEST), version };
+    for (const one of this.#deep.splice(0)) this.#tooDeep(one);
   }
 
   // What is done next.

@@ -1,8 +1,5 @@
 // Values without a server: the proved search as WebAssembly, in workers of this process or page.
-//
-//   await using engine = new Engine();
-//   const result = await engine.analyse(Position.opening(), 6);
-import { DEEPEST, Rules, fetchModule } from "../../page/engine/module.js";
+import { DEEPEST, Rules } from "../../page/engine/module.js";
 import { MODULES } from "../../page/engine/modules.js";
 import { Engine as Pool, workersHere } from "../../page/engine/pool.js";
 import { Analyst, checked, resultOf } from "./analyst.mjs";

@@ -11,7 +11,7 @@ import hypothesis.strategies as st
 import pytest
 from coluwen import Broken, Closed, Late, Refused, TooDeep, Unreachable
 from coluwen._answers import parse
-from coluwen._core import PROBES, Core, Ended, Errand, Found, Info, Open, Options, Question, Send, Shut, Told, Wire, Work, pause_after, ping
+from coluwen._core import PROBES, Core, Errand, Found, Info, Options, Question, Wire, Work, pause_after, ping
 from told import value_of
 
 OPENING = "---------------------------OX------XO--------------------------- X"
@@ -78,7 +78,7 @@ class Stage:
     """A core among servers of a model: what is sent, how many sessions were open, what ended and when."""
 
     def __init__(self, model: Model, **options: Any):
-        self.model, self.core, self.now = model, Core(Options("here", **options)), 0.0
+        self.model, self.core, self.now = model, Core(Options("here", **options), self), 0.0
         self.peers: dict[int, Peer] = {}
         self.open: set[int] = set()
         self.queue: list[tuple[float, int, Callable[[], None]]] = []
@@ -94,27 +94,28 @@ class Stage:
     def ask(self, *works: Work) -> None:
         for work in works:
             self.core.ask(work, self.now)
-        self.act()
 
-    def act(self) -> None:
-        for event in self.core.events():
-            if isinstance(event, Open):
-                self.open.add(event.key)
-                self.most_open = max(self.most_open, len(self.open))
-                self.later(0.001, lambda key=event.key: self.connect(key))  # type: ignore[misc]
-            elif isinstance(event, Send):
-                line = event.data.decode().removesuffix("\n")
-                assert event.key in self.open and "\n" not in line
-                self.sent.append((self.now, event.key, line))
-                if not self.model.is_mute(self.now):
-                    self.later(self.model.takes, lambda key=event.key, line=line: self.answer(key, line))  # type: ignore[misc]
-            elif isinstance(event, Shut):
-                self.open.discard(event.key)
-                self.peers.pop(event.key, None)
-            elif isinstance(event, Ended):
-                self.ended.append((self.now, event.work))
-            elif isinstance(event, Told):
-                self.told.append(event.text)
+    def dial(self, key: int) -> None:
+        self.open.add(key)
+        self.most_open = max(self.most_open, len(self.open))
+        self.later(0.001, lambda: self.connect(key))
+
+    def send(self, key: int, data: bytes) -> None:
+        line = data.decode().removesuffix("\n")
+        assert key in self.open and "\n" not in line
+        self.sent.append((self.now, key, line))
+        if not self.model.is_mute(self.now):
+            self.later(self.model.takes, lambda: self.answer(key, line))
+
+    def hang_up(self, key: int) -> None:
+        self.open.discard(key)
+        self.peers.pop(key, None)
+
+    def settle(self, work: Work) -> None:
+        self.ended.append((self.now, work))
+
+    def tell(self, text: str) -> None:
+        self.told.append(text)
 
     def connect(self, key: int) -> None:
         if key in self.open:
@@ -152,7 +153,6 @@ class Stage:
                 heapq.heappop(self.queue)[2]()
             else:
                 self.core.tick(self.now)
-            self.act()
         raise AssertionError("it turns without end")
 
     def lines(self, word: str) -> list[str]:
@@ -295,7 +295,6 @@ def test_late_and_given_up() -> None:
     stage.run(0.5)
     stage.core.give_up(given, Broken("not wanted"), stage.now)
     stage.core.give_up(waits, Broken("not wanted"), stage.now)
-    stage.act()
     assert given.ended and waits.ended
     stage.run(5)
     assert stage.lines("CANCEL") == ["CANCEL 1", "CANCEL 3"] and len(stage.lines("ASK")) == 3 and len(stage.lines("HELLO")) == 1
@@ -392,7 +391,6 @@ def test_whatever_happens_each_ends_as_it_should(seed: int, sessions: int, ahead
     assert results(works) == ["TooDeep" if work.depth == 9 else value_of(work.position) for work in works]
     assert stage.most_open <= sessions
     stage.core.close(stage.now)
-    stage.act()
     stage.run(5)
     assert stage.core.has_ended
 
@@ -421,15 +419,26 @@ class Hand:
     """A core, moved by hand: what happens is said, and what is done is read as texts."""
 
     def __init__(self, **options: Any):
-        self.core, self.now, self.ended = Core(Options("here", **options)), 1000.0, list[Work]()
+        self.core, self.now, self.ended, self.done = Core(Options("here", **options), self), 1000.0, list[Work](), list[str]()
+
+    def dial(self, key: int) -> None:
+        self.done.append(f"open {key}")
+
+    def send(self, key: int, data: bytes) -> None:
+        self.done.append(f"{key} {data.decode().strip()}")
+
+    def hang_up(self, key: int) -> None:
+        self.done.append(f"shut {key}")
+
+    def settle(self, work: Work) -> None:
+        self.ended.append(work)
+
+    def tell(self, text: str) -> None:
+        """(What is told, `Stage` keeps.)"""
 
     def does(self) -> list[str]:
-        found = []
-        for event in self.core.events():
-            if isinstance(event, Ended):
-                self.ended.append(event.work)
-            elif isinstance(event, (Open, Shut, Send)):
-                found.append(f"{type(event).__name__.lower()} {event.key}" if not isinstance(event, Send) else f"{event.key} {event.data.decode().strip()}")
+        """What was done since it was last asked."""
+        found, self.done = self.done, []
         return found
 
     def ask(self, work: Work) -> list[str]:

@@ -18,7 +18,6 @@ A line ends with its LF, and what has none is no line. Words are parted by one s
 A value is a number of up to 6 digits, with - before it if it is less than 0, from -128000 to 128000. A move is a1 to h8, `pass`, or, of
 DONE alone, `-`. No move stands twice in a table.
 """
-from __future__ import annotations
 
 import dataclasses
 import re

@@ -1,22 +1,21 @@
-"""What a client does, without input and output: bytes, moments and questions come in, and what is to be done comes out.
+"""What a client does, without input and output: bytes, moments and questions come in, and what is to be done is told to `Hands`.
 
 `Core` decides for all sessions of a client what is sent, when one is opened or ended, and how each question ends; a driver (`_driver.py`)
 has the connections and the clock. So it is the same algorithm for `Client`, `AsyncClient`, the commands and the page, and it is tried without any
 socket. clients/behaviour/README.md says the rules.
 
     core.ask(question, now)           what callers do; also `give_up` and `close`
-    core.opened(key, now)             what happened to the connection that an `Open` event asked for; also `failed`, `received`
+    core.opened(key, now)             what happened to a connection that was asked for; also `failed`, `received`
     core.tick(now)                    time has gone on; `next_tick()` says when it is to be called at the latest
-    core.events()                     what is to be done now: Open, Send, Shut, Ended, Told
 """
-from __future__ import annotations
 
 import bisect
 import dataclasses
 import functools
 import itertools
+import math
 from collections.abc import Callable, Generator
-from typing import Any
+from typing import Any, NamedTuple, Protocol
 
 from ._answers import LONGEST, Answer, parse
 from .errors import Broken, Closed, ColuwenError, Late, Refused, Silent, TooDeep, Unreachable
@@ -75,8 +74,7 @@ class Options:
         return LEVELS if self.is_free else (Reservation(self.segments or most.segments, self.nodes or most.nodes),)
 
 
-@dataclasses.dataclass(frozen=True)
-class Found:
+class Found(NamedTuple):
     """How a job ended that is done. `nodes`: what it took, where that is counted."""
 
     value: int
@@ -127,6 +125,7 @@ class Question(Work):
     asked = look = 0.0  # when ASK was sent, and when the job is looked at next
     cancels = False  # the job is to be cancelled
     done: Answer | None = None  # it is done, and its table is wanted
+    entries: tuple[tuple[str, str, int], ...] = ()
     seconds = 0.0
 
     def __init__(self, depth: int, position: str, timeout: float | None = None):
@@ -138,8 +137,8 @@ class Question(Work):
         self.cancels, self.done = False, None
 
     @property
-    def deadline(self) -> float | None:
-        return None if self.timeout is None or self.cancels or self.done else self.asked + self.timeout
+    def deadline(self) -> float:
+        return math.inf if self.timeout is None or self.cancels or self.done else self.asked + self.timeout
 
 
 class Errand(Work):
@@ -149,39 +148,22 @@ class Errand(Work):
         self.script, self.alone = script, alone
 
 
-@dataclasses.dataclass(frozen=True)
-class Open:
-    """A connection is to be made; then `opened` or `failed` is called."""
+class Hands(Protocol):
+    """What does what the core decides; it calls the core later, and not from here."""
 
-    key: int
+    def dial(self, key: int) -> None:
+        """Begins a connection; then `opened` or `failed` is called."""
 
+    def send(self, key: int, data: bytes) -> None: ...
 
-@dataclasses.dataclass(frozen=True)
-class Send:
-    key: int
-    data: bytes
+    def hang_up(self, key: int) -> None:
+        """Ends a connection without a word; nothing more is told of it."""
 
+    def settle(self, work: Work) -> None:
+        """Tells who waits for it that it has ended."""
 
-@dataclasses.dataclass(frozen=True)
-class Shut:
-    """A connection is to be ended without a word; nothing more is told of it."""
-
-    key: int
-
-
-@dataclasses.dataclass(frozen=True)
-class Ended:
-    work: Work
-
-
-@dataclasses.dataclass(frozen=True)
-class Told:
-    """Something that who runs the client may want to know."""
-
-    text: str
-
-
-Event = Open | Send | Shut | Ended | Told
+    def tell(self, text: str) -> None:
+        """Tells something that who runs the client may want to know."""
 
 
 class Wire:
@@ -210,21 +192,16 @@ class Wire:
         self.rest += data
         line, end, rest = self.rest.partition(b"\n")
         try:
-            if self.line is None and self.rest:
-                raise Broken(f"the server said {self.rest[:60]!r}, which wasn't asked")
+            if unasked := self.rest if self.line is None else rest:
+                raise Broken(f"the server said {unasked[:60]!r}, which wasn't asked")
             if data and not end and len(self.rest) < LONGEST:
                 return None
-            if rest:
-                raise Broken(f"the server said {rest[:60]!r}, which wasn't asked")
-            found = parse(self.line or "", line + end, self.jobs)
+            asked, self.line, self.rest = self.line or "", None, b""
+            found = parse(asked, line + end, self.jobs)
         except Broken as fault:
             self.broken = str(fault)
             raise
-        except Refused:
-            self.line, self.rest = None, b""
-            raise
         self.jobs += found.state == "JOB"
-        self.line, self.rest = None, b""
         return found
 
 
@@ -235,10 +212,7 @@ def pause_after(seconds: float) -> float:
 
 def more(now: Reservation, most: Reservation) -> Reservation | None:
     """What a session that has used up this raises it to; None where it has all that it may."""
-    for step in RAISED:
-        if step.nodes > now.nodes:
-            return Reservation(min(max(step.segments, now.segments), most.segments), step.nodes)
-    return None
+    return next((Reservation(min(max(step.segments, now.segments), most.segments), step.nodes) for step in RAISED if step.nodes > now.nodes), None)
 
 
 class _Session:
@@ -248,9 +222,9 @@ class _Session:
         self.key, self.reserved, self.silence = key, reserved, silence
         self.wire = Wire()
         self.is_ready = self.is_ending = self.takes_no_more = False
-        self.deadline: float | None = deadline  # by when it must have been opened, or have answered
+        self.deadline = deadline  # by when it must have been opened, or have answered
         self.running: list[Question] = []  # whose jobs it has, the oldest first
-        self.doing: Callable[[Answer | Refused, float], None] | None = None
+        self.doing: Callable[[Answer | Refused, float], None] = lambda found, now: None
         self.asking: Question | None = None
         self.errand: Errand | None = None
         self.script: Generator[Any, Any, Any] | None = None
@@ -274,8 +248,8 @@ class _Session:
 class Core:
     """The algorithm; see above."""
 
-    def __init__(self, options: Options):
-        self.options, self.levels = options, options.levels
+    def __init__(self, options: Options, hands: Hands):
+        self.options, self.levels, self.hands = options, options.levels, hands
         self.closed = False
         self.info: Info | None = None
         self._sessions: dict[int, _Session] = {}
@@ -283,7 +257,6 @@ class Core:
         self._too_deep: list[Question] = []
         self._learning: Errand | None = None
         self._needs: dict[int, int] = {}  # of a depth the level that its last job needed
-        self._events: list[Event] = []
         self._keys, self._sequence = itertools.count(1), itertools.count(1)
         self._trouble: float | None = None  # since when it is tried to reach the server
         self._full: float | None = None  # since when it says that it is full
@@ -319,24 +292,17 @@ class Core:
         if self.closed:
             return
         self.closed = True
-        for work in [*self._waiting, *self._too_deep]:
+        for work in [*self._waiting, *self._too_deep, *(work for session in self._sessions.values() for work in session.works)]:
             self._end(work, fault=Closed("the client was closed"))
         for session in list(self._sessions.values()):
             if session.is_idle:
                 self._bye(session, now)
             elif not session.is_ending:
-                for work in session.works:
-                    self._end(work, fault=Closed("the client was closed"))
                 self._shut(session)
 
     @property
     def has_ended(self) -> bool:
         return self.closed and not self._sessions
-
-    def events(self) -> list[Event]:
-        """What is to be done, and wasn't told yet."""
-        found, self._events = self._events, []
-        return found
 
     # What connections do.
 
@@ -347,8 +313,7 @@ class Core:
 
     def failed(self, key: int, text: str, now: float, is_final: bool = False) -> None:
         """The connection couldn't be made, or was lost. Final: trying again can't mend it."""
-        session = self._sessions.get(key)
-        if not session:
+        if not (session := self._sessions.get(key)):
             return
         if is_final:
             self._shut(session)
@@ -359,32 +324,32 @@ class Core:
 
     def received(self, key: int, data: bytes, now: float) -> None:
         """Bytes came; none are the connection's end."""
-        session = self._sessions.get(key)
-        if not session:
+        if not (session := self._sessions.get(key)):
             return
+        found: Answer | Refused | None = None
         try:
-            found: Answer | Refused | None = session.wire.receive(data)
+            found = session.wire.receive(data)
         except Refused as refusal:
             found = refusal
         except Broken as fault:
             self._lose(session, fault, now)
-            self._advance(now)
-            return
-        if found is not None:
-            self._trouble, self._reached, session.deadline = None, True, None
-            doing, session.doing = session.doing, None
-            if doing:
-                doing(found, now)
-            self._advance(now)
+        if found:
+            self._trouble, self._reached, session.deadline = None, True, math.inf
+            if isinstance(found, Refused) and found.number == TOO_FAST and session.running and not session.asking:
+                session.not_before = now + AGAIN  # a job's line, that is sent again
+            else:
+                session.doing(found, now)
+        self._advance(now)
 
     def tick(self, now: float) -> None:
         """What is due by time: silence, late jobs, looks and tries."""
         for session in list(self._sessions.values()):
-            if session.deadline is not None and now >= session.deadline:
-                self._silent(session, now)
+            if now >= session.deadline:
+                word = (session.wire.line or "").partition(" ")[0]
+                self._lose(session, Silent(f"no {f'answer to {word}' if word else 'connection'} in {session.silence:.3g} s"), now)
                 continue
             for question in session.questions:
-                if question.deadline is not None and now >= question.deadline:
+                if now >= question.deadline:
                     question.cancels = True
                     if session.wire.line is not None:
                         self._end(question, fault=Late(question.timeout or 0.0))
@@ -392,19 +357,16 @@ class Core:
 
     def next_tick(self) -> float | None:
         """When `tick` is to be called, if nothing else happens before."""
-        times: list[float] = []
+        times = [self._pause] if self._pause and self._waiting else []
         for session in self._sessions.values():
-            if session.deadline is not None:
-                times.append(session.deadline)
+            times += [session.deadline, *(question.deadline for question in session.questions)]
             if session.is_ready and session.wire.line is None:
                 if session.errand or session.not_before and (session.running or self._waiting):
                     times.append(session.not_before)
                 if session.running:
                     times.append(max(session.running[0].look, session.not_before))
-            times += [question.deadline for question in session.questions if question.deadline is not None]
-        if self._pause and self._waiting:
-            times.append(self._pause)
-        return min(times, default=None)
+        due = min(times, default=math.inf)
+        return None if due == math.inf else due
 
     # Questions that wait.
 
@@ -430,7 +392,7 @@ class Core:
     def _end(self, work: Work, found: Any = None, fault: ColuwenError | None = None) -> None:
         if not work.ended:
             work.ended, work.found, work.fault = True, found, fault
-            self._events.append(Ended(work))
+            self.hands.settle(work)
             self._take(work)
             if work is self._learning:
                 self._learned(work)
@@ -445,7 +407,7 @@ class Core:
     def _tell(self, text: str, once: str = "") -> None:
         if once not in self._noted:
             self._noted |= {once} - {""}
-            self._events.append(Told(text))
+            self.hands.tell(text)
 
     # Sessions.
 
@@ -474,7 +436,7 @@ class Core:
             left = silence if self._endures else max(silence - (now - self._trouble), 0.05)
             session = _Session(next(self._keys), self.levels[self._level_of(work)], silence, now + left)
             self._sessions[session.key] = session
-            self._events.append(Open(session.key))
+            self.hands.dial(session.key)
 
     @property
     def _is_full(self) -> bool:
@@ -491,11 +453,11 @@ class Core:
         data = session.wire.send(line, self.options.token if line.startswith("HELLO") else None)
         if session.is_ready:  # else it has as long to be opened and welcomed
             session.deadline = now + session.silence
-        self._events.append(Send(session.key, data))
+        self.hands.send(session.key, data)
 
     def _shut(self, session: _Session) -> None:
         if self._sessions.pop(session.key, None):
-            self._events.append(Shut(session.key))
+            self.hands.hang_up(session.key)
 
     def _bye(self, session: _Session, now: float) -> None:
         session.is_ending = True
@@ -514,17 +476,13 @@ class Core:
             self._noted -= {"full", "outage"}
             return
         self._shut(session)
-        number = found.number
-        if number not in LATER:
-            self._fail_waiting(lambda: Refused(number))
-            return
-        there = sum(other.is_ready for other in self._sessions.values())
+        number, there = found.number, sum(other.is_ready for other in self._sessions.values())
         self._full = now if self._full is None else self._full
-        if there:
+        if number not in LATER or not there and now - self._full >= self.options.patience:
+            self._fail_waiting(lambda: Refused(number))
+        elif there:
             self._tell(f"{there} of {self.options.sessions} sessions were granted", "granted")
             self._granted, self._pause = there, now + RARELY
-        elif now - self._full >= self.options.patience:
-            self._fail_waiting(lambda: Refused(number))
         else:
             self._pause = now + AGAIN
             if now - self._full > 1:
@@ -541,10 +499,6 @@ class Core:
             self._pause = now + AGAIN
             if self._endures:
                 self._tell(f"{self.options.address}: {text}; it is tried again for {self.options.outage:g} s", "outage")
-
-    def _silent(self, session: _Session, now: float) -> None:
-        word = (session.wire.line or "").partition(" ")[0]
-        self._lose(session, Silent(f"no answer to {word} in {session.silence:.3g} s" if word else f"no connection in {session.silence:.3g} s"), now)
 
     def _lose(self, session: _Session, fault: Broken | Silent, now: float) -> None:
         """Drops a session; what it had to do is asked again in another one, or can't be had."""
@@ -573,32 +527,25 @@ class Core:
         """Sends what is next in a session that waits for no answer."""
         session.not_before = 0.0
         if session.errand:
-            self._go_on(session, None, now)
-            return
+            return self._go_on(session, None, now)
         for question in session.running:
             if question.cancels:
-                self._send(session, f"CANCEL {question.job}", functools.partial(self._cancelled, question), now)
-                return
+                return self._send(session, f"CANCEL {question.job}", functools.partial(self._cancelled, question), now)
             if question.done:
-                self._send(session, f"TABLE {question.job}", functools.partial(self._tabled, question), now)
-                return
-        if session.wire.jobs >= MOST_JOBS:
-            session.takes_no_more = True
+                return self._send(session, f"TABLE {question.job}", functools.partial(self._tabled, question), now)
+        session.takes_no_more = session.takes_no_more or session.wire.jobs >= MOST_JOBS
         work = None if session.takes_no_more else self._next_for(session)
         if work:
             self._take(work)
-            if isinstance(work, Errand):
-                session.errand, session.script = work, work.script()
-                self._go_on(session, None, now)
-            elif isinstance(work, Question):
-                session.asking = work
-                work.begin(now)
-                self._ask_in(session, now)
-        elif session.running:
-            question = session.running[0]
-            if now >= question.look:
-                self._send(session, f"GET {question.job}", functools.partial(self._looked, question), now)
-        elif session.takes_no_more:
+        if isinstance(work, Errand):
+            session.errand, session.script = work, work.script()
+            self._go_on(session, None, now)
+        elif isinstance(work, Question):
+            work.begin(now)
+            self._ask_in(session, work, now)
+        elif session.running and now >= session.running[0].look:
+            self._look(session, session.running[0], now)
+        elif session.takes_no_more and not session.running:
             self._bye(session, now)
 
     def _next_for(self, session: _Session) -> Work | None:
@@ -618,14 +565,12 @@ class Core:
                 return None
         return None
 
-    def _ask_in(self, session: _Session, now: float) -> None:
-        question = session.asking
-        assert question
-        self._send(session, f"ASK {question.depth} {question.position}", self._asked, now)
+    def _ask_in(self, session: _Session, question: Question, now: float) -> None:
+        session.asking = question
+        self._send(session, f"ASK {question.depth} {question.position}", functools.partial(self._asked, question), now)
 
-    def _asked(self, session: _Session, found: Answer | Refused, now: float) -> None:
-        question, session.asking = session.asking, None
-        assert question
+    def _asked(self, question: Question, session: _Session, found: Answer | Refused, now: float) -> None:
+        session.asking = None
         if not isinstance(found, Refused):
             question.job, question.cancels = found.job, question.ended
             session.running.append(question)
@@ -634,65 +579,57 @@ class Core:
         elif found.number == TOO_FAST:
             question.limited = now if question.limited is None else question.limited
             if now - question.limited >= self.options.patience:
-                self._end(question, fault=found)
-                return
+                return self._end(question, fault=found)
             session.not_before = now + AGAIN
             self._wait(question)
         elif found.number in USED_UP and session.wire.jobs:
-            if self.options.is_free and found.number != 13 and (wanted := more(session.reserved, self.levels[-1])):
-                session.asking = question
-                self._send(session, f"RESERVE {wanted.segments} {wanted.nodes}", functools.partial(self._raised, wanted), now)
-            else:
-                self._used_up(session, question)
+            wanted = more(session.reserved, self.levels[-1]) if self.options.is_free and found.number != 13 else None
+            if not wanted:
+                return self._used_up(session, question)
+            session.asking = question
+            self._send(session, f"RESERVE {wanted.segments} {wanted.nodes}", functools.partial(self._raised, question, wanted), now)
         else:
             self._end(question, fault=found)
 
-    def _raised(self, wanted: Reservation, session: _Session, found: Answer | Refused, now: float) -> None:
-        question, session.asking = session.asking, None
+    def _raised(self, question: Question, wanted: Reservation, session: _Session, found: Answer | Refused, now: float) -> None:
+        session.asking = None
         if isinstance(found, Refused):
-            if question:
-                self._used_up(session, question)
-            return
+            return self._used_up(session, question)
         session.left += wanted.nodes - session.reserved.nodes
         session.reserved = wanted
-        if question and not question.ended:
-            session.asking = question
-            self._ask_in(session, now)
+        if not question.ended:
+            self._ask_in(session, question, now)
 
     def _used_up(self, session: _Session, question: Question) -> None:
         session.takes_no_more = True
         if not question.ended:
             self._wait(question)
 
+    def _look(self, session: _Session, question: Question, now: float) -> None:
+        self._send(session, f"GET {question.job}", functools.partial(self._looked, question), now)
+
     def _looked(self, question: Question, session: _Session, found: Answer | Refused, now: float) -> None:
         if isinstance(found, Refused):
-            if found.number == TOO_FAST:
-                session.not_before = now + AGAIN
-            else:
-                self._lose(session, Broken(str(found)), now)
-        elif found.state != "PENDING" and question.ended:
-            session.running.remove(question)
-            session.takes_no_more = session.takes_no_more or found.state == "SPENT"
+            self._lose(session, Broken(str(found)), now)
         elif found.state == "PENDING":
             question.look = now + pause_after(now - question.asked)
-        elif found.state == "DONE":
+        elif found.state == "DONE" and not question.ended:
             question.done, question.seconds, question.cancels = found, now - question.asked, False
         else:
             session.running.remove(question)
             if found.state == "SPENT":
                 self._spent(session, question, now)
-            elif question.cancels:
-                self._end(question, fault=Late(question.timeout or 0.0))
             else:
-                self._end(question, fault=Broken(f"job {question.job} was cancelled by nobody here"))
+                self._end(question, fault=Late(question.timeout or 0.0) if question.cancels else Broken(f"job {question.job} was cancelled by nobody here"))
 
     def _spent(self, session: _Session, question: Question, now: float) -> None:
         level = max([at for at, one in enumerate(self.levels) if one.nodes <= session.reserved.nodes], default=0)
         session.takes_no_more = True
+        if question.ended:
+            return
         if session.wire.jobs > 1 or level < len(self.levels) - 1:
             question.level, question.alone = min(max(level, question.level) + 1, len(self.levels) - 1), True
-            self._wait(question)
-            return
+            return self._wait(question)
         self._needs[question.depth] = level
         if self.info or not self.options.is_free:
             self._end(question, fault=self._beyond(question.depth))
@@ -706,34 +643,27 @@ class Core:
         return TooDeep(depth, min(depth - 1, self.info.sure) if self.info and self.options.is_free else 0)
 
     def _tabled(self, question: Question, session: _Session, found: Answer | Refused, now: float) -> None:
-        if isinstance(found, Refused) and found.number == TOO_FAST:
-            session.not_before = now + AGAIN
-        elif isinstance(found, Refused) or found.state != "TABLE":
-            self._lose(session, Broken(f"no table of job {question.job}"), now)
-        elif self.options.counts:
-            self._send(session, "QUOTA", functools.partial(self._counted, question, found.entries), now)
+        if isinstance(found, Refused) or found.state != "TABLE":
+            return self._lose(session, Broken(f"no table of job {question.job}"), now)
+        question.entries = found.entries
+        if self.options.counts:
+            self._send(session, "QUOTA", functools.partial(self._done, question), now)
         else:
-            self._done(session, question, found.entries, None)
+            self._done(question, session, None, now)
 
-    def _counted(self, question: Question, entries: tuple[tuple[str, str, int], ...], session: _Session, found: Answer | Refused, _: float) -> None:
-        nodes = None
-        if not isinstance(found, Refused):
-            nodes, session.left = session.left - found.numbers[1], found.numbers[1]
-        self._done(session, question, entries, nodes)
-
-    def _done(self, session: _Session, question: Question, entries: tuple[tuple[str, str, int], ...], nodes: int | None) -> None:
-        session.running.remove(question)
-        done = question.done
+    def _done(self, question: Question, session: _Session, quota: Answer | Refused | None, _: float) -> None:
+        done, nodes = question.done, None
         assert done
+        session.running.remove(question)
+        if isinstance(quota, Answer):
+            nodes, session.left = session.left - quota.numbers[1], quota.numbers[1]
         if question.alone:
             self._needs[question.depth] = question.level
-        self._end(question, Found(done.value, done.move, entries, question.seconds, nodes))
+        self._end(question, Found(done.value, done.move, question.entries, question.seconds, nodes))
 
     def _cancelled(self, question: Question, session: _Session, found: Answer | Refused, now: float) -> None:
-        if isinstance(found, Refused) and found.number == TOO_FAST:
-            session.not_before = now + AGAIN
-        elif isinstance(found, Refused) and not question.ended:  # it has ended meanwhile: it is looked at once more
-            self._send(session, f"GET {question.job}", functools.partial(self._looked, question), now)
+        if isinstance(found, Refused) and not question.ended:  # it has ended meanwhile: it is looked at once more
+            self._look(session, question, now)
         else:
             session.running.remove(question)
             self._end(question, fault=Late(question.timeout or 0.0))
@@ -747,19 +677,17 @@ class Core:
         try:
             wanted = script.throw(found) if isinstance(found, Refused) else script.send(found)
         except StopIteration as end:
-            self._errand_ended(session, end.value, None)
+            return self._errand_ended(session, end.value)
         except Refused as refusal:
-            if refusal.number == 31 and not errand.ended:
-                session.script, session.not_before = errand.script(), now + AGAIN
-            else:
-                self._errand_ended(session, None, refusal)
+            if refusal.number != TOO_FAST or errand.ended:
+                return self._errand_ended(session, fault=refusal)
+            session.script, wanted = errand.script(), AGAIN
+        if isinstance(wanted, str):
+            self._send(session, wanted, self._go_on, now)
         else:
-            if isinstance(wanted, str):
-                self._send(session, wanted, self._go_on, now)
-            else:
-                session.not_before = now + wanted
+            session.not_before = now + wanted
 
-    def _errand_ended(self, session: _Session, found: Any, fault: ColuwenError | None) -> None:
+    def _errand_ended(self, session: _Session, found: Any = None, fault: ColuwenError | None = None) -> None:
         errand, session.errand, session.script = session.errand, None, None
         assert errand
         session.takes_no_more = errand.alone

@@ -1,6 +1,6 @@
 """Where a server is and how it is spoken to: options, addresses, tokens."""
-from __future__ import annotations
 
+import asyncio
 import os
 import re
 import ssl
@@ -8,7 +8,7 @@ import threading
 import urllib.parse
 from typing import Any
 
-from ._core import Options
+from ._core import Options, Question
 from ._driver import Driver
 from .analyst import Result, result_of
 from .board import Position
@@ -60,13 +60,13 @@ class Served:
         """The server's `host:port`."""
         return self._options.address
 
-    def _made(self) -> Driver:
-        """What has the connections, of the loop that runs."""
-        return Driver(self._host, self._port, self._tls, self._options)
+    def _made(self, loop: asyncio.AbstractEventLoop) -> Driver:
+        """What has the connections, by this loop."""
+        return Driver(loop, self._host, self._port, self._tls, self._options)
 
     async def _answer(self, driver: Driver, position: Position, depth: int, timeout: float | None) -> Result:
         """What is found of a question; a task that is cancelled gives it up."""
-        return result_of(position, depth, await driver.question(depth, position.text, self._timeout if timeout is None else timeout))
+        return result_of(position, depth, await driver.begin(Question(depth, position.text, self._timeout if timeout is None else timeout)))
 
 
 def url_of(text: str) -> dict[str, Any]:

@@ -7,13 +7,11 @@
 
 A task that is cancelled, as by `asyncio.timeout`, cancels its job at the server.
 """
-from __future__ import annotations
 
 import asyncio
 import contextlib
 from collections.abc import AsyncIterable, AsyncIterator, Callable, Iterable
-from types import TracebackType
-from typing import Any
+from typing import Any, Self
 
 from ._core import Info
 from ._driver import Driver
@@ -27,17 +25,17 @@ from .score import Entry
 class AsyncClient(Served):
     """Answers any number of positions; the tasks of one loop may share it. Its options are those of `Client`."""
 
-    async def __aenter__(self) -> AsyncClient:
+    async def __aenter__(self) -> Self:
         return self
 
-    async def __aexit__(self, kind: type[BaseException] | None, fault: BaseException | None, trace: TracebackType | None) -> None:
+    async def __aexit__(self, *fault: object) -> None:
         await self.close()
 
     def _driving(self) -> Driver:
         if self._closed:
             raise Closed("the client is closed")
         if not self._driver:
-            self._driver = self._made()
+            self._driver = self._made(asyncio.get_running_loop())
         return self._driver
 
     async def analyse(self, position: str | Position, depth: int, *, timeout: float | None = None) -> Result:
@@ -65,7 +63,7 @@ class AsyncClient(Served):
                     for outcome in many.ready():
                         yield outcome
                     if many.has_room and not coming:
-                        coming = asyncio.ensure_future(_next(source))
+                        coming = asyncio.ensure_future(anext(source, END))
                         coming.add_done_callback(lambda one: ended.put_nowait((-1, None, one)))
                     if not coming and not many.begun:
                         return
@@ -81,8 +79,7 @@ class AsyncClient(Served):
 
     async def info(self) -> Info:
         """As `Client.info`."""
-        found: Info = await self._driving().info()
-        return found
+        return await self._driving().info()
 
     async def ping(self) -> float:
         """As `Client.ping`."""
@@ -93,10 +90,6 @@ class AsyncClient(Served):
         self._closed = True
         if self._driver:
             await self._driver.close()
-
-
-async def _next(source: AsyncIterator[Asked]) -> Any:
-    return await anext(source, END)
 
 
 async def _slowly(positions: Iterable[Asked]) -> AsyncIterator[Asked]:

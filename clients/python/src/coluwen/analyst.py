@@ -1,12 +1,4 @@
-"""What values come from: `Analyst` is what a `Client` of a server and an engine on this computer have in common, and what the commands use.
-
-    for question, answer in client.analyse_many(positions, 6):
-        if isinstance(answer, Result):
-            print(question, answer.score, answer.best)
-        else:
-            print(question, "has no value:", answer)          # a fault of one is its own
-"""
-from __future__ import annotations
+"""What values come from: `Analyst` is what a `Client` of a server and an engine on this computer have in common, and what the commands use."""
 
 import abc
 import concurrent.futures
@@ -14,9 +6,9 @@ import contextlib
 import dataclasses
 import functools
 import queue
+import time
 from collections.abc import Callable, Iterable, Iterator, Sequence, Sized
-from types import TracebackType
-from typing import Any, Literal, TypeVar
+from typing import Any, Literal, Self
 
 from ._core import DEEPEST, Found, Info
 from .board import PASS, Position
@@ -25,7 +17,6 @@ from .score import EXACT, Entry, Score
 
 Order = Literal["asked", "known"]
 Asked = str | Position | tuple[str | Position, int]
-Self = TypeVar("Self", bound="Analyst")
 END: Any = object()  # of a source
 
 
@@ -187,8 +178,7 @@ class Many:
 
 
 class Analyst(abc.ABC):
-    """Answers any number of positions; threads may share it. `submit`, `info`, `ping`, `close` and `parallel` are what a kind of it has of
-    its own."""
+    """Answers any number of positions; threads may share it. `submit`, `info`, `close` and `parallel` are what a kind of it has of its own."""
 
     parallel = 4  # how many questions it works on at once
 
@@ -201,17 +191,19 @@ class Analyst(abc.ABC):
         """What depths can be had: `grain`, `sure` and `mostly`, and a `version`, where one is told."""
 
     @abc.abstractmethod
-    def ping(self) -> float:
-        """Whether it is there: the seconds that a line and its answer take."""
-
-    @abc.abstractmethod
     def close(self) -> None:
         """Ends it. Calls that wait, and later ones, raise `Closed`."""
 
-    def __enter__(self: Self) -> Self:
+    def ping(self) -> float:
+        """Whether it answers: the seconds that a question at depth 0 takes."""
+        begun = time.monotonic()
+        self.analyse(Position.opening(), 0)
+        return time.monotonic() - begun
+
+    def __enter__(self) -> Self:
         return self
 
-    def __exit__(self, kind: type[BaseException] | None, fault: BaseException | None, trace: TracebackType | None) -> None:
+    def __exit__(self, *fault: object) -> None:
         self.close()
 
     def analyse(self, position: str | Position, depth: int, *, timeout: float | None = None) -> Result:

@@ -34,7 +34,7 @@ class _Line(dict[int, int]):
     """A line of the board through an empty square: of what stands on it (the other squares' bits of both colours) what changes if the side
     puts a disc there: the bits of both colours of what is flipped; 0 where nothing is. It is worked out when it is first wanted."""
 
-    def __init__(self, square: int, side: str, rays: list[list[int]]):
+    def __init__(self, side: str, rays: list[list[int]]):
         super().__init__()
         self.rays = rays
         self.own, self.other = (BLACK_BIT, WHITE_BIT) if side == BLACK else (WHITE_BIT, BLACK_BIT)
@@ -58,16 +58,10 @@ def _lines(square: int, side: str) -> list[tuple[int, _Line]]:
     """The lines through a square on which anything could be flipped, each with its mask."""
     found = []
     for down, right in ((0, 1), (1, 0), (1, 1), (1, -1)):
-        rays = []
-        for way in (1, -1):
-            row, column, ray = square // 8 + way * down, square % 8 + way * right, []
-            while 0 <= row < 8 and 0 <= column < 8:
-                ray.append(8 * row + column)
-                row, column = row + way * down, column + way * right
-            if len(ray) > 1:
-                rays.append(ray)
-        if rays:
-            line = _Line(square, side, rays)
+        ways = [[(square // 8 + step * down, square % 8 + step * right) for step in steps] for steps in (range(1, 8), range(-1, -8, -1))]
+        rays = [[8 * row + column for row, column in way if 0 <= row < 8 and 0 <= column < 8] for way in ways]
+        line = _Line(side, [ray for ray in rays if len(ray) > 1])
+        if line.rays:
             found.append((line.mask, line))
     return found
 
@@ -183,12 +177,13 @@ class Position:
         """Whether neither player can move."""
         return not can_move(self._discs, self.side) and not can_move(self._discs, OTHER[self.side])
 
+    def _flipped(self, square: str) -> int:
+        at = INDEX.get(square, -1)
+        return changes(self._discs, self.side, at) if at >= 0 and self.cells[at] == EMPTY else 0
+
     def flips(self, square: str) -> list[str]:
         """The squares whose discs a move there flips: none where it isn't legal."""
-        at = INDEX.get(square.lower(), -1)
-        if at < 0 or self.cells[at] != EMPTY:
-            return []
-        flipped = changes(self._discs, self.side, at)
+        flipped = self._flipped(square.lower())
         return [SQUARES[one] for one in range(64) if flipped >> one & 1]
 
     def is_legal(self, move: str) -> bool:
@@ -202,11 +197,10 @@ class Position:
             if not self.must_pass:
                 raise IllegalMove(f"a pass, and {'the game is over' if self.is_over else NAMES[self.side] + ' can move'}")
             return Position(self.cells, OTHER[self.side])
-        at = INDEX.get(word, -1)
-        flipped = changes(self._discs, self.side, at) if at >= 0 and self.cells[at] == EMPTY else 0
+        flipped = self._flipped(word)
         if not flipped:
             raise IllegalMove(f"{move}: {NAMES[self.side]} can't play there")
-        return Position(cells_of(self._discs ^ flipped | BIT[self.side][at]), OTHER[self.side])
+        return Position(cells_of(self._discs ^ flipped | BIT[self.side][INDEX[word]]), OTHER[self.side])
 
     def flip(self) -> Position:
         """The same with the colours exchanged, discs and side to move alike: its value is the same."""

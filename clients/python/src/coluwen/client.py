@@ -1,20 +1,9 @@
-"""Values of positions from a server, by as many sessions as they need. The same for asyncio is `AsyncClient` of `coluwen.aio`.
-
-    with Client() as client:                                  # the server of this host, 127.0.0.1:4711
-        result = client.analyse(Position.opening(), 6)
-        print(result.score, result.best, *result.table)       # 0 d3 d3=0 c4<0 f5<0 e6<0
-        for entry in client.analyse_all(Position.opening(), 6):
-            print(entry)                                      # each move's value, exactly
-        for question, answer in client.analyse_many(positions, 6):
-            ..                                                # any number, each as soon as it is known
-"""
-from __future__ import annotations
+"""Values of positions from a server, by as many sessions as they need. The same for asyncio is `AsyncClient` of `coluwen.aio`."""
 
 import asyncio
 import concurrent.futures
 import os
 import threading
-from collections.abc import Coroutine
 from typing import Any
 
 from ._core import Info
@@ -37,55 +26,38 @@ class Client(Served, Analyst):
 
     What happens meanwhile (a full or silent server, sessions that were lost) is told by `logging.getLogger("coluwen")`."""
 
-    _loop: asyncio.AbstractEventLoop | None = None
-
-    def _driving(self) -> tuple[asyncio.AbstractEventLoop, Driver]:
-        """The loop that has the connections, by a thread of its own, once there is something to ask."""
+    def _driving(self) -> Driver:
+        """What has the connections, by a loop and thread of its own, once there is something to ask."""
         with self._lock:
             if self._closed:
                 raise Closed("the client is closed")
-            if not self._loop or not self._driver:
-                self._loop, made = asyncio.new_event_loop(), concurrent.futures.Future[Driver]()
-                threading.Thread(target=self._drive, args=(self._loop, made), name="coluwen", daemon=True).start()
-                self._driver = made.result()
-            return self._loop, self._driver
-
-    def _drive(self, loop: asyncio.AbstractEventLoop, made: concurrent.futures.Future[Driver]) -> None:
-        async def begin() -> None:
-            made.set_result(self._made())
-
-        asyncio.set_event_loop(loop)
-        loop.run_until_complete(begin())
-        loop.run_forever()
-        loop.close()
+            if not self._driver:
+                self._driver = self._made(asyncio.new_event_loop())
+                threading.Thread(target=self._driver.run, name="coluwen", daemon=True).start()
+            return self._driver
 
     def submit(self, position: str | Position, depth: int, *, timeout: float | None = None) -> concurrent.futures.Future[Result]:
-        place = checked(position, depth)
-        loop, driver = self._driving()
-        return asyncio.run_coroutine_threadsafe(self._answer(driver, place, depth, timeout), loop)
-
-    def _wait(self, call: Coroutine[Any, Any, Any]) -> Any:
-        return asyncio.run_coroutine_threadsafe(call, self._driving()[0]).result()
+        place, driver = checked(position, depth), self._driving()
+        return asyncio.run_coroutine_threadsafe(self._answer(driver, place, depth, timeout), driver.loop)
 
     def info(self) -> Info:
         """What the server is, found out once: at mid-game positions it looks `sure` plies deep, at most of them `mostly`; its `grain`, and a
         site's `version`."""
-        found: Info = self._wait(self._driving()[1].info())
-        return found
+        driver = self._driving()
+        return asyncio.run_coroutine_threadsafe(driver.info(), driver.loop).result()
 
     def ping(self) -> float:
         """Whether the server is there: the seconds that a line and its answer take. `Unreachable` where it isn't."""
-        found: float = self._wait(self._driving()[1].ping())
-        return found
+        driver = self._driving()
+        return asyncio.run_coroutine_threadsafe(driver.ping(), driver.loop).result()
 
     def close(self) -> None:
         """Ends the sessions. Calls that wait, and later ones, raise `Closed`."""
         with self._lock:
-            loop, driver, self._loop, self._driver = self._loop, self._driver, None, None
-            self._closed = True
-        if loop and driver:
-            asyncio.run_coroutine_threadsafe(driver.close(), loop).result()
-            loop.call_soon_threadsafe(loop.stop)
+            driver, self._driver, self._closed = self._driver, None, True
+        if driver:
+            asyncio.run_coroutine_threadsafe(driver.close(), driver.loop).result()
+            driver.loop.call_soon_threadsafe(driver.loop.stop)
 
 
 def connect(url: str | None = None, **options: Any) -> Client:

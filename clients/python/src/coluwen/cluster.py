@@ -6,7 +6,6 @@
 
 It needs Debian's python3-distributed. What a worker searched that is lost another one searches again; what begins it can't be cancelled there.
 """
-from __future__ import annotations
 
 import concurrent.futures
 import importlib
@@ -36,17 +35,11 @@ def engine_here() -> Engine:
         return _engine
 
 
-def answer_here(asked: list[Asked]) -> list[Result | ColuwenError]:
-    """What a worker answers to the questions of a task."""
+def answer_here(asked: list[Asked]) -> list[Result | BaseException]:
+    """What a worker answers to the questions of a task: of each its result or fault."""
     engine = engine_here()
     futures = [engine.submit(position, depth, timeout=timeout) for position, depth, timeout in asked]
-    found: list[Result | ColuwenError] = []
-    for future in futures:
-        try:
-            found.append(future.result())
-        except ColuwenError as fault:
-            found.append(fault)
-    return found
+    return [future.exception() or future.result() for future in futures]
 
 
 class Task:
@@ -79,11 +72,10 @@ class Cluster(Analyst):
     def __init__(self, scheduler: str, *, timeout: float | None = None, patience: float = 10.0):
         try:
             distributed: Any = importlib.import_module("distributed")
-        except ImportError as fault:
-            raise Unreachable("the cluster's package isn't here: Debian's python3-distributed") from fault
-        try:
             self._client: Any = distributed.Client(scheduler, timeout=patience, set_as_default=False)
             self._client.wait_for_workers(1, timeout=patience)
+        except ImportError as fault:
+            raise Unreachable("the cluster's package isn't here: Debian's python3-distributed") from fault
         except (OSError, TimeoutError, ValueError, distributed.TimeoutError) as fault:
             raise Unreachable(f"{scheduler}: {fault}") from fault
         self.address, self._timeout = scheduler, timeout
@@ -140,10 +132,6 @@ class Cluster(Analyst):
     def info(self) -> Info:
         """Every depth can be had."""
         return Info(DEEPEST)
-
-    def ping(self) -> float:
-        """How many seconds a question at depth 0 takes there."""
-        return self.analyse(Position.opening(), 0).seconds
 
     def close(self) -> None:
         """Leaves the cluster. Calls that wait, and later ones, raise `Closed`; the workers keep their engines."""

@@ -1,14 +1,8 @@
 """Values of positions without a server, by processes of the program `othello` on this computer.
 
-    with Engine(workers=4) as engine:
-        result = engine.analyse(Position.opening(), 8)
-        for question, answer in engine.analyse_many(positions, 6):
-            ..                                                # as by a `Client`
-
 An `Engine` is an `Analyst`, as a `Client` is: the same calls, results and faults. Each question is searched by one process, and to give it up ends
 that process; another is begun in its place.
 """
-from __future__ import annotations
 
 import asyncio
 import concurrent.futures
@@ -24,12 +18,12 @@ import threading
 import time
 import weakref
 
-from ._core import DEEPEST, Info
+from ._core import DEEPEST, Found, Info
 from .aio import AsyncClient
-from .analyst import Analyst, Result, checked, settle
+from .analyst import Analyst, Result, checked, result_of, settle
 from .board import Position
 from .errors import Broken, Closed, ColuwenError, Late, Refused, TooDeep, Unreachable
-from .score import AT_MOST, EXACT, Entry, Score
+from .score import AT_MOST, EXACT
 
 PROGRAM = "COLUWEN_OTHELLO"  # the variable that names the program
 OPTIONS = ("solve", "--visited")  # one search for each line: the fastest of what `solve` has
@@ -45,16 +39,11 @@ def program_of(named: str | None = None) -> tuple[str, str]:
     """The program, and its version: what is named, else by the variable COLUWEN_OTHELLO, else on PATH, else the package's own, else this archive's, or
     this checkout's, if it is built. `Unreachable` where there is none."""
     named = named or os.environ.get(PROGRAM)
-    if named:
-        path = shutil.which(named)
-        version = version_of(path) if path else ""
-        if not path or not version:
-            raise Unreachable(f"{named} isn't the program `othello`")
-        return path, version
-    for path in programs_here():
+    for path in [shutil.which(named) or ""] if named else programs_here():
         if version := version_of(path):
             return path, version
-    raise Unreachable(f"the program `othello` isn't there: the variable {PROGRAM} names it, or it stands on PATH")
+    raise Unreachable(f"{named} isn't the program `othello`" if named else
+                      f"the program `othello` isn't there: the variable {PROGRAM} names it, or it stands on PATH")  # fmt: skip
 
 
 def programs_here() -> list[str]:
@@ -97,14 +86,12 @@ class Question:
         self.asked = 0.0  # when its search began
 
 
-def result_of(question: Question, value: int, move: str, entered: int) -> Result:
+def known_of(question: Question, value: int, move: str, entered: int) -> Result:
     """A value and a best move as a result. What is known of the other moves is that none is worth more."""
-    position, depth = question.position, question.depth
-    best = None if move == "-" else move
-    ends, moves = depth >= position.empties, position.legal_moves() if best else []
+    moves = [] if move == "-" else question.position.legal_moves()
     ordered = sorted(moves, key=lambda one: CORNERS.index(one) if one in CORNERS else len(CORNERS))
-    table = tuple(Entry(one, Score(value, EXACT if one == best else AT_MOST, ends, position.side)) for one in ordered)
-    return Result(position, depth, Score.of(value, position, depth), best, table, time.monotonic() - question.asked, entered)
+    entries = tuple((one, EXACT if one == move else AT_MOST, value) for one in ordered)
+    return result_of(question.position, question.depth, Found(value, move, entries, time.monotonic() - question.asked, entered))
 
 
 class Pool:
@@ -131,8 +118,6 @@ class Pool:
 
     def run(self) -> None:
         while question := self.waiting.get():
-            with self.lock:
-                self.running.add(question)
             try:
                 outcome: Result | ColuwenError = self.answer(question)
             except ColuwenError as fault:
@@ -153,7 +138,7 @@ class Pool:
         for _ in range(TRIES):
             answer = self.ask_process(question, until)
             if found := ANSWER.fullmatch(answer):
-                return result_of(question, int(found[1]), found[2].decode(), int(found[3]))
+                return known_of(question, int(found[1]), found[2].decode(), int(found[3]))
             if refused := REFUSAL.fullmatch(answer):
                 raise Refused(int(refused[1]))
             self.end(question)
@@ -194,6 +179,7 @@ class Pool:
                     [self.program, *OPTIONS], bufsize=0, process_group=0, stdin=subprocess.PIPE, stdout=subprocess.PIPE, stderr=subprocess.DEVNULL)  # fmt: skip
             except OSError as fault:
                 raise Unreachable(f"{self.program}: {fault.strerror or fault}") from fault
+            self.running.add(question)
             return question.process
 
     def end(self, question: Question) -> None:
@@ -226,11 +212,8 @@ class Pool:
 
 def finish(process: subprocess.Popen[bytes]) -> None:
     """Kills a process, and waits until it has ended."""
-    process.kill()
-    for stream in (process.stdin, process.stdout):
-        if stream:
-            stream.close()
-    process.wait()
+    with process:
+        process.kill()
 
 
 class Engine(Analyst):
@@ -257,12 +240,6 @@ class Engine(Analyst):
     def info(self) -> Info:
         """Every depth can be had."""
         return Info(DEEPEST, self.version)
-
-    def ping(self) -> float:
-        """Whether the program answers: the seconds that a question at depth 0 takes."""
-        begun = time.monotonic()
-        self.analyse(Position.opening(), 0)
-        return time.monotonic() - begun
 
     def close(self) -> None:
         """Ends the processes, and waits until they have. Calls that wait, and later ones, raise `Closed`."""

@@ -1,6 +1,5 @@
 """What can go wrong, each by an exception of its own; all are a `ColuwenError`. They can be pickled and copied, and what they tell in numbers
 is an attribute."""
-from __future__ import annotations
 
 FAULTS = {
     10: "no segment is left",

@@ -7,7 +7,6 @@
 
 Most callers want `Client`, which opens sessions as they are needed.
 """
-from __future__ import annotations
 
 import contextlib
 import dataclasses
@@ -15,7 +14,7 @@ import socket
 import ssl
 import threading
 import time
-from types import TracebackType
+from typing import Self
 
 from ._answers import LONGEST, Answer
 from ._core import Reservation, Wire, pause_after
@@ -192,16 +191,15 @@ class Session:
             self._call("BYE")
         self._wire.broken = self._wire.broken or "it was closed"
 
-    def __enter__(self) -> Session:
+    def __enter__(self) -> Self:
         return self
 
-    def __exit__(self, kind: type[BaseException] | None, fault: BaseException | None, trace: TracebackType | None) -> None:
+    def __exit__(self, kind: object, *_: object) -> None:
         if kind:
             self._wire.broken = self._wire.broken or "it was left by a fault"
         self.close()
 
 
 def _state_of(answer: Answer) -> State:
-    if answer.state == "DONE":
-        return Done(answer.value, answer.move)
-    return Spent() if answer.state == "SPENT" else Cancelled() if answer.state == "CANCELLED" else Pending()
+    states: dict[str, State] = {"PENDING": Pending(), "SPENT": Spent(), "CANCELLED": Cancelled()}
+    return states.get(answer.state) or Done(answer.value, answer.move)

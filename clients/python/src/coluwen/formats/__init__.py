@@ -23,7 +23,6 @@ Readers of games and problems give what they can read and what they can't: a `Ga
 fault is there with the moves before it (`is_whole` is false), and the fault behind it; nothing is cut silently. Each module says by which description it was
 made.
 """
-from __future__ import annotations
 
 import pathlib
 import re

@@ -7,12 +7,11 @@ order, as square/evaluation/seconds, of which the last two may be missing; PA is
 there are: `2 (;..;)(;..;)`. Only othello of 8 lines is read. GGF's own description wasn't at hand: the tags are those that NBoard and
 the archives of GGS are known to write; others are kept as they stand.
 """
-from __future__ import annotations
 
 import re
 from collections.abc import Iterable, Iterator
 
-from ..board import PASS, START, Position
+from ..board import PASS, START, WHITE, Position
 from ..errors import FormatError
 from .records import Builder, Game, Place, strictly
 
@@ -21,7 +20,7 @@ MOVE = re.compile(r"\s*(?P<move>[a-hA-H][1-8]|(?i:pass|pa)|--)\s*(?:/\s*(?P<eval
 BOARD = re.compile(r"\s*8\s+((?:[-.*XxOo]\s*){64})([*XxOo])\s*")
 COUNT, END = re.compile(r"\s*(\d+\s+)?(?=\(;|\Z)|\s*"), re.compile(r"\s*;\s*\)")
 SIDES = {"B": "X", "W": "O"}
-FIELDS = ("PB", "PW", "PC", "DT")
+FIELDS = {"PB": "black", "PW": "white", "PC": "event", "DT": "date"}
 
 
 def read(text: str, file: str = "") -> Iterator[Game | FormatError]:
@@ -45,8 +44,10 @@ def read(text: str, file: str = "") -> Iterator[Game | FormatError]:
                 return
             continue
         tags, end, fault = tags_of(text, at, file)
-        game, other = game_of(text, tags, place_of(text, at, file), file, not fault)
-        yield from (one for one in (game, other or fault) if one)
+        try:
+            yield from game_of(text, tags, place_of(text, at, file), fault)
+        except FormatError as other:
+            yield other
         expected, at = max(expected - 1, 0), end
 
 
@@ -76,34 +77,30 @@ def tags_of(text: str, at: int, file: str) -> tuple[list[tuple[str, str, int]], 
     return tags, len(text) if after < 0 else after, place_of(text, at, file).fault("here is no tag, NAME[value], and no end of the game, ;)")
 
 
-def game_of(text: str, tags: list[tuple[str, str, int]], place: Place, file: str, is_whole: bool) -> tuple[Game | None, FormatError | None]:
-    """The game of tags, and what is at fault in them; the moves are those before that."""
+def game_of(text: str, tags: list[tuple[str, str, int]], place: Place, fault: FormatError | None) -> Iterator[Game | FormatError]:
+    """The game of tags, and what is at fault in them or behind them; the moves are those before that."""
     named = {name: value for name, value, _ in tags if name not in SIDES}
-    places = {name: place_of(text, at, file) for name, _, at in tags}
-    if not tags:
-        return None, None
+    places = {name: place_of(text, at, place.file) for name, _, at in tags}
+    if fault and not tags:
+        raise fault
     if named.get("GM", "Othello").strip().lower() not in ("othello", "reversi"):
-        return None, places["GM"].fault(f"this is a game of {named['GM']}")
+        raise places["GM"].fault(f"this is a game of {named['GM']}")
     if named.get("TY", "8").strip()[:1] not in ("8", "s") or "anti" in named.get("TY", ""):
-        return None, places["TY"].fault(f"its type is {named['TY']}")
+        raise places["TY"].fault(f"its type is {named['TY']}")
     start = board_of(named.get("BO", f"8 {START} *"))
     if not start:
-        return None, places["BO"].fault("its board isn't one of 8 lines: 8, 64 cells and the side to move")
-    builder, fault = Builder(start, file), None
-    try:
+        raise places["BO"].fault("its board isn't one of 8 lines: 8, 64 cells and the side to move")
+    with Builder(start, fault) as builder:
         for name, value, at in tags:
             if name in SIDES:
-                found, here = MOVE.fullmatch(value), place_of(text, at, file)
+                found, here = MOVE.fullmatch(value), place_of(text, at, place.file)
                 if not found:
                     raise here.fault(f"{value!r} is no move")
                 move = found["move"].lower()
                 builder.play(PASS if move in ("pass", "pa", "--") else move, here, SIDES[name], number_of(found["eval"]), number_of(found["time"]))
-    except FormatError as raised:
-        fault = raised
     others = tuple((name, value) for name, value, _ in tags if name not in (*SIDES, *FIELDS, "BO", "GM", "RE", "TY"))
-    black, white, event, date = (named.get(name, "") for name in FIELDS)
-    result = number_of(named.get("RE", "").strip())
-    return Game(builder.start, tuple(builder.moves), black, white, event, date, result, tags=others, place=place, is_whole=is_whole and not fault), fault
+    heads = {head: named.get(name, "") for name, head in FIELDS.items()}
+    yield from builder.game(result=number_of(named.get("RE", "").strip()), tags=others, place=place, **heads)
 
 
 def board_of(text: str) -> Position | None:
@@ -131,15 +128,10 @@ def write_game(game: Game) -> str:
     cells = game.start.cells.replace("X", "*")
     rows = " ".join(cells[at : at + 8] for at in range(0, 64, 8))
     tags.append(f"TY[8]BO[8 {rows} {game.start.side.replace('X', '*')}]")
-    side = game.start.side
-    for played in game.moves:
-        words = ["PA" if played.move == PASS else played.move.upper()]
-        if played.evaluation is not None or played.seconds is not None:
-            words.append("" if played.evaluation is None else f"{played.evaluation:.2f}")
-        if played.seconds is not None:
-            words.append(f"{played.seconds:.2f}")
-        tags.append(f"{'B' if side == 'X' else 'W'}[{'/'.join(words)}]")
-        side = "O" if side == "X" else "X"
+    for number, played in enumerate(game.moves):
+        numbers = ["" if one is None else f"{one:.2f}" for one in (played.evaluation, played.seconds)]
+        words = "/".join(["PA" if played.move == PASS else played.move.upper(), *numbers]).rstrip("/")
+        tags.append(f"{'BW'[(number + (game.start.side == WHITE)) % 2]}[{words}]")
     return "(;" + "".join(tags) + ";)"
 
 

@@ -6,7 +6,6 @@ A board of 64 cells, the side to move, then fields, each ended or parted by a se
 alone. What follows a % or # is a comment. A line that is empty but for a comment is none. Edax's documents weren't at hand: this is
 what its files of problems look like, as they are described by its users; so a field that is neither is refused.
 """
-from __future__ import annotations
 
 import re
 from collections.abc import Iterable, Iterator
@@ -22,12 +21,11 @@ def read(lines: Iterable[str], file: str = "") -> Iterator[Problem | FormatError
     """The problems of lines, and the faults of those that can't be read."""
     for number, line in enumerate(lines, 1):
         try:
-            problem = read_line(line.rstrip("\r\n"), Place(file, number))
+            found: Problem | FormatError | None = read_line(line.rstrip("\r\n"), Place(file, number))
         except FormatError as fault:
-            yield fault
-            continue
-        if problem:
-            yield problem
+            found = fault
+        if found:
+            yield found
 
 
 def read_line(line: str, place: Place = Place()) -> Problem | None:
@@ -42,11 +40,9 @@ def read_line(line: str, place: Place = Place()) -> Problem | None:
         raise place.fault(fault.text, fault.column) from None
     expected, at = [], len(head) + 1
     for field in fields:
-        found = FIELD.fullmatch(field)
+        found, here = FIELD.fullmatch(field), at + len(field) - len(field.lstrip()) + 1
         if found:
-            word = found["move"].lower()
-            move = word if len(word) == 2 and word[1] in "12345678" else PASS
-            here = at + len(field) - len(field.lstrip()) + 1
+            move = found["move"].lower() if found["move"][1] in "12345678" else PASS
             if not position.is_legal(move):
                 raise place.fault(f"{found['move']} isn't legal here", here)
             score = int(found["score"]) if found["score"] else None
@@ -54,7 +50,7 @@ def read_line(line: str, place: Place = Place()) -> Problem | None:
                 raise place.fault(f"a score of {score} discs", here)
             expected.append(Expected(move, score))
         elif field.strip():
-            raise place.fault(f"{field.strip()!r} is no move with a score", at + len(field) - len(field.lstrip()) + 1)
+            raise place.fault(f"{field.strip()!r} is no move with a score", here)
         at += len(field) + 1
     return Problem(position, None, tuple(expected), comment.strip(), place)
 

@@ -11,10 +11,11 @@ PGN is chess's; its heads were taken over for Othello by programs and sites. Hea
 read, FEN (the FEN-like form of `position`) is where the game begins, and others are kept. Behind them stands a transcript; comments in {}, behind ; to a line's
 end, and variations in () are passed over; `*` is no result, and 1-0, 0-1 and 1/2-1/2 say who won and no discs.
 """
-from __future__ import annotations
 
+import dataclasses
 import re
 from collections.abc import Iterator
+from typing import Any
 
 from ..errors import FormatError
 from . import position, transcript
@@ -55,8 +56,6 @@ def game_of(text: str, heads: dict[str, tuple[str, int]], found: re.Match[str], 
     result = float(int(score[1]) - int(score[2])) if score and said["result"].strip() not in ("1-0", "0-1") else None
     tags = tuple((name, value) for name, value in said.items() if name not in ("event", "black", "white", "date", "result", "fen"))
     place = place_of(text, found.end(), file)
+    others: dict[str, Any] = {"place": begun, "tags": tags, **{name: said.get(name, "") for name in ("black", "white", "event", "date")}}
     for one in transcript.parts(moves.rstrip(), start, place):
-        if isinstance(one, Game):
-            own = one.result if one.result is not None else result
-            one = Game(one.start, one.moves, said.get("black", ""), said.get("white", ""), said.get("event", ""), said.get("date", ""), own, None, tags, begun, one.is_whole)
-        yield one
+        yield dataclasses.replace(one, result=result if one.result is None else one.result, **others) if isinstance(one, Game) else one

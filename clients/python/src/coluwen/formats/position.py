@@ -12,7 +12,6 @@ move`), and where it doesn't, it is who has the move after so many discs without
  No description of the FEN-like form is at hand; chess's was taken over, with the rows from the
 top as Othello names them.
 """
-from __future__ import annotations
 
 import re
 

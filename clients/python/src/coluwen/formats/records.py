@@ -1,9 +1,8 @@
 """What files of Othello give: problems, games, and where each was read."""
-from __future__ import annotations
 
 import dataclasses
 from collections.abc import Iterable, Iterator
-from typing import TypeVar
+from typing import Any, Self, TypeVar
 
 from ..board import PASS, SQUARES, Board, Position
 from ..errors import FormatError, IllegalMove
@@ -114,12 +113,26 @@ def strictly(found: Iterable[Item | FormatError]) -> Iterator[Item]:
 
 
 class Builder:
-    """Makes a game's moves one after another, and says where one can't be made. Passes that aren't written are put in."""
+    """Makes a game's moves one after another, and says where one can't be made. Passes that aren't written are put in. As a context it keeps the
+    fault that ends what is made; `fault`: one that was there before."""
 
-    def __init__(self, start: Position, file: str = ""):
+    def __init__(self, start: Position, fault: FormatError | None = None):
         self.start = self.position = start
-        self.file = file
+        self.fault = fault
         self.moves: list[Played] = []
+
+    def __enter__(self) -> Self:
+        return self
+
+    def __exit__(self, kind: object, fault: object, trace: object) -> bool:
+        self.fault = fault if isinstance(fault, FormatError) else self.fault
+        return isinstance(fault, FormatError)
+
+    def game(self, **more: Any) -> Iterator[Game | FormatError]:
+        """The game that was made, with what else is known of it; and behind it the fault."""
+        yield Game(self.start, tuple(self.moves), is_whole=not self.fault, **more)
+        if self.fault:
+            yield self.fault
 
     @property
     def count(self) -> int:

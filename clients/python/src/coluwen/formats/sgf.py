@@ -7,7 +7,6 @@ letters with the row's number as a letter, `fe`; nothing or `pass` is a pass), A
 SZ (8 alone), PB, PW, EV, DT and RE (`B+12`, `W+2`, `0`, `Draw`). Of a tree of variations the first is read. Described by the SGF specification, FF[4], of
 Arno Hollosi; other properties are kept as they stand.
 """
-from __future__ import annotations
 
 import re
 from collections.abc import Iterator
@@ -23,7 +22,7 @@ SIGN = re.compile(r"\s*([;()])")
 RESULT = re.compile(r"(?i:([BW])\+(\d+(?:\.\d+)?))")
 SETUP = {"AB": BLACK, "AW": WHITE, "AE": EMPTY}
 SIDES = {"B": BLACK, "W": WHITE}
-FIELDS = ("PB", "PW", "EV", "DT")
+FIELDS = {"PB": "black", "PW": "white", "EV": "event", "DT": "date"}
 Property = tuple[str, list[str], int]
 
 
@@ -32,8 +31,10 @@ def read(text: str, file: str = "") -> Iterator[Game | FormatError]:
     at, text = 0, text.removeprefix("\ufeff")
     while (begun := text.find("(", at)) >= 0:
         properties, at, fault = properties_of(text, begun, file)
-        game, other = game_of(text, properties, place_of(text, begun, file), file, not fault)
-        yield from (one for one in (game, other or fault) if one)
+        try:
+            yield from game_of(text, properties, place_of(text, begun, file), fault)
+        except FormatError as other:
+            yield other
     if at == 0:
         yield place_of(text, 0, file).fault("no game begins here: (;")
 
@@ -61,25 +62,22 @@ def properties_of(text: str, at: int, file: str) -> tuple[list[Property], int, F
     return found, len(text) if after < 0 else after, place_of(text, at, file).fault("here is no property, NAME[value], and no end of the game, )")
 
 
-def game_of(text: str, properties: list[Property], place: Place, file: str, is_whole: bool) -> tuple[Game | None, FormatError | None]:
+def game_of(text: str, properties: list[Property], place: Place, fault: FormatError | None) -> Iterator[Game | FormatError]:
     named = {name: values[0] for name, values, _ in reversed(properties) if name not in SIDES}
-    places = {name: place_of(text, at, file) for name, _, at in reversed(properties)}
+    places = {name: place_of(text, at, place.file) for name, _, at in reversed(properties)}
     if named.get("GM", "").strip() != "2":
-        return None, places.get("GM", place).fault(f"this is no game of Othello, GM[2]: {named.get('GM', 'it says no GM')}")
+        raise places.get("GM", place).fault(f"this is no game of Othello, GM[2]: {named.get('GM', 'it says no GM')}")
     if named.get("SZ", "8").strip() not in ("8", "8:8"):
-        return None, places["SZ"].fault(f"its board has {named['SZ']} lines")
-    fault, builder = None, Builder(Position.opening(), file)
-    try:
-        builder = Builder(start_of(text, properties, file), file)
+        raise places["SZ"].fault(f"its board has {named['SZ']} lines")
+    with Builder(Position.opening(), fault) as builder:
+        builder.start = builder.position = start_of(text, properties, place.file)
         for name, values, at in properties:
             if name in SIDES:
-                here = place_of(text, at, file)
+                here = place_of(text, at, place.file)
                 builder.play(square_of(values[0], here, may_pass=True), here, SIDES[name])
-    except FormatError as raised:
-        fault = raised
     others = tuple((name, values[0]) for name, values, _ in properties if name not in (*SIDES, *FIELDS, *SETUP, "GM", "RE", "SZ", "FF", "PL", "CA"))
-    black, white, event, date = (named.get(name, "") for name in FIELDS)
-    return Game(builder.start, tuple(builder.moves), black, white, event, date, result_of(named.get("RE", "")), tags=others, place=place, is_whole=is_whole and not fault), fault
+    heads = {head: named.get(name, "") for name, head in FIELDS.items()}
+    yield from builder.game(result=result_of(named.get("RE", "")), tags=others, place=place, **heads)
 
 
 def start_of(text: str, properties: list[Property], file: str) -> Position:
@@ -121,4 +119,4 @@ def result_of(text: str) -> float | None:
     if text.strip().lower() in ("0", "draw"):
         return 0.0
     found = RESULT.match(text.strip())
-    return None if not found else float(found[2]) * (1 if found[1].upper() == "B" else -1)
+    return float(found[2]) * (1 if found[1].upper() == "B" else -1) if found else None

@@ -5,7 +5,6 @@ behind them, which must count the moves (`1.`, `2)`) or the pairs of moves. A pa
 in where it isn't. Behind the moves may stand the result: black's discs and white's (`33-31`, `33:31`), or how many more (`+2`, `B+2`, `W+10`,
 `0`). Letters and digits of full width are read as the others. Anything else is a fault, with its column.
 """
-from __future__ import annotations
 
 import re
 from collections.abc import Iterator
@@ -36,12 +35,10 @@ def parts(text: str, start: Position | None = None, place: Place = Place()) -> I
     """The game of a text; where it has a fault, the game of what stands before that, if there are moves, and the fault. A line's end counts a
     line further."""
     text = narrow(text)
-    builder = Builder(start or Position.opening(), place.file)
     at, line, begun = 0, place.line or 1, -max(place.column - 1, 0)
     numbers: list[int] = []
     result: float | None = None
-    fault: FormatError | None = None
-    try:
+    with Builder(start or Position.opening()) as builder:
         while at < len(text):
             here = Place(place.file, line, at - begun + 1)
             if builder.moves and (score := SCORE.fullmatch(text, at)):
@@ -60,14 +57,10 @@ def parts(text: str, start: Position | None = None, place: Place = Place()) -> I
             if found["space"] and (lines := found["space"].count("\n")):
                 line, begun = line + lines, at + found["space"].rindex("\n") + 1
             at = found.end()
-        if not builder.moves:
-            raise place.fault("there are no moves")
-    except FormatError as raised:
-        fault = raised
     if builder.moves:
-        yield Game(builder.start, tuple(builder.moves), result=result, place=place, is_whole=not fault)
-    if fault:
-        yield fault
+        yield from builder.game(result=result, place=place)
+    else:
+        yield builder.fault or place.fault("there are no moves")
 
 
 def result_of(score: re.Match[str], final: Position, place: Place) -> float:

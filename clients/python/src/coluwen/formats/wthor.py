@@ -12,28 +12,22 @@ A name of a .jou has 20 bytes, of a .trn 26, ended by a 0.
 This is the description of the French Othello federation ("Format de la base WTHOR") as it is known by its users; its text wasn't
 at hand. The header's counts are compared with the file's length, and each move is played.
 """
-from __future__ import annotations
 
 import dataclasses
 import pathlib
 import struct
 from collections.abc import Iterable, Iterator
 
-from ..board import ALL, BLACK, BLACK_BIT, LINES, PASS, SQUARES, WHITE, WHITE_BIT, Position, can_move, discs_of
+from ..board import ALL, BIT, BLACK, BLACK_BIT, NAMES, OTHER, PASS, SQUARES, WHITE, WHITE_BIT, Position, can_move, changes, discs_of
 from ..errors import FormatError
 from .records import PLAYED, Game, Place, Played
 
 HEAD = struct.Struct("<BBBBIHHBBBB")
 RECORD = struct.Struct("<HHHBB60s")
 NAME_BYTES = {".jou": 20, ".trn": 26}
-
-
 OPENING = Position.opening()
 START_DISCS = discs_of(OPENING.cells)
 SQUARE_OF = [8 * (code // 10 - 1) + code % 10 - 1 if 1 <= code // 10 <= 8 and 1 <= code % 10 <= 8 else -1 for code in range(256)]
-TAKEN = [BLACK_BIT[at] | WHITE_BIT[at] for at in range(64)]
-SIDES, OWN = (LINES[BLACK], LINES[WHITE]), (BLACK_BIT, WHITE_BIT)
-SQUARES_PLAYED = [PLAYED[square] for square in SQUARES]
 
 
 @dataclasses.dataclass(frozen=True)
@@ -59,12 +53,12 @@ def head_of(data: bytes, file: str = "") -> Head:
 def read(data: bytes, file: str = "", players: list[str] | None = None, tournaments: list[str] | None = None) -> Iterator[Game | FormatError]:
     """The games of a .wtb, one after another, and its faults. Where names aren't given they stand as `player 12`. A game with a fault is there with
     the moves before that, and the fault behind it; what a cut file has of its games is there, and a fault of the file comes first."""
-    if len(data) < HEAD.size:
-        yield FormatError(f"a head has {HEAD.size} bytes, and here are {len(data)}", file, column=len(data) + 1)
-        return
-    head = head_of(data, file)
-    if head.size not in (0, 8):
-        yield FormatError(f"its boards have {head.size} lines", file, column=13)
+    try:
+        head = head_of(data, file)
+        if head.size not in (0, 8):
+            raise FormatError(f"its boards have {head.size} lines", file, column=13)
+    except FormatError as fault:
+        yield fault
         return
     if head.names:
         yield FormatError(f"its head counts {head.names} names, as no .wtb has", file, column=9)
@@ -92,29 +86,21 @@ def game_of(data: bytes, at: int, file: str, number: int, year: str, players: li
 
 def replayed(codes: bytes) -> tuple[list[Played], int, FormatError | None]:
     """The moves of codes, the discs after them, and which can't be made. Passes are put in."""
-    discs, side, moves = START_DISCS, 0, list[Played]()
+    discs, side, moves = START_DISCS, BLACK, list[Played]()
     for number, code in enumerate(codes):
         at = SQUARE_OF[code]
         if at < 0:
             return moves, discs, FormatError(f"{code} is no square", column=number + 1)
-        changed = 0
-        if not discs & TAKEN[at]:
-            for mask, line in SIDES[side][at]:
-                changed |= line[discs & mask]
-            if not changed:
-                for mask, line in SIDES[1 - side][at]:
-                    changed |= line[discs & mask]
-                if changed and not can_move(discs, (BLACK, WHITE)[side]):
-                    moves.append(PLAYED[PASS])
-                    side = 1 - side
-                else:
-                    changed = 0
+        is_empty = not discs & (BLACK_BIT[at] | WHITE_BIT[at])
+        changed = changes(discs, side, at) if is_empty else 0
+        if is_empty and not changed and changes(discs, OTHER[side], at) and not can_move(discs, side):
+            moves.append(PLAYED[PASS])
+            side = OTHER[side]
+            changed = changes(discs, side, at)
         if not changed:
-            word = f"move {number + 1}, {SQUARES[at]}"
-            return moves, discs, FormatError(f"{word}: white can't play there" if side else f"{word}: black can't play there", column=number + 1)
-        discs = discs ^ changed | OWN[side][at]
-        side = 1 - side
-        moves.append(SQUARES_PLAYED[at])
+            return moves, discs, FormatError(f"move {number + 1}, {SQUARES[at]}: {NAMES[side]} can't play there", column=number + 1)
+        discs, side = discs ^ changed | BIT[side][at], OTHER[side]
+        moves.append(PLAYED[SQUARES[at]])
     return moves, discs, None
 
 
@@ -157,8 +143,7 @@ def names_beside(path: str) -> tuple[list[str] | None, list[str] | None]:
 def write(games: Iterable[Game], year: int, made: tuple[int, int, int] = (2000, 1, 1), depth: int = 0, players: list[str] | None = None,
           tournaments: list[str] | None = None) -> bytes:  # fmt: skip
     """A .wtb of finished games from the opening. Names are written by their numbers in these lists, which grow by those that they lack."""
-    players, tournaments = players if players is not None else [], tournaments if tournaments is not None else []
-    records = []
+    players, tournaments, records = [] if players is None else players, [] if tournaments is None else tournaments, list[bytes]()
     for game in games:
         if game.start != OPENING or len(game.words()) > 60:
             raise ValueError("a .wtb has games from the opening alone")

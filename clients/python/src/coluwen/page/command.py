@@ -9,7 +9,6 @@ So many questions as --sessions says are with the server at once; who comes when
 before. Where the server that was named can't be reached at the beginning, one line says so within 2 seconds, and the status is 1; where it
 is lost later the page says so and asks again.
 """
-from __future__ import annotations
 
 import argparse
 import asyncio

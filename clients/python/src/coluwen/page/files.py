@@ -1,5 +1,4 @@
 """The page's files, and to whom anything is given: browsers that name this host as they may, and pages of this host alone."""
-from __future__ import annotations
 
 import hashlib
 import ipaddress

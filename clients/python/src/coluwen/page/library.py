@@ -4,7 +4,6 @@ browsers wait for it, in turn, and is cancelled when none of them does any more.
 Turns: so many questions are with the server at once; others wait in the order in which they came. A browser's next step comes behind
 those who wait, so that a class gets its first values soon, all of it.
 """
-from __future__ import annotations
 
 import asyncio
 import collections

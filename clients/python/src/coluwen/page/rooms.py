@@ -1,5 +1,4 @@
 """Classes: a teacher's board, the browsers that follow it, and the hands that are raised in them."""
-from __future__ import annotations
 
 import asyncio
 import collections

@@ -11,7 +11,6 @@ The page itself reads and writes games, and knows values by an engine in the bro
 Scores are seen by the player to move: {"sign": "=", "points": -3}, or at the game's end {"sign": "=", "discs": 10, "empty": 1}, where the
 empty squares are counted to the winner; without `empty` they aren't known, and not counted.
 """
-from __future__ import annotations
 
 import asyncio
 import contextlib

@@ -27,7 +27,6 @@ be an .obf too, whose expected moves the results must be among, or another engin
     $ coluwen-batch --depth 4 --server 127.0.0.1:4711 one.csv positions        # Ctrl-C, and the same again: it goes on
     $ coluwen-batch --depth 4 --server 127.0.0.1:4712 two.csv positions && coluwen-batch --compare one.csv two.csv
 """
-from __future__ import annotations
 
 import argparse
 import collections

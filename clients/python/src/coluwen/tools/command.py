@@ -8,7 +8,6 @@
 | 3 | some line or row has no value: it is at fault, was spent, or was cancelled |
 | 130 | Ctrl-C |
 """
-from __future__ import annotations
 
 import argparse
 import logging
@@ -37,11 +36,6 @@ def parser(text: str | None, name: str, outage: float = OUTAGE) -> argparse.Argu
     says what it is for."""
     words = argparse.ArgumentParser(prog=name, description=text, formatter_class=argparse.RawDescriptionHelpFormatter)
     words.add_argument("--version", action="version", version=f"{name} (coluwen) {__version__}")
-    add_server_options(words, outage)
-    return words
-
-
-def add_server_options(words: argparse.ArgumentParser, outage: float = OUTAGE) -> None:
     group = words.add_argument_group("what gives the values", "A server, where one is named; else processes of the program `othello` on this computer.")
     group.add_argument("--server", metavar="HOST:PORT", help=f"or othello://HOST:PORT?tls=1&token=FILE; else that of the variable {URL}, if it is set")
     group.add_argument("--fallback", choices=("engine",), help="what the server can't give, as it is too deep for its grain, an engine of this computer gives")
@@ -54,6 +48,7 @@ def add_server_options(words: argparse.ArgumentParser, outage: float = OUTAGE) -
     group.add_argument("--outage", type=seconds, default=outage, metavar="S", help="seconds for which a server that was there and is silent or lost is asked again (%(default)g)")
     group.add_argument("--segments", type=int, metavar="N", help="for experts: what each session reserves, 1 to 4096")
     group.add_argument("--nodes", type=int, metavar="N", help="for experts: the same, 1 to 65536")
+    return words
 
 
 def count(text: str) -> int:

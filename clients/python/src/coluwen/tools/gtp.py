@@ -20,7 +20,6 @@ heeded.
 | showboard, final_score | `B+12`, `W+2` or `0` once the game is over, an empty square being the winner's |
 | coluwen-depth n, coluwen-score, coluwen-position [66 letters] | how deep it looks; the last score; sets up a position, or shows it |
 """
-from __future__ import annotations
 
 import re
 import sys
@@ -32,14 +31,10 @@ from ..analyst import Result
 from ..board import BLACK, OTHER, PASS, WHITE, Board, Position
 from ..errors import FormatError, IllegalMove
 from .command import analyst_of, ending, parser, say, teller
-from .player import Player
+from .player import Player, Unfit
 
 NAME = "coluwen-gtp"
 COLOURS = {"b": BLACK, "black": BLACK, "w": WHITE, "white": WHITE}
-
-
-class Unfit(ValueError):
-    """A command that fails, in words."""
 
 
 def colour_of(word: str) -> str:

@@ -9,7 +9,6 @@ asked at once, so many lines at a time as --ahead says:
 Where a depth can't be had at the server's grain, standard error says so and which can. A server that isn't there, or says nothing
 where it answers at once, is given up after --silence seconds: one line, and status 1. The status is 3 where a line has no value.
 """
-from __future__ import annotations
 
 import concurrent.futures
 import queue
@@ -30,8 +29,8 @@ LONGEST = 128  # bytes of a line
 Asked = concurrent.futures.Future[Result]
 
 
-def question_of(line: str) -> tuple[int, Position]:
-    """The depth and position of a line, by the tests of the server in their order; `Refused` has its number."""
+def question_of(line: str) -> tuple[Position, int]:
+    """The position and depth of a line, by the tests of the server in their order; `Refused` has its number."""
     depth, space, position = line.partition(" ")
     faults = ((22, len(f"ASK {line}") > LONGEST), (21, not space), (23, not re.fullmatch("[0-9]{1,8}", depth)), (27, not re.fullmatch("0*([0-9]|1[0-2])", depth)),
               (24, len(position) != LENGTH), (25, any(cell not in CELLS for cell in position[:64])),
@@ -39,10 +38,10 @@ def question_of(line: str) -> tuple[int, Position]:
     for number, is_so in faults:
         if is_so:
             raise Refused(number)
-    return int(depth), Position.parse(position)
+    return Position.parse(position), int(depth)
 
 
-def text_of(answer: Result | Exception) -> str:
+def text_of(answer: Result | BaseException) -> str:
     """An answer as the command writes it."""
     if isinstance(answer, Result):
         return f"DONE {answer.score.value} {answer.best or '-'}"
@@ -64,7 +63,7 @@ def lines_of(descriptor: int = 0) -> Iterator[str]:
     return (line.rstrip("\n").removesuffix("\r") for line in open(descriptor, encoding="latin-1", newline="\n"))
 
 
-def answers(analyst: Analyst, lines: Iterator[str], ahead: int, timeout: float | None) -> Iterator[Result | Exception]:
+def answers(analyst: Analyst, lines: Iterator[str], ahead: int, timeout: float | None) -> Iterator[Result | BaseException]:
     """Of each line what is known of it, as soon as that and what is before it is known. Lines are read by a thread of its own, so that an
     answer doesn't wait for the next line; so many are asked at once."""
     begun: queue.SimpleQueue[Asked | Exception | None] = queue.SimpleQueue()
@@ -75,8 +74,7 @@ def answers(analyst: Analyst, lines: Iterator[str], ahead: int, timeout: float |
             for line in lines:
                 places.acquire()
                 try:
-                    depth, position = question_of(line)
-                    begun.put(analyst.submit(position, depth, timeout=timeout))
+                    begun.put(analyst.submit(*question_of(line), timeout=timeout))
                 except Refused as refusal:
                     begun.put(refusal)
             begun.put(None)
@@ -85,13 +83,7 @@ def answers(analyst: Analyst, lines: Iterator[str], ahead: int, timeout: float |
 
     threading.Thread(target=begin, daemon=True).start()
     while (one := begun.get()) is not None:
-        if isinstance(one, Exception):
-            found: Result | Exception = one
-        else:
-            try:
-                found = one.result()
-            except Exception as fault:
-                found = fault
+        found = one if isinstance(one, Exception) else one.exception() or one.result()
         places.release()
         yield found
 

@@ -14,7 +14,6 @@ and is told. Passes are made by the referee, and are told to engines that take t
 that of the mean of the pairs (both colours of an opening), one standard deviation. Elo is the difference of ratings that such a score
 stands for, with what the score less and more its error stand for; there is none where all games were won or lost.
 """
-from __future__ import annotations
 
 import concurrent.futures
 import contextlib
@@ -23,6 +22,7 @@ import math
 import pathlib
 import queue
 import shlex
+import statistics
 import subprocess
 import sys
 import threading
@@ -89,15 +89,15 @@ class Program(Player):
         threading.Thread(target=self.listen, daemon=True).start()
 
     def listen(self) -> None:
-        if self.process.stdout:
-            for line in self.process.stdout:
-                self.heard.put(line.rstrip("\r\n"))
+        assert self.process.stdout
+        for line in self.process.stdout:
+            self.heard.put(line.rstrip("\r\n"))
         self.heard.put(None)
 
     def say(self, line: str) -> None:
+        assert self.process.stdin
         try:
-            if self.process.stdin:
-                self.process.stdin.write(f"{line}\n")
+            self.process.stdin.write(f"{line}\n")
         except OSError:
             raise Forfeit(self, "has ended") from None
 
@@ -176,9 +176,6 @@ class NBoardProgram(Program):
     def begin(self, board: Board) -> None:
         self.say("nboard 1")
 
-    def told(self, move: str, side: str) -> None:
-        pass
-
 
 def player_of(word: str, analyst: Analyst, seconds: float) -> Player:
     """The player that a word of the command line says."""
@@ -208,9 +205,7 @@ def play(black: Player, white: Player, opening: Board, number: int) -> Outcome:
         for player in players.values():
             player.begin(board)
         while not board.is_over:
-            move, side = PASS, board.side
-            if not board.position.must_pass:
-                move = moved(players[side], board)
+            side, move = board.side, PASS if board.position.must_pass else moved(players[board.side], board)
             board = board.push(move)
             for at, player in players.items():
                 if at != side or move == PASS:
@@ -236,11 +231,7 @@ def openings_of(path: str | None) -> list[Board]:
     """The openings of a file; else the four first moves with each reply."""
     if path:
         return [game.board() for game in formats.strictly(formats.games(path))]
-    found = []
-    for first in Position.opening().legal_moves():
-        for reply in Position.opening().play(first).legal_moves():
-            found.append(Board().push(first).push(reply))
-    return found
+    return [Board().push(first).push(reply) for first in Board().legal for reply in Board().push(first).legal]
 
 
 class Table:
@@ -283,12 +274,8 @@ def row_of(label: str, groups: list[list[int]]) -> str:
 
 def mean_and_error(numbers: list[float]) -> tuple[float, float]:
     """The mean, and the standard deviation of the mean; that of one number isn't known, and is written as 0."""
-    if not numbers:
-        return 0.0, 0.0
-    mean = sum(numbers) / len(numbers)
-    if len(numbers) < 2:
-        return mean, 0.0
-    return mean, math.sqrt(sum((each - mean) ** 2 for each in numbers) / (len(numbers) - 1) / len(numbers))
+    mean = statistics.fmean(numbers) if numbers else 0.0
+    return mean, statistics.stdev(numbers) / math.sqrt(len(numbers)) if len(numbers) > 1 else 0.0
 
 
 def elo(score: float) -> float:

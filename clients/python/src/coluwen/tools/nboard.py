@@ -37,7 +37,6 @@ taken from it, but chosen here: whose view `analysis` takes (the player's to mov
 and that `hint` ends at the depth that is set, where some engines go on until the next `ping`. `learn`, `set contempt` and the
 `book` sentences aren't spoken. It was tried by our own conversation alone, and with no board's program.
 """
-from __future__ import annotations
 
 import queue
 import sys
@@ -50,13 +49,9 @@ from ..board import PASS, Board
 from ..errors import ColuwenError, FormatError, IllegalMove, Refused, Unreachable
 from ..formats import ggf
 from .command import OutputClosed, analyst_of, ending, parser, say
-from .player import Player, Stopped, in_discs
+from .player import Player, Stopped, Unfit, in_discs
 
 NAME = "coluwen-nboard"
-
-
-class Unfit(ValueError):
-    """A sentence that can't be carried out, in words."""
 
 
 def move_of(word: str) -> str:

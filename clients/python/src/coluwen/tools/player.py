@@ -3,7 +3,6 @@
 In the middle of a game a server looks as many plies deep as its grain lets it (`Analyst.info`); near the end, from 12 empty squares on, to
 the end. A depth that is set beyond that is taken for the greatest that can be had, and `tell` says so once.
 """
-from __future__ import annotations
 
 import concurrent.futures
 from collections.abc import Callable, Iterator
@@ -19,6 +18,10 @@ SURE = 4  # plies that a server of any grain looks deep
 
 class Stopped(Exception):
     """What was looked for isn't wanted any more."""
+
+
+class Unfit(ValueError):
+    """What a board says that can't be carried out, in words."""
 
 
 class Player:

@@ -1,5 +1,4 @@
 """A picture of a run, as SVG that is written without any library: how long its jobs took, and what they are worth."""
-from __future__ import annotations
 
 import html
 import math

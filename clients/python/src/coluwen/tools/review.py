@@ -8,7 +8,6 @@ MOVES is a transcript, `f5d6c3d3c4..`; passes need not be written. FILE has game
 Values are seen by the player who moves, so many plies deep (6). A value of 1,184 at most is the evaluation's, in its
 points; a greater one is the end of the game: 'wins by 12 discs'. A loss is what the best move is worth more.
 """
-from __future__ import annotations
 
 import dataclasses
 import os

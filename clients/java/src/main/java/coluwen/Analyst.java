@@ -1,13 +1,10 @@
 package coluwen;
 
 import java.time.Duration;
-import java.util.Comparator;
-import java.util.List;
+import java.util.*;
 import java.util.concurrent.CompletableFuture;
-import java.util.function.Consumer;
-import java.util.function.Function;
-import java.util.stream.IntStream;
-import java.util.stream.Stream;
+import java.util.function.*;
+import java.util.stream.*;
 
 /** What a client of a server and an engine of this host have in common. Threads may share it. */
 public interface Analyst extends AutoCloseable {
@@ -20,8 +17,12 @@ public interface Analyst extends AutoCloseable {
   /** How deep it looks at mid-game positions, found out once. */
   Info info();
 
-  /** How long it takes to say a word. */
-  Duration ping();
+  /** How long it takes to say a word: that of a question that needs no search. */
+  default Duration ping() {
+    var begun = System.nanoTime();
+    analyse(Position.opening(), 0);
+    return Duration.ofNanos(System.nanoTime() - begun);
+  }
 
   /** Ends it. Calls that wait, and later ones, are {@code Closed}. */
   @Override

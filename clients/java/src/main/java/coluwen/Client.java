@@ -4,16 +4,13 @@ import coluwen.ColuwenException.Broken;
 import java.io.IOException;
 import java.net.*;
 import java.nio.charset.StandardCharsets;
-import java.nio.file.Files;
-import java.nio.file.Path;
-import java.security.GeneralSecurityException;
-import java.security.KeyStore;
+import java.nio.file.*;
+import java.security.*;
 import java.security.cert.CertificateFactory;
 import java.time.Duration;
 import java.util.*;
 import java.util.concurrent.*;
-import java.util.function.Consumer;
-import java.util.function.DoubleConsumer;
+import java.util.function.*;
 import javax.net.ssl.*;
 
 /**
@@ -37,7 +34,6 @@ public final class Client implements Analyst {
   private final Builder options;
   private final Core core;
   private final Map<Core.Seat, Socket> sockets = new HashMap<>();
-  private final Map<Core.Question, Consumer<Core.Question>> waiting = new HashMap<>();
   private final ScheduledThreadPoolExecutor clock = Calls.clock();
   private final long origin = System.nanoTime();
   private Future<?> alarm;
@@ -192,32 +188,30 @@ public final class Client implements Analyst {
   public CompletableFuture<Result> analyseAsync(Position position, int depth, Duration timeout) {
     Calls.checked(depth);
     var begun = System.nanoTime();
-    var question = new Core.Question(Core.Kind.JOB, position.text(), depth, timeout == null ? 0 : Math.max(timeout.toNanos() / 1e6, 0.001));
-    return asked(question, found -> Result.of(position, depth, found.done.value(), found.done.move(), found.entries, begun));
+    var question = new Core.Question("ASK " + depth + " " + position.text(), depth, timeout == null ? 0 : Math.max(timeout.toNanos() / 1e6, 0.001));
+    return asked(question, () -> Result.of(position, depth, question.done.value(), question.done.move(), question.entries, begun));
   }
 
   @Override
-  public Info info() { return Calls.joined(asked(new Core.Question(Core.Kind.INFO, "", 0, 0), done -> done.info)); }
+  public Info info() {
+    var question = new Core.Question("INFO", 0, 0);
+    return Calls.joined(asked(question, () -> question.info));
+  }
 
   @Override
   public Duration ping() {
-    return Calls.joined(asked(new Core.Question(Core.Kind.PING, "", 0, 0), done -> Duration.ofNanos((long) (1e6 * done.milliseconds))));
+    var question = new Core.Question("QUOTA", 0, 0);
+    return Calls.joined(asked(question, () -> Duration.ofNanos((long) (1e6 * question.milliseconds))));
   }
 
-  private <T> CompletableFuture<T> asked(Core.Question question, java.util.function.Function<Core.Question, T> resultOf) {
+  private <T> CompletableFuture<T> asked(Core.Question question, Supplier<T> result) {
     var future = new CompletableFuture<T>();
-    try {
-      act(now -> {
-        core.ask(question, now);
-        waiting.put(question, done -> {
-          if (done.fault != null) future.completeExceptionally(done.fault);
-          else future.complete(resultOf.apply(done));
-        });
-      });
-    } catch (ColuwenException.Closed fault) {
-      return CompletableFuture.failedFuture(fault);
-    }
-    future.whenComplete((result, fault) -> {
+    question.heard = () -> {
+      if (question.fault != null) future.completeExceptionally(question.fault);
+      else future.complete(result.get());
+    };
+    act(now -> core.ask(question, now));
+    future.whenComplete((found, fault) -> {
       if (future.isCancelled()) act(now -> core.drop(question, new ColuwenException.Stopped(), now));
     });
     return future;
@@ -241,15 +235,12 @@ public final class Client implements Analyst {
   private void act(DoubleConsumer step) {
     var later = new ArrayList<Runnable>();
     synchronized (core) {
-      try {
-        step.accept(now());
-      } finally {
-        for (var todo = core.take(); !todo.isEmpty(); todo = core.take()) todo.forEach(action -> perform(action, later));
-        if (alarm != null) alarm.cancel(false);
-        var wait = (long) (1e6 * (core.next() - now()));
-        if (core.next() < Double.POSITIVE_INFINITY && !clock.isShutdown()) alarm = clock.schedule(() -> act(core::passed), Math.max(wait, 0), TimeUnit.NANOSECONDS);
-        core.notifyAll();
-      }
+      step.accept(now());
+      for (var todo = core.take(); !todo.isEmpty(); todo = core.take()) todo.forEach(action -> perform(action, later));
+      if (alarm != null) alarm.cancel(false);
+      var wait = (long) (1e6 * (core.next() - now()));
+      if (core.next() < Double.POSITIVE_INFINITY && !clock.isShutdown()) alarm = clock.schedule(() -> act(core::passed), Math.max(wait, 0), TimeUnit.NANOSECONDS);
+      core.notifyAll();
     }
     if (!later.isEmpty()) CompletableFuture.runAsync(() -> later.forEach(Runnable::run));
   }
@@ -262,11 +253,7 @@ public final class Client implements Analyst {
       case SEND -> write(action.seat(), action.text());
       case CLOSE -> shut(sockets.remove(action.seat()));
       case TELL -> events = events.thenRunAsync(() -> tell(new Event(action.text(), action.detail())));
-      case SETTLED -> {
-        var question = (Core.Question) action.detail();
-        var heard = waiting.remove(question);
-        if (heard != null) later.add(() -> heard.accept(question));
-      }
+      case SETTLED -> later.add(((Core.Question) action.detail()).heard);
     }
   }
 
@@ -319,15 +306,12 @@ public final class Client implements Analyst {
 
   /** A session's thread: connects, and reads until the connection ends. */
   private void serve(Core.Seat seat) {
-    try (var socket = connected(options.host, options.port, options.tls, (int) Math.min(seat.silence(), Integer.MAX_VALUE))) {
+    try (var socket = connected(options.host, options.port, options.tls, (int) Math.min(seat.silence, Integer.MAX_VALUE))) {
       act(now -> {
-        if (!core.isOpen(seat)) return;
         sockets.put(seat, socket);
         core.opened(seat, now);
+        if (!core.isOpen(seat)) shut(sockets.remove(seat)); // it came too late
       });
-      synchronized (core) {
-        if (!core.isOpen(seat)) return; // it came too late
-      }
       var block = new byte[2 * Answer.LONGEST];
       for (int count = socket.getInputStream().read(block); count >= 0; count = socket.getInputStream().read(block)) {
         var bytes = new String(block, 0, count, StandardCharsets.ISO_8859_1);

@@ -3,6 +3,7 @@ package coluwen;
 import coluwen.ColuwenException.*;
 import java.util.*;
 import java.util.function.Supplier;
+import java.util.stream.*;
 
 /**
  * How positions come to their values by as many sessions as they need, without input and output: bytes and moments (in milliseconds of a
@@ -31,29 +32,26 @@ final class Core {
   /** How the server is used; times are in milliseconds. {@code levels}: what one session after another reserves. */
   record Limits(List<Reservation> levels, boolean isFree, String token, int sessions, int ahead, double patience, double silence, double outage) {}
 
-  enum Kind { JOB, PING, INFO }
-
-  /** What is asked. Once it is settled it has a fault, or what was found: {@code state} and {@code entries} of a job, milliseconds of a ping, what is known of the server. */
+  /** What is asked: a job by its ASK, a ping by QUOTA, an info by INFO. Once it is settled it has a fault, or what was found, and {@code heard} is run. */
   static final class Question {
-    final Kind kind;
-    final String position;
+    final String line;
     final int depth;
-    final double timeout; // from when it is asked; 0 for no limit
-    boolean isSettled;
+    final double timeout; // of a job, from when it is asked; 0 for no limit
+    Runnable heard;
     RuntimeException fault;
-    Answer done;
+    Answer done; // of a job, and its table's entries
     List<Answer.Entry> entries;
-    double milliseconds;
+    double milliseconds; // of a ping
     Info info;
+    private boolean isSettled;
     private int level, job, losses;
     private boolean isAlone; // it was spent: it is asked once more, as the first job of a session
     private double askedAt;
     private double pollAt = NEVER, until = NEVER, limit = NEVER; // when it is looked at, is cancelled, and nobody waits for a line's answer any more
     private double refusedAt = NEVER;
 
-    Question(Kind kind, String position, int depth, double timeout) {
-      this.kind = kind;
-      this.position = position;
+    Question(String line, int depth, double timeout) {
+      this.line = line;
       this.depth = depth;
       this.timeout = timeout;
     }
@@ -65,7 +63,8 @@ final class Core {
   static final class Seat {
     private final Wire wire = new Wire();
     private final List<Question> running = new ArrayList<>(); // whose jobs it has, the oldest first
-    private final double begun, silence;
+    final double silence;
+    private final double begun;
     private final int level;
     private final Probe probe; // of one that finds out the server's grain
     private String probing;
@@ -84,14 +83,9 @@ final class Core {
       deadline = now + silence;
     }
 
-    private LinkedHashSet<Question> questions() {
-      var found = new LinkedHashSet<>(running);
-      if (asked != null) found.add(asked);
-      return found;
-    }
+    private List<Question> questions() { return Stream.concat(running.stream(), Stream.ofNullable(asked)).distinct().toList(); }
 
     private boolean isIdle() { return isReady && word == null && running.isEmpty(); }
-    double silence() { return silence; }
   }
 
   enum What { OPEN, SEND, CLOSE, TELL, SETTLED }
@@ -124,8 +118,8 @@ final class Core {
   double next() { return next; }
 
   void ask(Question question, double now) {
-    if (isEnded) throw new Closed("client");
-    if (question.kind == Kind.INFO) tooDeep(question);
+    if (isEnded) settle(question, new Closed("client"));
+    else if (question.line.equals("INFO")) tooDeep(question);
     else queue.add(question);
     go(now);
   }
@@ -207,7 +201,7 @@ final class Core {
     for (var one : again) {
       one.again();
       if (!isSilent) one.losses++;
-      if (one.losses >= LOSSES || (isSilent && !isOutage(now)) || one.kind == Kind.PING) settle(one, unreachable(fault));
+      if (one.losses >= LOSSES || (isSilent && !isOutage(now)) || one.line.equals("QUOTA")) settle(one, unreachable(fault));
     }
     queue.addAll(0, again.stream().filter(one -> !one.isSettled).toList());
     if (!seat.isReady) notReached(seat, fault, isFinal, now);
@@ -303,7 +297,6 @@ final class Core {
       seat.freeAt = now + RETRY;
     } else if (!USED_UP.contains(refusal.number()) || seat.wire.jobs() == 0) {
       settle(question, refusal);
-      return;
     } else {
       var nodes = seat.reserved.nodes();
       var more = RAISED.stream().filter(step -> limits.isFree() && refusal.number() != 13 && step.nodes() > nodes).findFirst();
@@ -366,7 +359,7 @@ final class Core {
 
   /** What asks for the server's grain, or can't be answered at it. */
   private void tooDeep(Question question) {
-    var isInfo = question.kind == Kind.INFO;
+    var isInfo = question.line.equals("INFO");
     if (info == null && (isInfo || limits.isFree())) {
       deep.add(question);
       return;
@@ -407,13 +400,10 @@ final class Core {
       else if (now >= seat.freeAt) send(seat, seat.probing, null, now);
       return;
     }
-    var gone = seat.running.stream().filter(one -> one.isSettled || now >= one.until).findFirst();
-    if (gone.isPresent()) {
-      send(seat, "CANCEL " + gone.get().job, gone.get(), now);
-      return;
-    }
-    var question = nextFor(seat, now);
-    if (question != null) begin(seat, question, now);
+    var gone = seat.running.stream().filter(one -> one.isSettled || now >= one.until).findFirst().orElse(null);
+    var question = gone == null ? nextFor(seat, now) : null;
+    if (gone != null) send(seat, "CANCEL " + gone.job, gone, now);
+    else if (question != null) begin(seat, question, now);
     else if (!seat.running.isEmpty() && now >= seat.running.get(0).pollAt) send(seat, "GET " + seat.running.get(0).job, seat.running.get(0), now);
     else if (seat.running.isEmpty() && seat.isRetired) send(seat, "BYE", null, now);
   }
@@ -421,15 +411,11 @@ final class Core {
   private void begin(Seat seat, Question question, double now) {
     queue.remove(question);
     question.askedAt = now;
-    if (question.kind == Kind.PING) {
-      send(seat, "QUOTA", question, now);
-      return;
-    }
     if (question.timeout > 0) {
       question.until = now + question.timeout;
       question.limit = question.until + GRACE;
     }
-    send(seat, "ASK " + question.depth + " " + question.position, question, now);
+    send(seat, question.line, question, now);
   }
 
   private int levelOf(Question question) { return Math.max(question.level, needs.getOrDefault(question.depth, 0)); }
@@ -494,16 +480,15 @@ final class Core {
 
   /** How deep a server looks: by INFO where it knows that, else by how many nodes two mid-game positions take from depth to depth. */
   private static final class Probe {
-    private static final List<String> PLACES = List.of("-O-------O-------OXOO---XOXXOO--OOXXOOO---OXO------OO----------- X",
-        "-----X-------XX---OOOXO---OXX----OOOOXO---OO--X--OXO------X----- X");
+    private static final int LEAST = 2, DEPTHS = 7; // of each position
+    private static final List<String> JOBS = Stream.of(
+        "-O-------O-------OXOO---XOXXOO--OOXXOOO---OXO------OO----------- X", "-----X-------XX---OOOXO---OXX----OOOOXO---OO--X--OXO------X----- X")
+        .flatMap(place -> IntStream.range(LEAST, LEAST + DEPTHS).mapToObj(depth -> "ASK " + depth + " " + place)).toList();
     private static final int FEW_NODES = 50; // they take no more at a depth that is no more than a ply over the grain
-    private static final int LEAST = 2;
-    private static final int LAST = 8;
     private int grain = 6;
     private Optional<String> version = Optional.empty(); // of a site, which says it last
-    private int place;
-    private int depth = LEAST;
-    private int nodes = -1; // that were left before a job
+    private int job = -1; // the number of JOBS
+    private int nodes; // that were left before it
     private boolean wasSpent;
 
     /** The next line, after the answer to the one before; null once the grain is known. */
@@ -520,24 +505,16 @@ final class Core {
         case "JOB", "PENDING":
           return "GET " + answer.job();
         case "QUOTA":
-          counted(answer.numbers().get(1));
-          return place < PLACES.size() ? "ASK " + depth + " " + PLACES.get(place) : null;
+          var left = answer.numbers().get(1);
+          var isOver = job >= 0 && (wasSpent || nodes - left > FEW_NODES);
+          if (isOver) grain = Math.min(grain, LEAST + job % DEPTHS - 2);
+          job = isOver ? (job / DEPTHS + 1) * DEPTHS : job + 1; // the next position's first one, or the next one
+          nodes = left;
+          return job < JOBS.size() ? JOBS.get(job) : null;
         default:
-          wasSpent |= nodes >= 0 && !state.equals("DONE");
+          wasSpent = !state.equals("DONE");
           return "QUOTA";
       }
-    }
-
-    private void counted(int left) {
-      var isOver = nodes >= 0 && (wasSpent || nodes - left > FEW_NODES);
-      if (isOver) grain = Math.min(grain, depth - 2);
-      if (nodes >= 0) depth++;
-      if (isOver || depth > LAST) {
-        place++;
-        depth = LEAST;
-      }
-      nodes = left;
-      wasSpent = false;
     }
   }
 }

@@ -127,11 +127,6 @@ public final class Engine implements Analyst {
 
     void end() {
       process.destroyForcibly();
-      try {
-        process.getOutputStream().close();
-      } catch (IOException fault) {
-        // it is of no use any more
-      }
       process.onExit().join();
     }
   }
@@ -192,18 +187,15 @@ public final class Engine implements Analyst {
 
     /** What a process answers; null where it has ended, or the question was given up. */
     private String said() {
-      synchronized (processes) {
-        if (isClosed || isLate || future.isDone()) return null;
-        try {
+      try {
+        synchronized (processes) {
+          if (isClosed || isLate || future.isDone()) return null;
           running = spare.isEmpty() ? Running.begun(program) : spare.pop();
           processes.add(running);
-        } catch (IOException fault) {
-          throw new Unreachable(program + ": " + fault.getMessage(), fault);
         }
-      }
-      try {
         return running.asked(depth + " " + position.text() + "\n");
       } catch (IOException fault) {
+        if (running == null) throw new Unreachable(program + ": " + fault.getMessage(), fault);
         return null;
       }
     }
@@ -256,14 +248,6 @@ public final class Engine implements Analyst {
   /** Every depth can be had. */
   @Override
   public Info info() { return new Info(Core.DEEPEST, Core.DEEPEST, Core.DEEPEST, Optional.empty()); }
-
-  /** How long a question takes that needs no search. */
-  @Override
-  public Duration ping() {
-    var begun = System.nanoTime();
-    analyse(Position.opening(), 0);
-    return Duration.ofNanos(System.nanoTime() - begun);
-  }
 
   /** Ends the processes, and waits until they have. Calls that wait, and later ones, are {@code Closed}. */
   @Override

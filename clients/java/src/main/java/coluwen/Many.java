@@ -1,10 +1,9 @@
 package coluwen;
 
 import java.util.*;
-import java.util.concurrent.CompletableFuture;
+import java.util.concurrent.*;
 import java.util.function.Function;
-import java.util.stream.Stream;
-import java.util.stream.StreamSupport;
+import java.util.stream.*;
 
 /** Many questions and their outcomes: {@code Analyst.analyseMany}. */
 final class Many {
@@ -12,39 +11,36 @@ final class Many {
 
   static <T> Stream<Outcome<T>> of(Analyst analyst, Iterable<T> questions, Function<? super T, Position> positionOf, int depth, Analyst.Bulk how) {
     class Outcomes implements Iterator<Outcome<T>> {
-      private final Map<Integer, CompletableFuture<Result>> asked = new LinkedHashMap<>(); // what isn't known yet
+      private final Map<Integer, CompletableFuture<Result>> asked = new ConcurrentHashMap<>(); // what isn't known yet
       private final Map<Integer, Outcome<T>> known = new LinkedHashMap<>(); // and isn't given
       private Thread feeder;
-      private RuntimeException broken; // a fault of the source
-      private boolean isOver; // the source has no more, or nobody wants it
-      private int taken, given, done, faults;
+      private volatile RuntimeException broken; // a fault of the source
+      private volatile boolean isOver; // the source has no more, or nobody wants it
+      private int taken, given, done, faults; // (the feeder alone takes)
 
       /** Takes the source, no further ahead than the window. */
       private void feed() {
         try {
           for (var question : questions) {
-            synchronized (this) {
-              if (isOver) return;
-              taken++;
-            }
-            begin(taken - 1, question);
+            if (isOver) return;
+            begin(taken++, question);
             synchronized (this) {
               while (!isOver && taken - given >= how.window()) wait();
-              if (isOver) return;
             }
+            if (isOver) return;
           }
         } catch (InterruptedException stopped) {
           Thread.currentThread().interrupt();
         } catch (RuntimeException fault) {
-          synchronized (this) {
-            broken = fault;
-          }
+          broken = fault;
         } finally {
-          synchronized (this) {
-            isOver = true;
-            notifyAll();
-          }
+          over();
         }
+      }
+
+      private synchronized void over() {
+        isOver = true;
+        notifyAll();
       }
 
       private void begin(int index, T question) {
@@ -54,9 +50,7 @@ final class Many {
         } catch (RuntimeException fault) {
           future = CompletableFuture.failedFuture(fault);
         }
-        synchronized (this) {
-          asked.put(index, future);
-        }
+        asked.put(index, future);
         future.whenComplete((result, fault) -> settled(new Outcome<>(index, question, result, fault)));
       }
 
@@ -106,14 +100,10 @@ final class Many {
       }
 
       private void close() {
-        List<CompletableFuture<Result>> left;
-        synchronized (this) {
-          isOver = true;
-          left = List.copyOf(asked.values());
-          asked.clear();
-          if (feeder != null) feeder.interrupt();
-          notifyAll();
-        }
+        over();
+        if (feeder != null) feeder.interrupt();
+        var left = List.copyOf(asked.values());
+        asked.clear();
         left.forEach(future -> future.cancel(true));
       }
     }

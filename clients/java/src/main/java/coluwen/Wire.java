@@ -29,16 +29,15 @@ final class Wire {
     if (line == null || (end >= 0 && end < rest.length() - 1)) throw new Broken("the server said what wasn't asked");
     if (rest.length() > Answer.LONGEST || (end < 0 && rest.length() == Answer.LONGEST)) throw new Broken("an answer has more than " + Answer.LONGEST + " bytes");
     if (end < 0) return null;
-    var asked = line;
-    var text = rest.substring(0, end);
-    line = null;
-    rest = "";
     try {
-      var found = Answer.parse(asked, text, jobs);
+      var found = Answer.parse(line, rest.substring(0, end), jobs);
       if (found.state().equals("JOB")) jobs++;
       return new Reply(found, null);
     } catch (Refused refusal) {
       return new Reply(null, refusal);
+    } finally {
+      line = null;
+      rest = "";
     }
   }
 }
