@@ -1,13 +1,5 @@
 -- Chains and their words in regions that agree on them.
-use Rattle.std.proofs.Common.{◌≡◌, ℕ, zero, suc, ◌≤◌, List, [], ◌∷◌, take, Option, None, Some, refl, ap, arith, get_or-set_other, ◌≢◌, ◌<◌, ◌++◌, length, get_or, sym, ◌+◌, ◌-◌, ◌*◌, ◌∙◌, get_or-set_same, zero-add, ◌/◌, ◌%◌, IsSome, slice_get, drop, min, subst}
-use Rattle.std.proofs.Math.ListN.{set, get_or-append}
-use Rattle.segment_region.specs.Segments.{Segment, Segments, segment_at, link_at, IsTaken, words_at, with_segment_words, with_link}
-use Rattle.cactus_stack.specs.Chains.{chain, content, Lacks, AreApart, AllBlocks, AllFree, AgreesOn, IsOnce, IsChain}
-use Rattle.std.proofs.lemmas.List.{length-append, append_assoc, set-append_left, set-append_right, get_or-append_right, get_or-take, length-take-le, length-take, length-drop, get_or-drop, ext_get_or}
-use Rattle.segment_region.proofs.Counts.{lt-of-IsTaken}
-use Rattle.std.proofs.lemmas.Option.{slice_get-get_or}
-use Rattle.cactus_stack.specs.Nodes.{charge, charge_of}
-use Rattle.cactus_stack.specs.Places.{node_in, words_in_chain, segments_of, IsSoundList}
+use Rattle.cactus_stack.proofs.Common.{◌≡◌, ℕ, zero, suc, ◌≤◌, List, [], ◌∷◌, take, Option, None, Some, refl, ap, arith, get_or-set_other, ◌≢◌, ◌<◌, ◌++◌, length, get_or, sym, ◌+◌, ◌-◌, ◌*◌, ◌∙◌, get_or-set_same, zero-add, ◌/◌, ◌%◌, IsSome, slice_get, drop, min, subst, set, get_or-append, Segment, Segments, segment_at, link_at, IsTaken, words_at, with_segment_words, with_link, chain, content, Lacks, AreApart, AllBlocks, AllFree, AgreesOn, IsOnce, IsChain, length-append, append_assoc, set-append_left, set-append_right, get_or-append_right, get_or-take, length-take-le, length-take, length-drop, get_or-drop, ext_get_or, lt-of-IsTaken, slice_get-get_or, charge, charge_of, node_in, words_in_chain, segments_of, IsSoundList}
 
 pub chain-agrees : (count : ℕ) (old new : Segments) (head : Option ℕ) → AgreesOn old new (chain count old head) → chain count new head ≡ chain count old head
 chain-agrees zero old new head agrees = refl

@@ -1,12 +1,5 @@
 -- What the laws say, by induction.
-use Rattle.std.proofs.Common.{◌≡◌, ◌≢◌, ℕ, zero, suc, ◌+◌, ◌<◌, List, [], ◌∷◌, length, map, sum_by, AllPairs, Option, None, Some, Contains, get_or, refl, sym, ap, ◌∙◌, arith, get_or-set_other, IsSome, ◌-◌, ◌≤◌, min, take, drop, inl, inr, get_or-set_same}
-use Rattle.std.proofs.Math.ListN.{set}
-use Rattle.std.proofs.lemmas.List.Sums.{sum_by-cons}
-use Rattle.cactus_stack.specs.Nodes.{Node, Nodes, charge_of, total_charge, node_at, node_words, node_parent, IsSight, IsPath, with_node, without, parent_of_node, IsOpen, HasNoChild, HasAllChildren, with_node_words}
-use Rattle.std.proofs.lemmas.List.{get_or-take, length-take-le}
-use Rattle.std.proofs.lemmas.Bool.{cases_eq}
-use Rattle.cactus_stack.specs.Places.{place_at, IsUnder, IsForest, sight_within, IsWholeSight}
-use Rattle.cactus_stack.specs.declared.place.Place.{Place}
+use Rattle.cactus_stack.proofs.Common.{◌≡◌, ◌≢◌, ℕ, zero, suc, ◌+◌, ◌<◌, List, [], ◌∷◌, length, map, sum_by, AllPairs, Option, None, Some, Contains, get_or, refl, sym, ap, ◌∙◌, arith, get_or-set_other, IsSome, ◌-◌, ◌≤◌, min, take, drop, inl, inr, get_or-set_same, set, sum_by-cons, Node, Nodes, charge_of, total_charge, node_at, node_words, node_parent, IsSight, IsPath, with_node, without, parent_of_node, IsOpen, HasNoChild, HasAllChildren, with_node_words, get_or-take, length-take-le, cases_eq, place_at, IsUnder, IsForest, sight_within, IsWholeSight, Place}
 
 none-at : (nodes : Nodes) (n : ℕ) → node_at (set nodes n None) n ≡ None
 none-at [] n = refl

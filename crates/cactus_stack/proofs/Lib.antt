@@ -1,3 +1,4 @@
+mod Common
 pub mod Content
 pub mod Grown
 pub mod Steps

@@ -1,18 +1,6 @@
 -- One place changes, and all others stay.
-use Rattle.std.proofs.Common.{◌≡◌, ◌≢◌, ℕ, zero, suc, ◌+◌, ◌<◌, List, [], ◌∷◌, length, sum_by, Option, None, Some, get_or, refl, sym, ap, ◌∙◌, arith, inl, inr, get_or-set_other, get_or-set_same, ◌-◌, ◌*◌, ◌/◌, ◌%◌, ◌≤◌, ◌++◌, take, drop, replicate}
-use Rattle.std.proofs.Math.ListN.{set}
-use Rattle.std.proofs.lemmas.List.{length-set, ext_get_or, append_assoc, take-append-drop, take-replicate, drop-replicate, replicate-append-replicate, drop-set-lt, length-replicate, get_or_default, set-get_or}
-use Rattle.std.proofs.lemmas.List.Sums.{sum_by-set, sum_by-cons}
-use Rattle.std.proofs.lemmas.Bool.{cases_eq}
-use Rattle.segment_region.specs.Segments.{Segments, taken_count, Segment, words_at, link_at, IsTaken, IsFree, with_segment_words}
-use Rattle.cactus_stack.specs.Nodes.{Node, Nodes, charge, node_at, total_charge, charge_of, padded, node_words, IsOpen, IsUnused, HasAllChildren, free_segments, with_node, with_node_words, without}
-use Rattle.cactus_stack.specs.Chains.{AreApart, AgreesOn, chain, content, AllBlocks, AllFree, IsFreshChain, IsGrownChain, IsGivenBack}
-use Rattle.cactus_stack.specs.Places.{node_in, nodes_from, nowhere, place_at, len_at, charge_of_place, segments_of, IsSoundList, AreStored, resized, with_len, words_in_chain, IsUnder, IsForest, IsStack, IsWholeSight}
-use Rattle.cactus_stack.specs.declared.place.Place.{Place}
+use Rattle.cactus_stack.proofs.Common.{◌≡◌, ◌≢◌, ℕ, zero, suc, ◌+◌, ◌<◌, List, [], ◌∷◌, length, sum_by, Option, None, Some, get_or, refl, sym, ap, ◌∙◌, arith, inl, inr, get_or-set_other, get_or-set_same, ◌-◌, ◌*◌, ◌/◌, ◌%◌, ◌≤◌, ◌++◌, take, drop, replicate, set, length-set, ext_get_or, append_assoc, take-append-drop, take-replicate, drop-replicate, replicate-append-replicate, drop-set-lt, length-replicate, get_or_default, set-get_or, sum_by-set, sum_by-cons, cases_eq, Segments, taken_count, Segment, words_at, link_at, IsTaken, IsFree, with_segment_words, Node, Nodes, charge, node_at, total_charge, charge_of, padded, node_words, IsOpen, IsUnused, HasAllChildren, free_segments, with_node, with_node_words, without, AreApart, AgreesOn, chain, content, AllBlocks, AllFree, IsFreshChain, IsGrownChain, IsGivenBack, node_in, nodes_from, nowhere, place_at, len_at, charge_of_place, segments_of, IsSoundList, AreStored, resized, with_len, words_in_chain, IsUnder, IsForest, IsStack, IsWholeSight, Place, take-append-add, drop-append-add, take-set-lt, sum_by-replicate, taken_count-write, taken_count-replicate}
 use Rattle.cactus_stack.proofs.Content.{apart-sym, chain-agrees, content-agrees, blocks-agrees, charge_of-node_in, apart-append, apart-get_or, agrees-apart, agrees-taken, agrees-set, apart-free, content-write, chain-write, blocks-write, blocks-get_or, charge-some, charge-room, charge-below, length-words_in, len-of-node, node_in-some, place_of_sound}
-use Rattle.std.proofs.Math.Seq.{take-append-add, drop-append-add, take-set-lt}
-use Rattle.std.proofs.lemmas.List.Folds.{sum_by-replicate}
-use Rattle.segment_region.proofs.Counts.{taken_count-write, taken_count-replicate}
 use Rattle.cactus_stack.proofs.LawFacts.{tree-write, tree-open, tree-without, depth-le-length, sight-open}
 
 -- the node of a number, given its place

@@ -3,7 +3,7 @@
 //! Words stand for [`Options`], or for a fault ([`WordsFault`]). Which values the words give is `clap`'s own
 //! definition; what they ask for is `specs/CommandLine.antt`: each option has the value that the words give it, or
 //! its default, and a value outside its limits is refused. [`Options::read`] is proved to read just that. That it reads
-//! at all, and what is said of refused words, is tested in `thread_tests`.
+//! at all, and what is said of refused words, is tested in `server_tests`.
 //!
 //! Why it is so:
 //!

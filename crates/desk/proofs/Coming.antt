@@ -1,23 +1,5 @@
 -- What lies under the lock has come by the steps of the history, one after the other.
-use Rattle.std.proofs.Common.{◌≡◌, ℕ, ◌+◌, ◌<◌, ◌≤◌, List, [], ◌∷◌, ◌++◌, true, false, refl, sym, ap, ◌∙◌, subst, arith, None, Result, Ok, Err}
-use Rattle.std.specs.Prelude.{OnOk, OnErr}
-use mathlib.Core.List.{IsPrefix}
-use Rattle.tenant_quota.specs.Quota.{Quota}
-use Rattle.sched_rules.specs.declared.refusal.Refusal.{Refusal}
-use Rattle.sched_rules.specs.declared.step.StepOf.{StepOf}
-use Rattle.sched_rules.specs.declared.step.StepOf.TheVariants.{Admit, Leave}
-use Rattle.sched_rules.specs.declared.step.DidOf.{DidOf}
-use Rattle.sched_rules.specs.declared.step.DidOf.TheVariants.{Left}
-use Rattle.sched_rules.specs.Runs.{tenant_of, only, alone_from}
-use Rattle.sched_rules.specs.Cores.{CoreState, tenant_in, shared_run, newest_after}
-use Rattle.sched_rules.specs.Headline.{IsOneStep}
-use Rattle.hall.specs.jamboree_rules.declared.leaf.Leaf.{Leaf}
-use Rattle.hall.specs.jamboree_rules.declared.leaf.LeafAnswer.{LeafAnswer}
-use Rattle.hall.specs.jamboree_rules.Procedure.{jamboree}
-use Rattle.hall.specs.Halls.{HallOf, hall_after, IsExplained}
-use Rattle.desk.specs.Traces.{own, Known}
-use Rattle.desk.specs.Seats.{SeatOf, seeing}
-use Rattle.desk.specs.Histories.{steps_of, core_at, is_admit, is_seat_step, with_taken, is_leave, stays_by, AreTaken, AreSeats, HasNoLeave, HasOwners, IsComeBy, IsThere, IsLook, IsToldOf}
+use Rattle.desk.proofs.Common.{◌≡◌, ℕ, ◌+◌, ◌<◌, ◌≤◌, List, [], ◌∷◌, ◌++◌, true, false, refl, sym, ap, ◌∙◌, subst, arith, None, Result, Ok, Err, OnOk, OnErr, IsPrefix, Quota, Refusal, StepOf, Admit, Leave, DidOf, Left, tenant_of, only, alone_from, CoreState, tenant_in, shared_run, newest_after, IsOneStep, Leaf, LeafAnswer, jamboree, HallOf, hall_after, IsExplained, own, Known, SeatOf, seeing, steps_of, core_at, is_admit, is_seat_step, with_taken, is_leave, stays_by, AreTaken, AreSeats, HasNoLeave, HasOwners, IsComeBy, IsThere, IsLook, IsToldOf}
 use Rattle.desk.proofs.Judged.{run-more, taken-more, not-refused, here, known-number, tenant_in-new, newest-stays, Rights, Headlines, isolated}
 use Rattle.desk.proofs.Staying.{there_more, seat_stays, leaves}
 use Rattle.desk.proofs.Owners.{steps_of-more, owners_more, owners_admit, steps_are_mine, unused, unmade, upto_more}

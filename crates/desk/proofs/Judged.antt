@@ -1,18 +1,5 @@
 -- Lists of steps that a core takes, for any procedure: that each tenant is what its own steps make of it.
-use Rattle.std.proofs.Common.{◌≡◌, ◌≢◌, ℕ, ◌<◌, ◌≤◌, ◌==◌, List, [], ◌∷◌, ◌++◌, Bool, true, false, refl, sym, ap, ◌∙◌, subst, arith, Option, Some, None, Result, Ok, Err}
-use Rattle.std.proofs.lemmas.Bool.Decides.{nat_tests}
-use Rattle.sched_rules.specs.declared.refusal.Refusal.{Refusal}
-use Rattle.sched_rules.specs.declared.refusal.Refusal.TheVariants.{Busy}
-use Rattle.sched_rules.specs.declared.step.StepOf.{StepOf}
-use Rattle.sched_rules.specs.declared.step.StepOf.TheVariants.{Admit, AdmitMore}
-use Rattle.sched_rules.specs.declared.step.DidOf.{DidOf}
-use Rattle.sched_rules.specs.Functions.{Functions}
-use Rattle.sched_rules.specs.Trees.{Tenant}
-use Rattle.sched_rules.specs.Lone.{Outcome, lone, refusal_in}
-use Rattle.sched_rules.specs.Runs.{tenant_of, only, answer_of, alone_from}
-use Rattle.sched_rules.specs.Cores.{CoreState, tenant_in, meets_busy, is_beyond, reservations_in, reserved_by, unless_busy, unless_beyond, step_result, shared_refusal, shared_after, shared_run, newest_after}
-use Rattle.sched_rules.specs.Headline.{IsAnswerTo, IsHeadline, AreAnswersTo, AreNumbersGiven, AreNumbersTaken, after_answers, taken_steps}
-use Rattle.desk.specs.Histories.{is_admit, AreTaken}
+use Rattle.desk.proofs.Common.{◌≡◌, ◌≢◌, ℕ, ◌<◌, ◌≤◌, ◌==◌, List, [], ◌∷◌, ◌++◌, Bool, true, false, refl, sym, ap, ◌∙◌, subst, arith, Option, Some, None, Result, Ok, Err, nat_tests, Refusal, Busy, StepOf, Admit, AdmitMore, DidOf, Functions, Tenant, Outcome, lone, refusal_in, tenant_of, only, answer_of, alone_from, CoreState, tenant_in, meets_busy, is_beyond, reservations_in, reserved_by, unless_busy, unless_beyond, step_result, shared_refusal, shared_after, shared_run, newest_after, IsAnswerTo, IsHeadline, AreAnswersTo, AreNumbersGiven, AreNumbersTaken, after_answers, taken_steps, is_admit, AreTaken}
 
 -- one step more
 pub run-more : {I A : Type 0} (functions : Functions I A) (shared : CoreState) (steps : List (StepOf A)) (step : StepOf A) →

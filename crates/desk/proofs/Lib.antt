@@ -1,3 +1,4 @@
+mod Common
 pub mod Prefixes
 pub mod Keeping
 pub mod Offering

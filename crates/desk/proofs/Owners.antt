@@ -1,14 +1,5 @@
 -- A seat's steps are all the seat steps of its tenant.
-use Rattle.std.proofs.Common.{◌≡◌, ℕ, ◌<◌, ◌≤◌, ◌==◌, ◌&&◌, List, [], ◌∷◌, ◌++◌, Bool, true, false, refl, sym, ap, ◌∙◌, subst, arith, if◌then◌else◌, Result, Ok, Err}
-use Rattle.std.proofs.lemmas.Bool.Decides.{nat_tests}
-use Rattle.tenant_quota.specs.Quota.{Quota}
-use Rattle.sched_rules.specs.declared.refusal.Refusal.{Refusal}
-use Rattle.sched_rules.specs.declared.step.StepOf.{StepOf}
-use Rattle.sched_rules.specs.declared.step.StepOf.TheVariants.{Admit}
-use Rattle.sched_rules.specs.Runs.{tenant_of, only}
-use Rattle.hall.specs.jamboree_rules.declared.leaf.LeafAnswer.{LeafAnswer}
-use Rattle.desk.specs.Traces.{own as own_by}
-use Rattle.desk.specs.Histories.{steps_of, is_seat_step, seat_steps, with_taken, Owned, HasOwners, AllOwn, AreSeats, AreStepsUpTo}
+use Rattle.desk.proofs.Common.{◌≡◌, ℕ, ◌<◌, ◌≤◌, ◌==◌, ◌&&◌, List, [], ◌∷◌, ◌++◌, Bool, true, false, refl, sym, ap, ◌∙◌, subst, arith, if◌then◌else◌, Result, Ok, Err, nat_tests, Quota, Refusal, StepOf, Admit, tenant_of, only, LeafAnswer, own as own_by, steps_of, is_seat_step, seat_steps, with_taken, Owned, HasOwners, AllOwn, AreSeats, AreStepsUpTo}
 
 abbrev Step : Type 0
 Step = StepOf LeafAnswer

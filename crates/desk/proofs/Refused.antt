@@ -1,24 +1,6 @@
 -- As what an ask, and a raise of what is reserved, can be refused.
-use Rattle.std.proofs.Common.{◌≡◌, ℕ, Bool, true, false, Option, Some, None, refl, sym, subst, lit<, inl, inr, Result, Ok, Err}
+use Rattle.desk.proofs.Common.{◌≡◌, ℕ, Bool, true, false, Option, Some, None, refl, sym, subst, lit<, inl, inr, Result, Ok, Err, Refusal, OutOfMemory, Lower, AdmitMore, Submit, DidOf, Quota, tenant_in, step_result, is_beyond, unless_beyond, reserved_by, reservations_in, Functions, Outcome, is_lower, lone, raised, refusal_in, answer_of, Tenant, Leaf, root_words, frame_size, jamboree, HallOf, IsOffered, reserve_refusals, ask_refusals, ask_refused as offered_refused}
 use Rattle.std.specs.Prelude.{Contains, IfErr, if◌then◌else◌, ◌⊎◌}
-use Rattle.sched_rules.specs.declared.refusal.Refusal.{Refusal}
-use Rattle.sched_rules.specs.declared.refusal.Refusal.TheVariants.{OutOfMemory, Lower}
-use Rattle.sched_rules.specs.declared.step.StepOf.TheVariants.{AdmitMore, Submit}
-use Rattle.sched_rules.specs.declared.step.DidOf.{DidOf}
-use Rattle.tenant_quota.specs.Quota.{Quota}
-use Rattle.sched_rules.specs.Cores.{tenant_in, step_result, is_beyond, unless_beyond, reserved_by, reservations_in}
-use Rattle.sched_rules.specs.Functions.{Functions}
-use Rattle.sched_rules.specs.Lone.{Outcome, is_lower, lone, raised, refusal_in}
-use Rattle.sched_rules.specs.Runs.{answer_of}
-use Rattle.sched_rules.specs.Trees.{Tenant}
-use Rattle.hall.specs.jamboree_rules.declared.leaf.Leaf.{Leaf}
-use Rattle.hall.specs.jamboree_rules.Places.{root_words, frame_size}
-use Rattle.hall.specs.jamboree_rules.Procedure.{jamboree}
-use Rattle.hall.specs.Halls.{HallOf}
-use Rattle.desk.specs.Counts.{IsOffered}
-use Rattle.desk.specs.Seats.{reserve_refusals}
-use Rattle.desk_rules.specs.Asked.{ask_refusals}
-use Rattle.desk_rules.proofs.Refused.{ask_refused as offered_refused}
 
 pub ask_refused : (before after : HallOf) (number own opp depth : ℕ) (answer : Result (DidOf Leaf) Refusal) → IsOffered before (Submit number (root_words own opp depth) frame_size) answer after → IfErr answer (Contains ask_refusals)
 ask_refused before after number own opp depth answer h = offered_refused before after number own opp depth answer h.one

@@ -1,27 +1,7 @@
 -- A tenant that was admitted and hasn't left is there.
-use Rattle.std.proofs.Common.{◌≡◌, ◌≢◌, ℕ, ◌==◌, List, [], ◌∷◌, ◌++◌, Bool, true, false, refl, sym, ap, ◌∙◌, subst, arith, if◌then◌else◌, Option, Some, None, Result, Ok, Err, ◌⊎◌, inl, inr}
-use Rattle.std.proofs.lemmas.Bool.Decides.{nat_tests}
-use Rattle.frame_tree.specs.declared.names.FrameId.{FrameId}
-use Rattle.frame_tree.specs.Frames.{Frame, frame_at, parent_of}
-use Rattle.std.specs.Prelude.{not, ◌&&◌, ◌||◌}
-use Rattle.sched_rules.specs.declared.act.InletAct.{InletAct}
-use Rattle.sched_rules.specs.declared.act.Continuation.{Continuation}
-use Rattle.sched_rules.specs.declared.act.Continuation.TheVariants.{Grow, Spawn, Go, Wait, Compute, Return}
-use Rattle.sched_rules.specs.declared.job.Job.{Job}
-use Rattle.sched_rules.specs.declared.job.Job.TheVariants.{Live, Done, Spent, Cancelled}
-use Rattle.sched_rules.specs.declared.refusal.Refusal.{Refusal}
-use Rattle.sched_rules.specs.declared.refusal.Refusal.TheVariants.{NotSpent, Lower}
-use Rattle.sched_rules.specs.declared.step.StepOf.{StepOf}
-use Rattle.sched_rules.specs.declared.step.StepOf.TheVariants.{Admit, AdmitMore, Submit, Take, Steal, Advance, Answer, Inlet, Finish, Spend, Cancel, Leave}
-use Rattle.sched_rules.specs.declared.step.DidOf.{DidOf}
-use Rattle.sched_rules.specs.declared.step.DidOf.TheVariants.{Left}
-use Rattle.sched_rules.specs.Functions.{Functions}
-use Rattle.sched_rules.specs.Trees.{Tenant, has_child, job_at, stored, words_in}
-use Rattle.sched_rules.specs.Lone.{Outcome, lone, unless, at_frame, inlet_under, refusal_in, cancelled, then_done, is_lower, raised, submitted, submit_tests, taken_in, taken_by, advanced, answered, finished, spent, counted, holding, act_by_sight, is_spendable, take_tests, steal_tests, advance_tests, answer_tests, inlet_tests, finish_tests, staying, does_wait}
-use Rattle.sched_rules.specs.Runs.{tenant_of, answer_of}
-use Rattle.sched_rules.specs.Cores.{CoreState, tenant_in, with_outcome, meets_busy, is_beyond, reservations_in, reserved_by, unless_busy, unless_beyond, admit_tests, step_result, shared_refusal, shared_after}
-use Rattle.sched_rules.specs.Headline.{IsAnswerTo}
-use Rattle.desk.specs.Histories.{is_leave, is_seat_step, seat_steps, stays_by, HasNoLeave, IsThere}
+use Rattle.desk.proofs.Common.{◌≡◌, ◌≢◌, ℕ, ◌==◌, List, [], ◌∷◌, ◌++◌, Bool, true, false, refl, sym, ap, ◌∙◌, subst, arith, if◌then◌else◌, Option, Some, None, Result, Ok, Err, ◌⊎◌, inl, inr, nat_tests, FrameId, Frame, frame_at, parent_of, not, ◌||◌, InletAct, Continuation, Grow, Spawn, Go, Wait, Compute, Return, Job, Live, Done, Spent, Cancelled, Refusal, NotSpent, Lower, StepOf, Admit, AdmitMore, Submit, Take, Steal, Advance, Answer, Inlet, Finish, Spend, Cancel, Leave, DidOf, Left, Functions, Tenant, has_child, job_at, stored, words_in, Outcome, lone, unless, at_frame, inlet_under, refusal_in, cancelled, then_done, is_lower, raised, submitted, submit_tests, taken_in, taken_by, advanced, answered, finished, spent, counted, act_by_sight, is_spendable, take_tests, steal_tests, advance_tests, answer_tests, inlet_tests, finish_tests, staying, does_wait, tenant_of, answer_of, CoreState, tenant_in, with_outcome, meets_busy, is_beyond, reservations_in, reserved_by, unless_busy, unless_beyond, admit_tests, step_result, shared_refusal, shared_after, IsAnswerTo, is_leave, is_seat_step, seat_steps, stays_by, HasNoLeave, IsThere}
+use Rattle.std.specs.Prelude.{◌&&◌}
+use Rattle.sched_rules.specs.Lone.{holding}
 
 -- a step that was taken leaves its tenant there
 abbrev Keeps : {I : Type 0} → Result (Outcome I) Refusal → Type 0

@@ -1,43 +1,9 @@
 -- Each call is answered by what its tenant has come to.
-use Rattle.std.proofs.Common.{◌≡◌, ℕ, ◌+◌, ◌-◌, ◌==◌, List, [], ◌∷◌, length, map, Bool, true, false, refl, sym, ap, ◌∙◌, subst, if◌then◌else◌, Option, Some, None, Result, Ok, Err, inl, inr, arith}
-use Rattle.std.specs.Prelude.{◌⊎◌, nat_le, option_map, option_and_then, slice_index}
-use Rattle.tenant_quota.specs.Quota.{Quota}
-use Rattle.othello_board.specs.declared.cells.Cell.{Cell}
-use Rattle.position_text.specs.declared.positions.Side.{Side}
+use Rattle.desk_office.proofs.Common.{◌≡◌, ℕ, ◌+◌, ◌-◌, ◌==◌, List, [], ◌∷◌, length, map, Bool, true, false, refl, sym, ap, ◌∙◌, subst, if◌then◌else◌, Option, Some, None, Result, Ok, Err, inl, inr, arith, ◌⊎◌, option_map, option_and_then, slice_index, Quota, Cell, Side, Refusal, Full, NoJobsLeft, OutOfMemory, refusal_number, AdmitMore, Submit, DidOf, Functions, Tenant, left, job_at, cancelled, lone, lone_refusal, refusal_in, unless, submit_tests, submitted, tenant_of, answer_of, CoreState, tenant_in, is_beyond, reservations_in, reserved_by, step_result, shared_refusal, unless_beyond, IsAnswerTo, IsAnswerToAdmit, AreReplies, HoldsReply, bounds_of, own_word, opp_word, frame_of, root_words, frame_size, jamboree, Leaf, LeafAnswer, HallOf, Reply, Outcome as OutcomeOf, Done, IsOutcomeIn, IsOutcomeOf, IsReplyOf, SeatAsked, found_or_no_tenant, seat_asked_at, IsShown, IsShownOf, IsToldBy, Shows, core_at, is_admit, lone_tenant, Reserve, Ask, Cancel, OfficeReply, Reserved, Job, Told, Ended, Rest, Alive, Refused, reply_of, analysis_of, standing_of, told_answer, History, analysis_by, if_there, job_reply, live_in, reply_to, standing_in, unless_refused, IsReplyAt, IsJobTold, IsRefusedAtOnce}
 use Rattle.sched_rules.specs.declared.job.Job.{Job as JobOf}
-use Rattle.sched_rules.specs.declared.job.Job.TheVariants.{Live as LiveJob, Done as DoneJob, Spent as SpentJob, Cancelled as CancelledJob}
-use Rattle.sched_rules.specs.declared.refusal.Refusal.{Refusal}
-use Rattle.sched_rules.specs.declared.refusal.Refusal.TheVariants.{Full, NoJobsLeft, OutOfMemory}
-use Rattle.sched_rules.specs.Refusals.{refusal_number}
-use Rattle.sched_rules.specs.declared.step.StepOf.TheVariants.{AdmitMore, Submit, Cancel as CancelStep}
-use Rattle.sched_rules.specs.declared.step.DidOf.{DidOf}
-use Rattle.sched_rules.specs.Functions.{Functions}
-use Rattle.sched_rules.specs.Trees.{Tenant, left, job_at}
-use Rattle.sched_rules.specs.Lone.{Outcome, cancelled, lone, lone_refusal, refusal_in, unless, submit_tests, submitted}
-use Rattle.sched_rules.specs.Runs.{tenant_of, answer_of}
-use Rattle.sched_rules.specs.Cores.{CoreState, tenant_in, is_beyond, reservations_in, reserved_by, step_result, shared_refusal, unless_beyond}
-use Rattle.sched_rules.specs.Headline.{IsAnswerTo, IsAnswerToAdmit}
-use Rattle.jamboree_core.specs.Replies.{AreReplies, HoldsReply}
-use Rattle.desk.specs.hall.jamboree_rules.Entries.{bounds_of}
-use Rattle.desk.specs.hall.jamboree_rules.Frames.{own_word, opp_word}
-use Rattle.desk.specs.hall.jamboree_rules.Places.{frame_of, root_words, frame_size}
-use Rattle.desk.specs.hall.jamboree_rules.Procedure.{jamboree}
-use Rattle.desk.specs.hall.jamboree_rules.declared.leaf.Leaf.{Leaf}
-use Rattle.desk.specs.hall.jamboree_rules.declared.leaf.LeafAnswer.{LeafAnswer}
-use Rattle.desk.specs.hall.Halls.{HallOf}
-use Rattle.desk.specs.jamboree.declared.reply.Reply.{Reply}
-use Rattle.desk.specs.jamboree_core.declared.outcomes.Outcome.{Outcome as OutcomeOf}
-use Rattle.desk.specs.jamboree_core.declared.outcomes.Outcome.TheVariants.{Done}
-use Rattle.desk.specs.jamboree_core.Outcomes.{IsOutcomeIn, IsOutcomeOf, IsReplyOf}
-use Rattle.desk_rules.specs.declared.asked.SeatAsked.{SeatAsked}
-use Rattle.desk_rules.specs.Asked.{found_or_no_tenant, seat_asked_at, IsShown, IsShownOf, IsToldBy, Shows}
-use Rattle.desk.specs.Histories.{core_at, is_admit, lone_tenant}
-use Rattle.session.specs.declared.standings.Analysis.{Analysis}
-use Rattle.session.specs.declared.standings.Standing.TheVariants.{Done as done}
-use Rattle.session.specs.Calls.{Reserve, Ask, Cancel, OfficeReply, Reserved, Job, Told, Ended, Rest, Alive, Refused, reply_of}
-use Rattle.desk_office.specs.Offices.{analysis_of, standing_of, told_answer}
-use Rattle.desk_office.specs.Answers.{History, analysis_by, if_there, job_reply, live_in, reply_to, standing_in, unless_refused, IsReplyAt}
-use Rattle.desk_office.specs.Moments.{IsJobTold, IsRefusedAtOnce}
+use Rattle.sched_rules.specs.declared.job.Job.TheVariants.{Done as DoneJob}
+use Rattle.sched_rules.specs.declared.step.StepOf.TheVariants.{Cancel as CancelStep}
+use Rattle.sched_rules.specs.Lone.{Outcome}
 use Rattle.desk_office.proofs.Histories.{own-result, Step, IsAtMoment}
 
 abbrev Came : Type 0
@@ -58,17 +24,13 @@ Matches (Some job) None = ⊥
 Matches (Some job) (Some a) = HoldsReply (root_of a) job
 
 matches : (asked : List SeatAsked) (jobs : List JobOf) (number : ℕ) → AreReplies (map root_of asked) jobs → Matches (job_at jobs number) (seat_asked_at asked number)
-matches [] [] number are = tt
-matches [] (job ∷ jobs) number are = absurd are
-matches (a ∷ asked) [] number are = absurd are
 matches (a ∷ asked) (job ∷ jobs) number are =
     elim (number == 1) as (λ b. Matches (if b then Some job else job_at jobs (number - 1)) (if b then Some a else seat_asked_at asked (number - 1))) [ true ↦ are.0 | false ↦ matches asked jobs (number - 1) are.1 ]
+matches asked jobs number are = grind arith
 
 as-many : (asked : List SeatAsked) (jobs : List JobOf) → AreReplies (map root_of asked) jobs → length jobs ≡ length asked
-as-many [] [] are = refl
-as-many [] (job ∷ jobs) are = absurd are
-as-many (a ∷ asked) [] are = absurd are
 as-many (a ∷ asked) (job ∷ jobs) are = let rest = as-many asked jobs are.1 in omega (arith, rest)
+as-many asked jobs are = grind arith
 
 -- ---- how a job is told
 
@@ -80,24 +42,11 @@ done-told : (words : List ℕ) (reply : Reply) → IsReplyOf words reply → ana
 done-told words reply is = λ i. analysis_by (is.on.own i) (is.on.opp i) (is.on.depth i) (is.table i)
 
 outcome-told : (a : SeatAsked) (number : ℕ) (job : JobOf) (told shown : OutcomeOf) → HoldsReply (root_of a) job → IsOutcomeOf job told → IsShownOf a (Some told) shown → Told number (standing_of shown) ≡ Told number (standing_in job)
-outcome-told a number (LiveJob root) told shown holds is by =
-    ap (λ (o : OutcomeOf). Told number (standing_of o)) (by.0 (subst (λ (o : OutcomeOf). Shows a o) (sym is) tt) ∙ is)
-outcome-told a number (DoneJob words) told shown holds is by =
-    ap (λ (o : OutcomeOf). Told number (standing_of o)) (by.0 (subst (λ (o : OutcomeOf). Shows a o) (sym is.1) (done-shows a words is.0 holds is.2)) ∙ is.1)
-    ∙ ap (λ (x : Analysis). Told number (done x)) (done-told words is.0 is.2)
-outcome-told a number SpentJob told shown holds is by =
-    ap (λ (o : OutcomeOf). Told number (standing_of o)) (by.0 (subst (λ (o : OutcomeOf). Shows a o) (sym is) tt) ∙ is)
-outcome-told a number CancelledJob told shown holds is by =
-    ap (λ (o : OutcomeOf). Told number (standing_of o)) (by.0 (subst (λ (o : OutcomeOf). Shows a o) (sym is) tt) ∙ is)
+outcome-told a number job told shown holds is by = grind (arith, done-shows, done-told)
 
 job-told : (number : ℕ) (job : Option JobOf) (a : Option SeatAsked) (told : Option OutcomeOf) (answer : Result OutcomeOf Refusal) → Matches job a → IsShown a answer → IsOutcomeIn job told → IsToldBy a told answer →
     reply_of (Told number) (told_answer answer) ≡ job_reply number job
-job-told number None None told answer same shown is by = ap (λ (r : Result OutcomeOf Refusal). reply_of (Told number) (told_answer r)) shown
-job-told number None (Some a) told answer same shown is by = absurd same
-job-told number (Some job) None told answer same shown is by = absurd same
-job-told number (Some job) (Some a) None answer same shown is by = absurd is
-job-told number (Some job) (Some a) (Some told) (Err refusal) same shown is by = absurd shown
-job-told number (Some job) (Some a) (Some told) (Ok outcome) same shown is by = outcome-told a number job told outcome same is by
+job-told number job a told answer same shown is by = grind (arith, outcome-told)
 
 -- what is told of a job at a moment
 pub told-at : (begun : HallOf) (number : ℕ) (history : History) (asked : List SeatAsked) (job : ℕ) (reply : OfficeReply) → IsAtMoment begun number history (map root_of asked) → IsJobTold asked (lone_tenant begun history number) job reply →
@@ -110,12 +59,10 @@ told-at begun number history asked job reply m t =
 -- ---- what is left, and what is there
 
 pub rest-at : (tenant : Option Tenant) → reply_of Rest (found_or_no_tenant (option_map left tenant)) ≡ if_there tenant (λ its. Rest (left its))
-rest-at None = refl
-rest-at (Some its) = refl
+rest-at tenant = grind arith
 
 pub live-at : (tenant : Option Tenant) → reply_of Alive (found_or_no_tenant (option_map live_in tenant)) ≡ if_there tenant (λ its. Alive (live_in its))
-live-at None = refl
-live-at (Some its) = refl
+live-at tenant = grind arith
 
 -- ---- a step of the tenant
 
@@ -126,11 +73,7 @@ granted rules core step other none = ap (λ (c : Came). refusal_in c) (sym (own-
 -- of a Submit only the length of its words matters
 same-tests : {X : Type 0} (tests : List (Bool × Refusal)) (one other : X) → refusal_in (unless tests one) ≡ refusal_in (unless tests other)
 same-tests [] one other = refl
-same-tests {X = X} (test ∷ tests) one other = by test.0 (same-tests tests one other)
-  where
-    by : (b : Bool) → refusal_in (unless tests one) ≡ refusal_in (unless tests other) → refusal_in {X = X} (if b then Err test.1 else unless tests one) ≡ refusal_in {X = X} (if b then Err test.1 else unless tests other)
-    by true rest = refl
-    by false rest = rest
+same-tests {X = X} (test ∷ tests) one other = grind (arith, same-tests tests one other)
 
 same-search : (rules : Rules) (its : Tenant) (number a b c d depth : ℕ) → lone_refusal rules (Some its) (Submit number (root_words a b depth) frame_size) ≡ lone_refusal rules (Some its) (Submit number (root_words c d depth) frame_size)
 same-search rules its number a b c d depth =
@@ -138,17 +81,11 @@ same-search rules its number a b c d depth =
 
 pub reserve-taken : (begun : HallOf) (number : ℕ) (history : History) (origins : List (List ℕ)) (quota : Quota) → IsAtMoment begun number history origins → shared_refusal (jamboree begun.grain) (core_at begun history) (AdmitMore number quota) ≡ None →
     reply_to begun.grain number (lone_tenant begun history number) (Reserve quota) ≡ Reserved quota
-reserve-taken begun number history origins quota m none =
-    let rules = jamboree begun.grain in
-    let alone = granted rules (core_at begun history) (AdmitMore number quota) refl none in
-    ap (λ (o : Option Tenant). unless_refused (lone_refusal {A = LeafAnswer} rules o (AdmitMore number quota)) (Reserved quota)) (m.alone ∙ sym m.core) ∙ ap (λ (r : Option Refusal). unless_refused r (Reserved quota)) alone
+reserve-taken begun number history origins quota m none = grind (arith, granted)
 
 pub cancel-taken : (begun : HallOf) (number : ℕ) (history : History) (origins : List (List ℕ)) (job : ℕ) → IsAtMoment begun number history origins → shared_refusal (jamboree begun.grain) (core_at begun history) (CancelStep number job) ≡ None →
     reply_to begun.grain number (lone_tenant begun history number) (Cancel job) ≡ Ended job
-cancel-taken begun number history origins job m none =
-    let rules = jamboree begun.grain in
-    let alone = granted rules (core_at begun history) (CancelStep number job) refl none in
-    ap (λ (o : Option Tenant). unless_refused (lone_refusal {A = LeafAnswer} rules o (CancelStep number job)) (Ended job)) (m.alone ∙ sym m.core) ∙ ap (λ (r : Option Refusal). unless_refused r (Ended job)) alone
+cancel-taken begun number history origins job m none = grind (arith, granted)
 
 -- what an Ask is answered by a tenant that is there
 asked-by : (begun : HallOf) (number : ℕ) (history : History) (origins : List (List ℕ)) (depth own opp : ℕ) (board : List Cell) (side : Side) (r : Option Refusal) (m : IsAtMoment begun number history origins) →
@@ -162,16 +99,11 @@ asked-by begun number history origins depth own opp board side r m is =
 pub ask-taken : (begun : HallOf) (number : ℕ) (history : History) (asked : List SeatAsked) (depth own opp : ℕ) (board : List Cell) (side : Side) → IsAtMoment begun number history (map root_of asked) →
     shared_refusal (jamboree begun.grain) (core_at begun history) (Submit number (root_words own opp depth) frame_size) ≡ None →
     reply_to begun.grain number (lone_tenant begun history number) (Ask depth board side) ≡ Job (length asked + 1)
-ask-taken begun number history asked depth own opp board side m none =
-    let rules = jamboree begun.grain in
-    let step : Step = Submit number (root_words own opp depth) frame_size in
-    let alone = ap (λ (o : Option Tenant). lone_refusal rules o step) (sym m.core) ∙ granted rules (core_at begun history) step refl none in
-    asked-by begun number history (map root_of asked) depth own opp board side None m alone ∙ ap (λ n. Job (n + 1)) (as-many asked m.tenant.jobs m.jobs)
+ask-taken begun number history asked depth own opp board side m none = grind (arith, granted, asked-by, as-many)
 
 -- one that was refused, and is no raise, is refused as the tenant alone would be
 own-refusal : (came : Came) (refusal : Refusal) → ((r : Refusal) → refusal_in came ≡ Some r → ◌≡◌ {A = Result (DidOf Leaf) Refusal} (Err refusal) (Err r)) → (refusal_in came ≡ None → Err refusal ≡ answer_of came) → refusal_in came ≡ Some refusal
-own-refusal (Ok outcome) refusal own taken = absurd (let e : ◌≡◌ {A = Result (DidOf Leaf) Refusal} (Err refusal) (Ok outcome.1) = taken refl in cc e)
-own-refusal (Err other) refusal own taken = let e = own other refl in let same : other ≡ refusal = cc e in ap (λ (r : Refusal). Some r) same
+own-refusal came refusal own taken = grind arith
 
 cancel-own : (rules : Rules) (core : CoreState) (number job : ℕ) (refusal : Refusal) → IsAnswerTo {A = LeafAnswer} rules core (CancelStep number job) (Err refusal) →
     lone_refusal {A = LeafAnswer} rules (tenant_in core.tenants number) (CancelStep number job) ≡ Some refusal
@@ -202,22 +134,9 @@ raise-refused : (rules : Rules) (core : CoreState) (number : ℕ) (quota : Quota
     (lone_refusal {A = LeafAnswer} rules (tenant_in core.tenants number) (AdmitMore number quota) ≡ Some refusal)
     ⊎ ((lone_refusal {A = LeafAnswer} rules (tenant_in core.tenants number) (AdmitMore number quota) ≡ None)
     × (((shared_refusal {A = LeafAnswer} rules core (AdmitMore number quota) ≡ Some Full) × (refusal ≡ Full)) ⊎ ((shared_refusal {A = LeafAnswer} rules core (AdmitMore number quota) ≡ None) × (refusal ≡ OutOfMemory))))
-raise-refused rules core number quota refusal beyond (Err other) own is right =
-    let e = right.refused other (ap (λ (c : Came). refusal_in c) is) in
-    let same : other ≡ refusal = cc e in
-    inl (ap (λ (c : Came). refusal_in c) own ∙ ap (λ (r : Refusal). Some r) same)
-raise-refused rules core number quota refusal true (Ok outcome) own is right =
-    let why = ap (λ (c : Came). refusal_in c) is in
-    let e = right.refused Full why in
-    let same : refusal ≡ Full = cc e in
-    inr (ap (λ (c : Came). refusal_in c) own, inl (why, same))
-raise-refused rules core number quota refusal false (Ok outcome) own is right =
-    let none = ap (λ (c : Came). refusal_in c) is in
-    inr (ap (λ (c : Came). refusal_in c) own, inr (none, wanting (right.else_taken none)))
-  where
-    wanting : (◌≡◌ {A = Result (DidOf Leaf) Refusal} (Err refusal) (answer_of (step_result {A = LeafAnswer} rules core (AdmitMore number quota)))) ⊎ (◌≡◌ {A = Result (DidOf Leaf) Refusal} (Err refusal) (Err OutOfMemory)) → refusal ≡ OutOfMemory
-    wanting (inl taken) = absurd (let e : ◌≡◌ {A = Result (DidOf Leaf) Refusal} (Err refusal) (Ok outcome.1) = taken ∙ ap (λ (c : Came). answer_of c) is in cc e)
-    wanting (inr no_memory) = cc no_memory
+raise-refused rules core number quota refusal beyond (Err other) own is right = grind arith
+raise-refused rules core number quota refusal true (Ok outcome) own is right = grind arith
+raise-refused rules core number quota refusal false (Ok outcome) own is right = grind arith
 
 pub reserve-refused : (begun : HallOf) (number : ℕ) (history : History) (origins : List (List ℕ)) (quota : Quota) (refusal : Refusal) → IsAtMoment begun number history origins →
     IsAnswerTo {A = LeafAnswer} (jamboree begun.grain) (core_at begun history) (AdmitMore number quota) (Err refusal) → IsReplyAt begun number history (Reserve quota) (Refused (refusal_number refusal))
@@ -241,21 +160,14 @@ reserve-refused begun number history origins quota refusal m right =
 -- ---- the refusals without a step
 
 full-refused : {X : Type 0} (b : Bool) (rest : Result X Refusal) → b ≡ true → refusal_in (if b then Err NoJobsLeft else rest) ≡ Some NoJobsLeft
-full-refused true rest is = refl
-full-refused false rest is = absurd (cc is)
+full-refused b rest is = grind arith
 
 pub ask-at-once : (begun : HallOf) (number : ℕ) (history : History) (asked : List SeatAsked) (depth : ℕ) (board : List Cell) (side : Side) (reply : OfficeReply) → IsAtMoment begun number history (map root_of asked) →
     IsRefusedAtOnce asked (Ask depth board side) reply → IsReplyAt begun number history (Ask depth board side) reply
-ask-at-once begun number history asked depth board side reply m at_once =
-    let rules = jamboree begun.grain in
-    let all : length m.tenant.jobs ≡ 256 = as-many asked m.tenant.jobs m.jobs ∙ at_once.0 in
-    let test : nat_le 256 (length m.tenant.jobs) ≡ true = ap (λ n. nat_le 256 n) all in
-    let refused : lone_refusal {A = LeafAnswer} rules (Some m.tenant) (Submit number (root_words 0 0 depth) frame_size) ≡ Some NoJobsLeft = full-refused (nat_le 256 (length m.tenant.jobs)) _ test in
-    inl (at_once.1 ∙ sym (asked-by begun number history (map root_of asked) depth 0 0 board side (Some NoJobsLeft) m refused))
+ask-at-once begun number history asked depth board side reply m at_once = grind (arith, as-many, full-refused, asked-by)
 
 no-job : (job : Option JobOf) → Matches job None → job ≡ None
-no-job None same = refl
-no-job (Some job) same = absurd same
+no-job job same = grind arith
 
 pub cancel-at-once : (begun : HallOf) (number : ℕ) (history : History) (asked : List SeatAsked) (job : ℕ) (reply : OfficeReply) → IsAtMoment begun number history (map root_of asked) →
     IsRefusedAtOnce asked (Cancel job) reply → IsReplyAt begun number history (Cancel job) reply

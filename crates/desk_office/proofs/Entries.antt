@@ -1,7 +1,5 @@
 -- The entries of a table, read one after another.
-use Rattle.std.proofs.Common.{◌≡◌, ℕ, zero, suc, ◌+◌, List, [], ◌∷◌, ◌++◌, take, get_or, Some, None, slice_get, arith, refl, sym, ap, ◌∙◌}
-use Rattle.std.proofs.Math.Seq.{take-suc}
-use Rattle.std.proofs.lemmas.Option.{slice_get_within, slice_get-get_or}
+use Rattle.desk_office.proofs.Common.{◌≡◌, ℕ, zero, suc, ◌+◌, List, [], ◌∷◌, ◌++◌, take, get_or, Some, None, slice_get, arith, refl, sym, ap, ◌∙◌, take-suc, slice_get_within, slice_get-get_or}
 
 one_more : (n : ℕ) → n + 1 ≡ suc n
 one_more n = omega arith

@@ -1,30 +1,6 @@
 -- A tenant at a moment of a history: what its own steps have made of it, and that its jobs are what its seat asked for.
-use Rattle.std.proofs.Common.{◌≡◌, ◌≢◌, ℕ, ◌≤◌, ◌==◌, ◌&&◌, List, [], ◌∷◌, ◌++◌, length, Bool, true, false, refl, sym, ap, ◌∙◌, subst, arith, if◌then◌else◌, Option, Some, None, Result, Ok, Err}
-use Rattle.std.proofs.lemmas.Bool.Decides.{nat_tests}
-use Rattle.tenant_quota.specs.Quota.{Quota}
-use Rattle.sched_rules.specs.declared.refusal.Refusal.{Refusal}
-use Rattle.sched_rules.specs.declared.step.StepOf.{StepOf}
-use Rattle.sched_rules.specs.declared.step.StepOf.TheVariants.{Admit, AdmitMore, Submit, Leave}
-use Rattle.sched_rules.specs.declared.step.DidOf.TheVariants.{Admitted}
-use Rattle.sched_rules.specs.Functions.{Functions}
-use Rattle.sched_rules.specs.Trees.{Tenant, admitted_with}
-use Rattle.sched_rules.specs.Lone.{Outcome, first_step, lone, refusal_in, unless}
-use Rattle.sched_rules.specs.Runs.{tenant_of, only, state_after, alone_from}
-use Rattle.sched_rules.specs.Cores.{CoreState, tenant_in, with_outcome, meets_busy, is_beyond, reservations_in, reserved_by, unless_busy, unless_beyond, admit_tests, step_result, shared_refusal, shared_after, shared_with, shared_run}
-use Rattle.sched_rules.proofs.Tenants.{tenant_in-with_outcome, tenant_in_other-with_outcome}
-use Rattle.sched_laws.specs.Fitted.{submits, origins_of}
-use Rattle.jamboree_core.specs.Journals.{AreTakenFrom, IsJournalOf, StaysTaken}
-use Rattle.jamboree_core.specs.Replies.{AreReplies, AreSearches, IsSearch}
-use Rattle.jamboree_core.proofs.JournalLemmas.{journal-searches}
-use Rattle.jamboree_core.proofs.Serving.{tenant-replies}
-use Rattle.desk.specs.hall.jamboree_rules.declared.leaf.Leaf.{Leaf}
-use Rattle.desk.specs.hall.jamboree_rules.declared.leaf.LeafAnswer.{LeafAnswer}
-use Rattle.desk.specs.hall.jamboree_rules.Procedure.{jamboree}
-use Rattle.desk.specs.hall.Halls.{HallOf}
-use Rattle.desk.specs.Traces.{own}
-use Rattle.desk.specs.Histories.{core_at, is_admit, is_leave, is_seat_step, seat_steps, steps_of, lone_tenant, AllOwn, AreTaken, IsThere}
-use Rattle.desk.proofs.Staying.{lone_keeps}
-use Rattle.desk_office.specs.Answers.{History}
+use Rattle.desk_office.proofs.Common.{◌≡◌, ◌≢◌, ℕ, ◌≤◌, ◌==◌, ◌&&◌, List, [], ◌∷◌, ◌++◌, length, Bool, true, false, refl, sym, ap, ◌∙◌, subst, arith, if◌then◌else◌, Option, Some, None, Result, Ok, Err, nat_tests, Quota, Refusal, StepOf, Admit, AdmitMore, Admitted, Functions, Tenant, admitted_with, first_step, lone, refusal_in, unless, tenant_of, only, state_after, alone_from, CoreState, tenant_in, with_outcome, meets_busy, is_beyond, reservations_in, reserved_by, unless_busy, unless_beyond, admit_tests, step_result, shared_refusal, shared_after, shared_with, shared_run, tenant_in-with_outcome, tenant_in_other-with_outcome, submits, origins_of, AreTakenFrom, IsJournalOf, StaysTaken, AreReplies, AreSearches, IsSearch, journal-searches, tenant-replies, Leaf, LeafAnswer, jamboree, HallOf, own, core_at, is_admit, is_leave, is_seat_step, seat_steps, steps_of, lone_tenant, AllOwn, AreTaken, IsThere, lone_keeps, History}
+use Rattle.sched_rules.specs.Lone.{Outcome}
 
 abbrev pub Step : Type 0
 Step = StepOf LeafAnswer
@@ -39,11 +15,7 @@ Rules = Functions Leaf LeafAnswer
 
 pub own-more : (m : ℕ) (xs ys : History) → own m (xs ++ ys) ≡ own m xs ++ own m ys
 own-more m [] ys = refl
-own-more m (e ∷ xs) ys =
-    elim (e.0 == m) as (λ b. (if b then e.1 ∷ own m (xs ++ ys) else own m (xs ++ ys)) ≡ (if b then e.1 ∷ own m xs else own m xs) ++ own m ys) [
-      | true ↦ ap (λ (l : List Step). e.1 ∷ l) (own-more m xs ys)
-      | false ↦ own-more m xs ys
-    ]
+own-more m (e ∷ xs) ys = grind (arith, own-more m xs ys)
 
 pub steps-more : (xs ys : History) → steps_of (xs ++ ys) ≡ steps_of xs ++ steps_of ys
 steps-more [] ys = refl
@@ -51,11 +23,7 @@ steps-more (e ∷ xs) ys = ap (λ (l : List Step). e.1 ∷ l) (steps-more xs ys)
 
 pub seat-more : (n : ℕ) (xs ys : List Step) → seat_steps n (xs ++ ys) ≡ seat_steps n xs ++ seat_steps n ys
 seat-more n [] ys = refl
-seat-more n (x ∷ xs) ys =
-    elim (is_seat_step x && (tenant_of x == n)) as (λ b. (if b then x ∷ seat_steps n (xs ++ ys) else seat_steps n (xs ++ ys)) ≡ (if b then x ∷ seat_steps n xs else seat_steps n xs) ++ seat_steps n ys) [
-      | true ↦ ap (λ (l : List Step). x ∷ l) (seat-more n xs ys)
-      | false ↦ seat-more n xs ys
-    ]
+seat-more n (x ∷ xs) ys = grind (arith, seat-more n xs ys)
 
 -- what is added to a list without changing it is nothing
 pub adds-none : {X : Type 0} (xs ys : List X) → xs ++ ys ≡ xs → ys ≡ []
@@ -65,12 +33,7 @@ adds-none (x ∷ xs) ys is = let rest : xs ++ ys ≡ xs = cc is in adds-none xs 
 -- the seat steps of a tenant are its own
 pub all-own : (n : ℕ) (steps : List Step) → AllOwn n (seat_steps n steps)
 all-own n [] = tt
-all-own n (x ∷ xs) = by (is_seat_step x) (tenant_of x == n) refl refl (all-own n xs)
-  where
-    by : (b c : Bool) → is_seat_step x ≡ b → (tenant_of x == n) ≡ c → AllOwn n (seat_steps n xs) → AllOwn n (if b && c then x ∷ seat_steps n xs else seat_steps n xs)
-    by true true p q rest = (p, grind (arith, nat_tests, q), rest)
-    by true false p q rest = rest
-    by false c p q rest = rest
+all-own n (x ∷ xs) = grind (arith, all-own n xs, nat_tests)
 
 is-seat : (x : Step) (n : ℕ) → is_seat_step x ≡ true → tenant_of x ≡ n → (is_seat_step x && (tenant_of x == n)) ≡ true
 is-seat x n p same = let here : (tenant_of x == n) ≡ true = grind (arith, nat_tests, same) in ap (λ b. b && (tenant_of x == n)) p ∙ here
@@ -78,14 +41,7 @@ is-seat x n p same = let here : (tenant_of x == n) ≡ true = grind (arith, nat_
 -- a maker whose steps are all a tenant's seat steps has made no more of them than there are
 few : (m n : ℕ) (xs : History) → AllOwn n (own m xs) → length (own m xs) ≤ length (seat_steps n (steps_of xs))
 few m n [] all = omega arith
-few m n (e ∷ xs) all = by (e.0 == m) (is_seat_step e.1 && (tenant_of e.1 == n)) refl all (few m n xs)
-  where
-    by : (b c : Bool) → (is_seat_step e.1 && (tenant_of e.1 == n)) ≡ c → AllOwn n (if b then e.1 ∷ own m xs else own m xs) → (AllOwn n (own m xs) → length (own m xs) ≤ length (seat_steps n (steps_of xs)))
-        → length (if b then e.1 ∷ own m xs else own m xs) ≤ length (if c then e.1 ∷ seat_steps n (steps_of xs) else seat_steps n (steps_of xs))
-    by true true q a rest = let less = rest a.2 in omega (arith, less)
-    by true false q a rest = absurd (let e : true ≡ false = sym (is-seat e.1 n a.0 a.1) ∙ q in cc e)
-    by false true q a rest = let less = rest a in omega (arith, less)
-    by false false q a rest = rest a
+few m n (e ∷ xs) all = grind (arith, few m n xs, is-seat)
 
 -- where it has made all of them in a history, it has in each beginning of it
 pub all-mine : (m n : ℕ) (xs ys : History) → AllOwn n (own m (xs ++ ys)) → seat_steps n (steps_of (xs ++ ys)) ≡ own m (xs ++ ys) → seat_steps n (steps_of xs) ≡ own m xs
@@ -114,20 +70,14 @@ AllGo [] = Unit {0}
 AllGo (step ∷ steps) = Goes step × AllGo steps
 
 worker-goes : (step : Step) → is_seat_step step ≡ false → Goes step
-worker-goes (Admit number quota) worker = absurd (cc worker)
-worker-goes (Leave number) worker = absurd (cc worker)
-worker-goes _ worker = (refl, refl)
+worker-goes step worker = grind arith
 
 -- a step that is taken and no Admit comes to what its tenant alone would
 beyond-own : (beyond : Bool) (came : Came) → refusal_in (unless_beyond beyond came) ≡ None → unless_beyond beyond came ≡ came
-beyond-own beyond (Err refusal) none = refl
-beyond-own true (Ok outcome) none = absurd (cc none)
-beyond-own false (Ok outcome) none = refl
+beyond-own beyond came none = grind arith
 
 busy-own : (busy : Bool) (came : Came) → refusal_in (unless_busy busy came) ≡ None → unless_busy busy came ≡ came
-busy-own busy (Err refusal) none = refl
-busy-own true (Ok outcome) none = absurd (cc none)
-busy-own false (Ok outcome) none = refl
+busy-own busy came none = grind arith
 
 pub own-result : (rules : Rules) (shared : CoreState) (step : Step) → is_admit step ≡ false → shared_refusal rules shared step ≡ None → step_result rules shared step ≡ lone rules (tenant_in shared.tenants (tenant_of step)) step
 own-result rules shared (Admit number quota) other none = absurd (cc other)
@@ -148,18 +98,13 @@ Keeps (Err refusal) = Unit {0}
 
 -- a step of another tenant
 by-other : (t : ℕ) (shared : CoreState) (step : Step) (came : Came) → tenant_of step ≢ t → tenant_in (shared_after shared step came).tenants t ≡ tenant_in shared.tenants t
-by-other t shared step (Err refusal) other = refl
-by-other t shared step (Ok outcome) other = tenant_in_other-with_outcome t (tenant_of step) outcome.0 shared.tenants other
+by-other t shared step came other = grind (arith, tenant_in_other-with_outcome)
 
 later-go : (b c : Bool) (step : Step) (steps : List Step) → AllGo (if b && c then step ∷ steps else steps) → AllGo steps
-later-go true true step steps go = go.1
-later-go true false step steps go = go
-later-go false c step steps go = go
+later-go b c step steps go = grind arith
 
 first-goes : (b c : Bool) (step : Step) (steps : List Step) → is_seat_step step ≡ b → c ≡ true → AllGo (if b && c then step ∷ steps else steps) → Goes step
-first-goes true true step steps is here go = go.0
-first-goes true false step steps is here go = absurd (cc here)
-first-goes false c step steps is here go = worker-goes step is
+first-goes b c step steps is here go = grind (arith, worker-goes)
 
 abbrev GoesOn : Rules → ℕ → List Step → Type 0
 GoesOn rules t steps =
@@ -204,16 +149,11 @@ goes-on rules t (step ∷ steps) = goes-one rules t step steps (goes-on rules t 
 
 -- the first step of a tenant that isn't there
 none-first : (step : Step) → is_admit step ≡ false → refusal_in (first_step {I = Leaf} step) ≡ None → ⊥
-none-first (Admit number quota) other none = cc other
-none-first step other none = cc none
+none-first step other none = grind arith
 
 unless-taken : {X : Type 0} (tests : List (Bool × Refusal)) (effect : X) → refusal_in (unless tests effect) ≡ None → unless tests effect ≡ Ok effect
 unless-taken [] effect none = refl
-unless-taken {X = X} (test ∷ tests) effect none = by test.0 none (unless-taken tests effect)
-  where
-    by : (b : Bool) → refusal_in (if b then Err test.1 else unless tests effect) ≡ None → (refusal_in (unless tests effect) ≡ None → unless tests effect ≡ Ok effect) → ◌≡◌ {A = Result X Refusal} (if b then Err test.1 else unless tests effect) (Ok effect)
-    by true none rest = absurd (cc none)
-    by false none rest = rest none
+unless-taken {X = X} (test ∷ tests) effect none = grind (arith, unless-taken tests effect)
 
 -- a tenant that wasn't there, from its Admit on
 pub begins : (rules : Rules) (t : ℕ) (quota : Quota) (later : List Step) (shared : CoreState) (steps : List Step) → tenant_in shared.tenants t ≡ None → AreTaken rules shared steps → seat_steps t steps ≡ Admit t quota ∷ later → AllGo later →
@@ -260,25 +200,16 @@ begins rules t quota later shared (step ∷ steps) at legal is go = by (is_seat_
 -- ---- what the seat asked for
 
 worker-asks-none : (step : Step) → is_seat_step step ≡ false → IsSearch step × (submits step ≡ [])
-worker-asks-none (Submit number words size) worker = absurd (cc worker)
-worker-asks-none _ worker = (tt, refl)
+worker-asks-none step worker = grind arith
 
 own-searches : (t : ℕ) (steps : List Step) → AreSearches (seat_steps t steps) → AreSearches (only t steps) × (origins_of (only t steps) ≡ origins_of (seat_steps t steps))
 own-searches t [] h = (tt, refl)
-own-searches t (step ∷ steps) h = by (is_seat_step step) (tenant_of step == t) refl h (own-searches t steps)
-  where
-    by : (b c : Bool) → is_seat_step step ≡ b → AreSearches (if b && c then step ∷ seat_steps t steps else seat_steps t steps) → (AreSearches (seat_steps t steps) → AreSearches (only t steps) × (origins_of (only t steps) ≡ origins_of (seat_steps t steps)))
-        → AreSearches (if c then step ∷ only t steps else only t steps) × (origins_of (if c then step ∷ only t steps else only t steps) ≡ origins_of (if b && c then step ∷ seat_steps t steps else seat_steps t steps))
-    by true true p h rest = let r = rest h.1 in ((h.0, r.0), ap (λ (l : List (List ℕ)). submits step ++ l) r.1)
-    by true false p h rest = rest h
-    by false true p h rest = let r = rest h in let w = worker-asks-none step p in ((w.0, r.0), ap (λ (l : List (List ℕ)). l ++ origins_of (only t steps)) w.1 ∙ r.1)
-    by false false p h rest = rest h
+own-searches t (step ∷ steps) h = grind (arith, own-searches t steps, worker-asks-none)
 
 -- ---- a moment of a history
 
 who-is : (found : Option Tenant) → IsThere found → (tenant : Tenant) × (found ≡ Some tenant)
-who-is None h = absurd h
-who-is (Some tenant) h = (tenant, refl)
+who-is found h = grind arith
 
 -- a tenant is there at a moment, in the core as if it were alone, and its jobs are what these words asked for
 pub record IsAtMoment (begun : HallOf) (number : ℕ) (history : History) (origins : List (List ℕ)) : Type 0 where

@@ -1,3 +1,4 @@
+mod Common
 pub mod SeatLemmas
 pub mod Entries
 pub mod TurnLemmas

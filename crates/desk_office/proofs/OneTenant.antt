@@ -1,31 +1,6 @@
 -- A session has one tenant at most.
-use Rattle.std.proofs.Common.{◌≡◌, ℕ, List, [], ◌∷◌, ◌++◌, Bool, true, false, Option, Some, None, Result, Ok, Err, refl, sym, ap, subst, ◌∙◌, inl, inr, codes}
-use Rattle.std.specs.Prelude.{◌⊎◌, ◌==◌, if◌then◌else◌, option_map}
-use Rattle.std.specs.Str.{bytes_eq}
-use Rattle.line_io.specs.Leads.{Leads}
-use Rattle.line_io.specs.Lines.{LineText, Whole, TooLong, lines_of}
-use Rattle.line_io.specs.Talks.{upto}
-use Rattle.tenant_quota.specs.Quota.{Quota}
-use Rattle.sched_rules.specs.declared.step.StepOf.{StepOf}
-use Rattle.sched_rules.specs.Cores.{tenant_in}
-use Rattle.desk.specs.Traces.{Known}
-use Rattle.desk.specs.hall.jamboree_rules.declared.leaf.LeafAnswer.{LeafAnswer}
-use Rattle.desk.specs.hall.Halls.{HallOf}
-use Rattle.desk.specs.Seats.{SeatOf}
-use Rattle.desk.specs.Histories.{IsSeated}
-use Rattle.session.specs.declared.faults.End.{End}
-use Rattle.session.specs.declared.faults.SessionFault.{SessionFault}
-use Rattle.session.specs.declared.faults.SessionFault.TheVariants.{Read, Write}
-use Rattle.session.specs.Asks.{KeepsAsks, IsOfficeReplyTo}
-use Rattle.session.specs.Calls.{Call, Hello, Reserve, Get, Wait, Cancel, Leave, OfficeReply, Welcome, Gone, Refused}
-use Rattle.session.specs.Forms.{Form, HelloOf, ReserveOf, AskOf, GetOf, WaitOf, CancelOf, TableOf, QuotaForm, LiveForm, ByeForm, form_of, form_by, form_after, is_bye}
-use Rattle.session.specs.Requests.{Request, Fault, Makes, Tabulates, Ends, request, form_request, seated_request, quota_request, quota_of, ask_request, job_request}
-use Rattle.session.specs.Sessions.{Called, IsAnsweredOf, session_lines}
-use Rattle.session.specs.Turns.{turns, calls_in, next_reply, later_replies, seated_after}
-use Rattle.session.proofs.Served.{next_turns}
-use Rattle.desk_office.specs.Offices.{asks_of}
-use Rattle.desk_office.specs.Answers.{AllStay, IsOneTenancy, IsTenantOf, NobodyCame, is_stay, is_welcome}
-use Rattle.desk_office.specs.Moments.{OfficeOf, IsHello, IsTurnAt, IsTurnOf}
+use Rattle.desk_office.proofs.Common.{◌≡◌, ℕ, List, [], ◌∷◌, ◌++◌, Bool, true, false, Option, Some, None, Result, refl, sym, ap, subst, ◌∙◌, inl, inr, codes, arith, ◌⊎◌, option_map, bytes_eq, Leads, LineText, Whole, TooLong, upto, Quota, StepOf, tenant_in, Known, LeafAnswer, HallOf, SeatOf, IsSeated, End, SessionFault, KeepsAsks, IsOfficeReplyTo, Call, Hello, Leave, OfficeReply, Welcome, Gone, Refused, Form, HelloOf, ReserveOf, AskOf, GetOf, WaitOf, CancelOf, TableOf, QuotaForm, LiveForm, ByeForm, form_of, form_by, form_after, is_bye, Request, Fault, Makes, Tabulates, Ends, request, form_request, seated_request, quota_request, ask_request, job_request, Called, IsAnsweredOf, session_lines, turns, calls_in, next_reply, later_replies, seated_after, next_turns, asks_of, AllStay, IsOneTenancy, IsTenantOf, NobodyCame, is_stay, is_welcome, OfficeOf, IsHello, IsTurnAt, IsTurnOf}
+use Rattle.std.specs.Prelude.{◌==◌, if◌then◌else◌}
 use Rattle.desk_office.proofs.Tenancies.{tenancy}
 
 -- ---- what a line asks for
@@ -37,44 +12,22 @@ Goes Ends = ⊥
 Goes _ = Unit {0}
 
 quota_goes : (call : Quota → Call) → ((quota : Quota) → is_stay (call quota) ≡ true) → (quota : Option Quota) → Goes (quota_request call quota)
-quota_goes call stays None = tt
-quota_goes call stays (Some quota) = stays quota
+quota_goes call stays quota = grind arith
 
 ask_goes : (asked : _) → Goes (ask_request asked)
-ask_goes (Ok asked) = refl
-ask_goes (Err fault) = tt
+ask_goes asked = grind arith
 
 job_goes : (asked : ℕ → Request) → ((job : ℕ) → Goes (asked job)) → (job : Option ℕ) → Goes (job_request asked job)
-job_goes asked goes None = tt
-job_goes asked goes (Some job) = goes job
+job_goes asked goes job = grind arith
 
 seated_goes : (form : Form) → (form ≡ ByeForm) ⊎ Goes (seated_request form)
-seated_goes (HelloOf segments nodes) = inr tt
-seated_goes (ReserveOf segments nodes) = inr (quota_goes Reserve (λ quota. refl) (quota_of segments nodes))
-seated_goes (AskOf depth text) = inr (ask_goes _)
-seated_goes (GetOf job) = inr (job_goes (λ k. Makes (Get k)) (λ k. refl) job)
-seated_goes (WaitOf job) = inr (job_goes (λ k. Makes (Wait k)) (λ k. refl) job)
-seated_goes (CancelOf job) = inr (job_goes (λ k. Makes (Cancel k)) (λ k. refl) job)
-seated_goes (TableOf job) = inr (job_goes Tabulates (λ k. tt) job)
-seated_goes QuotaForm = inr refl
-seated_goes LiveForm = inr refl
-seated_goes ByeForm = inl refl
+seated_goes form = grind (arith, quota_goes, ask_goes, job_goes)
 
 seated_ends : (form : Option Form) → form_request true form ≡ Ends → form ≡ Some ByeForm
-seated_ends None e = absurd (cc e)
-seated_ends (Some form) e = by (seated_goes form)
-  where
-    by : (form ≡ ByeForm) ⊎ Goes (seated_request form) → Some form ≡ Some ByeForm
-    by (inl is) = ap (λ (f : Form). Some f) is
-    by (inr goes) = absurd (subst Goes e goes)
+seated_ends form e = grind (arith, seated_goes)
 
 form_stays : (form : Option Form) (call : Call) → form_request true form ≡ Makes call → is_stay call ≡ true
-form_stays None call e = absurd (cc e)
-form_stays (Some form) call e = by (seated_goes form)
-  where
-    by : (form ≡ ByeForm) ⊎ Goes (seated_request form) → is_stay call ≡ true
-    by (inl is) = let ends : Ends ≡ Makes call = ap seated_request (sym is) ∙ e in absurd (cc ends)
-    by (inr goes) = subst Goes e goes
+form_stays form call e = grind (arith, seated_goes)
 
 seated_stays : (line : LineText) (call : Call) → request true line ≡ Makes call → is_stay call ≡ true
 seated_stays TooLong call e = absurd (cc e)
@@ -82,31 +35,19 @@ seated_stays (Whole bytes) call e = form_stays (form_of bytes) call e
 
 -- only the line BYE is read as the end
 bare : (q l b : Bool) → (if q then Some QuotaForm else (if l then Some LiveForm else (if b then Some ByeForm else None))) ≡ Some ByeForm → b ≡ true
-bare true l b e = absurd (cc e)
-bare false true b e = absurd (cc e)
-bare false false true e = refl
-bare false false false e = absurd (cc e)
+bare q l b e = grind arith
 
 no_one : (a b c d : Bool) (job : Option ℕ) → (if a then Some (GetOf job) else (if b then Some (WaitOf job) else (if c then Some (CancelOf job) else (if d then Some (TableOf job) else None)))) ≡ Some ByeForm → ⊥
-no_one true b c d job e = cc e
-no_one false true c d job e = cc e
-no_one false false true d job e = cc e
-no_one false false false true job e = cc e
-no_one false false false false job e = cc e
+no_one a b c d job e = grind arith
 
 no_two : (a b c : Bool) (depth text : List ℕ) (segments nodes : Option ℕ) → (if a then Some (AskOf depth text) else (if b then Some (HelloOf segments nodes) else (if c then Some (ReserveOf segments nodes) else None))) ≡ Some ByeForm → ⊥
-no_two true b c depth text segments nodes e = cc e
-no_two false true c depth text segments nodes e = cc e
-no_two false false true depth text segments nodes e = cc e
-no_two false false false depth text segments nodes e = cc e
+no_two a b c depth text segments nodes e = grind arith
 
 after_bye : (word rest : List ℕ) (split : Option (List ℕ × List ℕ)) → form_after word rest split ≡ Some ByeForm → ⊥
-after_bye word rest None e = no_one _ _ _ _ _ e
-after_bye word rest (Some words) e = no_two _ _ _ _ _ _ _ e
+after_bye word rest split e = grind (arith, no_one, no_two)
 
 by_bye : (bytes : List ℕ) (split : Option (List ℕ × List ℕ)) → form_by bytes split ≡ Some ByeForm → bytes_eq bytes (codes "BYE") ≡ true
-by_bye bytes None e = bare _ _ _ e
-by_bye bytes (Some words) e = absurd (after_bye words.0 words.1 _ e)
+by_bye bytes split e = grind (arith, bare, after_bye)
 
 -- how a line splits at its first space, as `protocol` says it, which has no name here
 abbrev split : List ℕ → Option (List ℕ × List ℕ)
@@ -114,8 +55,7 @@ split [] = None
 split (b ∷ bs) = if b == 32 then Some ([], bs) else option_map (λ p. (b ∷ p.0, p.1)) (split bs)
 
 ends_is_bye : (line : LineText) → request true line ≡ Ends → is_bye line ≡ true
-ends_is_bye TooLong e = absurd (cc e)
-ends_is_bye (Whole bytes) e = by_bye bytes (split bytes) (seated_ends (form_of bytes) e)
+ends_is_bye line e = grind (arith, by_bye, seated_ends)
 
 -- before a tenant is there, the only call is HELLO
 abbrev IsEarly : Request → Type 0
@@ -126,17 +66,13 @@ IsEarly (Tabulates job) = ⊥
 IsEarly Ends = Unit {0}
 
 quota_early : (quota : Option Quota) → IsEarly (quota_request Hello quota)
-quota_early None = tt
-quota_early (Some quota) = tt
+quota_early quota = grind arith
 
 form_early : (form : Option Form) → IsEarly (form_request false form)
-form_early None = tt
-form_early (Some (HelloOf segments nodes)) = quota_early (quota_of segments nodes)
-form_early (Some _) = tt
+form_early form = grind (arith, quota_early)
 
 early : (line : LineText) → IsEarly (request false line)
-early TooLong = tt
-early (Whole bytes) = form_early (form_of bytes)
+early line = grind (arith, form_early)
 
 -- ---- only the last line may be BYE
 
@@ -146,11 +82,7 @@ EndsAtBye (line ∷ lines) = (is_bye line ≡ true → lines ≡ []) × EndsAtBy
 
 upto_ends : (lines : List LineText) → EndsAtBye (upto is_bye lines)
 upto_ends [] = tt
-upto_ends (line ∷ lines) =
-    elim (is_bye line) as (λ b. is_bye line ≡ b → EndsAtBye (if b then line ∷ [] else line ∷ upto is_bye lines)) [
-      | true ↦ λ bye. (λ is. refl, tt)
-      | false ↦ λ other. (λ is. absurd (let e : true ≡ false = sym is ∙ other in cc e), upto_ends lines)
-    ] refl
+upto_ends (line ∷ lines) = grind (arith, upto_ends lines)
 
 none_before : (xs rest : List LineText) → xs ++ rest ≡ [] → xs ≡ []
 none_before [] rest is = refl
@@ -161,9 +93,7 @@ prefix_ends [] rest ends = tt
 prefix_ends (x ∷ xs) rest ends = (λ bye. none_before xs rest (ends.0 bye), prefix_ends xs rest ends.1)
 
 pub answered_ends : (r : Result End SessionFault) (answered : List LineText) (bytes : List ℕ) → IsAnsweredOf r answered (session_lines bytes) → EndsAtBye answered
-answered_ends (Ok how) answered bytes is = subst EndsAtBye (sym is) (upto_ends (lines_of bytes))
-answered_ends (Err Read) answered bytes is = subst EndsAtBye (sym is) (upto_ends (lines_of bytes))
-answered_ends (Err Write) answered bytes is = prefix_ends answered is.0 (subst EndsAtBye (sym is.1) (upto_ends (lines_of bytes)))
+answered_ends r answered bytes is = grind (arith, upto_ends, prefix_ends)
 
 -- ---- the calls of a session
 
@@ -172,9 +102,7 @@ module _ (begun : HallOf) where
   Led from calls to = Leads (Called (IsTurnAt begun)) from calls to
 
   stays_seated : (call : Call) (reply : OfficeReply) → is_stay call ≡ true → IsOfficeReplyTo call reply → seated_after true reply ≡ true
-  stays_seated call Gone stays to = let leaves : is_stay call ≡ false = ap is_stay to in absurd (let e : true ≡ false = sym stays ∙ leaves in cc e)
-  stays_seated call (Welcome quota) stays to = refl
-  stays_seated call _ stays to = refl
+  stays_seated call reply stays to = grind arith
 
   -- these calls are made for a tenant that is there, and it leaves by the last
   abbrev AreSeated : List (Call × OfficeReply) → Type 0
@@ -197,13 +125,7 @@ module _ (begun : HallOf) where
       let seated = stays_seated call reply stays keeps.3 in
       let P : Bool → Type 0 = λ b. Led h.0 (calls_in b (turns b lines later)) to in
       one_more call reply (seated_after true reply) lines later stays seated (again later h.0 (subst P seated h.2))
-  turn_seated line lines replies from to last again (Tabulates job) is h =
-      let reply = next_reply replies in
-      let later = later_replies replies in
-      let keeps : KeepsAsks (asks_of from.seat) (Get job) reply (asks_of h.0.seat) = h.1.1 in
-      let seated = stays_seated (Get job) reply refl keeps.3 in
-      let P : Bool → Type 0 = λ b. Led h.0 (calls_in b (turns b lines later)) to in
-      one_more (Get job) reply (seated_after true reply) lines later refl seated (again later h.0 (subst P seated h.2))
+  turn_seated line lines replies from to last again (Tabulates job) is h = grind (arith, stays_seated, one_more)
   turn_seated line lines replies from to last again Ends is h = ([], tt, ap (λ (ls : List LineText). (Leave, Gone) ∷ calls_in false (turns false ls replies)) (last.0 (ends_is_bye line is)))
 
   while_seated : (lines : List LineText) (replies : List OfficeReply) (from to : OfficeOf) → EndsAtBye lines → Led from (calls_in true (turns true lines replies)) to → AreSeated (calls_in true (turns true lines replies))
@@ -295,11 +217,4 @@ module _ (begun : HallOf) where
   before_hello (line ∷ lines) replies from to last none h = turn_before line lines replies from to last none (λ rs next nobody more. before_hello lines rs next to last.1 nobody more) (request false line) refl h
 
   pub one_tenant : (lines : List LineText) (replies : List OfficeReply) (from to : OfficeOf) → EndsAtBye lines → from.seat ≡ None → from.knew ≡ None → Led from (calls_in false (turns false lines replies)) to → IsTenantOf begun (calls_in false (turns false lines replies)) to.knew
-  one_tenant lines replies from to last none new h = by (before_hello lines replies from to last none h)
-    where
-      calls : List (Call × OfficeReply)
-      calls = calls_in false (turns false lines replies)
-
-      by : Comes from calls to → IsTenantOf begun calls to.knew
-      by (inl nobody) = subst (λ (k : Option (Known (StepOf LeafAnswer))). IsTenantOf begun calls k) (sym (nobody.1 ∙ new)) nobody.0
-      by (inr came) = subst (λ (k : Option (Known (StepOf LeafAnswer))). IsTenantOf begun calls k) (sym came.1) came.2
+  one_tenant lines replies from to last none new h = grind (arith, before_hello)

@@ -1,23 +1,5 @@
 -- A session over an office at a desk, seen by what contracts see of the office.
-use Rattle.std.proofs.Common.{◌≡◌, List, [], ◌∷◌, Option, None, Result, refl, sym, ap, subst}
-use Rattle.std.specs.List.{concat}
-use Rattle.line_io.specs.Leads.{Leads}
-use Rattle.line_io.specs.Runs.{bytes_due}
-use Rattle.line_io.specs.Streams.{ReadAnswer, WriteAnswer}
-use Rattle.sched_rules.specs.declared.step.StepOf.{StepOf}
-use Rattle.desk.specs.Traces.{Known}
-use Rattle.desk.specs.hall.jamboree_rules.declared.leaf.LeafAnswer.{LeafAnswer}
-use Rattle.desk.specs.hall.Halls.{HallOf}
-use Rattle.session.specs.declared.faults.End.{End}
-use Rattle.session.specs.declared.faults.SessionFault.{SessionFault}
-use Rattle.session.specs.Calls.{Call, OfficeReply}
-use Rattle.session.specs.Asks.{KeepsAsks}
-use Rattle.session.specs.Sessions.{Called, Session, calls_for, talk_result}
-use Rattle.session.proofs.DoneLemmas.{each_done}
-use Rattle.session.proofs.TrueCalls.{all_true}
-use Rattle.desk_office.specs.Offices.{asks_of}
-use Rattle.desk_office.specs.Answers.{IsTenantOf, SeenSession}
-use Rattle.desk_office.specs.Moments.{OfficeOf, vacant, IsTurnAt}
+use Rattle.desk_office.proofs.Common.{◌≡◌, List, [], ◌∷◌, Option, None, Result, refl, sym, ap, subst, concat, Leads, bytes_due, ReadAnswer, WriteAnswer, StepOf, Known, LeafAnswer, HallOf, End, SessionFault, Call, OfficeReply, KeepsAsks, Called, Session, calls_for, talk_result, each_done, all_true, asks_of, IsTenantOf, SeenSession, OfficeOf, vacant, IsTurnAt}
 use Rattle.desk_office.proofs.OneTenant.{answered_ends, one_tenant}
 
 -- the asks are kept by each call

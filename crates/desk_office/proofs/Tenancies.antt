@@ -1,49 +1,10 @@
 -- From a tenant's seat to its Leave: each call is answered at a moment of the history.
-use Rattle.std.proofs.Common.{◌≡◌, ℕ, ◌+◌, ◌==◌, List, [], ◌∷◌, ◌++◌, length, map, Bool, true, false, Option, Some, None, Result, Ok, Err, refl, sym, ap, subst, ◌∙◌, inl, inr, arith, if◌then◌else◌, append_assoc, append-nil}
-use Rattle.std.specs.Prelude.{◌⊎◌, option_map}
-use Rattle.std.proofs.lemmas.Bool.Decides.{nat_tests}
-use Rattle.std.proofs.lemmas.List.{map-append}
-use mathlib.Core.List.{IsPrefix}
-use Rattle.othello_board.specs.declared.boards.Board.{Board}
-use Rattle.othello_board.specs.declared.cells.Cell.{Cell}
-use Rattle.position_text.specs.declared.positions.Side.{Side}
-use Rattle.tenant_quota.specs.Quota.{Quota}
-use Rattle.line_io.specs.Leads.{Leads}
-use Rattle.sched_rules.specs.declared.refusal.Refusal.{Refusal}
-use Rattle.sched_rules.specs.Refusals.{refusal_number}
-use Rattle.sched_rules.specs.declared.step.StepOf.TheVariants.{Admit, AdmitMore, Submit, Cancel as CancelStep, Leave as LeaveStep}
-use Rattle.sched_rules.specs.Functions.{Functions}
-use Rattle.sched_rules.specs.Trees.{left}
-use Rattle.sched_rules.specs.Runs.{only}
-use Rattle.sched_rules.specs.Cores.{CoreState, tenant_in, shared_run, shared_after, shared_refusal, step_result}
-use Rattle.sched_rules.specs.Headline.{IsAnswerTo}
-use Rattle.sched_laws.specs.Fitted.{submits, origins_of}
-use Rattle.jamboree_core.specs.Replies.{AreSearches, IsSearch}
-use Rattle.desk.specs.Traces.{own, Known}
-use Rattle.desk.specs.hall.jamboree_rules.declared.leaf.Leaf.{Leaf}
-use Rattle.desk.specs.hall.jamboree_rules.declared.leaf.LeafAnswer.{LeafAnswer}
-use Rattle.desk.specs.hall.jamboree_rules.Places.{root_words, frame_size}
-use Rattle.desk.specs.hall.jamboree_rules.Procedure.{jamboree}
-use Rattle.desk.specs.hall.Halls.{HallOf}
-use Rattle.desk.specs.Seats.{SeatOf, seeing}
-use Rattle.desk_rules.specs.Asked.{found_or_no_tenant}
-use Rattle.desk.specs.Histories.{core_at, seat_steps, steps_of, lone_tenant, AllOwn, AreTaken, IsSeated, IsTrueTo, Saw, Took}
-use Rattle.session.specs.Calls.{Call, Hello, Reserve, Ask, Get, Wait, Cancel, AskQuota, AskLive, Leave, OfficeReply, Told, Rest, Alive, Gone, Refused, reply_of}
-use Rattle.session.specs.Sessions.{Called}
-use Rattle.desk_office.specs.Offices.{told_answer}
-use Rattle.desk_office.specs.Answers.{History, live_in, is_stay, is_taken, reply_to, step_for, Adds, AllStay, AreAnswered, IsBoardIn, IsReplyAt}
-use Rattle.desk_office.specs.Moments.{OfficeOf, asked_after, taken_reply, with_seat, IsTenantGone, IsLookBy, IsStepRefused, IsRefusedAtOnce, IsLookReply, IsStepBy, IsStepTaken, IsTurnAt, IsTurnOf}
+use Rattle.desk_office.proofs.Common.{◌≡◌, ℕ, ◌+◌, ◌==◌, List, [], ◌∷◌, ◌++◌, length, map, Bool, true, false, Option, Some, None, Result, Err, refl, sym, ap, subst, ◌∙◌, inl, inr, arith, if◌then◌else◌, append_assoc, append-nil, ◌⊎◌, nat_tests, map-append, IsPrefix, Board, Cell, Side, Quota, Leads, Refusal, refusal_number, Admit, AdmitMore, Submit, Functions, only, CoreState, tenant_in, shared_run, shared_after, shared_refusal, step_result, IsAnswerTo, submits, origins_of, AreSearches, IsSearch, own, Known, Leaf, LeafAnswer, root_words, frame_size, jamboree, HallOf, SeatOf, seeing, core_at, seat_steps, steps_of, lone_tenant, AllOwn, AreTaken, IsSeated, IsTrueTo, Saw, Took, Call, Hello, Reserve, Ask, Get, Wait, Cancel, AskQuota, AskLive, Leave, OfficeReply, Told, Gone, Refused, reply_of, Called, told_answer, History, is_stay, is_taken, reply_to, step_for, Adds, AllStay, AreAnswered, IsBoardIn, IsReplyAt, OfficeOf, asked_after, taken_reply, with_seat, IsLookBy, IsStepRefused, IsRefusedAtOnce, IsLookReply, IsStepBy, IsStepTaken, IsTurnAt, IsTurnOf, prefix_self, prefix_trans}
+use Rattle.sched_rules.specs.declared.step.StepOf.TheVariants.{Cancel as CancelStep, Leave as LeaveStep}
 use Rattle.desk_office.proofs.Histories.{adds-none, all-mine, all-own, moment, own-more, seat-more, steps-more, AllGo, Goes, IsAtMoment, Step}
 use Rattle.desk_office.proofs.Answered.{ask-at-once, ask-refused, ask-taken, cancel-at-once, cancel-refused, cancel-taken, live-at, reserve-refused, reserve-taken, rest-at, root_of, told-at}
 
 -- ---- beginnings
-
-prefix_self : {A : Type 0} (xs : List A) → IsPrefix xs xs
-prefix_self [] = ([], refl)
-prefix_self (x ∷ xs) = let r = prefix_self xs in (r.0, ap (λ ys. x ∷ ys) r.1)
-
-prefix_trans : {A : Type 0} (xs ys zs : List A) → IsPrefix xs ys → IsPrefix ys zs → IsPrefix xs zs
-prefix_trans xs ys zs p q = (p.0 ++ q.0, sym (append_assoc xs p.0 q.0) ∙ (ap (λ w. w ++ q.0) p.1 ∙ q.1))
 
 took_more : (before now : Known Step) (step : Step) → Took before step now → IsPrefix before.seen now.seen
 took_more before now step t = (t.0 ++ (before.maker, step) ∷ [], sym (append_assoc before.seen t.0 ((before.maker, step) ∷ [])) ∙ sym t.1)
@@ -180,8 +141,7 @@ by-look begun from next first now call reply is untaken to l answer =
 
 -- what is told is no step
 told_is_none : {X : Type 0} (said : X → OfficeReply) (answer : Result X Refusal) → ((x : X) → is_taken (said x) ≡ false) → is_taken (reply_of said answer) ≡ false
-told_is_none said (Ok x) none = none x
-told_is_none said (Err refusal) none = refl
+told_is_none said answer none = grind arith
 
 abbrev PartOf : HallOf → Call → Type 0
 PartOf begun call = (from next : OfficeOf) (first : SeatOf) (reply : OfficeReply) → SeatHolds first → IsTurnOf begun (Some first) call reply from next → Part begun next first call reply
@@ -227,11 +187,7 @@ by-ask begun depth board side from next first reply is t =
     search words = Submit first.tenant (root_words words.own words.opp depth) frame_size
 
 part : (begun : HallOf) (from next : OfficeOf) (first : SeatOf) (call : Call) (reply : OfficeReply) → from.seat ≡ Some first → is_stay call ≡ true → SeatHolds first → IsTurnOf begun (Some first) call reply from next → Part begun next first call reply
-part begun from next first (Hello quota) reply here stays is t =
-    by-seeing begun from next first first (Hello quota) reply is (t.0 ∙ same from here) (ap is_taken t.1) refl (prefix_self first.known.seen, is.whose, refl, refl) (λ m. inl t.1)
-  where
-    same : (office : OfficeOf) → office.seat ≡ Some first → office ≡ with_seat first office
-    same office at = λ i. record { seat = at i; knew = office.knew }
+part begun from next first (Hello quota) reply here stays is t = grind (arith, by-seeing, prefix_self)
 part begun from next first (Reserve quota) reply here stays is t = by-reserve begun quota from next first reply is t
 part begun from next first (Ask depth board side) reply here stays is t = by-ask begun depth board side from next first reply is t
 part begun from next first (Cancel job) reply here stays is t = by-cancel begun job from next first reply is t
@@ -240,12 +196,8 @@ part begun from next first (Get job) reply here stays is t =
     let said = t.2.said in by-look begun from next first t.0 (Get job) reply is (ap is_taken said.2 ∙ told_is_none (Told job) (told_answer said.0) (λ x. refl)) t.1 t.2 (λ m told. inl (told-at begun first.tenant t.0.known.seen first.asked job reply m told))
 part begun from next first (Wait job) reply here stays is t =
     let said = t.2.said in by-look begun from next first t.0 (Wait job) reply is (ap is_taken said.2 ∙ told_is_none (Told job) (told_answer said.0) (λ x. refl)) t.1 t.2 (λ m told. inl (told-at begun first.tenant t.0.known.seen first.asked job reply m told))
-part begun from next first AskQuota reply here stays is t =
-    by-look begun from next first t.0 AskQuota reply is (ap is_taken t.2.said ∙ told_is_none Rest (found_or_no_tenant (option_map left (lone_tenant begun t.0.known.seen t.0.tenant))) (λ x. refl)) t.1 t.2
-    (λ m told. inl (told ∙ rest-at (lone_tenant begun t.0.known.seen first.tenant)))
-part begun from next first AskLive reply here stays is t =
-    by-look begun from next first t.0 AskLive reply is (ap is_taken t.2.said ∙ told_is_none Alive (found_or_no_tenant (option_map live_in (lone_tenant begun t.0.known.seen t.0.tenant))) (λ x. refl)) t.1 t.2
-    (λ m told. inl (told ∙ live-at (lone_tenant begun t.0.known.seen first.tenant)))
+part begun from next first AskQuota reply here stays is t = grind (arith, by-look, told_is_none, rest-at)
+part begun from next first AskLive reply here stays is t = grind (arith, by-look, told_is_none, live-at)
 
 -- ---- all calls
 
@@ -259,9 +211,7 @@ record Ending (begun : HallOf) (first : SeatOf) (to : OfficeOf) : Type 0 where
   pub whose : own known.maker known.seen ≡ known.mine
 
 gone-as : (begun : HallOf) (first : SeatOf) (from next to : OfficeOf) → from.seat ≡ Some first → IsTurnAt begun from Leave Gone next → next ≡ to → (now : Known Step) × (to.knew ≡ Some now) × Took first.known (LeaveStep first.tenant) now × IsTrueTo begun first.tenant now
-gone-as begun first from next to here turn end =
-    let gone : IsTenantGone begun first Gone next = subst (λ (o : Option SeatOf). IsTurnOf begun o Leave Gone from next) here turn.0 in
-    (gone.0, sym (ap (λ (o : OfficeOf). o.knew) end) ∙ ap (λ (o : OfficeOf). o.knew) gone.1, gone.2, gone.3)
+gone-as begun first from next to here turn end = grind arith
 
 part-on : (begun : HallOf) (next : OfficeOf) (first : SeatOf) (call : Call) (reply : OfficeReply) (p : Part begun next first call reply) → IsPrefix first.known.seen p.now.known.seen
 part-on begun next first call reply p = (p.between ++ p.added, sym (append_assoc first.known.seen p.between p.added) ∙ sym p.seen)
@@ -329,8 +279,7 @@ part-answered begun next first call reply p later is w =
     let rules = jamboree begun.grain in
     let here = subst (λ (l : History). Whole begun n m l) (append_assoc at p.added later) w in
     let mine = begins-seats begun n m at (p.added ++ later) here ∙ p.mine ∙ is.first in
-    let legal = begins-legal begun n m at (p.added ++ later) here in
-    let moment_at = moment begun n is.quota is.later at here.new legal mine is.go (tt, is.searches) in
+    let moment_at = moment begun n is.quota is.later at here.new (begins-legal begun n m at (p.added ++ later) here) mine is.go (tt, is.searches) in
     let moment_as = subst (λ (os : List (List ℕ)). IsAtMoment begun n at os) is.asked moment_at in
     let takes : Takes begun at p.added = λ maker step added.
     taken-next rules begun.shared (steps_of at) step (steps_of later)
@@ -343,26 +292,17 @@ rest-of now was rest last is same = sym is ∙ ap (λ (l : History). l ++ rest) 
 
 walk : (begun : HallOf) (first : SeatOf) (calls : List (Call × OfficeReply)) (from to : OfficeOf) (last : Known Step) → to.knew ≡ Some last → SeatHolds first → from.seat ≡ Some first → AllStay calls →
     Leads (Called (IsTurnAt begun)) from (calls ++ (Leave, Gone) ∷ []) to → Whole begun first.tenant first.known.maker last.seen → AreAnswered begun first.tenant first.known.maker first.known.seen calls last.seen
-walk begun first [] from to last knew is here stay h w =
-    let gone = gone-as begun first from h.0 to here h.1 h.2 in
-    let both : Some last ≡ Some gone.0 = sym knew ∙ gone.1 in
-    let same : last ≡ gone.0 = cc both in
-    let leave : History = (first.known.maker, LeaveStep first.tenant) ∷ [] in
-    let whole : last.seen ≡ (first.known.seen ++ gone.2.0) ++ leave = ap (λ (k : Known Step). k.seen) same ∙ gone.2.1 in
-    (gone.2.0, no-others begun first gone.2.0 leave is gone.2.2 (subst (λ (l : History). Whole begun first.tenant first.known.maker l) whole w), whole)
+walk begun first [] from to last knew is here stay h w = grind (arith, gone-as, no-others)
 walk begun first (made ∷ more) from to last knew is here stay h w =
-    let n = first.tenant in
-    let m = first.known.maker in
     let p = part-at begun from h.0 first made.0 made.1 here stay.0 is h.1 in
     let e = ending begun p.now more h.0 to p.kept p.seat stay.1 h.2 in
-    let both : Some e.known ≡ Some last = sym e.knew ∙ knew in
-    let same : e.known ≡ last = cc both in
+    let same : e.known ≡ last = cc (sym e.knew ∙ knew) in
     let goes_on : IsPrefix p.now.known.seen last.seen = subst (λ (k : Known Step). IsPrefix p.now.known.seen k.seen) same e.goes_on in
     let whole = rest-of p.now.known.seen ((first.known.seen ++ p.between) ++ p.added) goes_on.0 last.seen goes_on.1 p.seen in
-    let a = part-answered begun h.0 first made.0 made.1 p goes_on.0 is (subst (λ (l : History). Whole begun n m l) whole w) in
+    let a = part-answered begun h.0 first made.0 made.1 p goes_on.0 is (subst (λ (l : History). Whole begun first.tenant first.known.maker l) whole w) in
     let rest = walk begun p.now more h.0 to last knew p.kept p.seat stay.1 h.2 (subst (λ (x : ℕ × ℕ). Whole begun x.0 x.1 last.seen) (λ i. (sym p.tenant i, sym p.maker i)) w) in
     let rest' = subst (λ (x : ℕ × ℕ). AreAnswered begun x.0 x.1 p.now.known.seen more last.seen) (λ i. (p.tenant i, p.maker i)) rest in
-    (p.between, p.added, a.0, a.1, p.adds, subst (λ (l : History). AreAnswered begun n m l more last.seen) p.seen rest')
+    (p.between, p.added, a.0, a.1, p.adds, subst (λ (l : History). AreAnswered begun first.tenant first.known.maker l more last.seen) p.seen rest')
 
 -- a tenant came with this seat, these calls were made for it, and it left
 pub record Tenancy (begun : HallOf) (number : ℕ) (quota : Quota) (calls : List (Call × OfficeReply)) (to : OfficeOf) : Type 0 where

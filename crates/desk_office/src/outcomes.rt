@@ -8,6 +8,7 @@ use othello_eval::Valued;
 use session::{Analysis, Bounds, Standing};
 
 /// The entries of a reply's table, in order.
+#[tactic(auto, using(crate::proofs::Entries::read_one, crate::proofs::Entries::read_none))]
 fn bounds_of(reply: &Reply) -> Bounds
     ensures { result ≡ table_of reply.now }
 {

@@ -1,13 +1,5 @@
 -- Who has a lead is picked after the others have caught up.
-use Rattle.std.proofs.Common.{◌≡◌, ◌≢◌, ℕ, zero, suc, ◌+◌, ◌-◌, ◌*◌, ◌<◌, ◌≤◌, Bool, true, false, List, [], ◌∷◌, length, set, sym, ◌∙◌, refl, ap, subst, arith, cond}
-use Rattle.std.specs.Prelude.{count_by, sum_by, nat_lt, nat_eq}
-use Rattle.std.proofs.lemmas.Bool.{eqb-false, eqb-true}
-use Rattle.std.proofs.lemmas.List.{get_or-set_same}
-use Rattle.std.proofs.lemmas.List.Sums.{sum_by-cons}
-use Rattle.fair_pool.specs.declared.account.Account.{Account}
-use Rattle.fair_pool.specs.Accounts.{free_account, is_active, is_rival, is_before, capped_sum, account_charged, woken_from, rested}
-use Rattle.fair_pool.specs.Lines.{LineOf, IsNextAccount, account_at, floor_of, charged}
-use Rattle.fair_pool.specs.Waits.{LineEvent, Comes, Wakes, Rests, Serves, Picks, line_after, place_in, IsFair, Waits, picks_in, arrivals_in, is_member, IsLed}
+use Rattle.fair_pool.proofs.Common.{◌≡◌, ◌≢◌, ℕ, zero, suc, ◌+◌, ◌-◌, ◌*◌, ◌<◌, ◌≤◌, Bool, true, false, List, [], ◌∷◌, length, set, sym, ◌∙◌, refl, ap, subst, arith, cond, count_by, sum_by, nat_lt, nat_eq, eqb-false, eqb-true, get_or-set_same, sum_by-cons, Account, free_account, is_active, is_rival, is_before, capped_sum, account_charged, woken_from, rested, LineOf, IsNextAccount, account_at, floor_of, charged, LineEvent, Comes, Wakes, Rests, Serves, Picks, line_after, place_in, IsFair, Waits, picks_in, arrivals_in, is_member, IsLed}
 use Rattle.fair_pool.proofs.WaitLemmas.{one, sum-set, sum-one, other-at, any-at, floor-least, picks-cons}
 
 -- how often another may still be picked before

@@ -1,3 +1,4 @@
+mod Common
 pub mod NameLemmas
 mod WaitLemmas
 mod LeadLemmas

@@ -1,12 +1,5 @@
 -- The names of a line's accounts, by which somebody is found there.
-use Rattle.std.proofs.Common.{◌≡◌, ℕ, ◌+◌, ◌==◌, refl, List, [], ◌∷◌, Some, if◌then◌else◌, ap, sym, ◌∙◌}
-use Rattle.std.specs.Prelude.{slice_index_or, slice_set}
-use Rattle.std.proofs.lemmas.List.{map-set}
-use Rattle.std.proofs.Math.Seq.{map-set_same}
-use Rattle.std.proofs.Math.ListN.{get_or-map}
-use Rattle.fair_pool.specs.declared.account.Account.{Account}
-use Rattle.fair_pool.specs.Accounts.{free_account}
-use Rattle.fair_pool.specs.Lines.{account_at, account_names, named_from, place_named, place_among_from, place_among}
+use Rattle.fair_pool.proofs.Common.{◌≡◌, ℕ, ◌+◌, ◌==◌, refl, List, [], ◌∷◌, Some, if◌then◌else◌, ap, sym, ◌∙◌, slice_index_or, slice_set, map-set, map-set_same, get_or-map, Account, free_account, account_at, account_names, named_from, place_named, place_among_from, place_among}
 
 -- who stands first among the names stands first among the accounts
 named_alike : (first name : ℕ) (accounts : List Account) → place_among_from first name (account_names accounts) ≡ named_from first name accounts

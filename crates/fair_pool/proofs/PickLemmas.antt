@@ -1,12 +1,5 @@
 -- What was seen of one place more.
-use Rattle.std.proofs.Common.{◌≡◌, ◌==◌, ℕ, ◌+◌, suc, Bool, true, false, ◌||◌, if◌then◌else◌, refl, add-one, ap, ◌∙◌}
-use Rattle.std.specs.Prelude.{is_some}
-use Rattle.sched_rules.specs.Cores.{CoreState}
-use Rattle.sched_rules.specs.Views.{newest_ready_in}
-use Rattle.fair_pool.specs.Accounts.{is_active}
-use Rattle.fair_pool.specs.Lines.{has_rival, woken, rested_at}
-use Rattle.fair_pool.specs.Shares.{SharesOf, tenant_in_place, network_at, customer_at, rested_unless, tenant_seen}
-use Rattle.fair_pool.specs.Picks.{seen_up_to}
+use Rattle.fair_pool.proofs.Common.{◌≡◌, ◌==◌, ℕ, ◌+◌, suc, Bool, true, false, ◌||◌, if◌then◌else◌, refl, add-one, ap, ◌∙◌, is_some, CoreState, newest_ready_in, is_active, has_rival, woken, rested_at, SharesOf, tenant_in_place, network_at, customer_at, rested_unless, tenant_seen, seen_up_to}
 
 pub seen_none : (core : CoreState) (shares : SharesOf) → seen_up_to core 0 shares ≡ shares
 unfolding seen_up_to

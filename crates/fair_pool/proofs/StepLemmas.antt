@@ -1,14 +1,5 @@
 -- What a worker offers is a worker's step.
-use Rattle.std.proofs.Common.{◌≡◌, ℕ, true, false, ◌==◌, if◌then◌else◌, Some, IfSome, sym, subst, refl}
-use Rattle.sched_rules.specs.declared.step.StepOf.{StepOf}
-use Rattle.sched_rules.specs.declared.step.StepOf.TheVariants.{Take, Steal}
-use Rattle.hall.specs.jamboree_rules.declared.leaf.LeafAnswer.{LeafAnswer}
-use Rattle.pool_rules.specs.declared.turn.Action.{Action}
-use Rattle.pool_rules.specs.declared.turn.Action.TheVariants.{Get, Run, Bring, TakeIn, Finish}
-use Rattle.pool_rules.specs.declared.turn.Holding.{Holding}
-use Rattle.pool_rules.specs.declared.turn.Holding.TheVariants.{Nothing, Next, Computing, GivingUp}
-use Rattle.pool_rules.specs.Turns.{step_of, offered}
-use Rattle.hall.specs.Journals.{is_worker_step}
+use Rattle.fair_pool.proofs.Common.{◌≡◌, ℕ, true, false, ◌==◌, if◌then◌else◌, Some, IfSome, sym, subst, refl, StepOf, Take, Steal, LeafAnswer, Action, Get, Run, Bring, TakeIn, Finish, Holding, Nothing, Next, Computing, GivingUp, step_of, offered, is_worker_step}
 
 -- for each action
 worker-step_of : (worker : ℕ) (action : Action) → is_worker_step (step_of worker action) ≡ true

@@ -1,12 +1,5 @@
 -- Who waits comes next after those ahead of it.
-use Rattle.std.proofs.Common.{◌≡◌, ◌≢◌, ℕ, zero, suc, ◌+◌, ◌*◌, ◌<◌, ◌≤◌, Bool, true, false, List, [], ◌∷◌, set, sym, ◌∙◌, refl, ap, subst, arith, Option, Some, None, cond, unwrap_or}
-use Rattle.std.specs.Prelude.{sum_by}
-use Rattle.std.proofs.lemmas.List.{get_or-set_other}
-use Rattle.std.proofs.lemmas.List.Sums.{sum_by-cons}
-use Rattle.fair_pool.specs.declared.account.Account.{Account}
-use Rattle.fair_pool.specs.Accounts.{free_account, is_active, is_rival, is_before, capped_sum, account_charged, woken_from, rested}
-use Rattle.fair_pool.specs.Lines.{LineOf, account_at, lesser, least_from, floor_of}
-use Rattle.fair_pool.specs.Waits.{LineEvent, Comes, Wakes, Rests, Serves, Picks, line_after, place_in, IsFair, Waits, picks_in, tasks_in, IsEach, is_ahead, IsLeast}
+use Rattle.fair_pool.proofs.Common.{◌≡◌, ◌≢◌, ℕ, zero, suc, ◌+◌, ◌*◌, ◌<◌, ◌≤◌, Bool, true, false, List, [], ◌∷◌, set, sym, ◌∙◌, refl, ap, subst, arith, Option, Some, None, cond, unwrap_or, sum_by, get_or-set_other, sum_by-cons, Account, free_account, is_active, is_rival, is_before, capped_sum, account_charged, woken_from, rested, LineOf, account_at, lesser, least_from, floor_of, LineEvent, Comes, Wakes, Rests, Serves, Picks, line_after, place_in, IsFair, Waits, picks_in, tasks_in, IsEach, is_ahead, IsLeast}
 
 abbrev pub one : Bool → ℕ
 one b = cond b 1 0

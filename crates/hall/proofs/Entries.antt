@@ -1,15 +1,5 @@
 -- The steps that entries stand for: how many they are, and one more.
-use Rattle.std.proofs.Common.{◌≡◌, ℕ, ◌+◌, ◌<◌, false, List, [], ◌∷◌, ◌++◌, length, drop, refl, ap, sym, ◌∙◌, arith, inl, inr, append-nil}
-use Rattle.std.specs.Prelude.{if◌then◌else◌}
-use Rattle.std.proofs.lemmas.Bool.{cases_Bool, false≢true}
-use Rattle.sched_rules.specs.declared.step.StepOf.{StepOf}
-use Rattle.jamboree_core.specs.jamboree_rules.declared.leaf.LeafAnswer.{LeafAnswer}
-use Rattle.hall.specs.declared.entry.JournalEntry.{JournalEntry}
-use Rattle.hall.specs.declared.entry.JournalEntry.TheVariants.{Long}
-use Rattle.hall.specs.declared.entry.LongEntry.{LongEntry}
-use Rattle.hall.specs.declared.entry.LongEntry.TheVariants.{Admitted, Raised, Asked, Answered, Cancelled}
-use Rattle.hall.specs.Entries.{is_long, long_steps, short_steps, long_step, steps_in, long_count}
-use Rattle.hall.specs.Journals.{JournalOf, longer, places_with, longs_with, raise_count, raise_in}
+use Rattle.hall.proofs.Common.{◌≡◌, ℕ, ◌+◌, ◌<◌, false, List, [], ◌∷◌, ◌++◌, length, drop, refl, ap, ◌∙◌, arith, append-nil, if◌then◌else◌, false≢true, StepOf, LeafAnswer, JournalEntry, Long, LongEntry, is_long, long_steps, short_steps, long_step, steps_in, long_count, JournalOf, longer, places_with, longs_with, raise_count, raise_in}
 use Rattle.hall.proofs.Lists.{further}
 
 abbrev Step : Type 0
@@ -17,8 +7,7 @@ Step = StepOf LeafAnswer
 
 -- a short entry stands for one step
 short-one : (n : ℕ) (e : JournalEntry) → is_long e ≡ false → length (short_steps n e) ≡ 1
-short-one n Long short = absurd (false≢true (sym short))
-short-one n _ short = refl
+short-one n e short = grind (arith, false≢true)
 
 -- one entry more
 pub long_count-more : (e : JournalEntry) (es : List JournalEntry) → long_count (es ++ e ∷ []) ≡ long_count es + (if is_long e then 1 else 0)
@@ -37,26 +26,15 @@ long_steps-append [] ks = omega arith
 long_steps-append (j ∷ js) ks = (let rest = long_steps-append js ks in omega (arith, rest))
 
 short-none : (n : ℕ) (e : JournalEntry) → is_long e ≡ false → long_steps (short_steps n e) ≡ 0
-short-none n Long short = absurd (false≢true (sym short))
-short-none n _ short = refl
+short-none n e short = grind (arith, false≢true)
 
 long-one : (n : ℕ) (l : LongEntry) → long_steps (long_step n l ∷ []) ≡ 1
-long-one n (Admitted reserve) = refl
-long-one n (Raised reserve) = refl
-long-one n (Asked depth own opp) = refl
-long-one n (Answered worker serial answer) = refl
-long-one n (Cancelled job) = refl
+long-one n l = grind arith
 
 pub steps_in-longs : (n : ℕ) (es : List JournalEntry) (ls : List LongEntry) → long_count es ≡ length ls → long_steps (steps_in n es ls) ≡ length ls
 steps_in-longs n [] ls count = grind arith
-steps_in-longs n (e ∷ es) [] count = elim (cases_Bool (is_long e)) [
-  | inl long ↦ (let some = rw long at count in absurd (omega (arith, some)))
-  | inr short ↦ (let fewer = rw short at count in let rest = steps_in-longs n es [] (omega (arith, fewer)) in let none = short-none n e short in rw short (omega (arith, rest, none, long_steps-append (short_steps n e) (steps_in n es []))))
-]
-steps_in-longs n (e ∷ es) (l ∷ ls) count = elim (cases_Bool (is_long e)) [
-  | inl long ↦ (let fewer = rw long at count in let rest = steps_in-longs n es ls (omega (arith, fewer)) in let one = long-one n l in rw long (omega (arith, rest, one)))
-  | inr short ↦ (let fewer = rw short at count in let rest = steps_in-longs n es (l ∷ ls) (omega (arith, fewer)) in let none = short-none n e short in rw short (omega (arith, rest, none, long_steps-append (short_steps n e) (steps_in n es (l ∷ ls)))))
-]
+steps_in-longs n (e ∷ es) [] count = grind (arith, steps_in-longs n es, short-none, long_steps-append)
+steps_in-longs n (e ∷ es) (l ∷ ls) count = grind (arith, steps_in-longs n es ls, steps_in-longs n es (l ∷ ls), long-one, short-none, long_steps-append)
 
 -- one short entry more
 pub steps_in-short : (n : ℕ) (e : JournalEntry) (es : List JournalEntry) (ls : List LongEntry) → is_long e ≡ false → steps_in n (es ++ e ∷ []) ls ≡ steps_in n es ls ++ short_steps n e

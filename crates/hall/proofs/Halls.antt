@@ -1,43 +1,6 @@
 -- What a hall keeps, over an admission, a Leave, and any other step that was taken.
-use Rattle.std.proofs.Common.{◌≡◌, ◌≢◌, ℕ, ◌+◌, ◌*◌, ◌^◌, ◌<◌, ◌≤◌, Bool, true, false, ◌||◌, eqb, List, [], ◌∷◌, ◌++◌, length, Option, Some, None, Result, Ok, Err, refl, ap, sym, ◌∙◌, subst, arith, inl, inr, length-append}
-use Rattle.std.specs.Prelude.{◌==◌, nat_le, nat_lt, OnOk}
-use Rattle.std.proofs.lemmas.Bool.{cases_Bool, eqb-true, eqb-false, eq-eqb, true≢false}
-use Rattle.std.proofs.lemmas.Bool.Decides.{nat_tests}
-use Rattle.tenant_quota.specs.Quota.{Quota, IsWithinLimits}
-use Rattle.sched_rules.specs.declared.refusal.Refusal.{Refusal}
-use Rattle.sched_rules.specs.declared.refusal.Refusal.TheVariants.{NoTenant, OldTenant, BadAct, Full, OutOfMemory, Lower}
-use Rattle.sched_rules.specs.declared.step.StepOf.{StepOf}
-use Rattle.sched_rules.specs.declared.step.StepOf.TheVariants.{Admit, AdmitMore, Leave}
-use Rattle.sched_rules.specs.declared.step.DidOf.{DidOf}
-use Rattle.sched_rules.specs.declared.step.DidOf.TheVariants.{Left}
-use Rattle.sched_rules.specs.Functions.{Functions}
-use Rattle.sched_rules.specs.declared.job.Job.{Job}
-use Rattle.sched_rules.specs.Trees.{Tenant, admitted_with, job_at}
-use Rattle.jamboree_core.proofs.sched_laws_Consequences.{step-ended}
-use Rattle.jamboree_core.proofs.Possible.{IsOfSearches, tenant-none-bad}
-use Rattle.sched_rules.specs.Lone.{Outcome, unless, refusal_in, lone, lone_step, is_lower}
-use Rattle.sched_rules.specs.Runs.{tenant_of}
-use Rattle.sched_rules.specs.Cores.{CoreState, tenant_in, step_result, unless_beyond, shared_by_nobody, shared_refusal, shared_with, newest_after}
-use Rattle.sched_rules.specs.Headline.{IsOneStep, AreNumbersGiven, IsAnswerTo, is_admission}
-use Rattle.sched_rules.proofs.Isolation.{IsTaken, step-taken, shared-after-taken, there, more-there}
-use Rattle.sched_rules.proofs.Tenants.{tenant_in-with_outcome}
-use Rattle.jamboree_core.proofs.sched_core_Stepping.{one-step, one-admission}
-use Rattle.jamboree_core.specs.jamboree_rules.declared.leaf.Leaf.{Leaf}
-use Rattle.jamboree_core.specs.jamboree_rules.declared.leaf.LeafAnswer.{LeafAnswer}
-use Rattle.jamboree_core.specs.jamboree_rules.Procedure.{jamboree}
-use Rattle.jamboree_core.specs.Replies.{IsSearch, AreSearches}
-use Rattle.sched_rules.specs.Views.{job_of}
-use Rattle.jamboree_core.specs.sched_laws.Fitted.{origins_of, submits}
+use Rattle.hall.proofs.Common.{◌≡◌, ◌≢◌, ℕ, ◌+◌, ◌*◌, ◌^◌, ◌<◌, ◌≤◌, Bool, true, false, ◌||◌, eqb, List, [], ◌∷◌, ◌++◌, length, Option, Some, None, Result, Ok, Err, refl, ap, sym, ◌∙◌, subst, arith, inl, inr, length-append, ◌==◌, nat_le, nat_lt, OnOk, cases_Bool, eqb-true, eqb-false, eq-eqb, true≢false, nat_tests, Quota, IsWithinLimits, Refusal, NoTenant, OldTenant, BadAct, Full, OutOfMemory, Lower, StepOf, Admit, AdmitMore, Leave, DidOf, Left, Functions, Job, Tenant, admitted_with, job_at, step-ended, IsOfSearches, tenant-none-bad, Outcome, unless, refusal_in, lone, lone_step, is_lower, tenant_of, CoreState, tenant_in, step_result, unless_beyond, shared_by_nobody, shared_refusal, shared_with, newest_after, IsOneStep, AreNumbersGiven, IsAnswerTo, is_admission, IsTaken, step-taken, shared-after-taken, there, more-there, tenant_in-with_outcome, one-step, one-admission, Leaf, LeafAnswer, jamboree, IsSearch, AreSearches, job_of, origins_of, submits, TenantSearches, ServesSearches, origin_at, IsOutcomeIn, AnswersTo, IsJournalOf, journal-searches, journal-goes-on, journal-begins, others-stay, serial_in, is_long_step, long_steps, AreRising, all-push, all-with, all-without, said-lacks, said-with_other, said-without_own, said-without_other, rising-with, rising-without, length-with, length-without, JournalOf, journal_in, places_in, longs_in, owner_of_journal, has_journal, with_step, without_journal, total_length, places_for, places_with, longs_for, longs_with, raise_in, raise_count, reserved_in, admitted_journal, journals_after, gone_by, is_appended, longer, AreUpTo, IsBegun, AreBegun, HallOf, empty_hall, hall_after, Explains, IsExplained, IsHall, lets_go, KeepsEndedJobs}
 use Rattle.jamboree_core.specs.declared.outcomes.Outcome.{Outcome as Outcomes}
-use Rattle.jamboree_core.specs.Searching.{TenantSearches, ServesSearches, origin_at}
-use Rattle.jamboree_core.specs.Outcomes.{IsOutcomeIn, AnswersTo}
-use Rattle.jamboree_core.specs.Journals.{IsJournalOf}
-use Rattle.jamboree_core.proofs.JournalLemmas.{journal-searches, journal-goes-on, journal-begins, others-stay}
-use Rattle.hall.specs.Entries.{serial_in, is_long_step, long_steps}
-use Rattle.number_index.specs.Places.{AreRising}
-use Rattle.number_index.proofs.Edits.{all-push, all-with, all-without, said-lacks, said-with_other, said-without_own, said-without_other, rising-with, rising-without, length-with, length-without}
-use Rattle.hall.specs.Journals.{JournalOf, journal_in, places_in, longs_in, owner_of_journal, has_journal, with_step, without_journal, total_length, places_for, places_with, longs_for, longs_with, raise_in, raise_count, reserved_in, admitted_journal, journals_after, gone_by, is_appended, longer, AreUpTo, IsBegun, AreBegun}
-use Rattle.hall.specs.Halls.{HallOf, empty_hall, hall_after, Explains, IsExplained, IsHall, lets_go, KeepsEndedJobs}
 use Rattle.hall.proofs.Lists.{IsAllowed, Brings, steps_of, longer-places, longer-longs, step-own, step-total, step-begun, without-total, push-own, push-other, push-total, push-rising, push-upto, total-within, IsAt, found-at}
 use Rattle.hall.proofs.Using.{step-used, step-brings, serial-given, told-by}
 use Rattle.hall.proofs.Longs.{journal-longs}
@@ -60,14 +23,11 @@ searches-push (first ∷ steps) step are is = (are.0, searches-push steps step a
 
 -- the journals after a step that goes on
 pub after-going : (step : Step) (journals : List JournalOf) → is_appended step ≡ true → (journals_after step journals ≡ with_step (tenant_of step) step journals) × (gone_by step journals ≡ 0) × ((newest : ℕ) → newest_after newest step ≡ newest)
-after-going (Admit number quota) journals goes = absurd (true≢false (sym goes))
-after-going (Leave number) journals goes = absurd (true≢false (sym goes))
-after-going _ journals goes = (refl, refl, λ newest. refl)
+after-going step journals goes = grind (arith, true≢false)
 
 -- what holds whatever was answered
 pub on-ok : {T E : Type 0} {P : Type 0} (answer : Result T E) → P → OnOk answer P
-on-ok (Ok value) it = it
-on-ok (Err error) it = tt
+on-ok answer it = grind arith
 
 -- no count passes 2^84
 few-steps : (journals : List JournalOf) (gone latest : ℕ) → AreBegun journals → length journals * 2 ^ 21 + gone ≤ latest * 2 ^ 21 → latest ≤ 2 ^ 62 → total_length journals + gone ≤ 2 ^ 84
@@ -75,10 +35,7 @@ few-steps journals gone latest begun bounded numbers = (let within = total-withi
 
 -- a tenant that a step goes on with is there
 going-there : {I A : Type 0} (functions : Functions I A) (own : Option Tenant) (step : StepOf A) (outcome : Outcome I) → is_appended step ≡ true → lone functions own step ≡ Ok outcome → own ≢ None
-going-there functions own (Admit number quota) outcome goes taken = absurd (true≢false (sym goes))
-going-there functions own (AdmitMore number quota) outcome goes taken = more-there functions own number quota outcome taken
-going-there functions own (Leave number) outcome goes taken = absurd (true≢false (sym goes))
-going-there functions own step outcome goes taken = there functions own step outcome refl taken
+going-there functions own step outcome goes taken = grind (arith, true≢false, more-there, there)
 
 -- a journal has a place for each step that its tenant takes, those counted that a raise makes
 has-place : (grain : ℕ) (journals : List JournalOf) (number : ℕ) (step : Step) (next : Tenant) → IsAt number journals → is_appended step ≡ true →
@@ -86,11 +43,9 @@ has-place : (grain : ℕ) (journals : List JournalOf) (number : ℕ) (step : Ste
 has-place grain journals number step next at goes is =
     let told = told-by (jamboree grain) (journal_in journals number ++ step ∷ []) next is in
     let short = told.short in
-    let one = length-append (journal_in journals number) (step ∷ []) in
     let places = at.after step ∙ longer-places step at.journal goes at.begun.places in
     let nodes = ap (λ (q : Quota). q.nodes) told.reserve ∙ ap (λ (js : List Step). (reserved_in (js ++ step ∷ [])).nodes) at.steps in
-    let count = ap (λ (js : List Step). raise_count (js ++ step ∷ [])) at.steps in
-    omega (arith, short, one, places, nodes, count)
+    omega (arith, short, length-append (journal_in journals number) (step ∷ []), places, nodes, ap (λ (js : List Step). raise_count (js ++ step ∷ [])) at.steps)
 
 -- one long step more
 longs-more : (steps : List Step) (step : Step) → is_long_step step ≡ true → long_steps (steps ++ step ∷ []) ≡ long_steps steps + 1
@@ -103,11 +58,9 @@ has-long-place : (grain : ℕ) (journals : List JournalOf) (number : ℕ) (step 
 has-long-place grain journals number step next at goes long is searches =
     let told = told-by (jamboree grain) (journal_in journals number ++ step ∷ []) next is in
     let few = journal-longs grain (journal_in journals number ++ step ∷ []) next is searches in
-    let one = longs-more (journal_in journals number) step long in
     let places = at.long_after step ∙ longer-longs step at.journal goes at.begun.longs in
     let nodes = ap (λ (q : Quota). q.nodes) told.reserve ∙ ap (λ (js : List Step). (reserved_in (js ++ step ∷ [])).nodes) at.steps in
-    let count = ap (λ (js : List Step). raise_count (js ++ step ∷ [])) at.steps in
-    omega (arith, few, one, places, nodes, count)
+    omega (arith, few, longs-more (journal_in journals number) step long, places, nodes, ap (λ (js : List Step). raise_count (js ++ step ∷ [])) at.steps)
 
 -- a tenant that was there, and what it came to by a step
 record WentOn (grain : ℕ) (before after : CoreState) (step : Step) : Type 0 where
@@ -152,19 +105,16 @@ is-ready hall latest count number quota keeps none =
     let has = has-one hall.grain tenant hall.journals number own in
     let at = found-at number hall.journals has keeps.begun in
     let told = told-by (jamboree hall.grain) (journal_in hall.journals number) tenant own in
-    let short = told.short in
     let raises = ap (λ (js : List Step). raise_count js) at.steps in
     let longs = journal-longs hall.grain (journal_in hall.journals number) tenant own (keeps.explained.searches number) in
-    let begun = at.begun in
-    let segments = begun.segments in let nodes = begun.nodes in let raised = begun.raised in let more = found.2 in
-    record { has = has; few = omega (arith, raises, segments, nodes, raised); place = omega (arith, short, more); long = omega (arith, longs, more) }
+    let segments = at.begun.segments in let nodes = at.begun.nodes in let raised = at.begun.raised in let more = found.2 in
+    record { has = has; few = omega (arith, raises, segments, nodes, raised); place = omega (arith, told.short, more); long = omega (arith, longs, more) }
 
 went-on : (hall : HallOf) (after : CoreState) (step : Step) (did : DidOf Leaf) → IsExplained hall → IsOneStep (jamboree hall.grain) hall.shared step (Ok did) after → is_appended step ≡ true → WentOn hall.grain hall.shared after step
 went-on hall after step did explained one goes =
     let functions = jamboree hall.grain in
     let t = step-taken functions hall.shared step did explained.known one.answered in
-    let left : after ≡ shared_with hall.shared step t.outcome.0 = one.left ∙ shared-after-taken functions hall.shared step did t in
-    by t left (tenant_in hall.shared.tenants (tenant_of step)) refl t.outcome refl
+    by t (one.left ∙ shared-after-taken functions hall.shared step did t) (tenant_in hall.shared.tenants (tenant_of step)) refl t.outcome refl
   where
     by : (t : IsTaken (jamboree hall.grain) hall.shared step did) → after ≡ shared_with hall.shared step t.outcome.0 → (own : Option Tenant) → tenant_in hall.shared.tenants (tenant_of step) ≡ own → (outcome : Outcome Leaf) → t.outcome ≡ outcome →
         WentOn hall.grain hall.shared after step
@@ -206,22 +156,19 @@ record IsChanged (hall : HallOf) (latest : ℕ) (step : Step) (after : CoreState
 changed : (hall : HallOf) (before count latest : ℕ) (step : Step) (did : DidOf Leaf) (after : CoreState) (journals : List JournalOf) (gone : ℕ) → IsHall hall before count → IsOneStep (jamboree hall.grain) hall.shared step (Ok did) after → AreNumbersGiven after →
     IsChanged hall latest step after journals gone → IsHall (record hall { shared = after; journals = journals; gone = gone }) latest (count + 1)
 changed hall before count latest step did after journals gone keeps one known is =
-    let explained = keeps.explained in
-    let counted = keeps.counted in
-    let newest = is.newest in let numbers = is.numbers in let total = is.total in
     record {
       explained = record {
         tenants = λ m. grind (arith, others-stay);
-        searches = λ m. by m (λ k. AreSearches (journal_in journals k)) is.searches (λ ne. rw (is.others m ne) (explained.searches m));
+        searches = λ m. by m (λ k. AreSearches (journal_in journals k)) is.searches (λ ne. rw (is.others m ne) (keeps.explained.searches m));
         known = known;
-        numbers = omega (arith, newest, numbers);
-        few = few-steps journals gone latest is.begun is.bounded numbers;
+        numbers = omega (arith, is.newest, is.numbers);
+        few = few-steps journals gone latest is.begun is.bounded is.numbers;
       };
       rising = is.rising;
       upto = is.upto;
       begun = is.begun;
-      newest = newest;
-      counted = omega (arith, total, counted);
+      newest = is.newest;
+      counted = omega (arith, is.total, keeps.counted);
       bounded = is.bounded;
     }
   where
@@ -251,33 +198,28 @@ goes-on hall latest count step did after keeps one goes allowed search known =
     let on = journal-goes-on (jamboree hall.grain) hall.shared step did after (journal_in hall.journals n) went.tenant went.next explained.known one went.was went.is own in
     let place = has-place hall.grain hall.journals n step went.next at goes on in
     let searches = searches-push (journal_in hall.journals n) step (explained.searches n) search in
-    let journals = with_step n step hall.journals in
     let given = serial-given (jamboree hall.grain) went.tenant step (Some went.next, went.told) went.taken told.shape in
-    let opened = told.shape.opened in
     let nodes = ap (λ (q : Quota). q.nodes) (told.reserve ∙ ap (λ (js : List Step). reserved_in js) at.steps) in
-    let few = at.begun.nodes in
-    let newest = keeps.newest in let numbers = explained.numbers in
     let B : Quota → Type 0 = λ q. Brings (raise_in step) q in
     let brings = subst B told.reserve (step-brings (jamboree hall.grain) went.tenant step (Some went.next, went.told) went.taken) in
     let more = step-own n step hall.journals has in
-    let total = step-total n step hall.journals has in
     record {
       has = has;
       place = λ none. (let same = at.after step ∙ ap (λ (r : Option Quota). places_with r at.journal) none ∙ sym at.places in omega (arith, place, same));
       long = λ none is. (let same = at.long_after step ∙ ap (λ (r : Option Quota). longs_with r at.journal) none ∙ sym at.longs in
           let long_place = has-long-place hall.grain hall.journals n step went.next at goes is on searches in omega (arith, long_place, same));
-      serial = omega (arith, given, opened, nodes, few);
+      serial = omega (arith, given, told.shape.opened, nodes, at.begun.nodes);
       left = grind arith;
-      keeps = changed hall latest count latest step did after journals hall.gone keeps one known (record {
+      keeps = changed hall latest count latest step did after (with_step n step hall.journals) hall.gone keeps one known (record {
         own = some-explained hall.grain _ went.next _ went.is (rw more on);
         searches = rw more searches;
         others = λ m ne. said-with_other owner_of_journal steps_of [] m n (longer step) hall.journals ne (λ j mine. mine);
         rising = rising-with owner_of_journal n (longer step) hall.journals (λ j mine. mine) keeps.rising;
         upto = all-with (λ (j : JournalOf). j.tenant ≤ latest) owner_of_journal n (longer step) hall.journals keeps.upto (λ j le found. le);
         begun = step-begun n step hall.journals goes allowed brings place keeps.begun;
-        newest = newest ∙ sym (newest-after hall.grain hall.shared after step did explained.known one ∙ stays.2 hall.shared.newest);
-        numbers = omega (arith, newest, numbers);
-        total = omega (arith, total);
+        newest = keeps.newest ∙ sym (newest-after hall.grain hall.shared after step did explained.known one ∙ stays.2 hall.shared.newest);
+        numbers = omega (arith, keeps.newest, explained.numbers);
+        total = omega (arith, step-total n step hall.journals has);
         bounded = rw (length-with owner_of_journal n (longer step) hall.journals) keeps.bounded;
       });
     }
@@ -295,17 +237,11 @@ pub admitted : (hall : HallOf) (latest count number : ℕ) (quota : Quota) (did 
     shared_refusal {A = LeafAnswer} (jamboree hall.grain) hall.shared (Admit number quota) ≡ None → IsWithinLimits quota → AreNumbersGiven after →
     IsHall (record hall { shared = after; journals = hall.journals ++ admitted_journal number quota ∷ [] }) number (count + 1)
 admitted hall latest count number quota did after keeps one none limit known =
-    let known_before = keeps.explained.known in
     let passed = numbered number hall.shared.newest (no-refusal _ _ _ none) in
-    let below = passed.0 in
-    let newest = keeps.newest in
-    let above : latest < number = omega (arith, below, newest) in
+    let above : latest < number = omega (arith, passed.0, keeps.newest) in
     let journal = admitted_journal number quota in
-    let begins = journal-begins (jamboree hall.grain) hall.shared number quota did after known_before one in
+    let begins = journal-begins (jamboree hall.grain) hall.shared number quota did after keeps.explained.known one in
     let own = push-own latest journal hall.journals keeps.upto above in
-    let bounded = keeps.bounded in
-    let long = length-append hall.journals (journal ∷ []) in
-    let total = push-total journal hall.journals in
     changed hall latest count number (Admit number quota) did after (hall.journals ++ journal ∷ []) hall.gone keeps one known (record {
       own = some-explained hall.grain _ (admitted_with quota) _ begins.0 (rw own begins.1);
       searches = rw own (tt, tt);
@@ -313,10 +249,10 @@ admitted hall latest count number quota did after keeps one none limit known =
       rising = push-rising latest journal hall.journals keeps.upto above keeps.rising;
       upto = push-upto latest journal hall.journals keeps.upto above;
       begun = grind (arith, all-push);
-      newest = sym (newest-after hall.grain hall.shared after (Admit number quota) did known_before one);
+      newest = sym (newest-after hall.grain hall.shared after (Admit number quota) did keeps.explained.known one);
       numbers = passed.1;
-      total = omega (arith, total);
-      bounded = omega (arith, bounded, long, above);
+      total = omega (arith, push-total journal hall.journals);
+      bounded = omega (arith, keeps.bounded, length-append hall.journals (journal ∷ []), above);
     })
 
 -- a step of the core that is refused
@@ -361,16 +297,10 @@ pub leaves-off : (hall : HallOf) (latest count n : ℕ) (did : DidOf Leaf) (afte
 leaves-off hall latest count n did after keeps one known =
     let explained = keeps.explained in
     let gone_is = gone-after hall after n did explained.known one in
-    let own = explained-some hall.grain _ gone_is.0.0 _ gone_is.0.1 (explained.tenants n) in
-    let has = has-one hall.grain gone_is.0.0 hall.journals n own in
+    let has = has-one hall.grain gone_is.0.0 hall.journals n (explained-some hall.grain _ gone_is.0.0 _ gone_is.0.1 (explained.tenants n)) in
     let at = found-at n hall.journals has keeps.begun in
     let b = at.begun in
-    let within = b.within in let places = b.places in let segments = b.segments in let nodes = b.nodes in let raised = b.raised in
     let steps = ap (λ (js : List Step). length js) at.steps in
-    let fewer = length-without owner_of_journal n hall.journals has in
-    let bounded = keeps.bounded in
-    let newest = keeps.newest in let numbers = explained.numbers in
-    let total = without-total n hall.journals in
     let none = said-without_own owner_of_journal steps_of [] n hall.journals keeps.rising in
     let Q : Option Tenant → Type 0 = λ o. Explains (jamboree hall.grain) o (journal_in (without_journal n hall.journals) n) in
     record {
@@ -382,10 +312,10 @@ leaves-off hall latest count n did after keeps one known =
         rising = rising-without owner_of_journal n hall.journals keeps.rising;
         upto = all-without (λ (j : JournalOf). j.tenant ≤ latest) owner_of_journal n hall.journals keeps.upto;
         begun = all-without IsBegun owner_of_journal n hall.journals keeps.begun;
-        newest = newest ∙ sym (newest-after hall.grain hall.shared after (Leave n) did explained.known one);
-        numbers = omega (arith, newest, numbers);
-        total = omega (arith, total);
-        bounded = omega (arith, bounded, fewer, within, places, segments, nodes, raised, steps);
+        newest = keeps.newest ∙ sym (newest-after hall.grain hall.shared after (Leave n) did explained.known one);
+        numbers = omega (arith, keeps.newest, explained.numbers);
+        total = omega (arith, without-total n hall.journals);
+        bounded = omega (arith, keeps.bounded, length-without owner_of_journal n hall.journals has, b.within, b.places, b.segments, b.nodes, b.raised, steps);
       });
     }
 
@@ -408,11 +338,6 @@ answered grain shared n job journal result explains searches is asked = by (tena
     by (Some owner) own =
         let P : Option Tenant → Type 0 = λ o. Explains (jamboree grain) o journal in
         asked (origins_of journal) owner own (journal-searches grain journal owner (subst P own explains) searches)
-
--- the greatest number after a step that was answered so
-pub newest-is : (grain : ℕ) (before after : CoreState) (step : Step) (answer : Result (DidOf Leaf) Refusal) → AreNumbersGiven before → IsOneStep (jamboree grain) before step answer after → OnOk answer (after.newest ≡ newest_after before.newest step)
-newest-is grain before after step (Ok did) known one = newest-after grain before after step did known one
-newest-is grain before after step (Err refusal) known one = tt
 
 -- an Admit or a Leave of a tenant that has a job that ended: only its Leave
 stopped : (grain : ℕ) (before : CoreState) (step : Step) (did : DidOf Leaf) (number job : ℕ) (ended : Job) → AreNumbersGiven before → IsAnswerTo (jamboree grain) before step (Ok did) → is_appended step ≡ false → tenant_of step ≡ number → lets_go number step ≡ false →
@@ -437,9 +362,8 @@ ended-stays hall step (Ok did) after explained one number job ended stays has at
     own : tenant_of step ≡ number → job_of after number job ≡ Some ended
     own mine = elim (cases_Bool (is_appended step)) [
       | inl goes ↦ (let went = went-on hall after step did explained one goes in
-          let keeps = step-ended (jamboree hall.grain) went.tenant step (Some went.next, went.told) went.taken in
           let was : job_at went.tenant.jobs job ≡ Some ended = rw (← mine, went.was) at at in
-          rw (← mine, went.is) (keeps job ended has was))
+          rw (← mine, went.is) ((step-ended (jamboree hall.grain) went.tenant step (Some went.next, went.told) went.taken) job ended has was))
       | inr stops ↦ absurd (stopped hall.grain hall.shared step did number job ended explained.known one.answered stops mine stays at)
     ]
 

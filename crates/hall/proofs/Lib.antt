@@ -1,5 +1,7 @@
+mod Common
 pub mod Using
 pub mod Longs
 pub mod Lists
 pub mod Halls
 pub mod Entries
+mod Rules

@@ -1,14 +1,5 @@
 -- Journals by their tenants' numbers: one more step in one of them, one fewer of them, one more.
-use Rattle.std.proofs.Common.{◌≡◌, ◌≢◌, ℕ, ◌+◌, ◌<◌, ◌≤◌, true, eqb, List, [], ◌∷◌, ◌++◌, Option, Some, None, length, get_or, refl, ap, sym, ◌∙◌, arith, inl, inr, length-append, ◌*◌}
-use Rattle.std.specs.List.{remove}
-use Rattle.std.proofs.lemmas.Bool.{cases_Bool, false≢true, ne_eqb, eq-eqb}
-use Rattle.sched_rules.specs.declared.step.StepOf.{StepOf}
-use Rattle.jamboree_core.specs.jamboree_rules.declared.leaf.LeafAnswer.{LeafAnswer}
-use Rattle.tenant_quota.specs.Quota.{Quota, IsWithinLimits}
-use Rattle.sched_rules.specs.declared.step.StepOf.TheVariants.{Admit}
-use Rattle.number_index.specs.Places.{count_below, find_by_number, AreRising, IsAt as IsPlace}
-use Rattle.number_index.proofs.Edits.{all-map, all-of, all-push, all-with, thing-there, thing-with, said-found, said-with_own, rising-push, place-found, at-said, at-removed}
-use Rattle.hall.specs.Journals.{reserve_in, raise_in, newer, reserved_after, reserved_in, one_for, raise_count, places_for, places_with, longs_for, longs_with, longs_in, longer, is_appended, JournalOf, journal_in, places_in, owner_of_journal, has_journal, with_step, without_journal, total_length, AreUpTo, IsBegun, AreBegun}
+use Rattle.hall.proofs.Common.{◌≡◌, ◌≢◌, ℕ, ◌+◌, ◌<◌, ◌≤◌, true, eqb, List, [], ◌∷◌, ◌++◌, Option, Some, None, length, get_or, refl, ap, sym, ◌∙◌, arith, inl, inr, length-append, ◌*◌, remove, cases_Bool, false≢true, ne_eqb, eq-eqb, StepOf, LeafAnswer, Quota, IsWithinLimits, count_below, find_by_number, AreRising, IsAt as IsPlace, all-map, all-of, all-push, all-with, thing-there, thing-with, said-found, said-with_own, rising-push, place-found, at-said, at-removed, reserve_in, raise_in, newer, reserved_after, reserved_in, one_for, raise_count, places_for, places_with, longs_for, longs_with, longs_in, longer, is_appended, JournalOf, journal_in, places_in, owner_of_journal, has_journal, with_step, without_journal, total_length, AreUpTo, IsBegun, AreBegun}
 
 abbrev Js : Type 0
 Js = List JournalOf
@@ -35,8 +26,7 @@ raise-more (s ∷ steps) step = (let rest = raise-more steps step in omega (arit
 
 -- a step that goes on reserves what it raises
 pub going-reserves : {A : Type 0} (step : StepOf A) → is_appended step ≡ true → reserve_in step ≡ raise_in step
-going-reserves (Admit number quota) goes = absurd (false≢true goes)
-going-reserves _ goes = refl
+going-reserves step goes = grind (arith, false≢true)
 
 -- a raise is within the limits
 abbrev pub IsAllowed : Option Quota → Type 0
@@ -75,28 +65,18 @@ raised-after step steps goes = reserved-more (record { segments = 0; nodes = 0 }
 pub counted-after : (step : Step) (steps : List Step) (r : Option Quota) → raise_in step ≡ r → raise_count (steps ++ step ∷ []) ≡ raise_count steps + one_for r
 counted-after step steps r is = raise-more steps step ∙ ap (λ (o : Option Quota). raise_count steps + one_for o) is
 
--- the places of a journal with one more step
-places-with : (r : Option Quota) (j : JournalOf) (now : Quota) → j.places ≡ places_for now + raise_count j.steps → places_with r j ≡ places_for (newer now r) + (raise_count j.steps + one_for r)
-places-with None j now places = omega (arith, places)
-places-with (Some quota) j now places = refl
-
 pub longer-places : (step : Step) (j : JournalOf) → is_appended step ≡ true → j.places ≡ places_for (reserved_in j.steps) + raise_count j.steps →
     places_with (raise_in step) j ≡ places_for (reserved_in (j.steps ++ step ∷ [])) + raise_count (j.steps ++ step ∷ [])
-longer-places step j goes places = grind (arith, places-with, raised-after, raise-more)
-
-longs-with : (r : Option Quota) (j : JournalOf) (now : Quota) → j.longs ≡ longs_for now + raise_count j.steps → longs_with r j ≡ longs_for (newer now r) + (raise_count j.steps + one_for r)
-longs-with None j now longs = omega (arith, longs)
-longs-with (Some quota) j now longs = refl
+longer-places step j goes places = grind (arith, raised-after, raise-more)
 
 pub longer-longs : (step : Step) (j : JournalOf) → is_appended step ≡ true → j.longs ≡ longs_for (reserved_in j.steps) + raise_count j.steps →
     longs_with (raise_in step) j ≡ longs_for (reserved_in (j.steps ++ step ∷ [])) + raise_count (j.steps ++ step ∷ [])
-longer-longs step j goes longs = grind (arith, longs-with, raised-after, raise-more)
+longer-longs step j goes longs = grind (arith, raised-after, raise-more)
 
 -- what is reserved stays within the limits, and above the count of raises
 limits-with : (r : Option Quota) (now : Quota) (count : ℕ) → IsAllowed r → Brings r now → now.segments ≤ 4096 → now.nodes ≤ 65536 → count ≤ now.segments + now.nodes →
     ((newer now r).segments ≤ 4096) × ((newer now r).nodes ≤ 65536) × (count + one_for r ≤ (newer now r).segments + (newer now r).nodes)
-limits-with None now count allowed brings segments nodes raised = (segments, nodes, omega (arith, raised))
-limits-with (Some quota) now count allowed brings segments nodes raised = (allowed.segments_within, allowed.nodes_within, omega (arith, raised, brings))
+limits-with r now count allowed brings segments nodes raised = grind arith
 
 -- a journal that has a place for one more
 longer-begun : (step : Step) (j : JournalOf) → is_appended step ≡ true → IsAllowed (raise_in step) → Brings (raise_in step) (reserved_in j.steps) → length j.steps < places_with (raise_in step) j → IsBegun j → IsBegun (longer step j)
@@ -104,8 +84,6 @@ longer-begun step j goes allowed brings place is =
     let limits = limits-with (raise_in step) (reserved_in j.steps) (raise_count j.steps) allowed brings is.segments is.nodes is.raised in
     let segments = ap (λ (q : Quota). q.segments) (raised-after step j.steps goes) in
     let nodes = ap (λ (q : Quota). q.nodes) (raised-after step j.steps goes) in
-    let count = raise-more j.steps step in
-    let one = length-append j.steps (step ∷ []) in
     record {
       quota = is.quota;
       later = is.later ++ step ∷ [];
@@ -114,8 +92,8 @@ longer-begun step j goes allowed brings place is =
       longs = longer-longs step j goes is.longs;
       segments = omega (arith, segments, limits.0);
       nodes = omega (arith, nodes, limits.1);
-      raised = omega (arith, segments, nodes, count, limits.2);
-      within = omega (arith, one, place);
+      raised = omega (arith, segments, nodes, raise-more j.steps step, limits.2);
+      within = omega (arith, length-append j.steps (step ∷ []), place);
     }
 
 -- a journal by its number
@@ -180,8 +158,7 @@ pub total-within : (js : Js) → AreBegun js → total_length js ≤ length js *
 total-within [] begun = omega arith
 total-within (j ∷ js) begun =
     let rest = total-within js begun.1 in let own = begun.0 in
-    let within = own.within in let places = own.places in let segments = own.segments in let nodes = own.nodes in let raised = own.raised in
-    omega (arith, rest, within, places, segments, nodes, raised)
+    omega (arith, rest, own.within, own.places, own.segments, own.nodes, own.raised)
 
 -- the place that the index found
 pub at-place : (n : ℕ) (js read : Js) (at : ℕ) → AreRising owner_of_journal js → has_journal n js ≡ true → read ≡ js → at ≡ count_below owner_of_journal n read → IsPlace owner_of_journal n js at

@@ -1,30 +1,5 @@
 -- A journal stays within its places for long entries: each frame is given at most one Answer, and a job at most one Submit and one Cancel.
-use Rattle.std.proofs.Common.{◌≡◌, ℕ, ◌+◌, ◌≤◌, List, [], ◌∷◌, length, Option, Some, None, Result, Ok, Err, refl, ap, arith}
-use Rattle.std.specs.Prelude.{if◌then◌else◌}
-use Rattle.frame_tree.specs.Frames.{root_of}
-use Rattle.sched_rules.specs.declared.job.Job.{Job}
-use Rattle.sched_rules.specs.declared.job.Job.TheVariants.{Live, Done, Spent as SpentJob, Cancelled as CancelledJob}
-use Rattle.sched_rules.specs.declared.refusal.Refusal.{Refusal}
-use Rattle.sched_rules.specs.declared.refusal.Refusal.TheVariants.{NoJob, OldTenant}
-use Rattle.sched_rules.specs.declared.step.StepOf.{StepOf}
-use Rattle.sched_rules.specs.declared.step.StepOf.TheVariants.{Admit, AdmitMore, Submit, Answer, Cancel}
-use Rattle.sched_rules.specs.declared.step.DidOf.TheVariants.{Cancelled}
-use Rattle.sched_rules.specs.Functions.{Functions}
-use Rattle.sched_rules.specs.Trees.{Tenant, admitted_with, job_at}
-use Rattle.sched_rules.specs.Lone.{Outcome, lone_step, cancelled, submit_tests, submitted, ended}
-use Rattle.sched_rules.specs.Runs.{state_after, alone_from}
-use Rattle.jamboree_core.specs.jamboree_rules.declared.leaf.LeafAnswer.{LeafAnswer}
-use Rattle.jamboree_core.specs.jamboree_rules.Procedure.{jamboree}
-use Rattle.jamboree_core.specs.sched_laws.Shapes.{IsShaped}
-use Rattle.jamboree_core.specs.Replies.{AreSearches}
-use Rattle.jamboree_core.specs.Journals.{StaysTaken, AreTakenFrom, IsJournalOf}
-use Rattle.jamboree_core.proofs.sched_laws_Shaped.{unless-passed, came, by-kinds, step-shaped, admitted-shaped}
-use Rattle.jamboree_core.proofs.sched_laws_Parts.{length-with_ended}
-use Rattle.jamboree_core.proofs.sched_laws_Consequences.{live-root, root-above}
-use Rattle.jamboree_core.proofs.Answering.{one_if_answer, answer_count, journal-answers}
-use Rattle.hall.specs.Entries.{is_long_step, long_steps}
-use Rattle.hall.specs.Journals.{raise_in, one_for, raise_count}
-use Rattle.hall.specs.Uses.{ended_count}
+use Rattle.hall.proofs.Common.{◌≡◌, ℕ, ◌+◌, ◌≤◌, List, [], ◌∷◌, length, Option, Some, None, Result, Ok, Err, refl, ap, arith, if◌then◌else◌, root_of, Done, Spent as SpentJob, Cancelled as CancelledJob, Refusal, OldTenant, StepOf, Admit, AdmitMore, Submit, Answer, Cancel, Functions, Tenant, admitted_with, Outcome, lone_step, ended, state_after, alone_from, LeafAnswer, jamboree, IsShaped, AreSearches, StaysTaken, AreTakenFrom, IsJournalOf, unless-passed, came, by-kinds, step-shaped, admitted-shaped, length-with_ended, live-root, root-above, one_if_answer, answer_count, journal-answers, is_long_step, long_steps, raise_in, one_for, raise_count, ended_count}
 use Rattle.hall.proofs.Using.{job-ended, submit-used, ended-more, ended-few, told-by}
 
 -- how often a tenant has asked: one Submit a job, and at most one Cancel for each that has ended
@@ -52,25 +27,10 @@ any-asked functions tenant step outcome is shape = by-kinds functions tenant ste
 
 -- a Submit and a Cancel
 submit-asked : {I A : Type 0} (functions : Functions I A) (tenant : Tenant) (number : ℕ) (words : List ℕ) (size : ℕ) (outcome : Outcome I) → lone_step functions tenant (Submit number words size) ≡ Ok outcome → HasAsked 1 tenant outcome.0
-submit-asked {I} functions tenant number words size outcome is =
-    let p = unless-passed (submit_tests tenant words size) (submitted {I = I} tenant number words size) outcome is in
-    came (HasAsked 1 tenant) (submitted {I = I} tenant number words size) outcome p.1 (let more = submit-used tenant (tenant.serials + 1) in omega (arith, more))
+submit-asked {I} functions tenant number words size outcome is = grind (arith, unless-passed, came, submit-used)
 
 cancel-asked : {I A : Type 0} (functions : Functions I A) (tenant : Tenant) (number job : ℕ) (outcome : Outcome I) → lone_step functions tenant (Cancel number job) ≡ Ok outcome → IsShaped tenant → HasAsked 1 tenant outcome.0
-cancel-asked {I} functions tenant number job outcome is shape = by (job_at tenant.jobs job) refl is
-  where
-    none : ◌≡◌ {A = Result (Outcome I) Refusal} (Err NoJob) (Ok outcome) → HasAsked 1 tenant outcome.0
-    none e = absurd cc
-
-    by : (found : Option Job) → job_at tenant.jobs job ≡ found → cancelled tenant found ≡ Ok outcome → HasAsked 1 tenant outcome.0
-    by None at e = none e
-    by (Some (Live root)) at e =
-        let both : ◌≡◌ {A = Result (Outcome I) Refusal} (Ok (Some (ended root CancelledJob tenant), Cancelled)) (Ok outcome) = e in
-        let pair : ◌≡◌ {A = Outcome I} (Some (ended root CancelledJob tenant), Cancelled) outcome = cc in
-        came (HasAsked 1 tenant) (Some (ended root CancelledJob tenant), Cancelled) outcome pair (let more = (job-ended root CancelledJob tenant tt shape (live-root tenant job root shape at)).0 in omega (arith, more))
-    by (Some (Done words)) at e = none e
-    by (Some SpentJob) at e = none e
-    by (Some CancelledJob) at e = none e
+cancel-asked {I} functions tenant number job outcome is shape = grind (arith, came, job-ended, live-root)
 
 -- each long step is a raise, an Answer, or asks
 abbrev one_if_long : {A : Type 0} → StepOf A → ℕ
@@ -81,8 +41,7 @@ Accounted step tenant None = Unit {0}
 Accounted step tenant (Some after) = asked tenant + one_if_long step ≤ asked after + one_for (raise_in step) + one_if_answer step
 
 account : {A : Type 0} (step : StepOf A) (tenant : Tenant) (after : Option Tenant) (more : ℕ) → one_if_long step ≤ more + one_for (raise_in step) + one_if_answer step → HasAsked more tenant after → Accounted step tenant after
-account step tenant None more long has = tt
-account step tenant (Some after) more long has = omega (arith, long, has)
+account step tenant after more long has = grind arith
 
 step-accounted : {I A : Type 0} (functions : Functions I A) (tenant : Tenant) (step : StepOf A) (outcome : Outcome I) → lone_step functions tenant step ≡ Ok outcome → IsShaped tenant → Accounted step tenant outcome.0
 step-accounted {I} {A} functions tenant (Admit number quota) outcome is shape = (let no_admission : ◌≡◌ {A = Result (Outcome I) Refusal} (Err OldTenant) (Ok outcome) = is in absurd cc)
@@ -106,8 +65,7 @@ longs-from {I} {A} functions before tenant (step ∷ steps) taken comes shape =
     by later (Err refusal) is stays on to = absurd stays
     by later (Ok (Some next, did)) is stays on to =
         let one : asked before + one_if_long step ≤ asked next + one_for (raise_in step) + one_if_answer step = step-accounted functions before step (Some next, did) is shape in
-        let rest = later next on to (step-shaped functions before step (Some next, did) is shape) in
-        omega (arith, one, rest)
+        omega (arith, one, later next on to (step-shaped functions before step (Some next, did) is shape))
 
 from-admission : {I A : Type 0} (functions : Functions I A) (journal : List (StepOf A)) (tenant : Tenant) → IsJournalOf functions journal tenant → long_steps journal ≤ asked tenant + raise_count journal + answer_count journal + 1
 from-admission functions [] tenant is = (let none : None ≡ Some tenant = is.comes in absurd cc)
@@ -118,9 +76,5 @@ from-admission functions (_ ∷ later) tenant is = absurd is.taken.0
 pub journal-longs : (grain : ℕ) (journal : List (StepOf LeafAnswer)) (tenant : Tenant) → IsJournalOf (jamboree grain) journal tenant → AreSearches journal → long_steps journal ≤ tenant.reserve.nodes + 513 + raise_count journal
 journal-longs grain journal tenant is searches =
     let all = from-admission (jamboree grain) journal tenant is in
-    let answers = journal-answers grain journal tenant is searches in
     let shape = (told-by (jamboree grain) journal tenant is).shape in
-    let opened = shape.opened in
-    let jobs = shape.few_jobs in
-    let few = ended-few tenant.jobs in
-    omega (arith, all, answers, opened, jobs, few)
+    omega (arith, all, journal-answers grain journal tenant is searches, shape.opened, shape.few_jobs, ended-few tenant.jobs)

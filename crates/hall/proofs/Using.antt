@@ -1,27 +1,5 @@
 -- Each taken step of a tenant uses one of what it may do, so a journal stays within its places.
-use Rattle.std.proofs.Common.{◌≡◌, ℕ, ◌+◌, ◌*◌, ◌<◌, ◌≤◌, inl, inr, Bool, false, true, eqb, List, [], ◌∷◌, ◌++◌, length, Option, Some, None, Result, Ok, Err, refl, ap, sym, ◌∙◌, arith, length-append}
-use Rattle.std.proofs.lemmas.Bool.{cases_Bool, eqb-true}
-use Rattle.std.proofs.lemmas.Bool.Decides.{nat_tests}
-use Rattle.tenant_quota.specs.Quota.{Quota}
-use Rattle.frame_tree.specs.Frames.{AllBelow, Frame, frame_at, root_of, path_in}
-use Rattle.sched_rules.specs.declared.job.Job.{Job}
-use Rattle.sched_rules.specs.declared.job.Job.TheVariants.{Live, Done, Spent as SpentJob, Cancelled as CancelledJob}
-use Rattle.sched_rules.specs.declared.refusal.Refusal.{Refusal}
-use Rattle.sched_rules.specs.declared.step.StepOf.{StepOf}
-use Rattle.sched_rules.specs.declared.step.StepOf.TheVariants.{Admit, AdmitMore, Take, Steal, Advance, Answer, Inlet, Finish, Spend}
-use Rattle.sched_rules.specs.Functions.{Functions}
-use Rattle.sched_rules.specs.Trees.{Tree, Tenant, admitted_with, with_ended}
-use Rattle.sched_rules.specs.Lone.{Outcome, at_frame, lone_step, is_lower, counted, ended}
-use Rattle.sched_rules.specs.Runs.{state_after, alone_from}
-use Rattle.jamboree_core.specs.sched_laws.Ended.{HasEnded}
-use Rattle.jamboree_core.specs.sched_laws.Shapes.{IsShaped, AreRootsLive, live_count}
-use Rattle.jamboree_core.proofs.sched_laws_Shaped.{unless-passed, frame-found, by-kinds, step-shaped, admitted-shaped}
-use Rattle.jamboree_core.proofs.sched_laws_Parts.{length-with_ended}
-use Rattle.jamboree_core.proofs.sched_laws_Consequences.{live-root, root-above}
-use Rattle.jamboree_core.specs.Journals.{StaysTaken, AreTakenFrom, IsJournalOf}
-use Rattle.hall.specs.Entries.{serial_in}
-use Rattle.hall.specs.Journals.{is_appended, raise_in, reserve_in, newer, reserved_after, reserved_in, one_for, raise_count}
-use Rattle.hall.specs.Uses.{ended_count, uses}
+use Rattle.hall.proofs.Common.{◌≡◌, ℕ, ◌+◌, ◌*◌, ◌<◌, ◌≤◌, inl, inr, Bool, false, true, eqb, List, [], ◌∷◌, ◌++◌, length, Option, Some, None, Result, Ok, Err, refl, ap, sym, ◌∙◌, arith, length-append, cases_Bool, eqb-true, nat_tests, Quota, AllBelow, Frame, frame_at, root_of, path_in, Job, Live, Done, Spent as SpentJob, Cancelled as CancelledJob, Refusal, StepOf, Admit, AdmitMore, Take, Steal, Advance, Answer, Inlet, Finish, Spend, Functions, Tree, Tenant, admitted_with, with_ended, Outcome, at_frame, lone_step, is_lower, counted, ended, state_after, alone_from, HasEnded, IsShaped, AreRootsLive, live_count, unless-passed, frame-found, by-kinds, step-shaped, admitted-shaped, length-with_ended, live-root, root-above, StaysTaken, AreTakenFrom, IsJournalOf, serial_in, is_appended, raise_in, reserve_in, newer, reserved_after, reserved_in, one_for, raise_count, ended_count, uses}
 use Rattle.hall.proofs.Lists.{Brings}
 
 -- one more is used by each step but a raise
@@ -36,8 +14,7 @@ HasUsed goes raise tenant None = goes ≡ false
 HasUsed goes raise tenant (Some after) = UsedBy raise (uses tenant) (uses after) × (after.reserve ≡ newer tenant.reserve raise)
 
 used-one : (raise : Option Quota) (before after : ℕ) → UsedBy raise before after → before + 1 ≤ after + one_for raise
-used-one None before after used = omega (arith, used)
-used-one (Some quota) before after used = omega (arith, used)
+used-one raise before after used = grind arith
 
 -- one more job, which lives
 ended-append : (root : ℕ) (jobs : List Job) → ended_count (jobs ++ Live root ∷ []) ≡ ended_count jobs
@@ -47,8 +24,7 @@ ended-append root (_ ∷ jobs) = ap (λ (n : ℕ). n + 1) (ended-append root job
 
 -- the jobs under a root have ended
 end-counts : (end : Job) (jobs : List Job) → HasEnded end → ended_count (end ∷ jobs) ≡ ended_count jobs + 1
-end-counts (Live root) jobs has = absurd has
-end-counts _ jobs has = refl
+end-counts end jobs has = grind arith
 
 pub ended-more : (root : ℕ) (end : Job) (jobs : List Job) → HasEnded end → ended_count (with_ended root end jobs) ≡ ended_count jobs + live_count root jobs
 ended-more root end [] has = omega arith
@@ -135,8 +111,7 @@ step-brings functions tenant _ outcome is = tt
 
 -- a step that was taken of a tenant that is there reserves what it raises
 taken-reserves : {I A : Type 0} (functions : Functions I A) (tenant : Tenant) (step : StepOf A) (outcome : Outcome I) → lone_step functions tenant step ≡ Ok outcome → reserve_in step ≡ raise_in step
-taken-reserves functions tenant (Admit number quota) outcome is = absurd cc
-taken-reserves functions tenant _ outcome is = refl
+taken-reserves functions tenant step outcome is = grind arith
 
 -- a tenant after so many steps, of which so many are raises
 record HasGone (before : Tenant) (steps raises : ℕ) (reserve : Quota) (after : Tenant) : Type 0 where
@@ -159,9 +134,8 @@ used-from {I} {A} functions before tenant (step ∷ steps) taken comes shape =
         let used = step-used functions before step (Some next, did) is shape in
         let one = used-one (raise_in step) (uses before) (uses next) used.0 in
         let rest = later next on to (step-shaped functions before step (Some next, did) is shape) in
-        let more = rest.used in
         let reserve : next.reserve ≡ newer before.reserve (reserve_in step) = used.1 ∙ ap (newer before.reserve) (sym (taken-reserves functions before step (Some next, did) is)) in
-        record { used = omega (arith, one, more); same = rest.same ∙ ap (λ (q : Quota). reserved_after q steps) reserve; shape = rest.shape }
+        record { used = omega (arith, one, rest.used); same = rest.same ∙ ap (λ (q : Quota). reserved_after q steps) reserve; shape = rest.shape }
 
 -- what a tenant's journal tells of the tenant: what it reserves, and how long the journal is at most
 pub record IsToldBy {A : Type 0} (journal : List (StepOf A)) (tenant : Tenant) : Type 0 where
@@ -173,9 +147,5 @@ pub told-by : {I A : Type 0} (functions : Functions I A) (journal : List (StepOf
 told-by functions [] tenant is = (let none : None ≡ Some tenant = is.comes in absurd cc)
 told-by functions (Admit number quota ∷ later) tenant is =
     let gone = used-from functions (admitted_with quota) tenant later is.taken.1 is.comes (admitted-shaped quota) in
-    let used = gone.used in
-    let ticks = gone.shape.ticks in
-    let jobs = gone.shape.few_jobs in
-    let few = ended-few tenant.jobs in
-    record { shape = gone.shape; reserve = gone.same; short = omega (arith, used, ticks, jobs, few) }
+    record { shape = gone.shape; reserve = gone.same; short = omega (arith, gone.used, gone.shape.ticks, gone.shape.few_jobs, ended-few tenant.jobs) }
 told-by functions (_ ∷ later) tenant is = absurd is.taken.0

@@ -79,6 +79,7 @@ impl<A: Allocator> Journal<A> {
     }
 
     /// How many steps it has.
+    #[tactic(auto, using(crate::proofs::Rules::len_rules))]
     pub(crate) fn len(&self) -> usize
         ensures { result ≡ length self.now.steps }
     {

@@ -1,21 +1,5 @@
 -- Acts and their windows.
-use Rattle.std.specs.Prelude.{◌≡◌, ℕ, ◌+◌, ◌<◌, ◌^◌, ◌==◌, ◌&&◌, nat_lt, nat_le, Bool, true, false, ℤ, pos, negsuc, neg_ℤ, ◌+ℤ◌, ◌-ℤ◌, ◌≤ℤ◌, List, [], ◌∷◌, length, slice_index, slice_index_or, slice_get, unwrap_or, Option, Some, bit_and, refl}
-use Rattle.std.proofs.Common.{to_z, of_z, w32, sym, ◌∙◌, ap, arith}
-use Rattle.std.proofs.lemmas.Int.{ints}
-use Rattle.std.proofs.lemmas.Bool.{and_parts, eq-eqb, ltb-true}
-use Rattle.std.proofs.lemmas.Option.{unwrap_or-slice_get}
-use Rattle.othello_board.specs.declared.cells.Cell.{Cell}
-use Rattle.othello_board.specs.Words.{cells_of}
-use Rattle.othello_moves.specs.declared.choices.Choice.{Choice}
-use Rattle.othello_moves.specs.declared.choices.Choice.TheVariants.{Pass}
-use Rattle.othello_moves.specs.Choices.{choices, after}
-use Rattle.jamboree_rules.specs.sched_rules.declared.act.Act.{Act}
-use Rattle.jamboree_rules.specs.sched_rules.declared.act.Continuation.{Continuation}
-use Rattle.jamboree_rules.specs.Frames.{Frame, board, choice_at, may_be_child, own_word, opp_word}
-use Rattle.jamboree_rules.specs.Places.{Spawned, Status, pairs_of}
-use Rattle.jamboree_rules.specs.Acts.{spawns, opening_on, first_search, tests, tests_from, act_by, act_of}
-use Rattle.jamboree_rules.proofs.LeafLemmas.{own-is, opp-is}
-use Rattle.jamboree.specs.declared.frame.View.{View}
+use Rattle.jamboree.proofs.Common.{◌≡◌, ℕ, ◌+◌, ◌<◌, ◌^◌, ◌==◌, ◌&&◌, nat_lt, nat_le, Bool, true, false, ℤ, pos, negsuc, neg_ℤ, ◌+ℤ◌, ◌-ℤ◌, ◌≤ℤ◌, List, [], ◌∷◌, length, slice_index, slice_index_or, slice_get, unwrap_or, Option, Some, bit_and, refl, to_z, of_z, w32, sym, ◌∙◌, ap, arith, ints, and_parts, eq-eqb, ltb-true, unwrap_or-slice_get, Cell, cells_of, Choice, Pass, choices, after, Act, Continuation, Frame, board, choice_at, may_be_child, own_word, opp_word, Spawned, Status, pairs_of, spawns, opening_on, first_search, tests, tests_from, act_by, act_of, own-is, opp-is, View}
 
 -- what a call says of a score: whose it is, and its range
 abbrev pub IsScore : (most r s : ℤ) → Type 0
@@ -90,9 +74,8 @@ pub child-opens : (grain : ℕ) (f q : Frame) (own opp : ℕ) (c : Choice) (act 
 child-opens grain f q own opp c act is phase got holds own_fits opp_fits disjoint =
     let b : List Cell = after (board q) (choice_at q f.number) in
     let same : cells_of own opp ≡ b = holds ∙ ap (λ (x : Choice). after (board q) x) (choice-got (choices (board q)) f.number c got) in
-    let own_same : own ≡ own_word b = own-is own opp own_fits ∙ ap own_word same in
     let opp_same : opp ≡ opp_word b = opp-is own opp disjoint opp_fits ∙ ap opp_word same in
-    is ∙ ap (λ (o : ℕ). opening_on grain f o opp) own_same ∙ ap (λ (p : ℕ). opening_on grain f (own_word b) p) opp_same
+    is ∙ ap (λ (o : ℕ). opening_on grain f o opp) (own-is own opp own_fits ∙ ap own_word same) ∙ ap (λ (p : ℕ). opening_on grain f (own_word b) p) opp_same
     ∙ ap (λ (n : ℕ). act_by (n == 0) (n == 1) (n == 2) (n == 3) grain f (Some q)) (sym phase)
 
 pub tests-by : (f : Frame) (at : ℕ) (act : Act) (failed more all : Bool) → (nat_lt at (length f.statuses) && (slice_index f.statuses at == 3)) ≡ failed → nat_lt f.spawned (length f.statuses) ≡ more → nat_le (length f.statuses) at ≡ all →
@@ -101,7 +84,4 @@ tests-by f at act failed more all a b d is = rw (a, b, d) is
 
 -- the number of a child's choice is that of a choice
 pub chosen-inside : (f c : Frame) → may_be_child f c ≡ true → c.number < length (choices (board f))
-chosen-inside f c may =
-    let own = and_parts (nat_lt 0 c.role) (nat_lt c.number f.count && nat_lt c.number (length (choices (board f)))) may in
-    let both = and_parts (nat_lt c.number f.count) (nat_lt c.number (length (choices (board f)))) own.1 in
-    ltb-true c.number (length (choices (board f))) both.1
+chosen-inside f c may = grind (arith, and_parts, ltb-true)

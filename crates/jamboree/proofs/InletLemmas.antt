@@ -1,23 +1,10 @@
 -- The stores of an inlet, case by case.
-use Rattle.std.specs.Prelude.{◌≡◌, ℕ, ◌==◌, ◌-ℤ◌, ◌&&◌, Bool, true, false, ℤ, pos, neg_ℤ, int_le, int_lt, List, refl, if◌then◌else◌}
-use Rattle.std.proofs.Common.{to_z, of_z, w32, sym, ◌∙◌, ap}
-use Rattle.jamboree_rules.specs.Frames.{Frame, floor}
-use Rattle.jamboree_rules.specs.Places.{pairs_of}
-use Rattle.jamboree_rules.specs.othello_eval.declared.bound.BoundKind.TheVariants.{Low}
-use Rattle.jamboree_rules.specs.Acts.{seen, kind_by, kind_of, changes_by, changes_of}
-use Rattle.jamboree.specs.declared.phases.Role.{Role}
-use Rattle.jamboree.specs.declared.phases.Role.TheVariants.{Root, FirstChild, Test, Again}
-use Rattle.jamboree.specs.Numbers.{role_number}
-use Rattle.jamboree.specs.declared.frame.View.{View}
-use Rattle.jamboree.specs.Views.{frame_in}
+use Rattle.jamboree.proofs.Common.{◌≡◌, ℕ, ◌==◌, ◌-ℤ◌, ◌&&◌, Bool, true, false, ℤ, pos, neg_ℤ, int_le, int_lt, List, refl, if◌then◌else◌, to_z, of_z, w32, sym, ◌∙◌, ap, arith, Frame, floor, pairs_of, Low, seen, kind_by, kind_of, changes_by, changes_of, Role, Test, role_number, View, frame_in}
 use Rattle.jamboree.proofs.ActLemmas.{IsScore, seen-wide, floor-wide, beta-wide, negated-alpha, negated-beta}
 
 -- another role than a test's
 other-role : (r : Role) → (r ≡ Test → ⊥) → (role_number r == 2) ≡ false
-other-role Test h = absurd (h refl)
-other-role Root h = refl
-other-role FirstChild h = refl
-other-role Again h = refl
+other-role r h = grind arith
 
 -- the stores, by what the four tests say
 by-tests : (f c : Frame) (stores : List (ℕ × ℕ)) (cuts test low higher : Bool) → int_le f.beta (seen c) ≡ cuts → (c.role == 2) ≡ test → int_le (seen c) (neg_ℤ c.beta) ≡ low → int_lt (floor f) (seen c) ≡ higher →
@@ -68,8 +55,3 @@ by-told told b t x one other is e h = rw (← is, e) h
 -- what follows where the first of two tests fails
 pub else-first : {X : Type 0} (told a b : Bool) (x one other : X) → told ≡ a → told ≡ false → x ≡ other → x ≡ (if a && b then one else other)
 else-first told a b x one other is e h = rw (← is, e) h
-
--- what isn't true is false
-pub not-true : (a : Bool) → (a ≡ true → ⊥) → a ≡ false
-not-true true h = absurd (h refl)
-not-true false h = refl

@@ -1,24 +1,11 @@
 -- What is known of choices, from the rests of their entries.
-use Rattle.std.specs.Prelude.{◌≡◌, ℕ, zero, suc, ◌<◌, ◌≤◌, nat_le, true, List, [], ◌∷◌, map, take, drop, length, slice_index, slice_index_or, slice_get, Some, All, refl}
-use Rattle.std.proofs.Common.{sym, ◌∙◌, ap, subst, arith}
-use Rattle.std.proofs.lemmas.Bool.{and_parts}
-use Rattle.std.proofs.lemmas.List.{length-map, length-take}
-use Rattle.std.proofs.lemmas.List.Elements.{All-head, All-tail}
-use Rattle.othello_board.specs.declared.cells.Cell.{Cell}
-use Rattle.othello_moves.specs.declared.choices.Choice.{Choice}
-use Rattle.othello_moves.specs.Choices.{choices}
-use Rattle.jamboree_rules.specs.othello_eval.declared.bound.Bound.{Bound}
-use Rattle.jamboree_rules.specs.othello_eval.Tables.{entered, IsTable}
-use Rattle.jamboree_rules.specs.Places.{entry_rest, status_of, is_rest, is_entry, are_entries}
-use Rattle.jamboree_rules.specs.Entries.{bounds_in}
-use Rattle.jamboree.specs.declared.entry.Known.{Known}
-use Rattle.jamboree.specs.Knowledge.{known_of, bound_by, bounds_by}
+use Rattle.jamboree.proofs.Common.{◌≡◌, ℕ, zero, suc, ◌<◌, ◌≤◌, nat_le, true, List, [], ◌∷◌, map, drop, length, slice_index, slice_index_or, slice_get, Some, All, ◌∙◌, ap, subst, arith, and_parts, length-map, length-take, All-head, All-tail, Cell, Choice, choices, Bound, entered, IsTable, entry_rest, status_of, is_rest, is_entry, are_entries, bounds_in, Known, known_of, bound_by, bounds_by}
+use Rattle.std.specs.Prelude.{take}
 
 -- each of some entries is one
 entry-at : (es : List ℕ) (i : ℕ) → are_entries es ≡ true → i < length es → is_entry (slice_index es i) ≡ true
-entry-at [] i are inside = absurd (omega arith)
-entry-at (e ∷ es) zero are inside = (and_parts (is_entry e) (are_entries es) are).0
 entry-at (e ∷ es) (suc i) are inside = entry-at es i (and_parts (is_entry e) (are_entries es) are).1 (omega arith)
+entry-at es i are inside = grind (arith, and_parts)
 
 -- so its rest is one
 pub rest-at : (es : List ℕ) (i rest : ℕ) → are_entries es ≡ true → i < length es → rest ≡ entry_rest (slice_index es i) → is_rest rest ≡ true
@@ -31,18 +18,14 @@ said_by es = map known_of (map entry_rest es)
 
 -- the bounds of choices by what their rests say
 pub bounds-said : (cs : List Choice) (rests : List ℕ) → bounds_by cs (map known_of rests) ≡ bounds_in cs rests
-bounds-said [] rests = refl
-bounds-said (c ∷ cs) [] = refl
 bounds-said (c ∷ cs) (rest ∷ rests) = ap (λ (more : List Bound). bound_by c (known_of rest) ∷ more) (bounds-said cs rests)
+bounds-said cs rests = grind arith
 
 -- the bound with a number
 pub bound-at : (cs : List Choice) (ks : List Known) (n i : ℕ) (c : Choice) (d : Known) → slice_get cs i ≡ Some c → i < n → n ≤ length ks →
     Some (bound_by c (slice_index_or ks i d)) ≡ slice_get (bounds_by cs (take n ks)) i
-bound-at [] ks n i c d got below few = absurd cc
-bound-at (e ∷ cs) [] n i c d got below few = absurd (omega arith)
-bound-at (e ∷ cs) (k ∷ ks) zero i c d got below few = absurd (omega arith)
-bound-at (e ∷ cs) (k ∷ ks) (suc n) zero c d got below few = cc
 bound-at (e ∷ cs) (k ∷ ks) (suc n) (suc i) c d got below few = bound-at cs ks n i c d got (omega arith) (omega arith)
+bound-at cs ks n i c d got below few = grind arith
 
 -- what holds of each bound holds of the one with a number
 pub bound-holds : (P : Bound → Type 0) (bs : List Bound) (i : ℕ) (b : Bound) → All P bs → Some b ≡ slice_get bs i → P b
@@ -56,13 +39,9 @@ table-read cs es w ks read is = ap (bounds_by cs) read ∙ bounds-said cs (map e
 
 -- there are no more bounds than is known of
 bounds-few : (cs : List Choice) (ks : List Known) → length (bounds_by cs ks) ≤ length ks
-bounds-few [] ks = omega arith
-bounds-few (c ∷ cs) [] = omega arith
 bounds-few (c ∷ cs) (k ∷ ks) = let more : length (bounds_by cs ks) ≤ length ks = bounds-few cs ks in omega (arith, more)
+bounds-few cs ks = grind arith
 
 -- where the bounds of a table are read of so many places, these are there
 pub places-held : (depth : ℕ) (b : List Cell) (ks : List Known) (n : ℕ) → IsTable depth b (bounds_by (choices b) (take n ks)) → n ≡ length (entered depth b) → n ≤ length ks
-places-held depth b ks n table counted =
-    let bs : List Bound = bounds_by (choices b) (take n ks) in
-    let many : length bs ≡ length (entered depth b) = sym (length-map bs (λ (e : Bound). e.choice)) ∙ ap (λ (cs : List Choice). length cs) table.each in
-    omega (arith, many, counted, bounds-few (choices b) (take n ks), length-take n ks)
+places-held depth b ks n table counted = grind (arith, length-map, bounds-few, length-take)

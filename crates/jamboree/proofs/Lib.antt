@@ -1,3 +1,4 @@
+mod Common
 pub mod StatusLemmas
 pub mod ViewLemmas
 pub mod OpenLemmas
@@ -7,3 +8,4 @@ pub mod SightLemmas
 pub mod ReplyLemmas
 pub mod PlyLemmas
 pub mod KnowledgeLemmas
+mod Rules

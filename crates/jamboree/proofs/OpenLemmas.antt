@@ -1,37 +1,23 @@
 -- The first choice that isn't settled.
-use Rattle.std.specs.Prelude.{◌≡◌, ◌≢◌, ℕ, zero, suc, ◌+◌, ◌<◌, ◌≤◌, ◌==◌, Bool, true, false, List, [], ◌∷◌, ◌++◌, map, length, slice_index, refl, if◌then◌else◌}
-use Rattle.std.proofs.Common.{sym, ◌∙◌, ap, arith, zero-add}
-use Rattle.std.proofs.Math.ListN.{get_or-map}
-use Rattle.std.proofs.lemmas.Bool.{eqb-true, eq-eqb}
-use Rattle.jamboree_rules.specs.Places.{status_of}
-use Rattle.std.proofs.lemmas.Bool.Decides.{nat_tests}
-use Rattle.jamboree_rules.specs.Acts.{first_open}
+use Rattle.jamboree.proofs.Common.{◌≡◌, ◌≢◌, ℕ, suc, ◌+◌, ◌<◌, ◌≤◌, ◌==◌, Bool, true, false, List, [], ◌∷◌, ◌++◌, map, length, slice_index, refl, if◌then◌else◌, sym, ◌∙◌, arith, zero-add, get_or-map, eqb-true, eq-eqb, status_of, nat_tests, first_open}
 
 -- all before a place are settled, and what stands there isn't
 pub open-at : (st : List ℕ) (i : ℕ) → ((k : ℕ) → k < i → slice_index st k ≡ 2) → i < length st → slice_index st i ≢ 2 → i ≡ first_open st
-open-at [] i before inside other = absurd (omega arith)
-open-at (s ∷ st) zero before inside other = grind (arith, nat_tests, other)
 open-at (s ∷ st) (suc i) before inside other =
-    let first : s ≡ 2 = before 0 (omega arith) in
-    let rest : i ≡ first_open st = open-at st i (λ k below. before (suc k) (omega arith)) (omega arith) other in
-    grind (arith, nat_tests, first, rest)
+    grind (arith, nat_tests, before 0 (omega arith), open-at st i (λ k below. before (suc k) (omega arith)) (omega arith) other)
+open-at st i before inside other = grind (arith, nat_tests)
 
 -- all are settled
 pub open-none : (st : List ℕ) → ((k : ℕ) → k < length st → slice_index st k ≡ 2) → length st ≡ first_open st
 open-none [] before = refl
-open-none (s ∷ st) before =
-    let first : s ≡ 2 = before 0 (omega arith) in
-    let rest : length st ≡ first_open st = open-none st (λ k below. before (suc k) (omega arith)) in
-    grind (arith, nat_tests, first, rest)
+open-none (s ∷ st) before = grind (arith, nat_tests, before 0 (omega arith), open-none st (λ k below. before (suc k) (omega arith)))
 
 -- the first that isn't settled stands in the front, or behind it
 early-step : (b : Bool) (n m k : ℕ) → (n < m → k ≡ n) → (if b then suc n else 0) < suc m → (if b then suc k else 0) ≡ (if b then suc n else 0)
-early-step true n m k rest inside = ap suc (rest (omega arith))
-early-step false n m k rest inside = refl
+early-step b n m k rest inside = grind arith
 
 later-step : (b : Bool) (n m k y : ℕ) → (m ≤ n → k ≡ m + y) → suc m ≤ (if b then suc n else 0) → (if b then suc k else 0) ≡ suc m + y
-later-step true n m k y rest past = let same : k ≡ m + y = rest (omega arith) in omega (arith, same)
-later-step false n m k y rest past = absurd (omega arith)
+later-step b n m k y rest past = grind arith
 
 pub open-early : (xs ys : List ℕ) → first_open xs < length xs → first_open (xs ++ ys) ≡ first_open xs
 open-early [] ys inside = absurd (omega arith)

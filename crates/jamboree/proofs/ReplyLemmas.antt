@@ -1,25 +1,5 @@
 -- What a job keeps of a returned root.
-use Rattle.std.specs.Prelude.{◌≡◌, ℕ, zero, suc, ◌<◌, ◌≤◌, ◌==◌, Bool, true, false, List, [], ◌∷◌, length, drop, Option, Some, None, find, All, IfSome, cond, if◌then◌else◌, refl}
-use Rattle.std.proofs.Common.{sym, ◌∙◌, ap, subst, arith}
-use Rattle.std.proofs.lemmas.Bool.{lt-ltb}
-use Rattle.std.proofs.lemmas.List.{length-map, length-drop, take_all}
-use Rattle.std.proofs.lemmas.List.Elements.{All-head, All-tail}
-use Rattle.othello_board.specs.declared.cells.Cell.{Cell}
-use Rattle.othello_moves.specs.declared.choices.Choice.{Choice}
-use Rattle.othello_moves.specs.declared.choices.Choice.TheVariants.{Square, Pass}
-use Rattle.othello_moves.specs.Choices.{choices, IsAllowed}
-use Rattle.othello_moves.proofs.AllowedLemmas.{choices_allowed}
-use Rattle.jamboree_rules.specs.othello_eval.Minimax.{minimax, best_choice, choice_value, int_equal}
-use Rattle.jamboree_rules.proofs.EvalLemmas.MinimaxLemmas.{best_choice-leaf, best_choice-deeper}
-use Rattle.jamboree_rules.specs.sched_rules.Laws.{HasReturned}
-use Rattle.jamboree_rules.specs.othello_eval.Tables.{entered, IsTable}
-use Rattle.jamboree_rules.specs.Frames.{Frame, board, coded}
-use Rattle.jamboree_rules.specs.Places.{entry_rest, frame_of, are_entries, is_formed}
-use Rattle.jamboree_rules.specs.Entries.{bounds_of}
-use Rattle.jamboree_rules.specs.Fits.{AreFitting, IsRoot, IsKeptRoot}
-use Rattle.jamboree_rules.proofs.Forms.{IsFormed, formed-told, few-choices}
-use Rattle.jamboree_rules.proofs.Rooted.{root_value, root-whole}
-use Rattle.jamboree.specs.Codes.{decoded}
+use Rattle.jamboree.proofs.Common.{◌≡◌, ℕ, zero, suc, ◌<◌, ◌≤◌, ◌==◌, Bool, true, false, List, [], ◌∷◌, length, drop, Option, Some, None, find, All, IfSome, cond, if◌then◌else◌, refl, sym, ◌∙◌, ap, subst, arith, lt-ltb, length-map, length-drop, take_all, All-head, All-tail, Cell, Choice, Square, Pass, choices, IsAllowed, choices_allowed, minimax, best_choice, choice_value, int_equal, best_choice-leaf, best_choice-deeper, HasReturned, entered, IsTable, Frame, board, coded, entry_rest, frame_of, are_entries, is_formed, bounds_of, AreFitting, IsRoot, IsKeptRoot, IsFormed, formed-told, few-choices, root_value, root-whole, decoded}
 
 found-by : (b : List Cell) (passes : Bool) (c : Choice) (more : Option Choice) → IsAllowed b c → IfSome more (IsAllowed b) → IfSome (cond passes (Some c) more) (IsAllowed b)
 found-by b true c more here rest = here

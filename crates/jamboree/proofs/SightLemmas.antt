@@ -1,14 +1,5 @@
 -- What a frame sees, level by level.
-use Rattle.std.specs.Prelude.{◌≡◌, ℕ, Bool, true, false, ◌==◌, ◌&&◌, neg_ℤ, int_le, int_lt, List, [], ◌∷◌, Option, Some, None, IfSome, slice_get, unwrap_or, refl, if◌then◌else◌}
-use Rattle.std.proofs.Common.{sym, ◌∙◌, ap, subst}
-use Rattle.jamboree_rules.specs.sched_rules.declared.act.Act.{Act}
-use Rattle.jamboree_rules.specs.sched_rules.declared.act.InletAct.{InletAct}
-use Rattle.jamboree_rules.specs.Frames.{Frame, floor, may_be_child}
-use Rattle.jamboree_rules.specs.Places.{frame_of, is_formed, Change, pairs_of}
-use Rattle.jamboree_rules.specs.sched_rules.Laws.{AllFit}
-use Rattle.jamboree_rules.specs.Fits.{AreFitting}
-use Rattle.jamboree_rules.specs.Acts.{returns, act_of, next_act, wakes, seen, changes_by, inlet_of, inlet_act}
-use Rattle.jamboree.specs.Levels.{above_of}
+use Rattle.jamboree.proofs.Common.{◌≡◌, ℕ, Bool, true, ◌==◌, ◌&&◌, List, [], ◌∷◌, Option, Some, None, IfSome, slice_get, unwrap_or, if◌then◌else◌, sym, ◌∙◌, ap, subst, arith, Act, InletAct, Frame, may_be_child, frame_of, is_formed, Change, pairs_of, AllFit, AreFitting, returns, act_of, next_act, wakes, changes_by, inlet_of, inlet_act, above_of}
 
 -- the act of what sees these levels depends on the first two
 pub first-two : (grain : ℕ) (levels : List (List ℕ)) (own : List ℕ) → Some own ≡ slice_get levels 0 → next_act grain (own ∷ above_of (slice_get levels 1)) ≡ next_act grain levels
@@ -17,8 +8,7 @@ first-two grain (w ∷ []) own e = ap (λ (o : Option (List ℕ)). next_act grai
 first-two grain (w ∷ parent ∷ above) own e = ap (λ (o : Option (List ℕ)). next_act grain (unwrap_or o [] ∷ parent ∷ [])) e
 
 pub no-levels : (grain : ℕ) (levels : List (List ℕ)) → None ≡ slice_get levels 0 → returns ≡ next_act grain levels
-no-levels grain [] e = refl
-no-levels grain (w ∷ levels) e = absurd (cc)
+no-levels grain levels e = grind arith
 
 -- what follows a test of a frame, where its words have the form
 pub by-form : {X : Type 0} (w : List ℕ) (f : Frame) (p : Frame → Bool) (g : Frame → X) (x other : X) → is_formed w ≡ true → f ≡ frame_of w → x ≡ (if p f then g f else other) → x ≡ (if is_formed w && p (frame_of w) then g (frame_of w) else other)
@@ -33,19 +23,13 @@ abbrev with-entries : Frame → (statuses rests : List ℕ) → Frame
 with-entries f statuses rests = record f { statuses = statuses; rests = rests }
 
 changes-with : (cuts test low higher : Bool) (f c : Frame) (xs rs ys ss : List ℕ) → changes_by cuts test low higher f c ≡ changes_by cuts test low higher (with-entries f xs rs) (with-entries c ys ss)
-changes-with true test low higher f c xs rs ys ss = refl
-changes-with false true true higher f c xs rs ys ss = refl
-changes-with false true false higher f c xs rs ys ss = refl
-changes-with false false low true f c xs rs ys ss = refl
-changes-with false false low false f c xs rs ys ss = refl
+changes-with cuts test low higher f c xs rs ys ss = grind arith
 
 abbrev an-inlet : List Change → Bool → InletAct
 an-inlet changes abort = record { stores = pairs_of changes; abort = abort; wake = true }
 
 pub inlet-with : (f c : Frame) (xs rs ys ss : List ℕ) → inlet_of f c ≡ inlet_of (with-entries f xs rs) (with-entries c ys ss)
-inlet-with f c xs rs ys ss =
-    ap (λ (changes : List Change). an-inlet changes (int_le f.beta (seen c)))
-    (changes-with (int_le f.beta (seen c)) (c.role == 2) (int_le (seen c) (neg_ℤ c.beta)) (int_lt (floor f) (seen c)) f c xs rs ys ss)
+inlet-with f c xs rs ys ss = grind (arith, changes-with)
 
 -- the inlet of words of the form
 pub inlet-under : (own child : List ℕ) (f : Frame) (act : InletAct) → is_formed own ≡ true → f ≡ frame_of own →

@@ -1,14 +1,6 @@
 -- The entries of choices, segment by segment.
-use Rattle.std.specs.Prelude.{◌≡◌, ℕ, zero, suc, ◌+◌, ◌-◌, ◌*◌, ◌<◌, ◌≤◌, ◌==◌, ◌&&◌, nat_lt, Bool, true, false, List, [], ◌∷◌, ◌++◌, drop, take, length, map, slice_get, slice_index, Option, Some, None, unwrap_or, refl}
-use Rattle.std.proofs.Common.{sym, ◌∙◌, ap, subst, arith, add-one, drop-cons, ⊎_elim}
-use Rattle.std.proofs.Math.Bool.{and_assoc}
-use Rattle.std.proofs.Math.ListN.{drop_of_length-le, get_or-map}
-use Rattle.std.proofs.lemmas.Bool.{lt-ltb, le-ltb, cases_lt}
-use Rattle.std.proofs.lemmas.List.{take-append-drop, drop-take, drop-drop, length-append, length-drop, length-take, length-map, map-append, get_or-drop}
-use Rattle.std.proofs.lemmas.Option.{slice_get_within, unwrap_or-slice_get, slice_get-get_or}
-use Rattle.jamboree_rules.specs.Places.{status_of, entry_rest, is_entry, are_entries}
-use Rattle.jamboree_rules.specs.Acts.{first_open}
-use Rattle.jamboree.specs.Views.{statuses_in, rests_in, entries_in}
+use Rattle.jamboree.proofs.Common.{◌≡◌, ℕ, zero, suc, ◌+◌, ◌-◌, ◌*◌, ◌<◌, ◌≤◌, ◌==◌, ◌&&◌, nat_lt, Bool, true, false, List, [], ◌∷◌, ◌++◌, drop, length, map, slice_get, slice_index, Option, Some, None, unwrap_or, refl, sym, ◌∙◌, ap, subst, arith, add-one, drop-cons, ⊎_elim, and_assoc, drop_of_length-le, get_or-map, lt-ltb, le-ltb, cases_lt, take-append-drop, drop-take, drop-drop, length-append, length-drop, length-take, length-map, map-append, get_or-drop, slice_get_within, unwrap_or-slice_get, slice_get-get_or, status_of, entry_rest, is_entry, are_entries, first_open, statuses_in, rests_in, entries_in}
+use Rattle.std.specs.Prelude.{take}
 use Rattle.jamboree.proofs.OpenLemmas.{open-early, open-later}
 
 -- words that are entries, from a place on
@@ -17,12 +9,10 @@ entries-step xs i below =
     subst (λ (n : ℕ). are_entries (drop i xs) ≡ (is_entry (slice_index xs i) && are_entries (drop n xs))) (sym (add-one i)) (ap are_entries (drop-cons xs i 0 below))
 
 pub entries-good : (xs : List ℕ) (i x : ℕ) → i < length xs → x ≡ slice_index xs i → is_entry x ≡ true → are_entries (drop i xs) ≡ are_entries (drop (i + 1) xs)
-entries-good xs i x below is good =
-    entries-step xs i below ∙ ap (λ (b : Bool). b && are_entries (drop (i + 1) xs)) (ap is_entry (sym is) ∙ good)
+entries-good xs i x below is good = grind (arith, entries-step)
 
 pub entries-bad : (xs : List ℕ) (i x : ℕ) → i < length xs → x ≡ slice_index xs i → is_entry x ≡ false → are_entries (drop i xs) ≡ false
-entries-bad xs i x below is bad =
-    entries-step xs i below ∙ ap (λ (b : Bool). b && are_entries (drop (i + 1) xs)) (ap is_entry (sym is) ∙ bad)
+entries-bad xs i x below is bad = grind (arith, entries-step)
 
 pub entries-end : (xs : List ℕ) (i : ℕ) → length xs ≤ i → are_entries (drop i xs) ≡ true
 entries-end xs i past = ap are_entries (drop_of_length-le xs past)
@@ -32,8 +22,7 @@ entries-append [] ys = refl
 entries-append (x ∷ xs) ys = ap (λ (b : Bool). is_entry x && b) (entries-append xs ys) ∙ sym (and_assoc (is_entry x) (are_entries xs) (are_entries ys))
 
 pub few-entries : (w : List ℕ) (k : ℕ) → length (entries_in w k) ≤ 16
-few-entries w zero = omega (arith, length-drop 12 (take 16 w), length-take 16 w)
-few-entries w (suc k) = omega (arith, length-take 16 (drop (16 * suc k) w))
+few-entries w k = grind (arith, length-drop, length-take)
 
 -- the entries from a segment on
 abbrev pub left : List ℕ → ℕ → List ℕ
@@ -42,12 +31,10 @@ left words (suc number) = drop (16 * suc number) words
 
 -- they begin with those of the segment
 left-step : (w : List ℕ) (k : ℕ) → left w k ≡ entries_in w k ++ left w (suc k)
-left-step w zero =
-    sym (take-append-drop 4 (drop 12 w)) ∙ ap (λ (xs : List ℕ). xs ++ drop 4 (drop 12 w)) (sym (drop-take 12 4 w)) ∙ ap (λ (ys : List ℕ). drop 12 (take 16 w) ++ ys) (drop-drop 4 12 w)
+left-step w zero = grind (arith, take-append-drop, drop-take, drop-drop)
 left-step w (suc k) =
     let rest : List ℕ = drop (16 * suc k) w in
-    let next : 16 * suc k + 16 ≡ 16 * suc (suc k) = omega arith in
-    sym (take-append-drop 16 rest) ∙ ap (λ (ys : List ℕ). take 16 rest ++ ys) (drop-drop 16 (16 * suc k) w ∙ ap (λ (n : ℕ). drop n w) next)
+    sym (take-append-drop 16 rest) ∙ ap (λ (ys : List ℕ). take 16 rest ++ ys) (drop-drop 16 (16 * suc k) w ∙ ap (λ (n : ℕ). drop n w) (omega arith))
 
 left-next : (w : List ℕ) (k : ℕ) → left w k ≡ entries_in w k ++ left w (k + 1)
 left-next w k = subst (λ (n : ℕ). left w k ≡ entries_in w k ++ left w n) (sym (add-one k)) (left-step w k)
@@ -57,26 +44,20 @@ length-left w zero some long = omega (arith, length-drop 12 w)
 length-left w (suc k) some long = omega (arith, length-drop (16 * suc k) w, some)
 
 pub left-good : (w entries : List ℕ) (k : ℕ) → entries ≡ entries_in w k → true ≡ are_entries entries → are_entries (drop 12 w) ≡ are_entries (left w k) → are_entries (drop 12 w) ≡ are_entries (left w (k + 1))
-left-good w entries k is good so_far =
-    so_far ∙ ap are_entries (left-next w k) ∙ entries-append (entries_in w k) (left w (k + 1))
-    ∙ ap (λ (b : Bool). b && are_entries (left w (k + 1))) (ap are_entries (sym is) ∙ sym good)
+left-good w entries k is good so_far = grind (arith, left-next, entries-append)
 
 pub left-bad : (w entries : List ℕ) (k : ℕ) → entries ≡ entries_in w k → false ≡ are_entries entries → are_entries (drop 12 w) ≡ are_entries (left w k) → false ≡ are_entries (drop 12 w)
-left-bad w entries k is bad so_far =
-    sym (so_far ∙ ap are_entries (left-next w k) ∙ entries-append (entries_in w k) (left w (k + 1))
-    ∙ ap (λ (b : Bool). b && are_entries (left w (k + 1))) (ap are_entries (sym is) ∙ sym bad))
+left-bad w entries k is bad so_far = grind (arith, left-next, entries-append)
 
 -- all choices before a segment are settled
 abbrev pub AreSettledBefore : List ℕ → ℕ → Type 0
 AreSettledBefore w k = first_open (statuses_in w) + length (left w k) ≡ length (drop 12 w) + first_open (map status_of (left w k))
 
 open-split : (w entries : List ℕ) (k : ℕ) → entries ≡ entries_in w k → map status_of (left w k) ≡ map status_of entries ++ map status_of (left w (k + 1))
-open-split w entries k is =
-    ap (map status_of) (left-next w k ∙ ap (λ (xs : List ℕ). xs ++ left w (k + 1)) (sym is)) ∙ map-append status_of entries (left w (k + 1))
+open-split w entries k is = grind (arith, left-next, map-append)
 
 length-split : (w entries : List ℕ) (k : ℕ) → entries ≡ entries_in w k → length (left w k) ≡ length entries + length (left w (k + 1))
-length-split w entries k is =
-    ap length (left-next w k ∙ ap (λ (xs : List ℕ). xs ++ left w (k + 1)) (sym is)) ∙ length-append entries (left w (k + 1))
+length-split w entries k is = grind (arith, left-next, length-append)
 
 pub open-found : (w entries : List ℕ) (k found : ℕ) → entries ≡ entries_in w k → found ≡ first_open (map status_of entries) → found < length entries → 12 ≤ length w → AreSettledBefore w k →
     16 * k - 12 + found ≡ first_open (statuses_in w)
@@ -85,9 +66,7 @@ open-found w entries k found is first inside long before =
     let same : first_open (map status_of (left w k)) ≡ found =
     ap first_open (open-split w entries k is) ∙ open-early (map status_of entries) (map status_of (left w (k + 1))) (subst (λ (n : ℕ). n < length (map status_of entries)) first here) ∙ sym first
     in
-    let some : length (left w k) ≡ length entries + length (left w (k + 1)) = length-split w entries k is in
-    let at : length (left w k) + 12 + (16 * k - 12) ≡ length w = length-left w k (omega (arith, some)) long in
-    omega (arith, before, same, at, length-drop 12 w)
+    omega (arith, before, same, length-left w k (omega (arith, length-split w entries k is)) long, length-drop 12 w)
 
 pub open-passed : (w entries : List ℕ) (k found : ℕ) → entries ≡ entries_in w k → found ≡ first_open (map status_of entries) → length entries ≤ found → AreSettledBefore w k → AreSettledBefore w (k + 1)
 open-passed w entries k found is first all before =
@@ -95,8 +74,7 @@ open-passed w entries k found is first all before =
     let same : first_open (map status_of (left w k)) ≡ length (map status_of entries) + first_open (map status_of (left w (k + 1))) =
     ap first_open (open-split w entries k is) ∙ open-later (map status_of entries) (map status_of (left w (k + 1))) past
     in
-    let some : length (left w k) ≡ length entries + length (left w (k + 1)) = length-split w entries k is in
-    omega (arith, before, same, some, length-map entries status_of)
+    omega (arith, before, same, length-split w entries k is, length-map entries status_of)
 
 -- the status of a choice, by its entry
 status-at : (w : List ℕ) (n : ℕ) → slice_index (statuses_in w) n ≡ status_of (slice_index w (12 + n))
@@ -121,5 +99,4 @@ rest-is : (w : List ℕ) (n : ℕ) → entry_rest (slice_index w (12 + n)) ≡ s
 rest-is w n = sym (get_or-map entry_rest (drop 12 w) n 0 ∙ ap entry_rest (get_or-drop 12 w n 0))
 
 pub rest-read : (w : List ℕ) (n rest entry : ℕ) (got : Option ℕ) → got ≡ slice_get w (12 + n) → entry ≡ unwrap_or got 0 → rest ≡ entry_rest entry → rest ≡ slice_index (rests_in w) n
-rest-read w n rest entry got is read e =
-    e ∙ ap entry_rest (read ∙ ap (λ (o : Option ℕ). unwrap_or o 0) is ∙ unwrap_or-slice_get w (12 + n) 0) ∙ rest-is w n
+rest-read w n rest entry got is read e = grind (arith, unwrap_or-slice_get, rest-is)

@@ -1,17 +1,5 @@
 -- The numbers of the first words, where they have the form of a frame.
-use Rattle.std.specs.Prelude.{◌≡◌, ℕ, ◌+◌, ◌<◌, ◌≤◌, Bool, true, false, ℤ, pos, negsuc, ◌≤ℤ◌, ◌<ℤ◌, List, [], map, drop, length, slice_index, ◌==◌, ◌&&◌, bit_and, refl}
-use Rattle.std.proofs.Common.{to_z, of_z, w32, sym, ap, ◌∙◌, subst, take, arith, ⊎_elim}
-use Rattle.std.proofs.lemmas.List.{get_or-take}
-use Rattle.std.proofs.lemmas.Int.{ints}
-use Rattle.std.proofs.lemmas.Bool.{cases_lt, and_parts, eqb-true, eq-eqb}
-use Rattle.jamboree_rules.specs.Frames.{least, greatest, unscored, is_frame}
-use Rattle.jamboree_rules.specs.Places.{score_of, status_of, entry_rest, frame_of, are_entries, is_formed}
-use Rattle.jamboree_rules.proofs.Forms.{IsFrame, frame-told}
-use Rattle.jamboree.specs.declared.phases.Phase.{Phase}
-use Rattle.jamboree.specs.declared.phases.Role.{Role}
-use Rattle.jamboree.specs.declared.view.Head.{Head}
-use Rattle.jamboree.specs.Numbers.{phase_number, role_number, frame_by}
-use Rattle.jamboree.specs.Views.{head_of, frame_from}
+use Rattle.jamboree.proofs.Common.{◌≡◌, ℕ, ◌+◌, ◌<◌, ◌≤◌, Bool, true, ℤ, pos, negsuc, ◌≤ℤ◌, ◌<ℤ◌, List, [], map, drop, length, slice_index, ◌==◌, ◌&&◌, bit_and, refl, to_z, of_z, w32, sym, ap, ◌∙◌, subst, take, arith, ⊎_elim, get_or-take, ints, cases_lt, and_parts, eqb-true, eq-eqb, least, greatest, unscored, is_frame, score_of, status_of, entry_rest, frame_of, are_entries, is_formed, IsFrame, frame-told, Phase, Role, Head, phase_number, role_number, frame_by, head_of, frame_from}
 
 -- the ranges of these words
 pub record AreRanged (h : Head) : Type 0 where
@@ -40,16 +28,14 @@ word-none w h = omega (arith, ints)
 pub ranged : (h : Head) → is_frame (frame_from h []) ≡ true → AreRanged h
 ranged h e =
     let f : IsFrame (frame_from h []) = frame-told (frame_from h []) e in
-    let low : least ≤ℤ score_of h.alpha = f.leaf.low in
     let window : score_of h.alpha <ℤ score_of h.beta = f.leaf.window in
-    let high : score_of h.beta ≤ℤ greatest = f.leaf.high in
     record {
       disjoint = f.leaf.disjoint;
       depth = f.leaf.shallow;
-      alpha_low = word-low h.alpha low;
+      alpha_low = word-low h.alpha f.leaf.low;
       alpha_high = word-high h.alpha (omega (arith, ints));
       beta_low = word-low h.beta (omega (arith, ints));
-      beta_high = word-high h.beta high;
+      beta_high = word-high h.beta f.leaf.high;
       window = omega (arith, ints);
       role = f.role;
       phase = f.phase;
@@ -72,27 +58,11 @@ front-word : (w front : List ℕ) → front ≡ take 16 w → (k : ℕ) → k < 
 front-word w front is k inside = ap (λ (xs : List ℕ). slice_index xs k) is ∙ get_or-take 16 w k 0 inside
 
 pub front-head : (w front : List ℕ) → front ≡ take 16 w → head_of front ≡ head_of w
-front-head w front is =
-    let at : (k : ℕ) → k < 16 → slice_index front k ≡ slice_index w k = front-word w front is in
-    rw (
-      at 0 (omega arith),
-      at 1 (omega arith),
-      at 2 (omega arith),
-      at 3 (omega arith),
-      at 4 (omega arith),
-      at 5 (omega arith),
-      at 6 (omega arith),
-      at 7 (omega arith),
-      at 8 (omega arith),
-      at 9 (omega arith),
-      at 10 (omega arith),
-      at 11 (omega arith),
-    ) refl
+front-head w front is = grind (arith, front-word)
 
 -- words that have the form of a frame, part by part
 and-true : (a : Bool) → a ≡ (a && true)
-and-true true = refl
-and-true false = refl
+and-true a = grind arith
 
 -- the rest of the test of the form
 pub formed-rest : (w : List ℕ) (h : Head) → h ≡ head_of w → length w ≡ 12 + h.count → is_frame (frame_from h []) ≡ true → are_entries (drop 12 w) ≡ is_formed w

@@ -46,6 +46,7 @@ pub(crate) fn floor(frame: &View) -> i32
 /// How many plies the choice of this number takes: 1 for a square, 0 for a pass. A pass is the only choice of its
 /// board, so where there are more the choice isn't looked up.
 #[inline(always)]
+#[tactic(auto, using(crate::proofs::PlyLemmas::square_of_more))]
 fn plies_of(frame: &View, number: usize) -> u8
     requires choices { frame.now.count ≡ length (choices (cells frame.now.board)) }
     requires inside { number < frame.now.count }
@@ -86,6 +87,7 @@ fn child(frame: &View, role: Role, number: usize, alpha: i32, beta: i32) -> NewC
 /// What a frame does while its first choice is searched: it opens the child for it, with the whole window, or
 /// waits for that child.
 #[inline(always)]
+#[tactic(auto, using(crate::proofs::Rules::first_search_rules))]
 fn first_search(frame: &View, words: &Words) -> Plan
     requires deep { 0 < frame.now.goal.depth }
     requires choices { frame.now.count ≡ length (choices (cells frame.now.board)) }

@@ -131,6 +131,7 @@ fn plan_tested(grain: u8, own: &Words, parent: Option<Words>) -> Plan
 }
 
 /// What a frame that sees these words does next. The form of its own words and of its parent's is checked.
+#[tactic(auto, using(crate::proofs::Rules::plan_seen_rules))]
 fn plan_seen(grain: u8, sight: &Sight) -> Plan
     ensures { act_for result ≡ next_act grain sight.now }
 {
@@ -143,6 +144,7 @@ fn plan_seen(grain: u8, sight: &Sight) -> Plan
 /// What a frame that sees these words does next, where all of them are known to fit (`AreFitting`), so that their
 /// form isn't checked.
 #[inline(always)]
+#[tactic(auto, using(crate::proofs::Rules::plan_fitting_rules))]
 fn plan_fitting(grain: u8, sight: &Sight) -> Plan
     requires { AllFit AreFitting sight.now }
     ensures { act_for result ≡ next_act grain sight.now }

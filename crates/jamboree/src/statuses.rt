@@ -22,6 +22,7 @@ fn all_are_entries(entries: &[u64]) -> bool
 }
 
 /// Whether each word after the first twelve of a frame is a valid entry.
+#[tactic(auto, using(crate::proofs::Rules::are_entries_rules))]
 pub(crate) fn are_entries(words: &Words) -> bool
     requires { 12 ≤ length words.now }
     ensures { result ≡ are_entries (drop 12 words.now) }
@@ -35,6 +36,7 @@ pub(crate) fn are_entries(words: &Words) -> bool
 }
 
 /// The place of the first of these entries whose choice isn't settled, or their number where all are.
+#[tactic(auto, using(crate::proofs::Rules::open_in_rules))]
 fn open_in(entries: &[u64]) -> usize
     ensures { result ≡ first_open (map status_of entries.now) }
 {
@@ -48,6 +50,7 @@ fn open_in(entries: &[u64]) -> usize
 
 /// The number of the first choice that isn't settled, or the number of choices where all are.
 #[inline(always)]
+#[tactic(auto, using(crate::proofs::Rules::first_open_rules))]
 pub(crate) fn first_open(words: &Words) -> usize
     requires { 12 ≤ length words.now }
     ensures value { result ≡ first_open (statuses_in words.now) }

@@ -104,6 +104,7 @@ fn head_in(front: &[u64]) -> Head
 
 /// The first twelve words, which stand in one segment.
 #[inline(always)]
+#[tactic(auto, using(crate::proofs::Rules::read_head_rules))]
 fn read_head(words: &Words) -> Head
     requires { 12 ≤ length words.now }
     ensures { result ≡ head_of words.now }
@@ -359,6 +360,7 @@ pub(crate) fn spawn(child: &NewChild) -> Continuation
 }
 
 /// The frame in the words that a job keeps of its returned root.
+#[tactic(auto, using(crate::proofs::Rules::kept_view_rules))]
 pub(crate) fn kept_view(words: &[u64]) -> View
     requires form { is_formed words.now ≡ true }
     requires few { length words.now ≤ 128 }

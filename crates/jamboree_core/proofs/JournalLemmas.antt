@@ -1,33 +1,6 @@
 -- Journals: what a tenant of searches comes to by its own taken steps, and how a journal grows.
-use Rattle.std.proofs.Common.{◌≡◌, ◌≢◌, ℕ, List, [], ◌∷◌, ◌++◌, Option, Some, None, Result, Ok, Err, refl, ap, sym, ◌∙◌, subst, append_assoc, append-nil, arith}
-use Rattle.tenant_quota.specs.Quota.{Quota}
-use Rattle.sched_rules.specs.declared.refusal.Refusal.{Refusal}
-use Rattle.sched_rules.specs.declared.refusal.Refusal.TheVariants.{NoTenant, OldTenant}
-use Rattle.sched_rules.specs.declared.step.StepOf.{StepOf}
-use Rattle.sched_rules.specs.declared.step.DidOf.{DidOf}
-use Rattle.sched_rules.specs.declared.step.DidOf.TheVariants.{Admitted}
-use Rattle.sched_rules.specs.declared.step.StepOf.TheVariants.{Admit}
-use Rattle.sched_rules.specs.Functions.{Functions}
-use Rattle.sched_rules.specs.Trees.{Tenant, admitted_with}
-use Rattle.sched_rules.specs.Lone.{Outcome, lone}
-use Rattle.sched_rules.specs.Runs.{tenant_of, state_after, alone_from}
-use Rattle.sched_rules.specs.Cores.{CoreState, tenant_in, shared_with}
-use Rattle.sched_rules.specs.Headline.{AreNumbersGiven, IsOneStep}
-use Rattle.sched_rules.proofs.Tenants.{tenant_in-with_outcome, tenant_in_other-with_outcome}
-use Rattle.sched_rules.proofs.Isolation.{step-taken, shared-after-taken}
-use Rattle.sched_laws.specs.Fitted.{submits, origins_of}
-use Rattle.sched_laws.proofs.Shaped.{LeftShaped}
-use Rattle.sched_laws.proofs.Consequences.{lone-shaped}
-use Rattle.sched_laws.proofs.Fits.{LeftFits}
-use Rattle.sched_laws.proofs.FitAnswers.{step-fits}
-use Rattle.jamboree_rules.specs.declared.leaf.Leaf.{Leaf}
-use Rattle.jamboree_rules.specs.declared.leaf.LeafAnswer.{LeafAnswer}
-use Rattle.jamboree_rules.specs.Fits.{AreFitting, IsRoot}
-use Rattle.jamboree_rules.specs.Procedure.{jamboree}
-use Rattle.jamboree_core.specs.Replies.{IsSearch, AreSearches}
+use Rattle.jamboree_core.proofs.Common.{◌≡◌, ◌≢◌, ℕ, List, [], ◌∷◌, ◌++◌, Option, Some, None, Result, Ok, Err, refl, ap, sym, ◌∙◌, subst, append_assoc, append-nil, arith, Quota, Refusal, NoTenant, OldTenant, StepOf, DidOf, Admitted, Admit, Functions, Tenant, admitted_with, Outcome, lone, tenant_of, state_after, alone_from, CoreState, tenant_in, shared_with, AreNumbersGiven, IsOneStep, tenant_in-with_outcome, tenant_in_other-with_outcome, step-taken, shared-after-taken, submits, origins_of, LeftShaped, lone-shaped, LeftFits, step-fits, Leaf, LeafAnswer, AreFitting, IsRoot, jamboree, IsSearch, AreSearches, TenantSearches, StaysTaken, AreTakenFrom, IsJournalOf}
 use Rattle.jamboree_core.proofs.Replying.{search-fits, lawful}
-use Rattle.jamboree_core.specs.Searching.{TenantSearches}
-use Rattle.jamboree_core.specs.Journals.{StaysTaken, AreTakenFrom, IsJournalOf}
 use Rattle.jamboree_core.proofs.Serving.{searches-asked}
 
 abbrev Came : Type 0

@@ -2,6 +2,7 @@ pub use Rattle.sched_core.proofs.Stepping as sched_core_Stepping
 pub use Rattle.sched_laws.proofs.Consequences as sched_laws_Consequences
 pub use Rattle.sched_laws.proofs.Parts as sched_laws_Parts
 pub use Rattle.sched_laws.proofs.Shaped as sched_laws_Shaped
+mod Common
 pub mod Replying
 pub mod OpeningReply
 pub mod Possible

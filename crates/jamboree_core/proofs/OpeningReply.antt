@@ -1,21 +1,5 @@
 -- The opening searched to depth 1.
-use Rattle.std.proofs.Common.{◌≡◌, negsuc, List, Some, refl, ap, sym, arith}
-use Rattle.std.proofs.lemmas.List.Elements.{All-from_recursion}
-use Rattle.othello_board.specs.declared.cells.Cell.{Cell}
-use Rattle.othello_board.specs.Rules.{squares, squares_beside}
-use Rattle.othello_board.specs.Words.{cells_of}
-use Rattle.othello_moves.specs.declared.choices.Choice.TheVariants.{Square}
-use Rattle.othello_moves.specs.Choices.{in_order}
-use Rattle.jamboree_rules.specs.othello_eval.Values.{weights}
-use Rattle.jamboree_rules.specs.othello_eval.Minimax.{minimax, best_choice}
-use Rattle.jamboree_rules.specs.othello_eval.Tables.{IsTrueBound, IsExactIfBest, IsTable}
-use Rattle.jamboree_rules.specs.othello_eval.Rows.{equal_moves}
-use Rattle.jamboree_rules.proofs.EvalLemmas.TableLemmas.{apart}
-use Rattle.jamboree_rules.specs.Places.{frame_of}
-use Rattle.jamboree_rules.specs.Entries.{bounds_of}
-use Rattle.jamboree_rules.specs.Frames.{coded}
-use Rattle.jamboree_core.specs.Replies.{IsReplyTo}
-use Rattle.jamboree_core.specs.Rows.{asked, kept}
+use Rattle.jamboree_core.proofs.Common.{◌≡◌, negsuc, List, Some, refl, ap, sym, arith, All-from_recursion, Cell, squares, squares_beside, cells_of, Square, in_order, weights, minimax, best_choice, IsTrueBound, IsExactIfBest, IsTable, equal_moves, apart, frame_of, bounds_of, coded, IsReplyTo, asked, kept}
 
 pub worth : minimax 1 (cells_of 34628173824 68853694464) ≡ negsuc 2
 unfolding squares squares_beside in_order weights minimax

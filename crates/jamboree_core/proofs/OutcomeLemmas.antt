@@ -1,25 +1,7 @@
 -- What has become of a tenant's job, and what it was submitted with.
-use Rattle.std.proofs.Common.{◌≡◌, ℕ, inl, inr, eqb, List, [], ◌∷◌, Option, Some, None, refl, ap, sym, ◌∙◌, subst, arith}
-use Rattle.std.specs.Prelude.{◌-◌, option_and_then}
-use Rattle.std.proofs.lemmas.Bool.{cases_Bool}
-use Rattle.sched_rules.specs.declared.job.Job.{Job}
-use Rattle.sched_rules.specs.declared.job.Job.TheVariants.{Live, Done, Spent as SpentJob, Cancelled as CancelledJob}
-use Rattle.sched_rules.specs.Trees.{Tree, Tenant, job_at}
-use Rattle.sched_rules.specs.Cores.{CoreState, tenant_in}
-use Rattle.sched_rules.specs.Views.{job_of}
-use Rattle.sched_laws.specs.Fitted.{JobsFit, JobFits}
-use Rattle.jamboree_rules.specs.Fits.{AreFitting, IsRoot}
-use Rattle.jamboree_core.specs.Replies.{HoldsReply, AreReplies}
-use Rattle.sched_rules.specs.declared.step.StepOf.{StepOf}
-use Rattle.jamboree.specs.declared.reply.Reply.{Reply}
-use Rattle.jamboree.specs.Replies.{table_of}
-use Rattle.jamboree_rules.specs.declared.leaf.LeafAnswer.{LeafAnswer}
-use Rattle.jamboree_rules.specs.Procedure.{jamboree}
+use Rattle.jamboree_core.proofs.Common.{◌≡◌, ℕ, inl, inr, eqb, List, [], ◌∷◌, Option, Some, None, refl, ap, sym, ◌∙◌, subst, arith, ◌-◌, option_and_then, cases_Bool, Job, Live, Done, Spent as SpentJob, Cancelled as CancelledJob, Tree, Tenant, job_at, CoreState, tenant_in, job_of, JobsFit, JobFits, AreFitting, IsRoot, HoldsReply, AreReplies, StepOf, Reply, table_of, LeafAnswer, jamboree, Pending, IsJournalOf, TenantSearches, ServesSearches, origin_at, IsOfSearch, IsOutcomeOf, IsOutcomeIn, IsTo, AnswersTo}
 use Rattle.jamboree_core.specs.declared.outcomes.Outcome.{Outcome}
-use Rattle.jamboree_core.specs.declared.outcomes.Outcome.TheVariants.{Pending, Done as DoneWith, Spent, Cancelled}
-use Rattle.jamboree_core.specs.Journals.{IsJournalOf}
-use Rattle.jamboree_core.specs.Searching.{TenantSearches, ServesSearches, origin_at}
-use Rattle.jamboree_core.specs.Outcomes.{IsOfSearch, IsOutcomeOf, IsOutcomeIn, IsTo, AnswersTo}
+use Rattle.jamboree_core.specs.declared.outcomes.Outcome.TheVariants.{Done as DoneWith, Spent, Cancelled}
 use Rattle.jamboree_core.proofs.Serving.{tenant-replies}
 
 -- a job of a tenant of searches is one

@@ -1,38 +1,5 @@
 -- What a tenant of searches does can be done: none of its steps but a Submit is refused by BadAct.
-use Rattle.std.proofs.Common.{◌≡◌, ◌≢◌, ℕ, inl, inr, Bool, true, false, not, List, [], ◌∷◌, Option, Some, None, Result, Ok, Err, refl, ap, sym, ◌∙◌, subst, ◌⊎◌, arith}
-use Rattle.std.proofs.lemmas.Bool.{cases_Bool, false≢true, not-false, eq-eqb}
-use Rattle.frame_tree.specs.Frames.{frame_at, parent_of, values_of}
-use Rattle.frame_tree.specs.TreeLaws.{is_that}
-use Rattle.frame_tree.proofs.TreeLaws.{there-found, found-serial, under-there, named-under}
-use Rattle.sched_rules.specs.declared.job.Job.{Job}
-use Rattle.sched_rules.specs.declared.job.Job.TheVariants.{Live}
-use Rattle.sched_rules.specs.declared.refusal.Refusal.{Refusal}
-use Rattle.sched_rules.specs.declared.refusal.Refusal.TheVariants.{NotSpent, BadAct, Busy, Lower, OutOfMemory}
-use Rattle.sched_rules.specs.declared.step.StepOf.{StepOf}
-use Rattle.sched_rules.specs.declared.step.StepOf.TheVariants.{Admit, AdmitMore, Submit, Take, Steal, Advance, Answer, Inlet, Finish, Spend, Cancel, Leave}
-use Rattle.sched_rules.specs.declared.step.DidOf.{DidOf}
-use Rattle.tenant_quota.specs.Quota.{Quota}
-use Rattle.sched_rules.specs.Runs.{tenant_of, answer_of}
-use Rattle.sched_rules.specs.Cores.{CoreState, tenant_in, meets_busy, shared_refusal, reservations_in, reserved_by, is_beyond, unless_beyond, step_result}
-use Rattle.sched_rules.specs.Headline.{IsAnswerTo, IsAnswerToStep, IsAnswerToAdmit}
-use Rattle.sched_rules.specs.Trees.{Tree, Tenant, sight, words_in, is_outside, has_child, job_at}
-use Rattle.sched_rules.specs.Laws.{Mark, Neither, Computes, HasReturned, mark_of_state, ParentFits}
-use Rattle.sched_rules.specs.Lone.{Outcome, unless, refusal_in, lone, first_step, lone_step, is_lower, raised, at_frame, is_run_by, is_computed_by, is_returned, is_bad_act, act_by_sight, take_tests, steal_tests, advance_tests, answer_tests, inlet_tests, inlet_under, taken_in, finish_tests, is_spendable, cancelled}
-use Rattle.sched_laws.specs.Shapes.{IsShaped, AreShaped}
-use Rattle.sched_laws.specs.Fitted.{TenantFits, CoreFits, submits}
-use Rattle.sched_laws.proofs.Consequences.{shaped-in}
-use Rattle.sched_laws.proofs.Shaped.{run-free, returned-childless}
-use Rattle.sched_laws.proofs.Holds.{Lists, F, kids, fits-holds, found-same, among-kids}
-use Rattle.sched_laws.proofs.Fits.{kept-above, has-origin, words-found, parent-neither, has-one}
-use Rattle.sched_laws.proofs.FitSteps.{computes-marked, has-returned}
-use Rattle.jamboree_rules.specs.declared.leaf.Leaf.{Leaf}
-use Rattle.jamboree_rules.specs.declared.leaf.LeafAnswer.{LeafAnswer}
-use Rattle.jamboree_rules.specs.Acts.{next_act, inlet_act}
-use Rattle.jamboree_rules.specs.Leaves.{accepts}
-use Rattle.jamboree_rules.specs.Fits.{AreFitting, IsRoot}
-use Rattle.jamboree_rules.specs.Procedure.{jamboree}
-use Rattle.jamboree_rules.proofs.Keeping.{next-possible, inlet-possible}
-use Rattle.jamboree_rules.proofs.Rooted.{accept-possible}
+use Rattle.jamboree_core.proofs.Common.{◌≡◌, ◌≢◌, ℕ, inl, inr, Bool, true, false, not, List, [], ◌∷◌, Option, Some, None, Result, Ok, Err, refl, ap, sym, ◌∙◌, subst, ◌⊎◌, arith, cases_Bool, false≢true, not-false, eq-eqb, frame_at, parent_of, values_of, is_that, there-found, found-serial, under-there, named-under, Job, Live, Refusal, NotSpent, BadAct, Busy, Lower, OutOfMemory, StepOf, Admit, AdmitMore, Submit, Take, Steal, Advance, Answer, Inlet, Finish, Spend, Cancel, Leave, DidOf, Quota, tenant_of, answer_of, CoreState, tenant_in, meets_busy, shared_refusal, reservations_in, reserved_by, is_beyond, unless_beyond, step_result, IsAnswerTo, IsAnswerToStep, IsAnswerToAdmit, Tree, Tenant, sight, words_in, is_outside, has_child, job_at, Mark, Neither, Computes, HasReturned, mark_of_state, ParentFits, Outcome, unless, refusal_in, lone, first_step, lone_step, is_lower, raised, at_frame, is_run_by, is_computed_by, is_returned, is_bad_act, act_by_sight, take_tests, steal_tests, advance_tests, answer_tests, inlet_tests, inlet_under, taken_in, finish_tests, is_spendable, cancelled, IsShaped, AreShaped, TenantFits, CoreFits, submits, shaped-in, run-free, returned-childless, Lists, F, kids, fits-holds, found-same, among-kids, kept-above, has-origin, words-found, parent-neither, has-one, computes-marked, has-returned, Leaf, LeafAnswer, next_act, inlet_act, accepts, AreFitting, IsRoot, jamboree, next-possible, inlet-possible, accept-possible}
 
 -- tests of which none refuses by BadAct, where none before it applies
 abbrev NoneBad : List (Bool × Refusal) → Type 0

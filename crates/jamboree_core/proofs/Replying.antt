@@ -1,35 +1,6 @@
 -- A done job kept a returned root, which holds what it was asked.
-use Rattle.std.proofs.Common.{◌≡◌, ℕ, List, [], ◌∷◌, Some, Result, refl, sym, ◌∙◌, subst, arith}
-use Rattle.tenant_quota.specs.Quota.{Quota}
-use Rattle.frame_tree.specs.Frames.{Frame as TreeFrame, children_of, values_of}
-use Rattle.sched_rules.specs.declared.job.Job.{Job}
-use Rattle.sched_rules.specs.declared.job.Job.TheVariants.{Live, Done, Spent as SpentJob, Cancelled as CancelledJob}
-use Rattle.sched_rules.specs.declared.refusal.Refusal.{Refusal}
-use Rattle.sched_rules.specs.declared.step.StepOf.{StepOf}
-use Rattle.sched_rules.specs.declared.step.StepOf.TheVariants.{Submit}
-use Rattle.sched_rules.specs.declared.step.DidOf.{DidOf}
-use Rattle.sched_rules.specs.Trees.{Tree, Tenant, kept_words}
-use Rattle.sched_rules.specs.Laws.{HasReturned, mark_of_state, EachFits}
-use Rattle.sched_rules.specs.Runs.{only}
-use Rattle.sched_rules.specs.Cores.{shared_by_nobody, tenant_in}
-use Rattle.sched_rules.specs.Headline.{AreAnswersTo, after_answers, taken_steps}
-use Rattle.sched_laws.specs.Fitted.{JobsFit, TenantFits, submits, RootFits, RootsFit, origins_of}
-use Rattle.sched_laws.proofs.Fits.{IsLawful}
-use Rattle.sched_laws.proofs.FitAnswers.{run-fits, nobody-fits}
-use Rattle.jamboree_rules.specs.declared.leaf.Leaf.{Leaf}
-use Rattle.jamboree_rules.specs.declared.leaf.LeafAnswer.{LeafAnswer}
-use Rattle.othello_board.specs.Words.{cells_of}
-use Rattle.jamboree_rules.specs.othello_eval.declared.bound.Bound.{Bound}
-use Rattle.jamboree_rules.specs.othello_eval.Tables.{IsTable}
-use Rattle.jamboree_rules.specs.Frames.{Frame, board}
-use Rattle.jamboree_rules.specs.Places.{frame_of}
-use Rattle.jamboree_rules.specs.Entries.{bounds_of}
-use Rattle.jamboree_rules.specs.Fits.{AreFitting, IsRoot}
-use Rattle.jamboree_rules.specs.Procedure.{jamboree}
-use Rattle.jamboree_rules.proofs.Keeping.{next-keeps, inlet-keeps}
-use Rattle.jamboree_rules.proofs.Rooted.{fits_sound, accept-keeps, root_fits, root_value, root-whole, root-kept}
-use Rattle.jamboree_core.specs.Searching.{AreAllRootWords}
-use Rattle.jamboree_core.specs.Replies.{IsSearch, AreSearches, IsReplyTo, AreReplies, AreAllSound}
+use Rattle.jamboree_core.proofs.Common.{◌≡◌, ℕ, List, [], ◌∷◌, Some, Result, refl, sym, ◌∙◌, subst, arith, Quota, Frame as TreeFrame, children_of, values_of, Job, Live, Done, Spent as SpentJob, Cancelled as CancelledJob, Refusal, StepOf, Submit, DidOf, Tree, Tenant, kept_words, HasReturned, mark_of_state, EachFits, only, shared_by_nobody, tenant_in, AreAnswersTo, after_answers, taken_steps, JobsFit, TenantFits, submits, RootFits, RootsFit, origins_of, IsLawful, run-fits, nobody-fits, Leaf, LeafAnswer, cells_of, Bound, IsTable, board, frame_of, bounds_of, AreFitting, IsRoot, jamboree, next-keeps, inlet-keeps, fits_sound, accept-keeps, root_fits, root_value, root-whole, root-kept, AreAllRootWords, IsSearch, AreSearches, IsReplyTo, AreReplies, AreAllSound}
+use Rattle.jamboree_rules.specs.Frames.{Frame}
 
 -- the new root of a search fits, and belongs to a board and a depth
 pub search-parts : {A : Type 0} (step : StepOf A) → IsSearch step → RootFits AreFitting IsRoot step × AreAllRootWords (submits step)

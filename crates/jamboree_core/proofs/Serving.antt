@@ -1,26 +1,6 @@
 -- Cores of searches: what follows from each frame fitting and each job holding what it was asked.
-use Rattle.std.proofs.Common.{◌≡◌, ℕ, inl, inr, true, eqb, List, [], ◌∷◌, ◌++◌, Option, Some, None, Result, Ok, Err, refl, arith}
-use Rattle.std.specs.Prelude.{is_ok, OnOk}
-use Rattle.std.proofs.lemmas.Bool.{cases_Bool}
-use Rattle.tenant_quota.specs.Quota.{Quota}
-use Rattle.sched_rules.specs.declared.refusal.Refusal.{Refusal}
-use Rattle.sched_rules.specs.declared.step.StepOf.{StepOf}
-use Rattle.sched_rules.specs.declared.step.DidOf.{DidOf}
-use Rattle.sched_rules.specs.Trees.{Tenant}
-use Rattle.sched_rules.specs.Runs.{tenant_of, only}
-use Rattle.sched_rules.specs.Cores.{CoreState, shared_by_nobody, tenant_in}
-use Rattle.sched_rules.specs.Headline.{AreNumbersGiven, IsHeadline, taken_steps}
-use Rattle.sched_rules.proofs.Tenants.{tenant_in-new}
-use Rattle.sched_laws.specs.Fitted.{CoreFits, RootsFit, submits, origins_of, origins_after}
-use Rattle.sched_laws.proofs.FitAnswers.{nobody-fits}
-use Rattle.jamboree_rules.specs.declared.leaf.Leaf.{Leaf}
-use Rattle.jamboree_rules.specs.declared.leaf.LeafAnswer.{LeafAnswer}
-use Rattle.jamboree_rules.specs.Fits.{AreFitting, IsRoot}
-use Rattle.jamboree_rules.specs.Procedure.{jamboree}
-use Rattle.jamboree_core.specs.Replies.{IsSearch, AreSearches, AreReplies, AreAllSound}
+use Rattle.jamboree_core.proofs.Common.{◌≡◌, ℕ, inl, inr, true, eqb, List, [], ◌∷◌, ◌++◌, Option, Some, None, Result, Ok, Err, refl, arith, is_ok, OnOk, cases_Bool, Quota, Refusal, StepOf, DidOf, Tenant, tenant_of, only, CoreState, shared_by_nobody, tenant_in, AreNumbersGiven, IsHeadline, taken_steps, tenant_in-new, CoreFits, RootsFit, submits, origins_of, origins_after, nobody-fits, Leaf, LeafAnswer, AreFitting, IsRoot, jamboree, IsSearch, AreSearches, AreReplies, AreAllSound, AreAllRootWords, TenantSearches, ServesSearches, CoreSearches, HoldsReplies, submitted_to, IsHeadlineInFull, IsHeadlineFromNew, submitted_by}
 use Rattle.jamboree_core.proofs.Replying.{replies-held, all-sound, search-parts, searches-fit}
-use Rattle.jamboree_core.specs.Searching.{AreAllRootWords, TenantSearches, ServesSearches, CoreSearches, HoldsReplies, submitted_to, IsHeadlineInFull}
-use Rattle.jamboree_core.specs.NewRuns.{IsHeadlineFromNew, submitted_by}
 
 pub nobody-searches : (totals : Quota) → CoreSearches (λ number. []) (shared_by_nobody totals)
 nobody-searches totals = record { fits = nobody-fits AreFitting IsRoot totals; asked = λ number. tt }

@@ -1,26 +1,5 @@
 -- What is packed into an entry is read again.
-use Rattle.std.specs.Prelude.{◌≡◌, ◌≢◌, ℕ, zero, suc, ◌+◌, ◌*◌, ◌/◌, ◌%◌, ◌<◌, ◌≤◌, ◌==◌, true, ℤ, ◌≤ℤ◌, if◌then◌else◌, List, [], ◌∷◌, map, refl, slice_index, ◌++◌, drop, replicate, length, slice_set, ◌⊎◌, ◌&&◌, nat_le, nat_lt, Bool, Option, Some, None, IfSome, Contains}
-use Rattle.std.proofs.Common.{◌∙◌, ap, arith, sym, subst}
-use Rattle.std.proofs.lemmas.Bool.{and_parts, le-leb, and_from, eqb-true, eq-eqb, leb-true}
-use Rattle.std.proofs.lemmas.Bool.Decides.{nat_tests}
-use Rattle.std.proofs.lemmas.Int.{ints}
-use Rattle.std.proofs.lemmas.Nat.{mod-mul-add, div-mul-add}
-use Rattle.leaf_search.specs.othello_eval.declared.bound.BoundKind.{BoundKind}
-use Rattle.jamboree_rules.specs.Frames.{least, greatest, is_score, Frame, board, unscored, is_leaf, is_searching, counts_choices, is_in_phase, is_frame, may_be_child, code_of, code_at, coded}
-use Rattle.jamboree_rules.specs.Places.{score_of, word_of, status_of, entry_rest, entry_of, kind_number, kind_in, score_in, rest_with, is_rest, is_entry, are_entries, frame_of, Change, OwnBits, OppBits, Phase, Best, Chosen, Count, Spawned, Status, pair_of, pairs_of, changed, is_formed}
-use Rattle.std.proofs.lemmas.Grind.{common_steps}
-use Rattle.std.proofs.lemmas.List.{get_or-set_other, get_or-set_same, map-set, drop-set-lt, drop-set-add, get_or_past}
-use Rattle.std.proofs.lemmas.List.Recursion.{and_set}
-use Rattle.std.proofs.Math.ListN.{length-set}
-use Rattle.std.proofs.Math.Seq.{drop-append_seam}
-use Rattle.sched_rules.specs.Trees.{stored}
-use Rattle.std.specs.Ordering.{int_eq}
-use Rattle.othello_moves.specs.Choices.{choices, IsAllowed}
-use Rattle.jamboree_rules.specs.Leaves.{IsLeaf, leaf-told}
-use Rattle.std.proofs.lemmas.List.Elements.{All-get_or}
-use Rattle.othello_board.specs.declared.cells.Cell.{Cell}
-use Rattle.othello_moves.specs.declared.choices.Choice.{Choice}
-use Rattle.othello_moves.proofs.AllowedLemmas.{choices_allowed, contained_allowed, choices_fit}
+use Rattle.jamboree_rules.proofs.Common.{◌≡◌, ◌≢◌, ℕ, zero, suc, ◌+◌, ◌*◌, ◌/◌, ◌%◌, ◌<◌, ◌≤◌, ◌==◌, true, ℤ, ◌≤ℤ◌, if◌then◌else◌, List, [], ◌∷◌, map, refl, slice_index, ◌++◌, drop, replicate, length, slice_set, ◌⊎◌, ◌&&◌, nat_le, nat_lt, Bool, Option, Some, None, IfSome, Contains, ◌∙◌, ap, arith, sym, subst, and_parts, le-leb, and_from, eqb-true, eq-eqb, leb-true, nat_tests, ints, mod-mul-add, div-mul-add, BoundKind, least, greatest, is_score, Frame, board, unscored, is_leaf, is_searching, counts_choices, is_in_phase, is_frame, may_be_child, code_of, code_at, coded, score_of, word_of, status_of, entry_rest, entry_of, kind_number, kind_in, score_in, rest_with, is_rest, is_entry, are_entries, frame_of, Change, OwnBits, OppBits, Phase, Best, Chosen, Count, Spawned, Status, pair_of, pairs_of, changed, is_formed, common_steps, get_or-set_other, get_or-set_same, map-set, drop-set-lt, drop-set-add, get_or_past, and_set, length-set, drop-append_seam, stored, int_eq, choices, IsAllowed, IsLeaf, leaf-told, All-get_or, Cell, Choice, choices_allowed, contained_allowed, choices_fit}
 
 -- the word of a score holds it
 pub held : (s : ℤ) → least ≤ℤ s → score_of (word_of s) ≡ s

@@ -1,30 +1,9 @@
 -- What an inlet leaves of a frame that fits, and what an answer leaves.
-use Rattle.std.specs.Prelude.{◌≡◌, ◌≢◌, ℕ, ◌<◌, ◌≤◌, ◌⊎◌, ◌==◌, Bool, true, false, ℤ, neg_ℤ, ◌<ℤ◌, ◌≤ℤ◌, int_le, int_lt, List, [], ◌∷◌, ◌++◌, refl, zero, suc, ◌&&◌, ◌||◌, nat_lt, nat_le, bit_and, map, length, slice_index, if◌then◌else◌}
-use Rattle.std.specs.Int.{int_max}
-use Rattle.std.proofs.Common.{sym, ◌∙◌, ap, subst, arith, ⊎_elim}
-use Rattle.std.proofs.lemmas.Int.{ints, clamps}
-use Rattle.sched_rules.specs.Trees.{stored, is_outside}
-use Rattle.sched_rules.specs.Laws.{Neither, HasReturned, ParentFits, ActFits, NextKeeps, InletKeeps, Mark, grown, has_one, children_left}
-use Rattle.jamboree_rules.specs.Frames.{Frame, code_at, value_at, value, floor, least, greatest, board, choice_at, own_word, opp_word, may_be_child}
-use Rattle.jamboree_rules.specs.Places.{frame_of, Change, pairs_of, is_formed, is_placed}
-use Rattle.jamboree_rules.specs.Acts.{seen, found_rest, changes_by, changes_of, returns, is_computed, opening_on, opening_under, first_open, act_by, act_of, parent_in, next_act, inlet_of, inlet_act}
-use Rattle.leaf_search.specs.othello_eval.declared.bound.BoundKind.TheVariants.{Exact}
-use Rattle.leaf_search.specs.Bounds.{IsBound}
-use Rattle.jamboree_rules.specs.Entries.{IsOfKind, IsTrueRest}
-use Rattle.jamboree_rules.specs.Fits.{IsFirst, IsTest, IsAgain, IsInRole, IsChildOf, IsSearchingFrame, Fits, AreFitting, IsRoot}
+use Rattle.jamboree_rules.proofs.Common.{◌≡◌, ◌≢◌, ℕ, ◌<◌, ◌≤◌, ◌⊎◌, ◌==◌, Bool, true, false, ℤ, neg_ℤ, ◌<ℤ◌, ◌≤ℤ◌, int_le, int_lt, List, [], ◌∷◌, ◌++◌, refl, zero, suc, ◌&&◌, ◌||◌, nat_lt, nat_le, bit_and, map, length, slice_index, if◌then◌else◌, int_max, sym, ◌∙◌, ap, subst, arith, ⊎_elim, ints, clamps, stored, is_outside, Neither, HasReturned, ParentFits, ActFits, NextKeeps, InletKeeps, Mark, grown, has_one, children_left, Frame, code_at, value_at, value, floor, least, greatest, board, choice_at, own_word, opp_word, may_be_child, frame_of, Change, pairs_of, is_formed, is_placed, seen, found_rest, changes_by, changes_of, returns, is_computed, opening_on, opening_under, first_open, act_by, act_of, parent_in, next_act, inlet_of, inlet_act, Exact, IsBound, IsOfKind, IsTrueRest, IsFirst, IsTest, IsAgain, IsInRole, IsChildOf, IsSearchingFrame, Fits, AreFitting, IsRoot, and_from, eq-eqb, nat_tests, Cell, cells_of, choices, after, entered, Act, InletAct, Functions, is_bad_act}
 use Rattle.jamboree_rules.proofs.Searching.{IsSearching-low, IsSearching-higher, le-told, not-le-told, found-true, found-exact, found-passes, entered-none}
 use Rattle.jamboree_rules.proofs.Kinship.{taken_in, child-of, in-search, unsettled, scored, inlet-failed, inlet-low, inlet-higher, inlet-first, inlet-cut, first-low, first-exact, again-low, again-exact, test-low, over-beta, IsSameGoal, parent-kept}
 use Rattle.jamboree_rules.proofs.Forms.{code-small, AreSafe, changed_by, frame-stored, IsFrame, IsFormed, formed-stored, formed-told, formed-passes, child-passes}
 use Rattle.jamboree_rules.proofs.Steps.{AreInside, inside-stored, searched, searching-late, greatest-of, status-count, HasSameGoal, IsGoodAct, map-joined, none-told, first-good, tests-good, done-good, opening-good}
-use Rattle.std.proofs.lemmas.Bool.{and_from, eq-eqb}
-use Rattle.std.proofs.lemmas.Bool.Decides.{nat_tests}
-use Rattle.othello_board.specs.declared.cells.Cell.{Cell}
-use Rattle.othello_board.specs.Words.{cells_of}
-use Rattle.othello_moves.specs.Choices.{choices, after}
-use Rattle.leaf_search.specs.othello_eval.Tables.{entered}
-use Rattle.sched_rules.specs.declared.{act.Act.Act, act.InletAct.InletAct}
-use Rattle.sched_rules.specs.Functions.{Functions}
-use Rattle.sched_rules.specs.Lone.{is_bad_act}
 use Rattle.jamboree_rules.proofs.LeafLemmas.{words-apart, after-holds}
 
 -- the frame after each of the five cases of an inlet

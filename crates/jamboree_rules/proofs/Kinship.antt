@@ -1,21 +1,6 @@
 -- The inlets keep that a frame fits.
-use Rattle.std.specs.Prelude.{◌≡◌, ◌≢◌, ℕ, ◌+◌, ◌<◌, ◌≤◌, ◌⊎◌, ℤ, pos, neg_ℤ, ◌<ℤ◌, ◌≤ℤ◌, ◌+ℤ◌, List, [], ◌∷◌, ◌++◌, length, refl, slice_index, slice_set}
-use Rattle.std.specs.Int.{int_max}
-use Rattle.std.proofs.Common.{sym, ◌∙◌, ap, arith, inr, ⊎_elim}
-use Rattle.std.proofs.lemmas.Grind.{common_steps}
-use Rattle.std.proofs.lemmas.Int.{ints, clamps, by_lt_z}
-use Rattle.othello_moves.specs.Choices.{after}
-use Rattle.leaf_search.specs.Bounds.{IsBound}
-use Rattle.sched_rules.specs.Laws.{Neither, HasReturned}
-use Rattle.leaf_search.specs.othello_eval.Minimax.{best_choice}
-use Rattle.leaf_search.specs.othello_eval.declared.bound.BoundKind.TheVariants.{Exact}
-use Rattle.leaf_search.specs.othello_eval.Tables.{entered}
-use Rattle.jamboree_rules.specs.Fits.{IsSearching, IsTabled}
-use Rattle.jamboree_rules.specs.Entries.{IsOfKind, IsTrueRest}
-use Rattle.jamboree_rules.specs.Acts.{found_rest}
+use Rattle.jamboree_rules.proofs.Common.{◌≡◌, ◌≢◌, ℕ, ◌+◌, ◌<◌, ◌≤◌, ◌⊎◌, ℤ, pos, neg_ℤ, ◌<ℤ◌, ◌≤ℤ◌, ◌+ℤ◌, List, [], ◌∷◌, ◌++◌, length, refl, slice_index, slice_set, int_max, sym, ◌∙◌, ap, arith, inr, ⊎_elim, common_steps, ints, clamps, by_lt_z, after, IsBound, Neither, HasReturned, best_choice, Exact, entered, IsSearching, IsTabled, IsOfKind, IsTrueRest, found_rest, Frame, coded, board, choice_at, code_at, rest_at, value_at, value, floor, IsFirst, IsTest, IsAgain, IsInRole, First, Test, Again, IsChildOf, AreChildren, how_many, IsSearchingFrame, Fits}
 use Rattle.jamboree_rules.proofs.Searching.{all_settled, IsSearching-mark, IsSearching-low, IsSearching-higher, set_there, set_beside, set_length, low_side, high_side, inner_side, cut, IsGreatest, worth_of, role-kept-mark, found-said, tabled-set, tabled-kept}
-use Rattle.jamboree_rules.specs.Frames.{Frame, coded, board, choice_at, code_at, rest_at, value_at, value, floor}
-use Rattle.jamboree_rules.specs.Fits.{IsFirst, IsTest, IsAgain, IsInRole, First, Test, Again, IsChildOf, AreChildren, how_many, IsSearchingFrame, Fits}
 
 -- a child of another number stays a child where a choice is settled
 pub role-kept-settle : (f c : Frame) (i choice rest : ℕ) (best : ℤ) → i < length f.statuses → c.number ≢ i → f.phase ≡ 3 →

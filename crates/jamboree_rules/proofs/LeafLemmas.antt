@@ -1,28 +1,5 @@
 -- The two words of a list of cells.
-use Rattle.std.specs.Prelude.{◌≡◌, ℕ, ◌+◌, ◌<◌, ◌≤◌, ◌^◌, ◌==◌, ◌&&◌, ◌||◌, zero, suc, Bool, true, false, cond, if◌then◌else◌, bit_and, List, map, filter, length, refl, ℤ, ◌<ℤ◌}
-use Rattle.std.specs.Int.{bit_at}
-use Rattle.std.specs.List.{range_with_len}
-use Rattle.std.proofs.Common.{sym, ◌∙◌, ap, arith, inl, inr, min, eqb, subst}
-use Rattle.std.proofs.lemmas.Bool.{cases_lt, ne_eqb, and_right}
-use Rattle.std.proofs.lemmas.List.{ext_get_or, length-map}
-use Rattle.std.proofs.lemmas.List.FromFn.{get_or-map-range_with_len}
-use Rattle.std.proofs.lemmas.Nat.Bits.{bit_at_and, bit_at-zero, bit_at-lt, bit_at_above, same_from_bits}
-use Rattle.othello_board.specs.declared.cells.Cell.{Cell, TheVariants.Empty, TheVariants.Own, TheVariants.Opp}
-use Rattle.othello_board.specs.Rules.{squares, cell_at, is_among, is_own_cell, is_opp_cell}
-use Rattle.othello_board.specs.Words.{cell_of, cells_of, bits_of}
-use Rattle.othello_board.proofs.CellLemmas.{apart, cell_at-cells_of, map-squares_same, bit_cases, bit_at-bits_of}
-use Rattle.othello_moves.specs.declared.choices.Choice.{Choice}
-use Rattle.othello_moves.specs.Choices.{after}
-use Rattle.othello_moves.proofs.BitLemmas.{is_among-filter, is_square}
-use Rattle.othello_moves.proofs.AllowedLemmas.{length-after}
-use Rattle.jamboree_rules.specs.Frames.{own_word, opp_word, is_leaf, coded}
-use Rattle.std.proofs.lemmas.Int.{ints}
-use Rattle.std.proofs.Props.{props}
-use Rattle.std.proofs.Math.Logic.{∥∥₁_elim}
-use Rattle.leaf_search.specs.othello_eval.Minimax.{minimax, best_choice}
-use Rattle.leaf_search.specs.Bounds.{IsBound}
-use Rattle.jamboree_rules.specs.declared.{leaf.Leaf.Leaf, leaf.LeafAnswer.LeafAnswer}
-use Rattle.jamboree_rules.specs.Leaves.{IsLeaf, leaf-told, leaf_with, leaf_by, leaf_from, same_leaf}
+use Rattle.jamboree_rules.proofs.Common.{◌≡◌, ℕ, ◌+◌, ◌<◌, ◌≤◌, ◌^◌, ◌==◌, ◌&&◌, ◌||◌, zero, suc, Bool, true, false, cond, if◌then◌else◌, bit_and, List, map, filter, length, refl, ℤ, ◌<ℤ◌, bit_at, range_with_len, sym, ◌∙◌, ap, arith, inl, inr, min, eqb, subst, cases_lt, ne_eqb, and_right, ext_get_or, length-map, get_or-map-range_with_len, bit_at_and, bit_at-zero, bit_at-lt, bit_at_above, same_from_bits, Cell, Empty, Own, Opp, squares, cell_at, is_among, is_own_cell, is_opp_cell, cell_of, cells_of, bits_of, apart, cell_at-cells_of, map-squares_same, bit_cases, bit_at-bits_of, Choice, after, is_among-filter, is_square, length-after, own_word, opp_word, is_leaf, coded, ints, props, ∥∥₁_elim, minimax, best_choice, IsBound, Leaf, LeafAnswer, IsLeaf, leaf-told, leaf_with, leaf_by, leaf_from, same_leaf}
 use Rattle.jamboree_rules.proofs.Forms.{leaf-passes, coded-small}
 
 squares-length : length squares ≡ 64

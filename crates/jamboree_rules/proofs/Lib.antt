@@ -1,3 +1,4 @@
+mod Common
 pub mod EvalLemmas
 pub mod Searching
 pub mod Kinship

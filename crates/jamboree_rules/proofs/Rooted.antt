@@ -1,37 +1,11 @@
 -- No choice of a board stands twice in their order.
-use Rattle.std.specs.Prelude.{◌≡◌, ◌≢◌, ℕ, suc, ◌<◌, ◌&&◌, not, Bool, true, false, List, [], ◌∷◌, map, filter, length, refl, slice_index, slice_index_or, if◌then◌else◌, ◌≤◌, ℤ, pos, negsuc, ◌≤ℤ◌, ◌<ℤ◌, bit_and, Option, Some, None, All, ◌⊎◌, neg_ℤ}
-use Rattle.std.proofs.Common.{sym, ◌∙◌, ap, arith, subst}
-use Rattle.std.proofs.lemmas.Bool.{and_parts, eq-eqb}
-use Rattle.othello_board.specs.declared.cells.Cell.{Cell}
-use Rattle.othello_board.specs.Rules.{squares, is_among, is_legal, is_nil, exchanged}
-use Rattle.othello_moves.specs.declared.choices.Choice.{Choice, TheVariants.Square, TheVariants.Pass}
-use Rattle.othello_moves.specs.Choices.{choices, choices_without_move, legal_squares, in_order}
-use Rattle.othello_moves.proofs.BitLemmas.{is_among-filter}
-use Rattle.jamboree_rules.specs.Frames.{Frame, board, choice_at, code_of, value_at, value, coded, least, greatest, code_at, rest_at}
-use Rattle.std.proofs.lemmas.Int.{ints, by_lt_z}
-use Rattle.sched_rules.specs.cactus_stack.Nodes.{padded}
-use Rattle.leaf_search.specs.othello_eval.Minimax.{best_choice}
-use Rattle.leaf_search.specs.othello_eval.Values.{IsWithin}
-use Rattle.leaf_search.proofs.EvalLemmas.MinimaxLemmas.{minimax_within}
-use Rattle.leaf_search.specs.Bounds.{IsBound}
-use Rattle.sched_rules.specs.Functions.{Functions}
-use Rattle.sched_rules.specs.Trees.{stored, is_outside, kept_words}
-use Rattle.sched_rules.specs.Laws.{ParentFits, AcceptKeeps, Neither, Computes, HasReturned, Mark}
-use Rattle.jamboree_rules.specs.declared.{leaf.Leaf.Leaf, leaf.LeafAnswer.LeafAnswer}
-use Rattle.jamboree_rules.specs.Places.{frame_of, is_formed, pairs_of, root_words, frame_size, kind_number, kind_in, score_in}
-use Rattle.jamboree_rules.specs.Leaves.{leaf_in, leaf_of_answer, same_leaf, changes_of_answer, accepts}
-use Rattle.jamboree_rules.specs.Fits.{IsDoneFrame, Fits, AreFitting, IsRoot, IsFound, IsInRole, First, Test, Again, AreChildren, IsSearchingFrame}
+use Rattle.jamboree_rules.proofs.Common.{◌≡◌, ◌≢◌, ℕ, suc, ◌<◌, ◌&&◌, not, Bool, true, false, List, [], ◌∷◌, map, filter, length, refl, slice_index, slice_index_or, if◌then◌else◌, ◌≤◌, ℤ, pos, negsuc, ◌≤ℤ◌, ◌<ℤ◌, bit_and, Option, Some, None, All, ◌⊎◌, neg_ℤ, sym, ◌∙◌, ap, arith, subst, and_parts, eq-eqb, Cell, squares, is_among, is_legal, is_nil, exchanged, Choice, Square, Pass, choices, choices_without_move, legal_squares, in_order, is_among-filter, Frame, board, choice_at, code_of, value_at, value, coded, least, greatest, code_at, rest_at, ints, by_lt_z, padded, best_choice, IsWithin, minimax_within, IsBound, Functions, stored, is_outside, kept_words, ParentFits, AcceptKeeps, Neither, Computes, HasReturned, Mark, Leaf, LeafAnswer, frame_of, is_formed, pairs_of, root_words, frame_size, kind_number, kind_in, score_in, leaf_in, leaf_of_answer, same_leaf, changes_of_answer, accepts, IsDoneFrame, Fits, AreFitting, IsRoot, IsFound, IsInRole, First, Test, Again, AreChildren, IsSearchingFrame, take_all, get_or_past, All-cons, Bound, Exact, Says, IsTrueBound, IsExactIfBest, IsTable, entered, kind_numbered, bound_in, bounds_in, bounds_of, IsSettled, HasWindow, HaveGoals, IsSound}
 use Rattle.jamboree_rules.proofs.LeafLemmas.{Has, has-from, same-has, moved, named-by, choice-small, length-cells-of}
 use Rattle.jamboree_rules.proofs.Steps.{accepted, status-count, new-form}
 use Rattle.jamboree_rules.proofs.Forms.{IsFrame, IsFormed, formed-told, formed-passes, few-choices}
 use Rattle.jamboree_rules.proofs.Searching.{tabled-none, entered-deep, found-best}
 use Rattle.jamboree_rules.proofs.Keeping.{IsGoodStore, good-store, store-above}
-use Rattle.std.proofs.lemmas.List.{take_all, get_or_past}
-use Rattle.std.proofs.lemmas.List.Elements.{All-cons}
-use Rattle.leaf_search.specs.othello_eval.declared.{bound.Bound.Bound, bound.BoundKind.TheVariants.Exact}
-use Rattle.leaf_search.specs.othello_eval.Tables.{Says, IsTrueBound, IsExactIfBest, IsTable, entered}
-use Rattle.jamboree_rules.specs.Entries.{kind_numbered, bound_in, bounds_in, bounds_of}
-use Rattle.jamboree_rules.specs.Sound.{IsSettled, HasWindow, First as WholeWindow, Test as TestWindow, Again as AgainWindow, HaveGoals, IsSound}
+use Rattle.jamboree_rules.specs.Sound.{First as WholeWindow, Test as TestWindow, Again as AgainWindow}
 use Rattle.jamboree_rules.proofs.Kinship.{in-search}
 
 -- no number of a list stands in it again

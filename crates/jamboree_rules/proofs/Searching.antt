@@ -1,25 +1,5 @@
 -- One frame's search, over the values v of its choices, the codes of its choices, their statuses and what is found of them.
-use Rattle.std.specs.Prelude.{◌≡◌, ◌≢◌, ℕ, ◌<◌, ℤ, neg_ℤ, ◌<ℤ◌, ◌≤ℤ◌, List, length, refl, slice_index, slice_set, suc, Bool, true, false, [], ◌∷◌, Some, map, find, slice_index_or, ◌⊎◌, int_le, replicate}
-use Rattle.std.specs.Int.{int_max}
-use Rattle.std.proofs.Common.{sym, ◌∙◌, ap, subst, arith, inl, inr}
-use Rattle.std.proofs.lemmas.Grind.{common_steps}
-use Rattle.std.proofs.lemmas.Int.{ints, clamps, by_lt_z}
-use Rattle.leaf_search.specs.Bounds.{IsBound}
-use Rattle.jamboree_rules.specs.Places.{kind_in, kind_number, score_in, is_rest}
-use Rattle.jamboree_rules.specs.Entries.{IsOfKind, IsTrueRest}
-use Rattle.jamboree_rules.specs.Fits.{IsFound, IsSearching, IsInRole, IsChildOf, IsTabled}
-use Rattle.othello_moves.specs.declared.choices.Choice.{Choice, TheVariants.Pass}
-use Rattle.othello_moves.specs.Choices.{choices, after}
-use Rattle.leaf_search.specs.othello_eval.Values.{final_value}
-use Rattle.leaf_search.specs.othello_eval.Minimax.{best_choice, choice_value, greatest_or, minimax}
-use Rattle.leaf_search.proofs.EvalLemmas.MinimaxLemmas.{minimax-deeper, best_choice-deeper, int_equal-same, int_equal-below}
-use Rattle.jamboree_rules.specs.Frames.{Frame, board, choice_at, code_at, coded, value_at, value, least, greatest}
-use Rattle.othello_board.specs.declared.cells.Cell.{Cell}
-use Rattle.std.proofs.lemmas.Bool.{cases_eq}
-use Rattle.std.proofs.lemmas.List.{get_or_past}
-use Rattle.leaf_search.specs.othello_eval.declared.bound.BoundKind.{BoundKind, TheVariants.Exact}
-use Rattle.leaf_search.specs.othello_eval.Tables.{Says, entered}
-use Rattle.jamboree_rules.specs.Acts.{seen, kind_by, kind_of, found_rest}
+use Rattle.jamboree_rules.proofs.Common.{◌≡◌, ◌≢◌, ℕ, ◌<◌, ℤ, neg_ℤ, ◌<ℤ◌, ◌≤ℤ◌, List, length, refl, slice_index, slice_set, suc, Bool, true, false, [], ◌∷◌, Some, map, find, slice_index_or, ◌⊎◌, int_le, replicate, int_max, sym, ◌∙◌, ap, subst, arith, inl, inr, common_steps, ints, clamps, by_lt_z, IsBound, kind_in, kind_number, score_in, is_rest, IsOfKind, IsTrueRest, IsFound, IsSearching, IsInRole, IsChildOf, IsTabled, Choice, Pass, choices, after, final_value, best_choice, choice_value, greatest_or, minimax, minimax-deeper, best_choice-deeper, int_equal-same, int_equal-below, Frame, board, choice_at, code_at, coded, value_at, value, least, greatest, Cell, cases_eq, get_or_past, BoundKind, Exact, Says, entered, seen, kind_by, kind_of, found_rest}
 use Rattle.jamboree_rules.proofs.Forms.{kind-some, kind-read, score-read, same-kind, rest-passes}
 
 -- the score of a child with the window from -high to -low, seen from the parent

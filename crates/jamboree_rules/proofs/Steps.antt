@@ -1,29 +1,7 @@
 -- The acts of a running frame keep that it fits, and that a new child does.
-use Rattle.std.specs.Prelude.{◌≡◌, ◌≢◌, ℕ, ◌+◌, ◌-◌, ◌<◌, ℤ, pos, negsuc, neg_ℤ, ◌<ℤ◌, ◌≤ℤ◌, ◌+ℤ◌, List, [], ◌∷◌, ◌++◌, length, replicate, refl, slice_index, slice_set, ◌≤◌, ◌⊎◌, ◌==◌, ◌||◌, ◌&&◌, nat_lt, nat_le, Bool, true, false, map, drop, bit_and}
-use Rattle.std.proofs.Common.{sym, ◌∙◌, ap, arith, inl, inr, ⊎_elim, subst}
-use Rattle.std.proofs.lemmas.Grind.{common_steps}
-use Rattle.std.proofs.lemmas.Int.{ints, clamps}
-use Rattle.othello_moves.specs.Choices.{choices, plies}
-use Rattle.othello_board.specs.Words.{cells_of}
-use Rattle.othello_moves.specs.declared.choices.Choice.{Choice}
-use Rattle.leaf_search.specs.othello_eval.Tables.{entered}
-use Rattle.sched_rules.specs.Laws.{Neither, Computes, NewChildFits, Mark, HasReturned, grown, children_after, mark_after, has_one}
+use Rattle.jamboree_rules.proofs.Common.{◌≡◌, ◌≢◌, ℕ, ◌+◌, ◌-◌, ◌<◌, ℤ, pos, negsuc, neg_ℤ, ◌<ℤ◌, ◌≤ℤ◌, ◌+ℤ◌, List, [], ◌∷◌, ◌++◌, length, replicate, refl, slice_index, slice_set, ◌≤◌, ◌⊎◌, ◌==◌, ◌||◌, ◌&&◌, nat_lt, nat_le, Bool, true, false, map, drop, bit_and, sym, ◌∙◌, ap, arith, inl, inr, ⊎_elim, subst, common_steps, ints, clamps, choices, plies, cells_of, Choice, entered, Neither, Computes, NewChildFits, Mark, HasReturned, grown, children_after, mark_after, has_one, Frame, choice_at, rest_at, value_at, unscored, floor, code_at, value, least, greatest, First, IsSearchingFrame, IsDoneFrame, Fits, AreFitting, lt-leb, or_from, nat_tests, length-map, length-drop, padded, Act, Continuation, Grow, Wait, Compute, Return, stored, is_outside, is_bad_then, is_bad_act, IsBound, status_of, frame_of, is_rest, are_entries, Change, OwnBits, OppBits, Phase, Best, Chosen, Count, Spawned, Status, pair_of, pairs_of, given_words, frame_size, returns, spawns, opening, first_search, tests, IsLeaf}
 use Rattle.jamboree_rules.proofs.Searching.{set_there, set_beside, set_length, zero-at, tabled-zeros, tabled-none, entered-deep, IsGreatest, all_settled, IsGreatest-frame, named-best}
-use Rattle.jamboree_rules.specs.Frames.{Frame, choice_at, rest_at, value_at, unscored, floor, code_at, value, least, greatest}
-use Rattle.jamboree_rules.specs.Fits.{First, IsSearchingFrame, IsDoneFrame, Fits, AreFitting}
 use Rattle.jamboree_rules.proofs.Kinship.{spawned-child, next-settled, next-done}
-use Rattle.std.proofs.lemmas.Bool.{lt-leb, or_from}
-use Rattle.std.proofs.lemmas.Bool.Decides.{nat_tests}
-use Rattle.std.proofs.lemmas.List.{length-map, length-drop}
-use Rattle.sched_rules.specs.cactus_stack.Nodes.{padded}
-use Rattle.sched_rules.specs.declared.act.Act.{Act}
-use Rattle.sched_rules.specs.declared.act.Continuation.{Continuation, TheVariants.Grow, TheVariants.Wait, TheVariants.Compute, TheVariants.Return}
-use Rattle.sched_rules.specs.Trees.{stored, is_outside}
-use Rattle.sched_rules.specs.Lone.{is_bad_then, is_bad_act}
-use Rattle.leaf_search.specs.Bounds.{IsBound}
-use Rattle.jamboree_rules.specs.Places.{status_of, frame_of, is_rest, are_entries, Change, OwnBits, OppBits, Phase, Best, Chosen, Count, Spawned, Status, pair_of, pairs_of, given_words, frame_size}
-use Rattle.jamboree_rules.specs.Acts.{returns, spawns, opening, first_search, tests}
-use Rattle.jamboree_rules.specs.Leaves.{IsLeaf}
 use Rattle.jamboree_rules.proofs.Forms.{few-choices, held, rests-are, AreSafe, changed_by, length-stored, frame-stored, drop-grown, entries-zeros, frame-grown, IsFrame, IsFormed, formed-passes, formed-stored}
 
 -- a child as it is opened: role, number and window

@@ -1,2 +1,3 @@
+mod Common
 pub mod EvalLemmas
 pub mod WindowLemmas

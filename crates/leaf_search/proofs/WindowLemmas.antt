@@ -1,15 +1,5 @@
 -- The steps of a window search at one position, over any choices and what each is worth.
-use Rattle.std.proofs.Common.{◌↔◌, append-nil, append_assoc, ◌≡◌, ◌<◌, length, ℤ, pos, negsuc, neg_ℤ, List, [], ◌∷◌, ◌++◌, map, Option, Some, refl, sym, ◌∙◌, ap, subst, arith, find, ◌≤ℤ◌, ◌<ℤ◌, IsSome, IfSome, All, Contains, ℕ, ◌-◌, Bool, IsTrue, true, false}
-use Rattle.std.specs.Int.{int_max}
-use Rattle.std.proofs.lemmas.Int.{ints, clamps, by_lt_z}
-use Rattle.std.proofs.lemmas.List.Elements.{All-nil, All-cons, All-append, All-weaker, Contains-append_right}
-use Rattle.std.proofs.lemmas.Grind.{common_steps}
-use Rattle.othello_eval.specs.othello_moves.Choices.{choices, after, plies}
-use Rattle.othello_eval.specs.othello_moves.declared.choices.Choice.{Choice}
-use Rattle.othello_board.specs.declared.cells.Cell.{Cell}
-use Rattle.othello_eval.specs.Minimax.{greatest, greatest_or, int_equal, minimax, choice_value}
-use Rattle.leaf_search.specs.Bounds.{IsBound}
-use Rattle.othello_eval.proofs.MinimaxLemmas.{find-kept, find-new, greatest_or-upper, greatest_or-lower, found_below_greatest}
+use Rattle.leaf_search.proofs.Common.{◌↔◌, append-nil, append_assoc, ◌≡◌, ◌<◌, length, ℤ, pos, negsuc, neg_ℤ, List, [], ◌∷◌, ◌++◌, map, Option, Some, refl, sym, ◌∙◌, ap, subst, arith, find, ◌≤ℤ◌, ◌<ℤ◌, IsSome, IfSome, All, Contains, ℕ, ◌-◌, Bool, IsTrue, true, false, int_max, ints, clamps, by_lt_z, All-nil, All-cons, All-append, All-weaker, Contains-append_right, common_steps, choices, after, plies, Choice, Cell, greatest, greatest_or, int_equal, minimax, choice_value, IsBound, find-kept, find-new, greatest_or-upper, greatest_or-lower, found_below_greatest}
 
 -- what is known once these choices were searched, none of which ended the search: no value is above the
 -- best score, and where that is above alpha it is the value of the first choice that attains it

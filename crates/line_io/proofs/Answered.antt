@@ -1,14 +1,5 @@
 -- The answers to some lines, and their writes.
-use Rattle.std.proofs.Common.{◌≡◌, ℕ, List, [], ◌∷◌, ◌++◌, map, refl, sym, ap, ◌∙◌, subst, append_assoc, Result, Ok, Err, arith}
-use Rattle.std.proofs.lemmas.List.{append-nil, map-append}
-use Rattle.std.proofs.lemmas.List.Folds.{concat-append}
-use Rattle.std.proofs.lemmas.List.Concat.{flat_map-append}
-use Rattle.std.specs.List.{concat}
-use Rattle.line_io.specs.declared.faults.WriteFailed.{WriteFailed}
-use Rattle.line_io.specs.Lines.{LineText}
-use Rattle.line_io.specs.Leads.{Leads}
-use Rattle.line_io.specs.Streams.{WriteAnswer, Took}
-use Rattle.line_io.specs.Writes.{IsWritten, LinesAnswered, IsAnswered, with_newline, written_texts, writes_of}
+use Rattle.line_io.proofs.Common.{◌≡◌, ℕ, List, [], ◌∷◌, ◌++◌, map, refl, sym, ap, ◌∙◌, subst, append_assoc, Result, Ok, Err, arith, append-nil, map-append, concat-append, flat_map-append, concat, WriteFailed, LineText, Leads, WriteAnswer, Took, IsWritten, LinesAnswered, IsAnswered, with_newline, written_texts, writes_of}
 use Rattle.line_io.proofs.Chains.{Leads-append, Answers-append}
 
 -- no line

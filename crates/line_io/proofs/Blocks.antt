@@ -1,12 +1,5 @@
 -- The lines that end in one block.
-use Rattle.std.proofs.Common.{◌≡◌, ◌≢◌, ℕ, ◌+◌, ◌<◌, ◌≤◌, List, [], ◌∷◌, ◌++◌, length, get_or, drop, cond, eqb, false, refl, sym, ap, ◌∙◌, append_assoc, arith, Option, Some, Ok, Err}
-use Rattle.std.proofs.lemmas.List.{at_drop_more, drop_all}
-use Rattle.std.proofs.lemmas.Bool.Decides.{nat_tests}
-use Rattle.line_io.specs.declared.faults.WriteFailed.{WriteFailed}
-use Rattle.line_io.specs.Lines.{LineText}
-use Rattle.line_io.specs.Streams.{WriteAnswer}
-use Rattle.line_io.specs.Writes.{LinesAnswered}
-use Rattle.line_io.specs.Held.{with_byte, ended_line, held_after, ended_within}
+use Rattle.line_io.proofs.Common.{◌≡◌, ◌≢◌, ℕ, ◌+◌, ◌<◌, ◌≤◌, List, [], ◌∷◌, ◌++◌, length, get_or, drop, cond, eqb, false, refl, sym, ap, ◌∙◌, append_assoc, arith, Option, Some, Ok, Err, at_drop_more, drop_all, nat_tests, WriteFailed, LineText, WriteAnswer, LinesAnswered, with_byte, ended_line, held_after, ended_within}
 use Rattle.line_io.proofs.Answered.{LinesAnswered-none, LinesAnswered-append, LinesAnswered-before, LinesAnswered-same}
 
 -- the lines that ended in the first bytes of the block are answered

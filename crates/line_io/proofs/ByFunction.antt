@@ -1,16 +1,5 @@
 -- Where each answer is that of a function, what is written is a function of what is read.
-use Rattle.std.proofs.Common.{◌≡◌, ℕ, ◌<◌, List, [], ◌∷◌, ◌++◌, length, map, refl, sym, ap, ◌∙◌, append_assoc, arith, length-append, Result, Ok, Err}
-use Rattle.std.proofs.lemmas.List.{append-nil}
-use Rattle.std.proofs.lemmas.List.Folds.{flat_map-map}
-use Rattle.std.proofs.lemmas.List.Concat.{flat_map-append}
-use Rattle.std.specs.List.{concat, flat_map}
-use Rattle.line_io.specs.declared.faults.LineFault.{LineFault}
-use Rattle.line_io.specs.declared.faults.WriteFailed.{WriteFailed}
-use Rattle.line_io.specs.Lines.{LineText, lines_of}
-use Rattle.line_io.specs.Leads.{Answers, IsPrefixOf}
-use Rattle.line_io.specs.Streams.{ReadAnswer, WriteAnswer}
-use Rattle.line_io.specs.Writes.{IsAnswered, written_texts, with_newline}
-use Rattle.line_io.specs.Runs.{Run, FunctionRun, IsProperPrefix, IsOutput, answers_to, bytes_due, write_result}
+use Rattle.line_io.proofs.Common.{◌≡◌, ℕ, ◌<◌, List, [], ◌∷◌, ◌++◌, length, map, refl, sym, ap, ◌∙◌, append_assoc, arith, length-append, Result, Ok, Err, append-nil, flat_map-map, flat_map-append, concat, flat_map, LineFault, WriteFailed, LineText, lines_of, Answers, IsPrefixOf, ReadAnswer, WriteAnswer, IsAnswered, written_texts, with_newline, Run, FunctionRun, IsProperPrefix, IsOutput, answers_to, bytes_due, write_result}
 
 -- the texts, where each answer is the function's in the states that this fact holds of, and keeps it
 pub Answers-function : {A : Type 0} (answers : A → LineText → List ℕ → A → Type 0) (holds : A → Type 0) (answer : LineText → List ℕ) → ((a : A) (l : LineText) (t : List ℕ) (b : A) → holds a → answers a l t b → (t ≡ answer l) × holds b) → (a : A) (ls : List LineText) (ts : List (List ℕ)) (b : A) → holds a → Answers answers a ls ts b → ts ≡ map answer ls

@@ -1,10 +1,5 @@
 -- Chains of states.
-use Rattle.std.proofs.Common.{◌≡◌, ℕ, List, [], ◌∷◌, ◌++◌, refl, sym, ap, ◌∙◌, subst}
-use Rattle.std.proofs.lemmas.List.{append-nil}
-use Rattle.std.proofs.lemmas.List.Folds.{concat-append}
-use Rattle.std.specs.List.{concat}
-use Rattle.line_io.specs.Lines.{LineText}
-use Rattle.line_io.specs.Leads.{Leads, Answers}
+use Rattle.line_io.proofs.Common.{◌≡◌, ℕ, List, [], ◌∷◌, ◌++◌, refl, sym, ap, ◌∙◌, subst, append-nil, concat-append, concat, LineText, Leads, Answers}
 
 -- two chains, one after the other
 pub Leads-append : {S E : Type 0} (steps : S → E → S → Type 0) (a : S) (xs : List E) (b : S) (ys : List E) (c : S) → Leads steps a xs b → Leads steps b ys c → Leads steps a (xs ++ ys) c

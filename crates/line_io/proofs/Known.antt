@@ -1,13 +1,5 @@
 -- Readers whose bytes are known, and writers whose contents are.
-use Rattle.std.proofs.Common.{◌≡◌, ℕ, List, [], ◌∷◌, ◌++◌, map, sym, ap, ◌∙◌, append_assoc, subst, Option, Some, Result, Ok, Err, arith}
-use Rattle.std.proofs.lemmas.List.{append-nil}
-use Rattle.std.specs.List.{concat}
-use Rattle.std.specs.Io.KnownBytes.{Keeps, Appends, Consumes, IsAtEnd}
-use Rattle.line_io.specs.declared.faults.WriteFailed.{WriteFailed}
-use Rattle.line_io.specs.Leads.{Leads}
-use Rattle.line_io.specs.Streams.{Gave, Ended, ReadsKnown, WritesKnown}
-use Rattle.line_io.specs.Writes.{writes_of}
-use Rattle.line_io.specs.Runs.{FunctionRun}
+use Rattle.line_io.proofs.Common.{◌≡◌, ℕ, List, [], ◌∷◌, ◌++◌, map, sym, ap, ◌∙◌, append_assoc, subst, Option, Some, Result, Ok, Err, arith, append-nil, concat, Keeps, Appends, Consumes, IsAtEnd, WriteFailed, Leads, Gave, Ended, ReadsKnown, WritesKnown, writes_of, FunctionRun}
 
 -- at the end no byte is left
 at-end : (old new : Option (List ℕ)) (bytes : List ℕ) → old ≡ Some bytes → Consumes old new [] → IsAtEnd new → [] ≡ bytes

@@ -1,4 +1,5 @@
 pub mod Chains
+mod Common
 pub mod Written
 pub mod Answered
 pub mod Streamed

@@ -1,13 +1,5 @@
 -- Lines that are cut byte by byte are the lines of all bytes.
-use Rattle.std.proofs.Common.{◌≡◌, ℕ, ◌+◌, ◌≤◌, List, [], ◌∷◌, ◌++◌, length, map, cond, eqb, Bool, true, false, ◌||◌, refl, sym, ap, ◌∙◌, append_assoc, arith, Option, Some, None, nat_le, length-append}
-use Rattle.std.proofs.lemmas.List.{append-nil}
-use Rattle.std.proofs.lemmas.Bool.Decides.{nat_tests}
-use Rattle.std.specs.List.{slice_split, onto_first, list_any}
-use Rattle.std.specs.Option.{option_to_list}
-use Rattle.std.specs.Str.Lines.{lines_of_parts, strip_carriage_return}
-use Rattle.std.proofs.lemmas.Grind.{common_steps}
-use Rattle.line_io.specs.Lines.{Whole, TooLong, line_text, lines_of, up_to_last_end}
-use Rattle.line_io.specs.Held.{held, with_byte, ended_line, last_line, held_after, ended_within}
+use Rattle.line_io.proofs.Common.{◌≡◌, ℕ, ◌+◌, ◌≤◌, List, [], ◌∷◌, ◌++◌, length, map, cond, eqb, Bool, true, false, ◌||◌, refl, sym, ap, ◌∙◌, append_assoc, arith, Option, Some, None, nat_le, length-append, append-nil, nat_tests, slice_split, onto_first, list_any, option_to_list, lines_of_parts, strip_carriage_return, common_steps, Whole, TooLong, line_text, lines_of, up_to_last_end, held, with_byte, ended_line, last_line, held_after, ended_within}
 
 -- what is cut off is one byte at most
 strip-least : (l : List ℕ) → length l ≤ length (strip_carriage_return l) + 1

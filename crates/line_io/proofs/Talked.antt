@@ -1,14 +1,5 @@
 -- Lines that are answered up to one that ends the talk.
-use Rattle.std.proofs.Common.{◌≡◌, ◌≢◌, ℕ, ◌+◌, ◌<◌, ◌≤◌, List, [], ◌∷◌, ◌++◌, length, get_or, drop, Bool, true, false, not, ◌&&◌, refl, sym, ap, ◌∙◌, append_assoc, Option, Some, Ok, Err, arith}
-use Rattle.std.specs.Prelude.{if◌then◌else◌}
-use Rattle.std.proofs.lemmas.List.{append-nil, drop_all}
-use Rattle.std.proofs.lemmas.Bool.{not-true}
-use Rattle.line_io.specs.declared.faults.WriteFailed.{WriteFailed}
-use Rattle.line_io.specs.Lines.{LineText}
-use Rattle.line_io.specs.Streams.{WriteAnswer}
-use Rattle.line_io.specs.Writes.{LinesAnswered}
-use Rattle.line_io.specs.Held.{with_byte, ended_line, held_after, ended_within}
-use Rattle.line_io.specs.Talks.{upto, none_ends}
+use Rattle.line_io.proofs.Common.{◌≡◌, ◌≢◌, ℕ, ◌+◌, ◌<◌, ◌≤◌, List, [], ◌∷◌, ◌++◌, length, get_or, drop, Bool, true, false, not, ◌&&◌, refl, sym, ap, ◌∙◌, append_assoc, Option, Some, Ok, Err, arith, if◌then◌else◌, append-nil, drop_all, not-true, WriteFailed, LineText, WriteAnswer, LinesAnswered, with_byte, ended_line, held_after, ended_within, upto, none_ends}
 use Rattle.line_io.proofs.Answered.{LinesAnswered-append, LinesAnswered-before, LinesAnswered-same}
 use Rattle.line_io.proofs.Blocks.{BlockSoFar, Block-start, Block-byte, Block-line, Block-held, lf-next}
 

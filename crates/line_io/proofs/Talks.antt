@@ -1,19 +1,5 @@
 -- A whole talk.
-use Rattle.std.proofs.Common.{◌≡◌, ℕ, ◌+◌, List, [], ◌∷◌, ◌++◌, length, map, Bool, true, false, true≢false, not, ◌&&◌, refl, sym, ap, ◌∙◌, subst, Option, Some, Ok, Err, inl, inr, arith}
-use Rattle.std.specs.Prelude.{if◌then◌else◌}
-use Rattle.std.proofs.lemmas.List.{append-nil}
-use Rattle.std.specs.List.{concat}
-use Rattle.std.specs.Option.{option_to_list}
-use Rattle.line_io.specs.declared.faults.WriteFailed.{WriteFailed}
-use Rattle.line_io.specs.declared.faults.LineFault.TheVariants.{Read, Write}
-use Rattle.line_io.specs.declared.talking.TalkEnd.{TalkEnd}
-use Rattle.line_io.specs.declared.talking.TalkEnd.TheVariants.{Line as by_line}
-use Rattle.line_io.specs.Lines.{LineText, lines_of}
-use Rattle.line_io.specs.Leads.{Leads}
-use Rattle.line_io.specs.Streams.{ReadAnswer, Gave, Ended, Failed, WriteAnswer}
-use Rattle.line_io.specs.Writes.{LinesAnswered}
-use Rattle.line_io.specs.Held.{held_after, ended_within, last_line}
-use Rattle.line_io.specs.Talks.{Talk, IsTalkEnd, upto, none_ends, end_of}
+use Rattle.line_io.proofs.Common.{◌≡◌, ℕ, ◌+◌, List, [], ◌∷◌, ◌++◌, length, map, Bool, true, false, true≢false, not, ◌&&◌, refl, sym, ap, ◌∙◌, subst, Option, Some, Ok, Err, inl, inr, arith, if◌then◌else◌, append-nil, concat, option_to_list, WriteFailed, Read, Write, TalkEnd, Line as by_line, LineText, lines_of, Leads, ReadAnswer, Gave, Ended, Failed, WriteAnswer, LinesAnswered, held_after, ended_within, last_line, Talk, IsTalkEnd, upto, none_ends, end_of}
 use Rattle.line_io.proofs.Chains.{Leads-more}
 use Rattle.line_io.proofs.Answered.{LinesAnswered-append, LinesAnswered-before, LinesAnswered-same}
 use Rattle.line_io.proofs.Streamed.{ended_within-all, lines_of-all}

@@ -1,16 +1,5 @@
 -- The lines of all blocks.
-use Rattle.std.proofs.Common.{◌≡◌, ◌≢◌, ℕ, ◌+◌, ◌≤◌, ◌^◌, List, [], ◌∷◌, ◌++◌, length, map, take, cond, eqb, refl, sym, ap, ◌∙◌, subst, arith, Option, Some, Ok, Err, length-append, inl, inr}
-use Rattle.std.proofs.lemmas.List.{append-nil, map-append, length-take}
-use Rattle.std.specs.List.{concat}
-use Rattle.std.specs.Option.{option_to_list}
-use Rattle.line_io.specs.declared.faults.WriteFailed.{WriteFailed}
-use Rattle.line_io.specs.declared.faults.LineFault.TheVariants.{Read, Write, TooMuch}
-use Rattle.line_io.specs.Lines.{LineText, lines_of}
-use Rattle.line_io.specs.Leads.{Leads}
-use Rattle.line_io.specs.Streams.{ReadAnswer, Gave, Ended, Failed, WriteAnswer}
-use Rattle.line_io.specs.Writes.{LinesAnswered}
-use Rattle.line_io.specs.Held.{held_after, ended_within, last_line}
-use Rattle.line_io.specs.Runs.{Run}
+use Rattle.line_io.proofs.Common.{◌≡◌, ◌≢◌, ℕ, ◌+◌, ◌≤◌, ◌^◌, List, [], ◌∷◌, ◌++◌, length, map, take, cond, eqb, refl, sym, ap, ◌∙◌, subst, arith, Option, Some, Ok, Err, length-append, inl, inr, append-nil, map-append, length-take, concat, option_to_list, WriteFailed, Read, Write, TooMuch, LineText, lines_of, Leads, ReadAnswer, Gave, Ended, Failed, WriteAnswer, LinesAnswered, held_after, ended_within, last_line, Run}
 use Rattle.line_io.proofs.Chains.{Leads-more, concat-more}
 use Rattle.line_io.proofs.Answered.{LinesAnswered-none, LinesAnswered-append, LinesAnswered-before, LinesAnswered-same}
 use Rattle.line_io.proofs.Streamed.{ended_within-all, lines_of-all, held_after-append, ended_within-append}

@@ -1,11 +1,5 @@
 -- The writes of one text.
-use Rattle.std.proofs.Common.{◌≡◌, ℕ, ◌+◌, ◌-◌, ◌<◌, List, [], ◌∷◌, ◌++◌, length, map, take, drop, sym, ap, ◌∙◌, subst, append_assoc, arith, Err}
-use Rattle.std.proofs.lemmas.List.{take-append-drop, drop-drop, take_all, length-drop, map-append}
-use Rattle.std.specs.List.{concat}
-use Rattle.line_io.specs.declared.faults.WriteFailed.{WriteFailed}
-use Rattle.line_io.specs.Leads.{Leads}
-use Rattle.line_io.specs.Streams.{WriteAnswer, Took, Refused}
-use Rattle.line_io.specs.Writes.{IsWritten}
+use Rattle.line_io.proofs.Common.{◌≡◌, ℕ, ◌+◌, ◌-◌, ◌<◌, List, [], ◌∷◌, ◌++◌, length, map, take, drop, sym, ap, ◌∙◌, subst, append_assoc, arith, Err, take-append-drop, drop-drop, take_all, length-drop, map-append, concat, WriteFailed, Leads, WriteAnswer, Took, Refused, IsWritten}
 use Rattle.line_io.proofs.Chains.{Leads-more, concat-more}
 
 -- so many of the bytes were taken, in some pieces

@@ -1,19 +1,5 @@
 -- The word of a list of squares, bit by bit.
-use Rattle.std.proofs.Common.{◌≡◌, ℕ, ◌^◌, Bool, cond, eqb, ◌||◌, List, [], ◌∷◌, ◌++◌, bit_or, bit_and, min, max, refl, sym, ap, ◌∙◌, arith, ◌≢◌, zero, suc, ◌+◌, ◌/◌, ◌<◌, ◌≤◌, nat_eq, map, length, ◌⊎◌, inl, inr, ◌%◌, count_by}
-use Rattle.std.specs.Int.{bit_at}
-use Rattle.std.proofs.lemmas.Bool.Decides.{eqb_tells}
-use Rattle.std.proofs.lemmas.Nat.Bits.{bit_at_and, bit_at_or, bit_at-zero, bit_at-pow_same, bit_at-pow_other, same_from_bits, shr_and_one, bit_at-lt, bit_at_lowest, bit_at-suc}
-use Rattle.othello_board.specs.Rules.{is_among, squares, cell_at, exchanged_cell, exchanged, is_own_cell, is_opp_cell}
-use Rattle.othello_board.specs.Words.{bits_of, cell_of, cells_of}
-use Rattle.std.proofs.lemmas.Bool.{cases_lt}
-use Rattle.std.specs.List.{range_with_len}
-use Rattle.std.proofs.lemmas.List.FromFn.{get_or-map-range_with_len, length-map-range_with_len}
-use Rattle.othello_board.specs.declared.cells.Cell.{Cell}
-use Rattle.othello_board.specs.declared.cells.Cell.TheVariants.{Empty, Own, Opp}
-use lib.Count.{ones, ones_step, ones-le}
-use Rattle.std.proofs.lemmas.Nat.{div_below}
-use Rattle.std.proofs.Math.Nat.{pow-suc}
-use Rattle.std.proofs.lemmas.List.Recursion.{is_count_by}
+use Rattle.othello_board.proofs.Common.{◌≡◌, ℕ, ◌^◌, Bool, cond, eqb, ◌||◌, List, [], ◌∷◌, ◌++◌, bit_or, bit_and, min, max, refl, sym, ap, ◌∙◌, arith, ◌≢◌, zero, suc, ◌+◌, ◌/◌, ◌<◌, ◌≤◌, nat_eq, map, length, ◌⊎◌, inl, inr, ◌%◌, count_by, bit_at, eqb_tells, bit_at_and, bit_at_or, bit_at-zero, bit_at-pow_same, bit_at-pow_other, same_from_bits, shr_and_one, bit_at-lt, bit_at_lowest, bit_at-suc, is_among, squares, cell_at, exchanged_cell, exchanged, is_own_cell, is_opp_cell, bits_of, cell_of, cells_of, cases_lt, range_with_len, get_or-map-range_with_len, length-map-range_with_len, Cell, Empty, Own, Opp, ones, ones_step, ones-le, div_below, pow-suc, is_count_by}
 
 -- the order and the grouping of `|` are free
 pub or_assoc : (a b c : ℕ) → bit_or (bit_or a b) c ≡ bit_or a (bit_or b c)

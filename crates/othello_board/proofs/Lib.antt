@@ -1,4 +1,5 @@
 pub mod CellLemmas
+mod Common
 pub mod PlayLemmas
 pub mod ShiftLemmas
 pub mod EndLemmas

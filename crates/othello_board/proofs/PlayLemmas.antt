@@ -1,18 +1,8 @@
 -- The flips, all directions together.
-use Rattle.std.proofs.Common.{◌≡◌, ℕ, ◌^◌, ◌<◌, true, false, List, bit_and, bit_or, ap, ap₂, ◌∙◌, arith, ◌-◌, Bool, cond, eqb, ◌||◌, ◌∷◌, min, max, sym, w64}
-use Rattle.std.specs.List.{flat_map}
-use Rattle.std.proofs.lemmas.Nat.Bits.{bit_at_or, same_from_bits, bit_at_and, bit_at_not, bit_at-zero, bit_at-lt, same_from_bits_below}
-use Rattle.othello_board.specs.declared.directions.Direction.{Direction}
-use Rattle.othello_board.specs.declared.directions.Direction.TheVariants.{North, NorthEast, East, SouthEast, South, SouthWest, West, NorthWest}
-use Rattle.othello_board.specs.Rules.{directions, ray, run, flips, squares, cell_at, is_among, made_own, exchanged_cell, exchanged}
-use Rattle.othello_board.specs.Words.{cells_of, bits_of, cell_of}
-use Rattle.othello_board.specs.Runs.{rising_run, falling_run}
+use Rattle.othello_board.proofs.Common.{◌≡◌, ℕ, ◌^◌, ◌<◌, true, false, List, bit_and, bit_or, ap, ap₂, ◌∙◌, arith, ◌-◌, Bool, cond, eqb, ◌||◌, ◌∷◌, min, max, sym, w64, flat_map, bit_at_or, same_from_bits, bit_at_and, bit_at_not, bit_at-zero, bit_at-lt, same_from_bits_below, Direction, North, NorthEast, East, SouthEast, South, SouthWest, West, NorthWest, directions, ray, run, flips, squares, cell_at, is_among, made_own, exchanged_cell, exchanged, cells_of, bits_of, cell_of, rising_run, falling_run, bit_at, and_le_l, or_comm, Empty, Own, Opp}
 use Rattle.othello_board.proofs.CellLemmas.{or_assoc, or_zero, bits_of-append, apart, bit_at-pow, bit_at-bits_of, map-map, map-squares_same, cell_at-cells_of, exchanged-cell_of-by}
 use Rattle.othello_board.proofs.ShiftLemmas.{ray_at, stride, ordered, falls_by, table_read, ray_fits, ray_ordered, ray_falls}
 use Rattle.othello_board.proofs.EndLemmas.{rising, falling}
-use Rattle.std.specs.Int.{bit_at}
-use Rattle.std.proofs.lemmas.Nat.{and_le_l, or_comm}
-use Rattle.othello_board.specs.declared.cells.Cell.TheVariants.{Empty, Own, Opp}
 
 flips_together : (f : Direction → List ℕ)
     → bit_or (bit_or (bit_or (bit_or (bit_or (bit_or (bit_or (bits_of (f North)) (bits_of (f NorthEast))) (bits_of (f East))) (bits_of (f SouthEast))) (bits_of (f South))) (bits_of (f SouthWest))) (bits_of (f West))) (bits_of (f NorthWest))

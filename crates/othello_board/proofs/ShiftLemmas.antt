@@ -1,17 +1,5 @@
 -- Representation: directions as the words of bits see them.
-use Rattle.std.specs.Int.{bit_at}
-use Rattle.othello_board.specs.declared.directions.Direction.{Direction}
-use Rattle.othello_board.specs.declared.directions.Direction.TheVariants.{North, NorthEast, East, SouthEast, South, SouthWest, West, NorthWest}
-use Rattle.std.proofs.Common.{◌≡◌, zero, suc, ◌*◌, ◌/◌, ◌%◌, ◌^◌, ◌<◌, ◌≤◌, Bool, true, ◌&&◌, eqb, leb, ltb, inl, inr, sym, ap, ◌∙◌, arith, false, [], ◌∷◌, unwrap_or, ◌||◌, get_or, List, refl, subst, ℕ, ◌+◌, ◌-◌, nat_lt, if◌then◌else◌, Option, Some, None, ltb-true, leb-true}
-use Rattle.std.proofs.lemmas.Bool.{eqb-true, and_parts}
-use Rattle.std.proofs.lemmas.Nat.{div-add-mod', mod_below, pow_pos}
-use Rattle.std.proofs.lemmas.Bool.Decides.{eqb_tells}
-use Rattle.std.proofs.lemmas.Nat.Bits.{bit_at-zero, bit_at_above, bit_at_cat_low, bit_at_cat_high}
-use Rattle.std.specs.Option.{option_map}
-use Rattle.othello_board.specs.Rules.{step, squares_beside, ray}
-use Rattle.std.specs.List.{list_all}
-use Rattle.othello_board.specs.declared.rays.TheConstants.{RAYS}
-use Rattle.othello_board.specs.Words.{bits_of}
+use Rattle.othello_board.proofs.Common.{bit_at, Direction, North, NorthEast, East, SouthEast, South, SouthWest, West, NorthWest, ◌≡◌, zero, suc, ◌*◌, ◌/◌, ◌%◌, ◌^◌, ◌<◌, ◌≤◌, Bool, true, ◌&&◌, eqb, leb, ltb, inl, inr, sym, ap, ◌∙◌, arith, false, [], ◌∷◌, unwrap_or, ◌||◌, get_or, List, refl, subst, ℕ, ◌+◌, ◌-◌, nat_lt, if◌then◌else◌, Option, Some, None, ltb-true, leb-true, eqb-true, and_parts, div-add-mod', mod_below, pow_pos, eqb_tells, bit_at-zero, bit_at_above, bit_at_cat_low, bit_at_cat_high, option_map, step, squares_beside, ray, list_all, RAYS, bits_of}
 
 -- the opposite direction
 abbrev pub opposite : Direction → Direction

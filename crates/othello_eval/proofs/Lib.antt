@@ -1,4 +1,5 @@
 pub use Rattle.othello_moves.proofs.AllowedLemmas as othello_moves_DescentLemmas
+mod Common
 pub mod ValueLemmas
 pub mod MinimaxLemmas
 pub mod MaskLemmas

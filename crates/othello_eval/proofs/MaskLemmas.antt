@@ -1,23 +1,5 @@
 -- The weights of discs, counted under one word of squares for each weight.
-use Rattle.std.proofs.Common.{leb, leb-true, ◌≡◌, ℕ, zero, suc, ◌+◌, ◌^◌, ◌<◌, ◌≤◌, ◌*◌, Bool, ◌&&◌, cond, eqb, List, [], ◌∷◌, map, length, min, bit_and, ℤ, pos, negsuc, ◌+ℤ◌, ◌-ℤ◌, ◌*ℤ◌, neg_ℤ, refl, sym, ap, ◌∙◌, arith, to_z, of_z, w32, ◌≤ℤ◌, drop, get_or, ◌/◌, ◌%◌, true, take, ◌-◌, ap₂, count_ones, unsigned_abs, FitsSigned}
-use Rattle.std.specs.Int.{bit_at}
-use Rattle.std.specs.List.{range_with_len}
-use Rattle.std.proofs.lemmas.List.{at_drop_more, at_drop_all}
-use Rattle.std.proofs.lemmas.Int.{ints, unsigned_abs-mul}
-use Rattle.std.proofs.lemmas.Nat.{and_le_l, mul-le, and_le_r, div-add-mod', mod_below, pow_pos}
-use Rattle.std.proofs.lemmas.Nat.Bits.{bit_at_and, bit_at-lt, bit_at-zero, bit_at_ones, bit_at_cat_high}
-use Rattle.std.proofs.Math.IntN.{pred_ℤ, -ℤ_one, *ℤ_comm, pred_ℤ-*ℤ, *ℤ-zero, zero-*ℤ}
-use Rattle.std.proofs.lemmas.Grind.{common_steps}
-use Rattle.othello_board.specs.declared.cells.Cell.TheVariants.{Empty, Own, Opp}
-use Rattle.othello_board.specs.Rules.{squares}
-use Rattle.othello_board.specs.Words.{cell_of, cells_of}
-use Rattle.othello_board.proofs.CellLemmas.{apart, bit_cases, count_in, ones_by_bits}
-use Rattle.othello_eval.specs.Values.{weights, disc_value, discs_value, IsWithin}
-use Rattle.othello_eval.specs.Masks.{disc_difference, row_value, kind_of}
-use Rattle.std.proofs.lemmas.Bool.{eqb-true}
-use Rattle.othello_board.specs.declared.cells.Cell.{Cell}
-use Rattle.othello_board.proofs.ShiftLemmas.{all_below, holds_below}
-use Rattle.othello_eval.specs.declared.row_values.TheConstants.{ROW_VALUES}
+use Rattle.othello_eval.proofs.Common.{leb, leb-true, ◌≡◌, ℕ, zero, suc, ◌+◌, ◌^◌, ◌<◌, ◌≤◌, ◌*◌, Bool, ◌&&◌, cond, eqb, List, [], ◌∷◌, map, length, min, bit_and, ℤ, pos, negsuc, ◌+ℤ◌, ◌-ℤ◌, ◌*ℤ◌, neg_ℤ, refl, sym, ap, ◌∙◌, arith, to_z, of_z, w32, ◌≤ℤ◌, drop, get_or, ◌/◌, ◌%◌, true, take, ◌-◌, ap₂, count_ones, unsigned_abs, FitsSigned, bit_at, range_with_len, at_drop_more, at_drop_all, ints, unsigned_abs-mul, and_le_l, mul-le, and_le_r, div-add-mod', mod_below, pow_pos, bit_at_and, bit_at-lt, bit_at-zero, bit_at_ones, bit_at_cat_high, pred_ℤ, -ℤ_one, *ℤ_comm, pred_ℤ-*ℤ, *ℤ-zero, zero-*ℤ, common_steps, Empty, Own, Opp, squares, cell_of, cells_of, apart, bit_cases, count_in, ones_by_bits, weights, disc_value, discs_value, IsWithin, disc_difference, row_value, kind_of, eqb-true, Cell, all_below, holds_below, ROW_VALUES}
 use Rattle.othello_eval.proofs.ValueLemmas.{discs_value_within, abs_sum}
 
 -- the sum of these differences, each at its weight

@@ -1,20 +1,6 @@
 -- The greatest of the values of some choices, and the first choice that attains a value.
-use Rattle.std.proofs.Common.{◌≡◌, ℤ, Bool, true, false, List, [], ◌∷◌, ◌++◌, map, Option, Some, None, refl, ◌∙◌, ap, arith, cond, ℕ, zero, suc, ◌<◌, sym, length, neg_ℤ, ap₂, Contains, ⊎_elim, int_lt, subst, ◌-◌, pos, ◌-ℤ◌, w32, to_z, of_z, find, ◌≤ℤ◌, ◌<ℤ◌, IsSome, All}
-use Rattle.std.specs.Int.{int_max}
-use Rattle.std.proofs.lemmas.Int.{ints, clamps, to_z-of_z}
-use Rattle.std.proofs.lemmas.Bool.{false_from_ne_true, cond_both, cond-true, cond-false, cases_Bool}
-use Rattle.std.proofs.lemmas.List.Elements.{All-head, All-tail, All-nil, All-cons, All-weaker, All-contains_itself}
-use Rattle.std.proofs.lemmas.List.Folds.{find-append}
-use Rattle.std.specs.Option.{option_or}
-use Rattle.othello_eval.specs.Minimax.{greatest, greatest_or, int_equal, leaf_value, over_squares, value_after, minimax, choice_value, best_choice}
+use Rattle.othello_eval.proofs.Common.{◌≡◌, ℤ, Bool, true, false, List, [], ◌∷◌, ◌++◌, map, Option, Some, None, refl, ◌∙◌, ap, arith, cond, ℕ, zero, suc, ◌<◌, sym, length, neg_ℤ, ap₂, Contains, ⊎_elim, int_lt, subst, ◌-◌, pos, ◌-ℤ◌, w32, to_z, of_z, find, ◌≤ℤ◌, ◌<ℤ◌, IsSome, All, int_max, ints, clamps, to_z-of_z, false_from_ne_true, cond_both, cond-true, cond-false, cases_Bool, All-head, All-tail, All-nil, All-cons, All-weaker, All-contains_itself, find-append, option_or, greatest, greatest_or, int_equal, leaf_value, over_squares, value_after, minimax, choice_value, best_choice, Cell, exchanged, played, is_nil, Choice, Square, Pass, choices, choices_without_move, legal_squares, after, plies, length-after, eval, final_value, IsWithin}
 use Rattle.std.proofs.lemmas.Simd.{map-map}
-use Rattle.othello_board.specs.declared.cells.Cell.{Cell}
-use Rattle.othello_board.specs.Rules.{exchanged, played, is_nil}
-use Rattle.othello_moves.specs.declared.choices.Choice.{Choice}
-use Rattle.othello_moves.specs.declared.choices.Choice.TheVariants.{Square, Pass}
-use Rattle.othello_moves.specs.Choices.{choices, choices_without_move, legal_squares, after, plies}
-use Rattle.othello_moves.proofs.AllowedLemmas.{length-after}
-use Rattle.othello_eval.specs.Values.{eval, final_value, IsWithin}
 use Rattle.othello_eval.proofs.ValueLemmas.{eval_within, final_value_within}
 
 -- two equal numbers pass the test, and two that pass are equal

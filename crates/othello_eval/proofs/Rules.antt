@@ -1,8 +1,7 @@
 -- The lemmas that the tactics try at the goals of each function that names a set.
 use Rattle.othello_eval.proofs.MinimaxLemmas.{minimax-over, best_choice-over, best_choice-leaf, minimax_leaf_there, minimax-leaf, minimax-deeper, best_choice-deeper}
 use Rattle.othello_eval.proofs.ValueLemmas.{final_value_within, small_fits, difference_fits, final_fits, final_is, known_within, negated_fits, negated_is, after_pass}
-use Rattle.othello_moves.proofs.AllowedLemmas.{length-cells}
-use Rattle.std.proofs.lemmas.List.Sums.{count_by-le-length}
+use Rattle.othello_eval.proofs.Common.{length-cells, count_by-le-length}
 
 pub ruleset final_value_rules = (count_by-le-length, length-cells, final_value_within, small_fits, difference_fits, final_fits, final_is)
 

@@ -1,7 +1,5 @@
 -- Which entry is the best choice's, by its number.
-use Rattle.std.proofs.Common.{◌≡◌, ◌≢◌, ℕ, Option, Some, None, ap, sym, ◌∙◌}
-use Rattle.othello_moves.specs.declared.choices.Choice.{Choice}
-use Rattle.othello_moves.specs.declared.choices.Choice.TheVariants.{Square, Pass}
+use Rattle.othello_eval.proofs.Common.{◌≡◌, ◌≢◌, ℕ, Option, Some, None, ap, sym, ◌∙◌, Choice, Square, Pass}
 
 number : Option Choice → ℕ
 number None = 65

@@ -1,23 +1,6 @@
 -- How large values are.
-use Rattle.std.proofs.Common.{◌≡◌, ℕ, ◌+◌, ◌<◌, ◌≤◌, List, [], ◌∷◌, length, count_by, ℤ, pos, ◌+ℤ◌, ◌-ℤ◌, ◌*ℤ◌, ◌<ℤ◌, nat_abs, refl, arith, w32, to_z, of_z, FitsSigned, zero, suc, ◌-◌, Bool, true, false, ◌&&◌, ◌||◌, cond, eqb, ◌++◌, map, bit_and, min, Option, Some, None, unwrap_or, inl, inr, neg_ℤ, leb, sym, ap, ◌∙◌, subst, get_or, eq-eqb}
-use Rattle.std.proofs.lemmas.Int.{ints}
-use Rattle.std.proofs.lemmas.List.Sums.{count_by-le-length}
-use Rattle.othello_board.specs.declared.cells.Cell.{Cell}
-use Rattle.othello_board.specs.Rules.{exchanged, is_own_cell, is_opp_cell, squares, cell_at, is_among, is_empty_cell, is_legal, exchanged_cell, played, outflanked, led_by, ray, run, flips, directions}
-use Rattle.othello_moves.specs.Choices.{legal_squares}
-use Rattle.othello_moves.proofs.AllowedLemmas.{legal_squares_fit}
-use Rattle.othello_eval.specs.Values.{weights, disc_value, discs_value, eval, final_value, IsWithin}
-use Rattle.std.specs.Int.{bit_at}
-use Rattle.std.specs.List.{range_with_len, flat_map, list_all}
-use Rattle.std.proofs.lemmas.Bool.{and_parts, leb-true, cases_lt, ne_eqb, or_cases, eqb-true, false≢true}
-use Rattle.std.proofs.lemmas.Nat.Bits.{bit_at_and, bit_at-lt, bit_at-zero}
-use Rattle.std.proofs.lemmas.Grind.{common_steps}
-use Rattle.othello_board.specs.declared.cells.Cell.TheVariants.{Empty, Own, Opp}
-use Rattle.othello_board.specs.declared.directions.Direction.{Direction}
-use Rattle.othello_board.specs.Words.{cell_of, cells_of}
-use Rattle.othello_board.proofs.CellLemmas.{apart, map-map, cell_at-map, cell_at-cells_of, is_opp-cell_of}
-use Rattle.othello_eval.specs.declared.weighed.TheConstants.{SQUARE_WEIGHTS}
-use Rattle.othello_eval.specs.Masks.{weight_at}
+use Rattle.othello_eval.proofs.Common.{◌≡◌, ℕ, ◌+◌, ◌<◌, ◌≤◌, List, [], ◌∷◌, length, count_by, ℤ, pos, ◌+ℤ◌, ◌-ℤ◌, ◌*ℤ◌, ◌<ℤ◌, nat_abs, refl, arith, w32, to_z, of_z, FitsSigned, zero, suc, ◌-◌, Bool, true, false, ◌&&◌, ◌||◌, cond, eqb, ◌++◌, map, bit_and, min, Option, Some, None, unwrap_or, inl, inr, neg_ℤ, leb, sym, ap, ◌∙◌, subst, get_or, eq-eqb, ints, count_by-le-length, Cell, exchanged, is_own_cell, is_opp_cell, squares, cell_at, is_among, is_empty_cell, is_legal, exchanged_cell, played, outflanked, led_by, ray, run, flips, directions, legal_squares, legal_squares_fit, weights, disc_value, discs_value, eval, final_value, IsWithin, bit_at, range_with_len, flat_map, list_all, and_parts, cases_lt, ne_eqb, or_cases, eqb-true, false≢true, bit_at_and, bit_at-lt, bit_at-zero, common_steps, Empty, Own, Opp, Direction, cell_of, cells_of, apart, map-map, cell_at-map, cell_at-cells_of, is_opp-cell_of, SQUARE_WEIGHTS, weight_at}
+use Rattle.std.proofs.lemmas.Bool.{leb-true}
 
 -- the sum of the absolute values
 abbrev pub abs_sum : List ℤ → ℕ

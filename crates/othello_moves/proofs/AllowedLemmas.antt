@@ -1,19 +1,5 @@
 -- What holds of every choice.
-use Rattle.std.proofs.Common.{◌≡◌, ◌<◌, ◌≤◌, ltb, List, map, length, All, Contains, refl, arith, ℕ, ◌+◌, ◌-◌, ◌*◌, Bool, true, false, cond, [], ◌∷◌}
-use Rattle.std.specs.List.{list_all}
-use Rattle.std.proofs.lemmas.Bool.{cond_both, cond-true, cond-false}
-use Rattle.std.proofs.lemmas.Bool.Decides.{Decides-by_and, Decides-ltb}
-use Rattle.std.proofs.lemmas.List.{length-map}
-use Rattle.std.proofs.lemmas.List.Elements.{All-nil, All-cons, All-map, All-filter, filter_passes, All-contains}
-use Rattle.std.proofs.lemmas.List.Sums.{length-filter, count_by-le-length}
-use Rattle.othello_board.specs.declared.cells.Cell.{Cell}
-use Rattle.othello_board.specs.Rules.{squares, is_legal, exchanged, is_nil}
-use Rattle.othello_board.specs.declared.boards.Board.{Board}
-use Rattle.othello_board.specs.Words.{cells}
-use Rattle.othello_board.proofs.CellLemmas.{length-cells_of}
-use Rattle.othello_moves.specs.declared.choices.Choice.{Choice}
-use Rattle.othello_moves.specs.declared.choices.Choice.TheVariants.{Square, Pass}
-use Rattle.othello_moves.specs.Choices.{in_order, legal_squares, choices, after, IsAllowed, choices_without_move, plies}
+use Rattle.othello_moves.proofs.Common.{◌≡◌, ◌<◌, ◌≤◌, ltb, List, map, length, All, Contains, refl, arith, ℕ, ◌+◌, ◌-◌, ◌*◌, Bool, true, false, cond, [], ◌∷◌, list_all, cond_both, cond-true, cond-false, Decides-by_and, Decides-ltb, length-map, All-nil, All-cons, All-map, All-filter, filter_passes, All-contains, length-filter, count_by-le-length, Cell, squares, is_legal, exchanged, is_nil, Board, cells, length-cells_of, Choice, Square, Pass, in_order, legal_squares, choices, after, IsAllowed, choices_without_move, plies}
 
 in_order_below : All (λ s. s < 64) in_order
 unfolding in_order squares

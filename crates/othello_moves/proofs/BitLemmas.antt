@@ -1,21 +1,5 @@
 -- Filters of lists of squares.
-use Rattle.std.proofs.Common.{◌≡◌, ◌≢◌, ℕ, suc, ◌+◌, ◌<◌, ◌≤◌, Bool, true, false, cond, not, ◌&&◌, ◌||◌, eqb, ltb, leb, List, [], ◌∷◌, length, filter, refl, sym, ap, ◌∙◌, ⊎_elim, arith, zero, ◌*◌, ◌/◌, ◌%◌, ◌^◌, count_ones, bit_and, w64, pow-suc, ◌↔◌, bit_or, ◌-◌, min, ◌++◌, map, ap₂, lit<, Some, None, drop, slice_get}
-use Rattle.std.proofs.lemmas.Bool.{cases_order, ne_eqb, false≢true, cond-true, cond-false, eqb-true, agree_below_at, cases_eq, eq-eqb}
-use Rattle.othello_board.specs.Rules.{is_among, squares, is_legal, is_nil, exchanged}
-use Rattle.std.specs.List.{range_with_len}
-use Rattle.std.specs.Int.{bit_at, bit_not, trailing_zeros}
-use Rattle.std.proofs.lemmas.Nat.Bits.{bit_at-suc, bit_at_lowest, bit_at-trailing_zeros, bit_at_clear_same, bit_at_clear_other, bit_at_and, bit_at_not}
-use lib.Count.{ones_step, ones-le}
-use Rattle.othello_board.specs.Words.{bits_of}
-use Rattle.othello_board.proofs.CellLemmas.{bit_at-bits_of}
-use Rattle.othello_moves.specs.Sequence.{squares_of, pass_if, sequence}
-use Rattle.std.proofs.lemmas.Nat.{zero_from_ones, le_or_l, le_or_r}
-use Rattle.std.proofs.lemmas.List.{length-append, append-nil, length-map}
-use Rattle.std.proofs.lemmas.List.Elements.{filter-append}
-use Rattle.othello_board.specs.declared.cells.Cell.{Cell}
-use Rattle.othello_moves.specs.declared.choices.Choice.TheVariants.{Square, Pass}
-use Rattle.othello_moves.specs.Choices.{corners, in_order, choices}
-use mir.Val.{bool_byte}
+use Rattle.othello_moves.proofs.Common.{◌≡◌, ◌≢◌, ℕ, suc, ◌+◌, ◌<◌, ◌≤◌, Bool, true, false, cond, not, ◌&&◌, ◌||◌, eqb, ltb, leb, List, [], ◌∷◌, length, filter, refl, sym, ap, ◌∙◌, ⊎_elim, arith, zero, ◌*◌, ◌/◌, ◌%◌, ◌^◌, count_ones, bit_and, w64, pow-suc, ◌↔◌, bit_or, ◌-◌, min, ◌++◌, map, ap₂, lit<, Some, None, drop, slice_get, cases_order, ne_eqb, false≢true, cond-true, cond-false, eqb-true, agree_below_at, cases_eq, eq-eqb, is_among, squares, is_legal, is_nil, exchanged, range_with_len, bit_at, bit_not, trailing_zeros, bit_at-suc, bit_at_lowest, bit_at-trailing_zeros, bit_at_clear_same, bit_at_clear_other, bit_at_and, bit_at_not, ones_step, ones-le, bits_of, bit_at-bits_of, squares_of, pass_if, sequence, zero_from_ones, le_or_l, le_or_r, length-append, append-nil, length-map, filter-append, Cell, Square, Pass, corners, in_order, choices, bool_byte}
 
 filter-cond : (p q : ℕ → Bool) (x : ℕ) (xs : List ℕ) (b : Bool)
     → filter p (filter q xs) ≡ filter (λ s. q s && p s) xs

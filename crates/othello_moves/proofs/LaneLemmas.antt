@@ -1,15 +1,6 @@
 -- The words of the lanes, and the legal squares that they make.
-use Rattle.std.proofs.Common.{◌≡◌, ℕ, ◌-◌, ◌*◌, ◌^◌, ◌<◌, not, filter, bit_and, bit_or, refl, ap, ap₂, ◌∙◌, arith}
-use Rattle.std.specs.Int.{bit_at}
-use Rattle.std.proofs.lemmas.Nat.{or_lt, and_le_l, and_le_r, mod_below, shr_le, or_comm}
-use Rattle.std.proofs.lemmas.Nat.Bits.{bit_at_and, bit_at_or, bit_at_ones, same_from_bits}
-use Rattle.othello_board.specs.declared.directions.Direction.{Direction}
-use Rattle.othello_board.specs.declared.directions.Direction.TheVariants.{North, NorthEast, East, SouthEast, South, SouthWest, West, NorthWest}
-use Rattle.othello_board.specs.Rules.{run, is_legal, squares, is_nil}
-use Rattle.othello_board.specs.Words.{cells_of, bits_of}
-use Rattle.othello_board.proofs.ShiftLemmas.{opposite, slid_from, bit_there, slid_up, slid_down}
+use Rattle.othello_moves.proofs.Common.{◌≡◌, ℕ, ◌-◌, ◌*◌, ◌^◌, ◌<◌, not, filter, bit_and, bit_or, refl, ap, ap₂, ◌∙◌, arith, bit_at, or_lt, and_le_l, and_le_r, mod_below, shr_le, or_comm, bit_at_and, bit_at_or, bit_at_ones, same_from_bits, Direction, North, NorthEast, East, SouthEast, South, SouthWest, West, NorthWest, run, is_legal, squares, is_nil, cells_of, bits_of, opposite, slid_from, bit_there, slid_up, slid_down, raised, lowered, reached}
 use Rattle.othello_moves.proofs.LeadLemmas.{bit_of, inside, inside_bit, middle_bit, paired, paired_bit, led, led_one, led_more, led_two_more, start_bit, starts_bit, legal_bit, word_of_passing}
-use Rattle.othello_moves.specs.Lanes.{raised, lowered, reached}
 
 -- what a lane reaches is where a run begins
 reached_bits : (shift : ℕ → ℕ) (own opp over : ℕ) (d : Direction)

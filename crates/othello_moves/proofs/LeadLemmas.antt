@@ -1,19 +1,5 @@
 -- Representation: which squares may stand inside a run.
-use Rattle.othello_board.specs.declared.directions.Direction.{Direction}
-use Rattle.othello_board.specs.declared.directions.Direction.TheVariants.{North, NorthEast, East, SouthEast, South, SouthWest, West, NorthWest}
-use Rattle.std.proofs.Common.{◌≡◌, zero, suc, ◌+◌, ◌-◌, ◌^◌, ◌<◌, ◌≤◌, false, ◌||◌, cond, eqb, ltb, List, [], ◌++◌, filter, Option, Some, None, unwrap_or, bit_and, bit_or, min, max, inl, inr, refl, sym, ap, ap₂, ◌∙◌, arith, w64, ℕ, ◌%◌, ◌==◌, Bool, true, not, ◌&&◌, if◌then◌else◌, is_some}
-use Rattle.std.specs.List.{flat_map, range_with_len}
-use Rattle.std.specs.Int.{bit_at}
-use Rattle.std.proofs.lemmas.Bool.{cases_lt, ne_eqb, eqb-true, ltb-true, and_parts, or_cases, not-true, and_right}
-use Rattle.std.proofs.lemmas.Nat.{or_lt}
-use Rattle.std.proofs.lemmas.Nat.Bits.{bit_at_and, bit_at_or, bit_at_not, bit_at_above, bit_at-lt, same_from_bits}
-use Rattle.std.proofs.Math.Bool.{and_comm}
-use Rattle.othello_board.specs.declared.cells.Cell.{Cell}
-use Rattle.othello_board.specs.declared.cells.Cell.TheVariants.{Empty, Own, Opp}
-use Rattle.othello_board.specs.Rules.{step, squares_beside, outflanked, led_by, cell_at, run, flips, directions, is_legal, squares, is_among, is_own_cell, is_opp_cell, is_empty_cell, is_nil}
-use Rattle.othello_board.specs.Words.{cells_of, bits_of}
-use Rattle.othello_board.proofs.ShiftLemmas.{opposite, slid_from, bit_there, all_below, holds_below, step_back, beside_edge, beside_next}
-use Rattle.othello_board.proofs.CellLemmas.{apart, bit_at-bits_of, cell_at-cells_of, bit_cases}
+use Rattle.othello_moves.proofs.Common.{Direction, North, NorthEast, East, SouthEast, South, SouthWest, West, NorthWest, ◌≡◌, zero, suc, ◌+◌, ◌-◌, ◌^◌, ◌<◌, ◌≤◌, false, ◌||◌, cond, eqb, ltb, List, [], ◌++◌, filter, Option, Some, None, unwrap_or, bit_and, bit_or, min, max, inl, inr, refl, sym, ap, ap₂, ◌∙◌, arith, w64, ℕ, ◌%◌, ◌==◌, Bool, true, not, ◌&&◌, if◌then◌else◌, is_some, flat_map, range_with_len, bit_at, cases_lt, ne_eqb, eqb-true, ltb-true, and_parts, or_cases, not-true, and_right, or_lt, bit_at_and, bit_at_or, bit_at_not, bit_at_above, bit_at-lt, same_from_bits, and_comm, Cell, Empty, Own, Opp, step, squares_beside, outflanked, led_by, cell_at, run, flips, directions, is_legal, squares, is_among, is_own_cell, is_opp_cell, is_empty_cell, is_nil, cells_of, bits_of, opposite, slid_from, bit_there, all_below, holds_below, step_back, beside_edge, beside_next, apart, bit_at-bits_of, cell_at-cells_of, bit_cases}
 use Rattle.othello_moves.proofs.BitLemmas.{is_among-filter, is_square, and-true}
 
 -- 1 where a test holds, else 0

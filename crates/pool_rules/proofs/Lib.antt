@@ -1,3 +1,4 @@
+mod Common
 pub mod ReadyFrames
 pub mod ReadiedLemmas
 pub mod TaskFrames

@@ -1,29 +1,7 @@
 -- Each frame that a worker's step makes ready is named by what the step did.
-use Rattle.std.proofs.Common.{◌≡◌, ℕ, ◌==◌, Bool, true, false, List, [], ◌∷◌, ◌++◌, not, Option, Some, None, Result, Err, IfOk, inl, inr, if◌then◌else◌, refl, sym, subst, replicate, arith}
-use Rattle.frame_tree.specs.declared.names.FrameId.{FrameId}
-use Rattle.frame_tree.specs.declared.names.State.TheVariants.{Running, Computing, Waiting, Returned}
-use Rattle.frame_tree.specs.Frames.{Frame, frame_at, root_of, IsReadyAt, IsTree}
-use Rattle.sched_rules.specs.declared.act.Act.{Act}
-use Rattle.sched_rules.specs.declared.act.InletAct.{InletAct}
-use Rattle.sched_rules.specs.declared.act.Continuation.{Continuation}
-use Rattle.sched_rules.specs.declared.act.Continuation.TheVariants.{Grow, Spawn, Go, Wait, Compute, Return}
-use Rattle.sched_rules.specs.declared.refusal.Refusal.{Refusal}
-use Rattle.sched_rules.specs.declared.refusal.Refusal.TheVariants.{NotSpent}
-use Rattle.sched_rules.specs.declared.step.StepOf.{StepOf}
-use Rattle.sched_rules.specs.declared.step.StepOf.TheVariants.{Take, Steal, Spend}
-use Rattle.sched_rules.specs.declared.step.DidOf.TheVariants.{Went, Waited, Returned as HasReturned}
-use Rattle.sched_rules.specs.Functions.{Functions}
-use Rattle.sched_rules.specs.Trees.{Tree, Tenant, has_child, words_in, is_root}
-use Rattle.sched_rules.specs.Runs.{tenant_of}
-use Rattle.sched_rules.specs.Lone.{Outcome, unless, at_frame, lone_step, take_tests, steal_tests, taken_by, act_by_sight, advance_tests, advanced, then_done, in_state, answer_tests, answered, inlet_tests, inlet_under, taken_in, staying, finish_tests, finished, spent, is_spendable}
-use Rattle.jamboree_rules.specs.declared.leaf.Leaf.{Leaf}
-use Rattle.jamboree_rules.specs.declared.leaf.LeafAnswer.{LeafAnswer}
-use Rattle.pool_rules.specs.declared.turn.Action.{Action}
-use Rattle.pool_rules.specs.declared.turn.Action.TheVariants.{Get, Run, Bring, TakeIn, Finish}
-use Rattle.pool_rules.specs.declared.turn.Holding.{Holding}
-use Rattle.pool_rules.specs.declared.turn.Holding.TheVariants.{Nothing, Next, Computing as IsComputed, GivingUp}
-use Rattle.pool_rules.specs.Turns.{readied, task_at, frame_of_action, step_of, offered}
-use Rattle.pool_rules.specs.Readied.{frames_of_tenant, IsNoneForgotten, PushesWhatItReadied}
+use Rattle.pool_rules.proofs.Common.{◌≡◌, ℕ, ◌==◌, Bool, true, false, List, [], ◌∷◌, ◌++◌, not, Option, Some, None, Result, Err, IfOk, inl, inr, if◌then◌else◌, refl, sym, subst, replicate, arith, FrameId, Running, Waiting, Returned, Frame, frame_at, root_of, IsReadyAt, IsTree, Act, InletAct, Continuation, Grow, Spawn, Go, Wait, Compute, Return, Refusal, NotSpent, StepOf, Take, Steal, Spend, Went, Waited, Functions, Tree, Tenant, has_child, words_in, is_root, tenant_of, Outcome, unless, at_frame, lone_step, take_tests, steal_tests, taken_by, act_by_sight, advance_tests, advanced, then_done, in_state, answer_tests, answered, inlet_tests, inlet_under, taken_in, staying, finish_tests, finished, spent, is_spendable, Leaf, LeafAnswer, Action, Get, Run, Bring, TakeIn, Finish, Holding, Nothing, Next, Computing as IsComputed, GivingUp, readied, task_at, frame_of_action, step_of, offered, frames_of_tenant, IsNoneForgotten, PushesWhatItReadied}
+use Rattle.frame_tree.specs.declared.names.State.TheVariants.{Computing}
+use Rattle.sched_rules.specs.declared.step.DidOf.TheVariants.{Returned as HasReturned}
 use Rattle.pool_rules.proofs.ReadyFrames.{ready-with_state, ready-with_other, ready-with_frame_words, ready-without, ready-aborted, ready-without_job, ready-push}
 
 -- no ready frame is forgotten by what a worker's step did

@@ -1,14 +1,5 @@
 -- Which frames are ready after a change of a tenant's frames.
-use Rattle.std.proofs.Common.{true, ◌≡◌, ℕ, eqb, Bool, false, List, [], ◌∷◌, ◌++◌, Option, Some, None, ◌⊎◌, inl, inr, refl, sym, subst, arith}
-use Rattle.std.proofs.lemmas.Bool.{cases_Bool, eq-eqb, eqb-true}
-use Rattle.frame_tree.specs.declared.names.State.{State}
-use Rattle.frame_tree.specs.declared.names.State.TheVariants.{Ready}
-use Rattle.frame_tree.specs.Frames.{Frame, frame_at, IsReadyAt, IsTree, AllBelow, with_state, is_ready, aborted, frames_without, new_frame}
-use Rattle.frame_tree.specs.TreeLaws.{if_kept}
-use Rattle.frame_tree.proofs.TreeLaws.{frame_at-left, frame_at-right, frame_at-push}
-use Rattle.frame_tree.proofs.TreeChanges.{frame_at-without, frame_at_other-without, frame_at-aborted}
-use Rattle.sched_rules.specs.Trees.{Tree, with_frame_words, without_job}
-use Rattle.sched_rules.specs.Lone.{does_wait}
+use Rattle.pool_rules.proofs.Common.{true, ◌≡◌, ℕ, eqb, Bool, false, List, [], ◌∷◌, ◌++◌, Option, Some, None, ◌⊎◌, inl, inr, refl, sym, subst, arith, cases_Bool, eq-eqb, eqb-true, State, Ready, Frame, frame_at, IsReadyAt, IsTree, AllBelow, with_state, is_ready, aborted, frames_without, new_frame, if_kept, frame_at-left, frame_at-right, frame_at-push, frame_at-without, frame_at_other-without, frame_at-aborted, Tree, with_frame_words, without_job, does_wait}
 
 -- another state in a frame: it is ready where it was, or it is that frame, and the state is Ready
 pub ready-with_state : (n : ℕ) (state : State) (xs : Tree) (s home : ℕ) → IsReadyAt (frame_at (with_state n state xs) s) home → IsReadyAt (frame_at xs s) home ⊎ ((n ≡ s) × (state ≡ Ready home))

@@ -1,27 +1,6 @@
 -- The task of a worker's turn is of a frame that is ready.
-use Rattle.std.proofs.Common.{◌≡◌, ℕ, ◌+◌, ◌==◌, ◌&&◌, not, Bool, true, false, List, [], ◌∷◌, Option, Some, None, IfOk, if◌then◌else◌, refl, sym, subst, arith}
-use Rattle.frame_tree.specs.declared.names.FrameId.{FrameId}
-use Rattle.frame_tree.specs.declared.names.State.TheVariants.{Ready, Waiting, Returned}
-use Rattle.frame_tree.specs.Frames.{Frame, frame_at, AllBelow}
-use Rattle.sched_rules.specs.declared.act.InletAct.{InletAct}
-use Rattle.sched_rules.specs.declared.act.Continuation.{Continuation}
-use Rattle.sched_rules.specs.declared.act.Continuation.TheVariants.{Grow, Spawn, Go, Wait, Compute, Return}
-use Rattle.sched_rules.specs.declared.refusal.Refusal.TheVariants.{NotSpent}
-use Rattle.sched_rules.specs.declared.step.StepOf.{StepOf}
-use Rattle.sched_rules.specs.declared.step.StepOf.TheVariants.{Take, Steal, Spend}
-use Rattle.sched_rules.specs.declared.step.DidOf.TheVariants.{Went, Waited, Returned as HasReturned, TakenIn}
-use Rattle.sched_rules.specs.Functions.{Functions}
-use Rattle.sched_rules.specs.Trees.{Tenant, has_child, words_in, stored, is_root}
-use Rattle.sched_rules.specs.Runs.{tenant_of}
-use Rattle.sched_rules.specs.Lone.{Outcome, lone_step, take_tests, steal_tests, taken_by, act_by_sight, advance_tests, advanced, then_done, holding, in_state, counted, does_wait, answer_tests, answered, inlet_tests, inlet_under, taken_in, staying, finish_tests, finished, spent, is_spendable}
-use Rattle.jamboree_rules.specs.declared.leaf.Leaf.{Leaf}
-use Rattle.jamboree_rules.specs.declared.leaf.LeafAnswer.{LeafAnswer}
-use Rattle.pool_rules.specs.declared.turn.Action.{Action}
-use Rattle.pool_rules.specs.declared.turn.Action.TheVariants.{Get, Run, Bring, TakeIn, Finish}
-use Rattle.pool_rules.specs.declared.turn.Holding.{Holding}
-use Rattle.pool_rules.specs.declared.turn.Holding.TheVariants.{Nothing, Next, Computing as IsComputed, GivingUp}
-use Rattle.pool_rules.specs.Turns.{readied, task_at, frame_of_action, step_of, offered}
-use Rattle.pool_rules.specs.Readied.{frames_of_tenant, IsOfAReadyFrame, PushesWhatIsReady}
+use Rattle.pool_rules.proofs.Common.{◌≡◌, ℕ, ◌+◌, ◌==◌, ◌&&◌, not, Bool, true, false, List, [], ◌∷◌, Option, Some, None, IfOk, if◌then◌else◌, refl, sym, subst, arith, FrameId, Ready, Waiting, Returned, Frame, frame_at, AllBelow, InletAct, Continuation, Grow, Spawn, Go, Wait, Compute, Return, NotSpent, StepOf, Take, Steal, Spend, Went, Waited, TakenIn, Functions, Tenant, has_child, words_in, stored, is_root, tenant_of, Outcome, lone_step, take_tests, steal_tests, taken_by, act_by_sight, advance_tests, advanced, then_done, holding, in_state, counted, does_wait, answer_tests, answered, inlet_tests, inlet_under, taken_in, staying, finish_tests, finished, spent, is_spendable, Leaf, LeafAnswer, Action, Get, Run, Bring, TakeIn, Finish, Holding, Nothing, Next, Computing as IsComputed, GivingUp, readied, task_at, frame_of_action, step_of, offered, frames_of_tenant, IsOfAReadyFrame, PushesWhatIsReady}
+use Rattle.sched_rules.specs.declared.step.DidOf.TheVariants.{Returned as HasReturned}
 use Rattle.pool_rules.proofs.ReadyFrames.{below-with_frame_words, ready-woken, ready-pushed}
 use Rattle.pool_rules.proofs.ReadiedLemmas.{unless-taken, frame-taken, tenant_of-step_of}
 

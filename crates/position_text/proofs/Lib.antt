@@ -1,3 +1,4 @@
+mod Common
 pub mod WrittenText
 pub mod Readings
 pub mod ReadingLemmas

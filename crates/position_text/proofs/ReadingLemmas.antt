@@ -1,22 +1,5 @@
 -- What is read of a text, by what it spells.
-use Rattle.std.proofs.Common.{◌≡◌, ◌≢◌, ℕ, zero, suc, ◌+◌, ◌<◌, ◌≤◌, cond, List, [], ◌∷◌, map, Option, Some, None, IsSome, ◌⊎◌, refl, sym, ap, ◌∙◌, arith, inl, inr, get_or, min, bit_and, subst, below_more, slice_index}
-use Rattle.std.specs.Option.{option_map}
-use Rattle.std.specs.List.{range_with_len}
-use Rattle.std.proofs.lemmas.Bool.{eq-eqb, cases_eq}
-use Rattle.std.proofs.lemmas.Bool.Decides.{eqb_tells}
-use Rattle.othello_board.specs.declared.cells.Cell.{Cell}
-use Rattle.othello_board.specs.Rules.{squares}
-use Rattle.othello_board.specs.Words.{cells, cell_of}
-use Rattle.othello_board.proofs.CellLemmas.{map-range_same, map-map, cell_at-cells_of, apart}
-use Rattle.position_text.specs.declared.positions.Side.{Side}
-use Rattle.position_text.specs.declared.positions.Position.{Position}
-use Rattle.position_text.specs.Spelling.{Spells, IsBadCell, IsBadSide, spelled, side_spelled, mark_of_cell, AllSpelled}
-use Rattle.position_text.specs.Readings.{all_of, marks_of, mover_of, seen_by}
-use Rattle.std.specs.Int.{bit_at}
-use Rattle.std.proofs.lemmas.Nat.{and_comm}
-use Rattle.std.proofs.lemmas.Nat.Bits.{bit_at_and, bit_at-zero, same_from_bits}
-use Rattle.position_text.specs.declared.marks.Mark.{Mark}
-use Rattle.position_text.specs.Discs.{mark_at, HoldsFirst}
+use Rattle.position_text.proofs.Common.{◌≡◌, ◌≢◌, ℕ, zero, suc, ◌+◌, ◌<◌, ◌≤◌, cond, List, [], ◌∷◌, map, Option, Some, None, IsSome, ◌⊎◌, refl, sym, ap, ◌∙◌, arith, inl, inr, get_or, min, bit_and, subst, below_more, slice_index, option_map, range_with_len, eq-eqb, cases_eq, eqb_tells, Cell, squares, cells, cell_of, map-range_same, map-map, cell_at-cells_of, apart, Side, Position, Spells, IsBadCell, IsBadSide, spelled, side_spelled, mark_of_cell, AllSpelled, all_of, marks_of, mover_of, seen_by, bit_at, and_comm, bit_at_and, bit_at-zero, same_from_bits, Mark, mark_at, HoldsFirst}
 
 all_of_some : {X : Type 0} (f : ℕ → X) (xs : List ℕ) → all_of (map (λ s. Some (f s)) xs) ≡ Some (map f xs)
 all_of_some f [] = refl

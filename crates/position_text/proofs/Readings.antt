@@ -1,21 +1,5 @@
 -- The cells of a board, square by square, and boards with the same cells.
-use Rattle.std.proofs.Common.{◌≡◌, ℕ, ◌<◌, ◌^◌, cond, nat_eq, min, bit_and, sym, ap, subst, ◌∙◌, arith, ◌↔◌, Bool, List, length, get_or, Some, Result, Ok, refl}
-use Rattle.std.proofs.Math.Nat.{ℕ_set}
-use Rattle.std.specs.Int.{bit_at}
-use Rattle.std.proofs.lemmas.Nat.Bits.{bit_at-lt, same_from_bits_below}
-use Rattle.othello_board.specs.declared.cells.Cell.{Cell}
-use Rattle.othello_board.specs.declared.cells.Cell.TheVariants.{Empty, Own, Opp}
-use Rattle.othello_board.specs.declared.boards.Board.{Board}
-use Rattle.othello_board.specs.Words.{cell_of, cells}
-use Rattle.othello_board.proofs.CellLemmas.{apart, cell_at-cells_of}
-use Rattle.othello_board.specs.Rules.{cell_at}
-use Rattle.position_text.specs.declared.positions.Side.{Side}
-use Rattle.position_text.specs.declared.positions.Side.TheVariants.{Black, White}
-use Rattle.position_text.specs.declared.positions.Position.{Position}
-use Rattle.position_text.specs.declared.faults.TextFault.{TextFault}
-use Rattle.position_text.specs.declared.marks.Mark.TheVariants.{Disc, Blank}
-use Rattle.position_text.specs.Spelling.{side_spelled, mark_of_cell, Spells, FitsWords}
-use Rattle.position_text.specs.Discs.{mark_at, HoldsFirst}
+use Rattle.position_text.proofs.Common.{◌≡◌, ℕ, ◌<◌, ◌^◌, cond, nat_eq, min, bit_and, sym, ap, subst, ◌∙◌, arith, ◌↔◌, Bool, List, length, get_or, Some, Result, Ok, refl, ℕ_set, bit_at, bit_at-lt, same_from_bits_below, Cell, Empty, Own, Opp, Board, cell_of, cells, apart, cell_at-cells_of, cell_at, Side, Black, White, Position, TextFault, Disc, Blank, side_spelled, mark_of_cell, Spells, FitsWords, mark_at, HoldsFirst}
 
 -- whether a cell is own, as a bit
 own_bit : Cell → ℕ

@@ -1,15 +1,5 @@
 -- The written text of a position, byte by byte.
-use Rattle.std.proofs.Common.{◌≡◌, ◌≢◌, ℕ, ◌<◌, List, length, map, get_or, set, replicate, Some, inl, inr, sym, ◌∙◌, arith, length-append}
-use Rattle.std.proofs.lemmas.List.{ext_get_or, get_or_append_left, get_or-append_right, get_or-map, length-map, get_or-replicate, length-replicate, length-set, get_or-set_same, get_or-set_other}
-use Rattle.std.proofs.lemmas.Bool.{cases_lt, cases_eq}
-use Rattle.othello_board.specs.Rules.{cell_at}
-use Rattle.othello_board.specs.Words.{cells}
-use Rattle.position_text.specs.declared.positions.Side.{Side}
-use Rattle.position_text.specs.declared.positions.Position.{Position}
-use Rattle.position_text.specs.declared.marks.Mark.{Mark}
-use Rattle.position_text.specs.declared.marks.Mark.TheVariants.{Disc}
-use Rattle.position_text.specs.Spelling.{spelled, side_spelled, mark_of_cell, byte_of, written, Spells}
-use Rattle.othello_board.proofs.CellLemmas.{length-cells_of}
+use Rattle.position_text.proofs.Common.{◌≡◌, ◌≢◌, ℕ, ◌<◌, List, length, map, get_or, set, replicate, Some, inl, inr, sym, ◌∙◌, arith, length-append, ext_get_or, get_or_append_left, get_or-append_right, get_or-map, length-map, get_or-replicate, length-replicate, length-set, get_or-set_same, get_or-set_other, cases_lt, cases_eq, cell_at, cells, Side, Position, Mark, Disc, spelled, side_spelled, mark_of_cell, byte_of, written, Spells, length-cells_of}
 
 -- how the cell of a square is written
 abbrev pub byte_at : Position → ℕ → ℕ

@@ -1,29 +1,7 @@
 -- What a procedure makes of a frame, done.
-use Rattle.std.proofs.Common.{◌≡◌, ℕ, ◌+◌, ◌⊎◌, inl, inr, Bool, true, false, List, ◌++◌, Some, None, Ok, refl, sym, ◌∙◌, arith}
-use Rattle.std.specs.Prelude.{◌||◌, not, replicate}
-use Rattle.frame_tree.specs.declared.names.FrameId.{FrameId}
-use Rattle.frame_tree.specs.declared.names.State.{State}
-use Rattle.frame_tree.specs.declared.names.State.TheVariants.{Ready, Running, Computing, Waiting, Returned}
-use Rattle.frame_tree.specs.Frames.{Frame, frame_at}
-use Rattle.sched_rules.specs.declared.act.Act.{Act}
-use Rattle.sched_rules.specs.declared.act.Continuation.{Continuation}
-use Rattle.sched_rules.specs.declared.act.Continuation.TheVariants.{Grow, Spawn, Go, Wait, Compute, Return}
-use Rattle.sched_rules.specs.declared.step.StepOf.TheVariants.{Advance, Answer}
-use Rattle.sched_rules.specs.declared.step.DidOf.{DidOf}
-use Rattle.sched_rules.specs.declared.step.DidOf.TheVariants.{Went, Grew, Spawned, Waited, Computing as IsComputing, Returned as HasReturned}
-use Rattle.sched_rules.specs.Functions.{Functions}
-use Rattle.sched_rules.specs.Trees.{Tenant, stored, has_child, is_held_by, is_root}
-use Rattle.sched_rules.specs.Lone.{unless, act_tests, is_computed_by, is_run_by, holding, opened, in_state, answer_tests, answered, advance_tests, advanced, act_by_sight, then_done}
-use Rattle.sched_rules.specs.Changes.{on_tenant}
-use Rattle.sched_rules.specs.Views.{named}
-use Rattle.sched_rules.specs.Cores.{CoreState, tenant_in, step_result, shared_refusal}
-use Rattle.sched_laws.proofs.Holds.{frame_at-with_frame_words}
-use Rattle.sched_store.specs.Reads.{frames_in_core, serials_in, words_under, sight_of, may_hold, holds, is_busy_among}
-use Rattle.sched_core.specs.StepResults.{IsCome}
-use Rattle.sched_core.specs.declared.engine.Seen.{Seen}
-use Rattle.sched_core.specs.Seeing.{GoesOn, IsRunning}
+use Rattle.sched_core.proofs.Common.{◌≡◌, ℕ, ◌+◌, ◌⊎◌, inl, inr, Bool, true, false, List, ◌++◌, Some, None, Ok, refl, sym, ◌∙◌, arith, ◌||◌, not, replicate, FrameId, State, Ready, Running, Computing, Waiting, Returned, Frame, frame_at, Act, Continuation, Grow, Spawn, Go, Wait, Compute, Return, Advance, Answer, DidOf, Went, Grew, Spawned, Waited, Functions, Tenant, stored, has_child, is_held_by, is_root, unless, act_tests, is_computed_by, is_run_by, holding, opened, in_state, answer_tests, answered, advance_tests, advanced, act_by_sight, then_done, on_tenant, named, CoreState, tenant_in, step_result, shared_refusal, frame_at-with_frame_words, frames_in_core, serials_in, words_under, sight_of, may_hold, holds, is_busy_among, IsCome, Seen, GoesOn, IsRunning, AllPass}
+use Rattle.sched_rules.specs.declared.step.DidOf.TheVariants.{Computing as IsComputing, Returned as HasReturned}
 use Rattle.sched_core.proofs.Deciding.{some-is, advance-told}
-use Rattle.sched_laws.proofs.Shaped.{AllPass}
 use Rattle.sched_core.proofs.TakenStep.{IsWith, IsGoing, going, begins, then-changed}
 use Rattle.sched_core.proofs.Ending.{named-words}
 

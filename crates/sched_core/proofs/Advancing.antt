@@ -1,28 +1,6 @@
 -- An act, done: the stores, and then what comes after them.
-use Rattle.std.proofs.Common.{◌≡◌, ℕ, ◌+◌, Bool, true, false, List, [], ◌∷◌, Option, Some, None, Ok, refl, ◌∙◌, ap, arith}
-use Rattle.std.specs.Prelude.{◌||◌, length, IsSome}
-use Rattle.std.proofs.lemmas.Bool.Decides.{nat_tests}
-use Rattle.cactus_stack.specs.Nodes.{charge}
-use Rattle.frame_tree.specs.declared.names.FrameId.{FrameId}
-use Rattle.frame_tree.specs.Frames.{Frame, frame_at}
-use Rattle.frame_tree.proofs.TreeLaws.{tree-rising, found-serial}
-use Rattle.sched_rules.specs.declared.act.Act.{Act}
-use Rattle.sched_rules.specs.declared.act.Continuation.{Continuation}
-use Rattle.sched_rules.specs.declared.act.Continuation.TheVariants.{Grow, Spawn, Go, Wait, Compute, Return}
-use Rattle.sched_rules.specs.declared.step.StepOf.TheVariants.{Advance}
-use Rattle.sched_rules.specs.declared.step.DidOf.{DidOf}
-use Rattle.sched_rules.specs.Functions.{Functions}
-use Rattle.sched_rules.specs.Trees.{Tenant, has_child, stored, with_frame_words, charged_for, is_outside, is_root}
-use Rattle.sched_rules.specs.Lone.{holding, counted, is_bad_then, segments_for, then_done}
-use Rattle.sched_rules.specs.Changes.{on_tenant}
-use Rattle.sched_rules.specs.Views.{named}
-use Rattle.sched_rules.specs.Cores.{CoreState, with_tenant, without_tenant, with_outcome}
-use Rattle.sched_laws.specs.Shapes.{IsShaped, AreShaped}
-use Rattle.sched_laws.proofs.Consequences.{shaped-in}
-use Rattle.sched_laws.proofs.Holds.{length-stored, children_of-with_frame_words, length-with_frame_words, charged-with_frame_words}
-use Rattle.sched_store.specs.Reads.{TenantHasStepLeft, words_under}
-use Rattle.sched_core.specs.Seeing.{GoesOn}
-use Rattle.sched_core.specs.StepResults.{FollowsResult, IsCome}
+use Rattle.sched_core.proofs.Common.{◌≡◌, ℕ, ◌+◌, Bool, true, false, List, [], ◌∷◌, Option, Some, None, Ok, refl, ◌∙◌, ap, arith, ◌||◌, IsSome, nat_tests, charge, FrameId, Frame, frame_at, tree-rising, found-serial, Act, Continuation, Grow, Spawn, Go, Wait, Compute, Return, Advance, DidOf, Functions, Tenant, has_child, stored, with_frame_words, charged_for, is_outside, is_root, holding, counted, is_bad_then, segments_for, then_done, on_tenant, named, CoreState, with_tenant, without_tenant, with_outcome, IsShaped, AreShaped, shaped-in, length-stored, children_of-with_frame_words, length-with_frame_words, charged-with_frame_words, TenantHasStepLeft, words_under, GoesOn, FollowsResult, IsCome}
+use Rattle.std.specs.Prelude.{length}
 use Rattle.sched_core.proofs.TakenStep.{IsWith, with_tenant-twice, begins, then-changed, step-left}
 use Rattle.sched_core.proofs.Ending.{named-words}
 use Rattle.sched_core.proofs.Acting.{IsSetOut, not-false, held-found}

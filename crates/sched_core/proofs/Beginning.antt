@@ -1,29 +1,8 @@
 -- A tenant that comes, and a job of it.
-use Rattle.std.proofs.Common.{◌≡◌, ℕ, ◌+◌, ◌<◌, true, false, List, [], ◌∷◌, Option, Some, None, Ok, refl, sym, ◌∙◌, arith}
-use Rattle.std.proofs.lemmas.Bool.Decides.{nat_tests}
-use Rattle.frame_tree.specs.Frames.{has_frame}
-use Rattle.frame_tree.proofs.TreeLaws.{below-found, found-there}
-use Rattle.tenant_quota.specs.Quota.{Quota}
-use Rattle.sched_rules.specs.declared.job.Job.{Job}
-use Rattle.sched_rules.specs.declared.job.Job.TheVariants.{Live, Done, Spent, Cancelled}
-use Rattle.sched_rules.specs.declared.refusal.Refusal.TheVariants.{NoTenant}
-use Rattle.sched_rules.specs.declared.step.StepOf.TheVariants.{Admit, Submit}
-use Rattle.sched_rules.specs.declared.step.DidOf.TheVariants.{Admitted}
-use Rattle.sched_rules.specs.Functions.{Functions}
-use Rattle.sched_rules.specs.Trees.{Tenant, Tree, admitted_with, number_from, job_under}
-use Rattle.sched_rules.specs.Lone.{unless, submitted, submit_tests, opened}
-use Rattle.sched_rules.specs.Changes.{on_tenant}
-use Rattle.sched_rules.specs.Headline.{AreNumbersGiven}
-use Rattle.sched_rules.specs.Cores.{CoreState, tenant_in, step_result, shared_refusal, admit_tests}
-use Rattle.sched_rules.proofs.Tenants.{tenant_in-new}
-use Rattle.sched_rules.proofs.Isolation.{above}
-use Rattle.sched_laws.specs.Shapes.{IsShaped, AreLiveRootsThere}
-use Rattle.sched_store.specs.Changes.{with_admitted}
-use Rattle.sched_core.specs.StepResults.{FollowsResult}
+use Rattle.sched_core.proofs.Common.{◌≡◌, ℕ, ◌+◌, ◌<◌, true, false, List, [], ◌∷◌, Option, Some, None, Ok, refl, sym, ◌∙◌, arith, nat_tests, has_frame, below-found, found-there, Quota, Job, Live, Done, Spent, Cancelled, NoTenant, Admit, Submit, Admitted, Functions, Tenant, Tree, admitted_with, number_from, job_under, unless, submitted, submit_tests, opened, on_tenant, AreNumbersGiven, CoreState, tenant_in, step_result, shared_refusal, admit_tests, tenant_in-new, above, IsShaped, AreLiveRootsThere, with_admitted, FollowsResult, AllPass}
 use Rattle.sched_core.proofs.Changing.{with_tenant-new}
 use Rattle.sched_core.proofs.Deciding.{not-elsewhere}
 use Rattle.sched_core.proofs.Ending.{root-found}
-use Rattle.sched_laws.proofs.Shaped.{AllPass}
 use Rattle.sched_core.proofs.TakenStep.{all-pass, step_result-taken, IsWith, begins, then-changed}
 
 -- Submit

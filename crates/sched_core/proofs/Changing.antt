@@ -1,9 +1,5 @@
 -- One tenant changed, once and again, and looked up.
-use Rattle.std.proofs.Common.{◌≡◌, ℕ, ◌==◌, true, false, List, [], ◌∷◌, ◌++◌, Some, None, refl, arith, ap}
-use Rattle.std.proofs.lemmas.Bool.Decides.{nat_tests}
-use Rattle.sched_rules.specs.Trees.{Tenant}
-use Rattle.sched_rules.specs.Cores.{tenant_in, with_tenant}
-use Rattle.sched_rules.specs.Changes.{with_change}
+use Rattle.sched_core.proofs.Common.{◌≡◌, ℕ, ◌==◌, true, false, List, [], ◌∷◌, ◌++◌, Some, None, refl, arith, ap, nat_tests, Tenant, tenant_in, with_tenant, with_change}
 
 abbrev Entries : Type 0
 Entries = List (ℕ × Tenant)

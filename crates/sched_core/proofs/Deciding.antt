@@ -1,24 +1,6 @@
 -- The tests of a step, read off its definition.
-use Rattle.std.proofs.Common.{◌≡◌, ◌≢◌, ℕ, ◌==◌, Bool, true, false, List, [], ◌∷◌, ◌++◌, Option, Some, None, Result, Ok, Err, refl, sym, ◌∙◌, ap, arith}
-use Rattle.std.specs.Prelude.{◌||◌, not, is_err, is_some, MatchResult}
-use Rattle.std.proofs.lemmas.Bool.Decides.{nat_tests}
-use Rattle.std.proofs.Math.Bool.{or-false}
-use Rattle.frame_tree.specs.declared.names.FrameId.{FrameId}
-use Rattle.frame_tree.specs.declared.names.State.TheVariants.{Running}
-use Rattle.frame_tree.specs.Frames.{Frame, frame_at, has_frame, is_ready}
-use Rattle.frame_tree.proofs.TreeLaws.{found-serial, missing as unfound}
-use Rattle.sched_rules.specs.declared.refusal.Refusal.{Refusal}
-use Rattle.sched_rules.specs.declared.refusal.Refusal.TheVariants.{NoTenant, NoFrame, NotReady, NotHere, NotRunning, NotComputing, NotReturned, Mismatch, NoSteps, BadAct, Busy}
-use Rattle.sched_rules.specs.declared.act.Act.{Act}
-use Rattle.sched_rules.specs.declared.step.StepOf.{StepOf}
-use Rattle.sched_rules.specs.declared.step.StepOf.TheVariants.{Take, Steal, Advance, Answer, Finish}
-use Rattle.sched_rules.specs.Functions.{Functions}
-use Rattle.sched_rules.specs.Trees.{Tenant, left, is_busy_in, is_outside, is_root, has_child}
-use Rattle.sched_rules.specs.Lone.{Outcome, unless, lone, refusal_in, is_ready_at, is_run_by, is_computed_by, is_returned, taken_by, finished, no_step, act_by_sight, act_tests, advanced, applies, is_spendable}
-use Rattle.sched_rules.specs.Cores.{CoreState, tenant_in, is_busy_elsewhere, meets_busy, unless_busy, shared_refusal}
-use Rattle.sched_core.specs.declared.engine.Seen.{Seen}
-use Rattle.sched_store.specs.Reads.{is_busy_among, AreAfter, AreTenantsRising, frames_in_core, sight_of, words_under}
-use Rattle.sched_core.specs.Seeing.{IsSeen, IsRunning, missing_in, missing}
+use Rattle.sched_core.proofs.Common.{◌≡◌, ◌≢◌, ℕ, ◌==◌, Bool, true, false, List, [], ◌∷◌, ◌++◌, Option, Some, None, Result, Ok, Err, refl, sym, ◌∙◌, ap, arith, ◌||◌, not, is_err, is_some, MatchResult, nat_tests, or-false, FrameId, Running, Frame, frame_at, has_frame, is_ready, found-serial, Refusal, NoTenant, NoFrame, NotReady, NotHere, NotRunning, NotComputing, NotReturned, Mismatch, NoSteps, BadAct, Busy, Act, StepOf, Take, Steal, Advance, Answer, Finish, Functions, Tenant, left, is_busy_in, is_outside, is_root, has_child, Outcome, unless, lone, refusal_in, is_ready_at, is_run_by, is_computed_by, is_returned, taken_by, finished, no_step, act_by_sight, act_tests, advanced, applies, is_spendable, CoreState, tenant_in, is_busy_elsewhere, meets_busy, unless_busy, shared_refusal, Seen, is_busy_among, AreAfter, AreTenantsRising, frames_in_core, sight_of, words_under, IsSeen, IsRunning, missing_in, missing}
+use Rattle.frame_tree.proofs.TreeLaws.{missing as unfound}
 
 -- a step that names a frame which isn't there is refused, by its tenant's want or its own
 lost-in : {I : Type 0} (busy : Bool) (owner : Option Tenant) (serial : ℕ) (alone : Option Tenant → Result (Outcome I) Refusal) (refusal : Refusal) →

@@ -1,24 +1,6 @@
 -- A job that ends, with all its frames.
-use Rattle.std.proofs.Common.{◌≡◌, ℕ, false, List, [], ◌∷◌, Option, Some, None, Ok, refl, arith}
-use Rattle.std.specs.Prelude.{IsSome, not}
-use Rattle.frame_tree.specs.declared.names.FrameId.{FrameId}
-use Rattle.frame_tree.specs.Frames.{Frame, frame_at, path_in, root_of, IsTree}
-use Rattle.frame_tree.proofs.TreeLaws.{there-found}
-use Rattle.frame_tree.proofs.TreeChanges.{aborted-leaf}
-use Rattle.sched_rules.specs.declared.job.Job.TheVariants.{Live, Cancelled as CancelledJob}
-use Rattle.sched_rules.specs.declared.refusal.Refusal.TheVariants.{NotSpent}
-use Rattle.sched_rules.specs.declared.step.StepOf.TheVariants.{Finish, Spend, Cancel}
+use Rattle.sched_core.proofs.Common.{◌≡◌, ℕ, false, List, [], ◌∷◌, Option, Some, None, Ok, refl, arith, IsSome, not, FrameId, Frame, frame_at, path_in, root_of, IsTree, there-found, aborted-leaf, Live, Cancelled as CancelledJob, NotSpent, Finish, Spend, Cancel, Functions, Tenant, has_child, job_at, ended, spent, finished, finish_tests, is_spendable, on_tenant, without_under, named, job_of, CoreState, tenant_in, step_result, shared_refusal, AreShaped, path-there, shaped-in, live-root, root-above, frames_in_core, words_under}
 use Rattle.sched_rules.specs.declared.step.DidOf.TheVariants.{Cancelled}
-use Rattle.sched_rules.specs.Functions.{Functions}
-use Rattle.sched_rules.specs.Trees.{Tenant, has_child, job_at}
-use Rattle.sched_rules.specs.Lone.{ended, spent, finished, finish_tests, is_spendable}
-use Rattle.sched_rules.specs.Changes.{on_tenant, without_under}
-use Rattle.sched_rules.specs.Views.{named, job_of}
-use Rattle.sched_rules.specs.Cores.{CoreState, tenant_in, step_result, shared_refusal}
-use Rattle.sched_laws.specs.Shapes.{AreShaped}
-use Rattle.sched_laws.proofs.Parts.{path-there}
-use Rattle.sched_laws.proofs.Consequences.{shaped-in, live-root, root-above}
-use Rattle.sched_store.specs.Reads.{frames_in_core, words_under}
 use Rattle.sched_core.proofs.Changing.{with_change-there}
 use Rattle.sched_core.proofs.TakenStep.{IsWith, IsGoing, going}
 

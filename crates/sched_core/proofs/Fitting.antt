@@ -1,25 +1,5 @@
 -- What is seen of a core whose frames all fit.
-use Rattle.std.proofs.Common.{◌≡◌, ℕ, Bool, true, List, [], ◌∷◌, Some, Result, refl, arith}
-use Rattle.std.specs.Prelude.{is_ok}
-use Rattle.tenant_quota.specs.Quota.{Quota}
-use Rattle.frame_tree.specs.declared.names.FrameId.{FrameId}
-use Rattle.frame_tree.specs.Frames.{Frame, frame_at, IsTree}
-use Rattle.frame_tree.proofs.TreeLaws.{IsUnder, IsTop, tree-induction}
-use Rattle.sched_rules.specs.declared.refusal.Refusal.{Refusal}
-use Rattle.sched_rules.specs.declared.step.StepOf.{StepOf}
-use Rattle.sched_rules.specs.declared.step.DidOf.{DidOf}
-use Rattle.sched_rules.specs.Functions.{Functions}
-use Rattle.sched_rules.specs.Trees.{Tree, Tenant, sight}
-use Rattle.sched_rules.specs.Laws.{Fitting, Rooting, mark_of_state, AllFit, EveryFrameFits}
-use Rattle.sched_rules.specs.Cores.{CoreState, shared_by_nobody}
-use Rattle.sched_rules.specs.Headline.{IsOneStep}
-use Rattle.sched_laws.specs.Fitted.{RootFits, origins_after}
-use Rattle.sched_laws.proofs.Holds.{F, kids, fits-holds}
-use Rattle.sched_laws.proofs.Fits.{IsLawful, sight-top, sight-under, FitsSomehow}
-use Rattle.sched_store.specs.Reads.{sight_of, words_under}
-use Rattle.sched_core.specs.declared.engine.Seen.{Seen}
-use Rattle.sched_core.specs.Keeping.{IsKeptFitting, IsFitting}
-use Rattle.sched_core.specs.Seeing.{IsSeen, IsReturnedUnder}
+use Rattle.sched_core.proofs.Common.{◌≡◌, ℕ, Bool, true, List, [], ◌∷◌, Some, Result, refl, arith, is_ok, Quota, FrameId, Frame, frame_at, IsTree, IsUnder, IsTop, tree-induction, Refusal, StepOf, DidOf, Functions, Tree, Tenant, sight, Fitting, Rooting, mark_of_state, AllFit, EveryFrameFits, CoreState, shared_by_nobody, IsOneStep, RootFits, origins_after, F, kids, fits-holds, IsLawful, sight-top, sight-under, FitsSomehow, sight_of, words_under, Seen, IsKeptFitting, IsFitting, IsSeen, IsReturnedUnder}
 use Rattle.sched_core.proofs.Parents.{parent-of}
 use Rattle.sched_core.proofs.Stepping.{kept-still, fits-still}
 

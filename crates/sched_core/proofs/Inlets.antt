@@ -1,35 +1,7 @@
 -- A returned frame is taken in by its parent.
-use Rattle.std.proofs.Common.{◌≡◌, ◌≢◌, ℕ, ◌<◌, ◌==◌, Bool, true, false, List, [], ◌∷◌, Option, Some, None, Result, Ok, Err, refl, sym, ◌∙◌, ap, arith}
-use Rattle.std.specs.Prelude.{◌||◌, ◌&&◌, not, IsSome, if◌then◌else◌}
-use Rattle.std.proofs.lemmas.Bool.Decides.{nat_tests}
-use Rattle.std.proofs.lemmas.Bool.{eq-eqb}
-use Rattle.frame_tree.specs.declared.names.FrameId.{FrameId}
-use Rattle.frame_tree.specs.declared.names.State.{State}
-use Rattle.frame_tree.specs.declared.names.State.TheVariants.{Ready, Running, Computing, Waiting, Returned}
-use Rattle.frame_tree.specs.Frames.{Frame, frame_at, name_of, parent_of, goes_under, aborted, frames_without, IsTree}
-use Rattle.frame_tree.specs.TreeLaws.{is_child_of, Each}
-use Rattle.frame_tree.proofs.TreeLaws.{tree-rising, found-each, found-serial, there-found, under-there, under-below}
-use Rattle.frame_tree.proofs.TreeChanges.{child-under-parent, aborted-itself, frame_at_other-without}
-use Rattle.sched_rules.specs.declared.refusal.Refusal.{Refusal}
-use Rattle.sched_rules.specs.declared.refusal.Refusal.TheVariants.{NoTenant, NoFrame, NotReturned, BadAct, Busy}
-use Rattle.sched_rules.specs.declared.act.InletAct.{InletAct}
-use Rattle.sched_rules.specs.declared.step.StepOf.TheVariants.{Inlet}
-use Rattle.sched_rules.specs.declared.step.DidOf.TheVariants.{TakenIn}
-use Rattle.sched_rules.specs.Functions.{Functions}
-use Rattle.sched_rules.specs.Trees.{Tenant, Tree, words_in, is_outside, has_child, stored}
-use Rattle.sched_rules.specs.Lone.{Outcome, unless, lone, refusal_in, inlet_tests, taken_in, staying, aborted_beside, does_wait, is_waiting, is_returned, holding, counted, in_state}
-use Rattle.sched_rules.specs.Changes.{on_tenant}
-use Rattle.sched_rules.specs.Views.{named}
-use Rattle.sched_rules.specs.Cores.{CoreState, tenant_in, is_busy_elsewhere, unless_busy, step_result, shared_refusal}
-use Rattle.sched_laws.specs.Shapes.{AreShaped}
-use Rattle.sched_laws.proofs.Consequences.{shaped-in, returned-leaf}
-use Rattle.sched_store.specs.Reads.{is_busy_among, AreTenantsRising, words_under, frames_in_core, TenantHasStepLeft}
-use Rattle.sched_core.specs.declared.engine.Seen.{Seen}
-use Rattle.sched_core.specs.Seeing.{MayBeTakenIn, IsReturnedUnder}
-use Rattle.sched_core.specs.StepResults.{FollowsResult, staying_with}
+use Rattle.sched_core.proofs.Common.{◌≡◌, ◌≢◌, ℕ, ◌<◌, ◌==◌, Bool, true, false, List, [], ◌∷◌, Option, Some, None, Result, Ok, Err, refl, sym, ◌∙◌, ap, arith, ◌||◌, ◌&&◌, not, IsSome, if◌then◌else◌, nat_tests, eq-eqb, FrameId, State, Ready, Running, Computing, Waiting, Returned, Frame, frame_at, name_of, parent_of, goes_under, aborted, frames_without, IsTree, is_child_of, Each, tree-rising, found-each, found-serial, there-found, under-there, under-below, child-under-parent, aborted-itself, frame_at_other-without, Refusal, NoTenant, NoFrame, NotReturned, BadAct, Busy, InletAct, Inlet, TakenIn, Functions, Tenant, Tree, words_in, is_outside, has_child, stored, Outcome, unless, lone, refusal_in, inlet_tests, taken_in, staying, aborted_beside, does_wait, is_waiting, is_returned, holding, counted, in_state, on_tenant, named, CoreState, tenant_in, is_busy_elsewhere, unless_busy, step_result, shared_refusal, AreShaped, shaped-in, returned-leaf, is_busy_among, AreTenantsRising, words_under, frames_in_core, TenantHasStepLeft, Seen, MayBeTakenIn, IsReturnedUnder, FollowsResult, staying_with, AllPass}
 use Rattle.sched_core.proofs.Deciding.{some-is}
 use Rattle.sched_core.proofs.Parents.{inlet-told}
-use Rattle.sched_laws.proofs.Shaped.{AllPass}
 use Rattle.sched_core.proofs.TakenStep.{all-pass, IsWith, begins, then-changed, step-left}
 use Rattle.sched_core.proofs.Acting.{not-false, held-at}
 

@@ -1,15 +1,5 @@
 -- What a look at a frame tells.
-use Rattle.std.proofs.Common.{◌≡◌, ℕ, Option, Some, None, refl}
-use Rattle.std.specs.Prelude.{option_map, option_and_then}
-use Rattle.frame_tree.specs.declared.names.FrameId.{FrameId}
-use Rattle.frame_tree.specs.Frames.{frame_at}
-use Rattle.tenant_quota.specs.declared.account.Left.{Left}
-use Rattle.sched_rules.specs.declared.refusal.Refusal.TheVariants.{NoFrame}
-use Rattle.sched_rules.specs.Trees.{Tenant, left}
-use Rattle.sched_rules.specs.Cores.{CoreState, tenant_in}
-use Rattle.sched_rules.specs.Views.{left_in_core, frame_in_core}
-use Rattle.sched_laws.proofs.Holds.{no-frame as lacks}
-use Rattle.sched_core.specs.Seeing.{missing_in, missing}
+use Rattle.sched_core.proofs.Common.{◌≡◌, ℕ, Option, Some, None, refl, option_map, option_and_then, FrameId, frame_at, Left, NoFrame, Tenant, left, CoreState, tenant_in, left_in_core, frame_in_core, no-frame as lacks, missing_in, missing}
 
 -- what isn't found in a tenant that is there
 lost : (owner : Option Tenant) (serial : ℕ) (rest : Left) → option_map left owner ≡ Some rest →

@@ -1,21 +1,6 @@
 -- The parent of a frame that is seen.
-use Rattle.std.proofs.Common.{◌≡◌, ℕ, Bool, true, List, [], ◌∷◌, Option, Some, None, Result, Ok, refl, sym, ◌∙◌, arith}
-use Rattle.std.specs.Prelude.{IsSome, not, ◌==◌}
-use Rattle.frame_tree.specs.declared.names.FrameId.{FrameId}
-use Rattle.frame_tree.specs.Frames.{Frame, frame_at, name_of, parent_of}
-use Rattle.frame_tree.proofs.TreeLaws.{there-found, under-there}
-use Rattle.sched_rules.specs.declared.refusal.Refusal.{Refusal}
-use Rattle.sched_rules.specs.declared.refusal.Refusal.TheVariants.{NotReturned, NoSteps, BadAct, Busy}
-use Rattle.sched_rules.specs.declared.act.InletAct.{InletAct}
-use Rattle.sched_rules.specs.declared.step.StepOf.TheVariants.{Inlet}
-use Rattle.sched_rules.specs.Functions.{Functions}
-use Rattle.sched_rules.specs.Trees.{Tenant, words_in, is_outside, left}
-use Rattle.sched_rules.specs.Lone.{unless, refusal_in, is_returned, taken_in}
-use Rattle.sched_rules.specs.Views.{named}
-use Rattle.sched_rules.specs.Cores.{CoreState, shared_refusal}
-use Rattle.sched_core.specs.declared.engine.Seen.{Seen}
-use Rattle.sched_store.specs.Reads.{is_busy_among, AreTenantsRising, words_under}
-use Rattle.sched_core.specs.Seeing.{IsSeen, IsReturnedUnder}
+use Rattle.sched_core.proofs.Common.{◌≡◌, ℕ, Bool, true, List, [], ◌∷◌, Option, Some, None, Result, Ok, refl, sym, ◌∙◌, arith, IsSome, not, FrameId, Frame, frame_at, name_of, parent_of, there-found, under-there, Refusal, NotReturned, NoSteps, BadAct, Busy, InletAct, Inlet, Functions, Tenant, words_in, is_outside, left, unless, refusal_in, is_returned, taken_in, named, CoreState, shared_refusal, Seen, is_busy_among, AreTenantsRising, words_under, IsSeen, IsReturnedUnder}
+use Rattle.std.specs.Prelude.{◌==◌}
 use Rattle.sched_core.proofs.Deciding.{busy-anywhere, second-part, seen-words}
 
 -- the parent that is named

@@ -1,17 +1,5 @@
 -- A tenant that reserves more.
-use Rattle.std.proofs.Common.{◌≡◌, ℕ, inl, inr, false, Option, Some, None, Ok, refl, arith}
-use Rattle.std.proofs.lemmas.Bool.{cases_Bool}
-use Rattle.tenant_quota.specs.Quota.{Quota}
-use Rattle.sched_rules.specs.declared.refusal.Refusal.TheVariants.{NoTenant, Lower}
-use Rattle.sched_rules.specs.declared.step.StepOf.TheVariants.{AdmitMore}
-use Rattle.sched_rules.specs.declared.step.DidOf.TheVariants.{AdmittedMore}
-use Rattle.sched_rules.specs.Functions.{Functions}
-use Rattle.sched_rules.specs.Trees.{Tenant}
-use Rattle.sched_rules.specs.Lone.{is_lower, raised}
-use Rattle.sched_rules.specs.Changes.{on_tenant, with_reserve}
-use Rattle.sched_rules.specs.Cores.{CoreState, tenant_in, reservations_in, reserved_by, is_beyond, step_result, shared_refusal}
-use Rattle.sched_store.specs.Reads.{IsAboveOwn}
-use Rattle.sched_core.specs.StepResults.{FollowsResult}
+use Rattle.sched_core.proofs.Common.{◌≡◌, ℕ, inl, inr, false, Option, Some, None, Ok, refl, arith, cases_Bool, Quota, NoTenant, Lower, AdmitMore, AdmittedMore, Functions, Tenant, is_lower, raised, on_tenant, with_reserve, CoreState, tenant_in, reservations_in, reserved_by, is_beyond, step_result, shared_refusal, IsAboveOwn, FollowsResult}
 use Rattle.sched_core.proofs.TakenStep.{step_result-taken, begins, then-changed}
 
 -- what is taken

@@ -1,17 +1,5 @@
 -- What is read of a core that keeps what it keeps: nothing is cut off, and the newest ready frame has the greatest serial.
-use Rattle.std.proofs.Common.{◌≡◌, ℕ, Option, Some, None, refl}
-use Rattle.std.specs.Prelude.{IfSome, option_map, option_and_then}
-use Rattle.frame_tree.specs.declared.names.FrameId.{FrameId}
-use Rattle.frame_tree.specs.Frames.{newest_ready_of}
-use Rattle.frame_tree.proofs.TreeLaws.{tree-rising}
-use Rattle.sched_rules.specs.Trees.{Tenant, left}
-use Rattle.sched_rules.specs.Cores.{CoreState, tenant_in}
-use Rattle.sched_rules.specs.Views.{left_in_core, newest_ready_in}
-use Rattle.sched_laws.specs.Shapes.{IsShaped}
-use Rattle.sched_laws.proofs.Consequences.{shaped-in}
-use Rattle.sched_laws.proofs.Sums.{left-segments, left-nodes, left-steps}
-use Rattle.sched_laws.proofs.Latest.{newest-found}
-use Rattle.sched_core.specs.Keeping.{IsKeptCore, IsRestOf, IsNewestReadyOf}
+use Rattle.sched_core.proofs.Common.{◌≡◌, ℕ, Option, Some, None, refl, IfSome, option_map, option_and_then, FrameId, newest_ready_of, tree-rising, Tenant, left, CoreState, tenant_in, left_in_core, newest_ready_in, IsShaped, shaped-in, left-segments, left-nodes, left-steps, newest-found, IsKeptCore, IsRestOf, IsNewestReadyOf}
 
 -- what a tenant has left
 pub rest-of : (shared : CoreState) (number : ℕ) → IsKeptCore shared → IfSome (left_in_core shared number) (λ rest. IsRestOf (tenant_in shared.tenants number) rest)

@@ -1,28 +1,5 @@
 -- What one step does, from how it is judged; and a list of steps.
-use Rattle.std.proofs.Common.{◌≡◌, ℕ, inl, inr, true, List, [], ◌∷◌, ◌++◌, None, Result, Ok, Err, refl, sym, ◌∙◌, append_assoc, append-nil, length, take, ◌≤◌, arith}
-use Rattle.std.proofs.lemmas.Bool.{true≢false}
-use Rattle.std.proofs.lemmas.Grind.{common_steps}
-use Rattle.sched_rules.specs.declared.refusal.Refusal.{Refusal}
-use Rattle.sched_rules.specs.declared.refusal.Refusal.TheVariants.{OutOfMemory}
-use Rattle.sched_rules.specs.declared.step.StepOf.{StepOf}
-use Rattle.sched_rules.specs.declared.step.DidOf.{DidOf}
-use Rattle.sched_rules.specs.Functions.{Functions}
-use Rattle.sched_rules.specs.Lone.{Outcome}
-use Rattle.sched_rules.specs.Runs.{answer_of}
-use Rattle.sched_rules.specs.Cores.{CoreState, step_result, shared_after, shared_refusal}
-use Rattle.sched_rules.specs.Headline.{is_admission, IsAnswerTo, IsOneStep, after_answer, after_answers, AreAnswersTo, IsHeadline, AreNumbersGiven}
-use Rattle.sched_rules.proofs.Isolation.{right-answer, step-taken, shared-after-taken, headline}
-use Rattle.sched_rules.specs.Laws.{Fitting, Rooting}
-use Rattle.sched_rules.specs.Runs.{only}
-use Rattle.sched_rules.specs.Headline.{taken_steps}
-use Rattle.std.specs.Prelude.{OnErr, is_ok}
-use Rattle.sched_laws.specs.Fitted.{CoreFits, RootFits, RootsFit, origins_of, origins_after}
-use Rattle.sched_laws.proofs.Fits.{IsLawful}
-use Rattle.sched_laws.proofs.FitAnswers.{answer-keeps, run-fits}
-use Rattle.sched_laws.proofs.Consequences.{shaped_answer}
-use Rattle.sched_laws.proofs.Sums.{reserved-answer}
-use Rattle.sched_core.specs.Keeping.{IsKeptCore}
-use Rattle.sched_core.specs.StepResults.{FollowsResult, IsAdmitted}
+use Rattle.sched_core.proofs.Common.{◌≡◌, ℕ, inl, inr, true, List, [], ◌∷◌, ◌++◌, None, Result, Ok, Err, refl, sym, ◌∙◌, append_assoc, append-nil, length, take, ◌≤◌, arith, true≢false, common_steps, Refusal, OutOfMemory, StepOf, DidOf, Functions, Outcome, answer_of, CoreState, step_result, shared_after, shared_refusal, is_admission, IsAnswerTo, IsOneStep, after_answer, after_answers, AreAnswersTo, IsHeadline, AreNumbersGiven, right-answer, step-taken, shared-after-taken, headline, Fitting, Rooting, only, taken_steps, OnErr, is_ok, CoreFits, RootFits, RootsFit, origins_of, origins_after, IsLawful, answer-keeps, run-fits, shaped_answer, reserved-answer, IsKeptCore, FollowsResult, IsAdmitted}
 
 -- the core after a step that was judged
 after-step_result : {I A : Type 0} (functions : Functions I A) (before : CoreState) (step : StepOf A) (judgement : Result (Outcome I) Refusal) (answer : Result (DidOf I) Refusal) →

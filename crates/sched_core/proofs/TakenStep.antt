@@ -1,25 +1,5 @@
 -- A step that is taken: what it comes to, and one change of its tenant after another.
-use Rattle.std.proofs.Common.{◌≡◌, ℕ, ◌==◌, Bool, true, false, List, [], ◌∷◌, Option, Some, None, Result, Ok, Err, inl, inr, refl, sym, ◌∙◌, ap, arith}
-use Rattle.std.specs.Prelude.{MatchResult, OnOk, OnErr}
-use Rattle.std.proofs.lemmas.Bool.Decides.{nat_tests}
-use Rattle.frame_tree.specs.declared.names.FrameId.{FrameId}
-use Rattle.frame_tree.specs.declared.names.State.{State}
-use Rattle.frame_tree.specs.declared.names.State.TheVariants.{Running}
-use Rattle.frame_tree.specs.Frames.{Frame, frame_at}
-use Rattle.sched_rules.specs.declared.refusal.Refusal.{Refusal}
-use Rattle.sched_rules.specs.declared.refusal.Refusal.TheVariants.{NoTenant, OutOfMemory}
-use Rattle.sched_rules.specs.declared.step.StepOf.{StepOf}
-use Rattle.sched_rules.specs.declared.step.StepOf.TheVariants.{Take, Steal}
-use Rattle.sched_rules.specs.declared.step.DidOf.{DidOf}
-use Rattle.sched_rules.specs.Functions.{Functions}
-use Rattle.sched_rules.specs.Trees.{Tenant, left}
-use Rattle.sched_rules.specs.Lone.{Outcome, unless, lone, refusal_in, at_frame, take_tests, steal_tests, taken_by, in_state, counted}
-use Rattle.sched_rules.specs.Changes.{on_tenant, with_change}
-use Rattle.sched_rules.specs.Cores.{CoreState, tenant_in, with_tenant, unless_busy, step_result, shared_refusal, shared_with}
-use Rattle.sched_rules.proofs.Tenants.{tenant_in-with_tenant}
-use Rattle.sched_laws.proofs.Shaped.{AllPass}
-use Rattle.sched_store.specs.Reads.{TenantHasStepLeft}
-use Rattle.sched_core.specs.StepResults.{FollowsResult, IsAdmitted}
+use Rattle.sched_core.proofs.Common.{◌≡◌, ℕ, ◌==◌, Bool, true, false, List, [], ◌∷◌, Option, Some, None, Result, Ok, Err, inl, inr, refl, sym, ◌∙◌, ap, arith, MatchResult, OnOk, OnErr, nat_tests, FrameId, State, Running, Frame, frame_at, Refusal, NoTenant, OutOfMemory, StepOf, Take, Steal, DidOf, Functions, Tenant, left, Outcome, unless, lone, refusal_in, at_frame, take_tests, steal_tests, taken_by, in_state, counted, on_tenant, with_change, CoreState, tenant_in, with_tenant, unless_busy, step_result, shared_refusal, shared_with, tenant_in-with_tenant, AllPass, TenantHasStepLeft, FollowsResult, IsAdmitted}
 use Rattle.sched_core.proofs.Changing.{with_change-there}
 use Rattle.sched_core.proofs.Deciding.{some-is}
 

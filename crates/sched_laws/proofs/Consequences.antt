@@ -1,26 +1,6 @@
 -- What the shape of a tenant gives.
-use Rattle.std.proofs.Common.{◌≡◌, ℕ, suc, ◌+◌, ◌-◌, ◌≤◌, inl, inr, true, List, [], ◌∷◌, Some, length, ap, ◌∙◌, arith, Bool, false, eqb, Option, None, Result, Ok, Err, ◌++◌}
-use Rattle.std.proofs.lemmas.Bool.{cases_Bool, ne_eqb}
-use Rattle.std.proofs.lemmas.List.Sums.{sum_by-cons}
-use Rattle.sched_rules.specs.cactus_stack.Nodes.{charge}
-use Rattle.tenant_quota.specs.Quota.{IsWithinLimits, Quota}
-use Rattle.tenant_quota.specs.Accounts.{IsWithinReserve}
-use Rattle.frame_tree.specs.declared.names.State.TheVariants.{Computing, Returned}
-use Rattle.frame_tree.specs.Frames.{Frame, frame_at, path_in, root_of, children_of}
-use Rattle.frame_tree.proofs.TreeValues.{root-there}
-use Rattle.sched_rules.specs.declared.job.Job.{Job, TheVariants.Live, TheVariants.Cancelled as CancelledJob}
-use Rattle.sched_rules.specs.Trees.{Tree, Tenant, account_in, charged_for, is_root, job_at, is_live_at, number_from, job_under, with_ended}
-use Rattle.sched_rules.specs.Laws.{mark_of_state}
-use Rattle.sched_laws.specs.Shapes.{IsShaped, live_count, AreRootsLive, AreLiveRootsThere, HaveWords, AreShaped}
+use Rattle.sched_laws.proofs.Common.{◌≡◌, ℕ, suc, ◌+◌, ◌-◌, ◌≤◌, inl, inr, true, List, [], ◌∷◌, Some, length, ap, ◌∙◌, arith, Bool, false, eqb, Option, None, Result, Ok, Err, ◌++◌, cases_Bool, ne_eqb, sum_by-cons, charge, IsWithinLimits, Quota, IsWithinReserve, Computing, Returned, Frame, frame_at, path_in, root_of, children_of, root-there, Job, Live, Cancelled as CancelledJob, Tree, Tenant, account_in, charged_for, is_root, job_at, is_live_at, number_from, job_under, with_ended, mark_of_state, IsShaped, live_count, AreRootsLive, AreLiveRootsThere, HaveWords, AreShaped, Refusal, NoTenant, DidOf, StepOf, Admit, AdmitMore, Functions, Outcome, lone, lone_step, tenant_of, CoreState, tenant_in, with_tenant, without_tenant, with_outcome, meets_busy, unless_busy, unless_beyond, is_beyond, reserved_by, reservations_in, step_among, step_result, shared_after, after_answer, after_answers, HasEnded, KeepsEnded}
 use Rattle.sched_laws.proofs.Shaped.{returned-childless, LeftShaped, unless-passed, step-shaped, admitted-shaped, came, by-kinds}
-use Rattle.sched_rules.specs.declared.{refusal.Refusal.Refusal, refusal.Refusal.TheVariants.NoTenant, step.DidOf.DidOf}
-use Rattle.sched_rules.specs.declared.step.StepOf.{StepOf, TheVariants.Admit, TheVariants.AdmitMore}
-use Rattle.sched_rules.specs.Functions.{Functions}
-use Rattle.sched_rules.specs.Lone.{Outcome, lone, lone_step}
-use Rattle.sched_rules.specs.Runs.{tenant_of}
-use Rattle.sched_rules.specs.Cores.{CoreState, tenant_in, with_tenant, without_tenant, with_outcome, meets_busy, unless_busy, unless_beyond, is_beyond, reserved_by, reservations_in, step_among, step_result, shared_after}
-use Rattle.sched_rules.specs.Headline.{after_answer, after_answers}
-use Rattle.sched_laws.specs.Ended.{HasEnded, KeepsEnded}
 
 -- a frame that has returned or computes has no child
 pub returned-leaf : (tenant : Tenant) (s : ℕ) (f : Frame (List ℕ)) → IsShaped tenant → frame_at tenant.frames s ≡ Some f → f.state ≡ Returned → children_of tenant.frames s ≡ []

@@ -1,30 +1,10 @@
 -- Every answer leaves a core fitting, and so does every list of them.
-use Rattle.std.proofs.Common.{◌≡◌, ◌≢◌, ℕ, ◌<◌, ◌≤◌, inl, inr, true, false, eqb, List, [], ◌∷◌, ◌++◌, Option, Some, None, Result, Ok, Err, refl, ap, sym, ◌∙◌, subst, arith, append_assoc, append-nil, suc, ◌+◌, length}
-use Rattle.std.specs.Prelude.{is_ok, ◌==◌}
-use Rattle.std.proofs.lemmas.Bool.{cases_Bool, cases_eq, eq-eqb, ne_eqb}
-use Rattle.tenant_quota.specs.Quota.{Quota}
-use Rattle.frame_tree.specs.Frames.{root_of}
-use Rattle.sched_rules.specs.declared.{refusal.Refusal.Refusal, act.Continuation.Continuation}
-use Rattle.sched_rules.specs.declared.step.StepOf.{StepOf, TheVariants.Admit, TheVariants.AdmitMore, TheVariants.Submit}
-use Rattle.sched_rules.specs.declared.step.DidOf.{DidOf, TheVariants.Admitted, TheVariants.Submitted}
-use Rattle.sched_rules.specs.Functions.{Functions}
-use Rattle.sched_rules.specs.Trees.{Tenant, admitted_with, Tree}
-use Rattle.sched_rules.specs.Laws.{Fitting, Rooting, ParentFits, NewChildFits}
-use Rattle.sched_rules.specs.Lone.{Outcome, lone, lone_step, submit_tests, submitted}
-use Rattle.sched_rules.specs.Runs.{tenant_of, only, state_after, answer_of, alone_from, answers_from}
-use Rattle.sched_rules.specs.Cores.{CoreState, shared_by_nobody, tenant_in, with_outcome, meets_busy, step_result, newest_after, shared_with}
-use Rattle.sched_rules.specs.Headline.{is_admission, IsAnswerTo, AreAnswersTo, after_answer, after_answers, taken_steps, AreNumbersGiven}
-use Rattle.sched_rules.proofs.Tenants.{tenant_in-with_outcome, tenant_in_other-with_outcome, known-number}
-use Rattle.sched_rules.proofs.Isolation.{step-taken, there, more-there, above, step_result-step, shared-after-taken, found}
-use Rattle.sched_laws.specs.Shapes.{IsShaped, AreShaped}
-use Rattle.sched_laws.specs.Fitted.{TenantFits, CoreFits, submits, origins_of, RootFits, RootsFit, origins_after, StaysFitting, JobsFit}
+use Rattle.sched_laws.proofs.Common.{◌≡◌, ◌≢◌, ℕ, ◌<◌, ◌≤◌, inl, inr, true, false, eqb, List, [], ◌∷◌, ◌++◌, Option, Some, None, Result, Ok, Err, refl, ap, sym, ◌∙◌, subst, arith, append_assoc, append-nil, suc, ◌+◌, length, is_ok, ◌==◌, cases_Bool, cases_eq, eq-eqb, ne_eqb, Quota, root_of, Refusal, Continuation, StepOf, Admit, AdmitMore, Submit, DidOf, Admitted, Submitted, Functions, Tenant, admitted_with, Tree, Fitting, Rooting, ParentFits, NewChildFits, Outcome, lone, lone_step, submit_tests, submitted, tenant_of, only, state_after, answer_of, alone_from, answers_from, CoreState, shared_by_nobody, tenant_in, with_outcome, meets_busy, step_result, newest_after, shared_with, is_admission, IsAnswerTo, AreAnswersTo, after_answer, after_answers, taken_steps, AreNumbersGiven, tenant_in-with_outcome, tenant_in_other-with_outcome, known-number, step-taken, there, more-there, above, step_result-step, shared-after-taken, found, IsShaped, AreShaped, TenantFits, CoreFits, submits, origins_of, RootFits, RootsFit, origins_after, StaysFitting, JobsFit, filter-append, Job, Spent as SpentJob, Cancelled as CancelledJob}
 use Rattle.sched_laws.proofs.Shaped.{unless-passed, came, by-effects}
 use Rattle.sched_laws.proofs.Consequences.{root-above, live-root, shaped-in, not-busy, more-taken, shaped_answer}
 use Rattle.sched_laws.proofs.Holds.{Lists}
 use Rattle.sched_laws.proofs.Fits.{IsLawful, LeftFits}
 use Rattle.sched_laws.proofs.FitSteps.{ended-fits, submit-fits, taken-fits, advanced-fits, answered-fits, inlet-fits, finished-fits}
-use Rattle.std.proofs.lemmas.List.Elements.{filter-append}
-use Rattle.sched_rules.specs.declared.job.Job.{Job, TheVariants.Spent as SpentJob, TheVariants.Cancelled as CancelledJob}
 
 -- a step that submits nothing adds no origin
 same-origins : (fits : Fitting) (rooted : Rooting) (origins : Lists) (o : Option Tenant) → LeftFits fits rooted origins o → LeftFits fits rooted (origins ++ []) o

@@ -1,26 +1,8 @@
 -- Every step of a tenant leaves its frames fitting, and its jobs holding what they were asked: Advance and Answer.
-use Rattle.std.proofs.Common.{◌≡◌, ℕ, Bool, true, false, List, [], ◌∷◌, ◌++◌, Some, ap, sym, ◌∙◌, subst, arith, ◌≢◌, ◌+◌, ◌<◌, not, Option, None, length, refl, inl, inr, ◌||◌, ◌&&◌}
-use Rattle.frame_tree.specs.declared.names.State.{State, TheVariants.Running, TheVariants.Ready}
-use Rattle.frame_tree.specs.declared.names.FrameId.{FrameId}
-use Rattle.frame_tree.specs.Frames.{frame_at, children_of, with_state, values_of, path_in, parent_of, goes_under, children_under, aborted, frames_without, IsTree, new_frame, is_ready}
-use Rattle.frame_tree.proofs.TreeLaws.{found-serial, there-found, found-path, missing, frame_at-left, frame_at-push, tree-rising, IsUnder, top-path, under-there, named-under}
-use Rattle.sched_rules.specs.declared.{act.Act.Act, act.Continuation.Continuation, act.InletAct.InletAct}
-use Rattle.sched_rules.specs.Functions.{Functions}
-use Rattle.sched_rules.specs.Trees.{Tree, Tenant, sight, with_frame_words, stored, is_outside, has_child, frame_words, words_in, is_root, without_job, kept_words}
-use Rattle.sched_rules.specs.Laws.{Fitting, Rooting, Mark, Neither, Computes, mark_of_state, has_one, grown, children_after, mark_after, ParentFits, NewChildFits, ActFits, EveryFrameFits, HasReturned, AllFit, children_left}
-use Rattle.sched_rules.specs.Lone.{is_bad_act, act_by_sight, counted, in_state, holding, then_done, advanced, answered, opened, ended, staying, taken_by, is_computed_by, is_returned, advance_tests, answer_tests, inlet_tests, does_wait, taken_in, finish_tests, finished}
-use Rattle.sched_laws.specs.Shapes.{IsShaped}
-use Rattle.sched_laws.specs.Fitted.{JobsFit, TenantFits, JobFits}
+use Rattle.sched_laws.proofs.Common.{◌≡◌, ℕ, Bool, true, false, List, [], ◌∷◌, ◌++◌, Some, ap, sym, ◌∙◌, subst, arith, ◌≢◌, ◌+◌, ◌<◌, not, Option, None, length, refl, inl, inr, ◌||◌, ◌&&◌, State, Running, Ready, FrameId, frame_at, children_of, with_state, values_of, path_in, parent_of, goes_under, children_under, aborted, frames_without, IsTree, new_frame, is_ready, found-serial, there-found, found-path, missing, frame_at-left, frame_at-push, tree-rising, IsUnder, top-path, under-there, named-under, Act, Continuation, InletAct, Functions, Tree, Tenant, sight, with_frame_words, stored, is_outside, has_child, frame_words, words_in, is_root, without_job, kept_words, Fitting, Rooting, Mark, Neither, Computes, mark_of_state, has_one, grown, children_after, mark_after, ParentFits, NewChildFits, ActFits, EveryFrameFits, HasReturned, AllFit, children_left, is_bad_act, act_by_sight, counted, in_state, holding, then_done, advanced, answered, opened, ended, staying, taken_by, is_computed_by, is_returned, advance_tests, answer_tests, inlet_tests, does_wait, taken_in, finish_tests, finished, IsShaped, JobsFit, TenantFits, JobFits, false≢true, eq-eqb, eqb-true, cases_Bool, not-false, or_parts, padded, is_that, is_child_of, has_frame-above, frame_at-stays, frame_at_other-without, tree-aborted, tree-without, tree-without_job, tree-new_frame, new-frame-next, path_in-alike, Job, Live, Done}
 use Rattle.sched_laws.proofs.Parts.{has_child-with_frame_words, path-there}
 use Rattle.sched_laws.proofs.Holds.{Lists, F, kids, fits-holds, with_frame_words-alike, tree-with_frame_words, paths-with_frame_words, children_of-with_frame_words, frame_at_other-with_frame_words, holds-fits, among-kids, BeforeWithout, holds-without, BeforeAbort, holds-aborted, holds-push, holds-without_job, frame_at-with_frame_words, found-same}
 use Rattle.sched_laws.proofs.Fits.{IsLawful, IsKeptAbove, kept-above, jobs-kept, has-origin, with_frame_words-twice, words-with_state, roots-with_frame_words, fits-words-state, fits-words, all-fit, has-one, LeftFits, fits-spawned, words-found, holds-after-words, jobs-append, jobs-ended, root-top, parent-neither, fits-counted, fits-same-mark}
-use Rattle.std.proofs.lemmas.Bool.{false≢true, eq-eqb, eqb-true, cases_Bool, not-false, or_parts}
-use Rattle.sched_rules.specs.cactus_stack.Nodes.{padded}
-use Rattle.frame_tree.specs.TreeLaws.{is_that, is_child_of}
-use Rattle.frame_tree.proofs.Forest.{has_frame-above}
-use Rattle.frame_tree.proofs.TreeChanges.{frame_at-stays, frame_at_other-without, tree-aborted, tree-without, tree-without_job}
-use Rattle.frame_tree.proofs.TreeValues.{tree-new_frame, new-frame-next, path_in-alike}
-use Rattle.sched_rules.specs.declared.job.Job.{Job, TheVariants.Live, TheVariants.Done}
 use Rattle.sched_laws.proofs.Shaped.{AllPass, run-free, returned-marked, returned-childless, staying-parent, inlet-stored-shaped}
 
 -- what an act leaves, of the frame itself and of a new child

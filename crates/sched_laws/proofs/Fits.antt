@@ -1,26 +1,8 @@
 -- What stands above a frame, and a law of a procedure applied there.
-use Rattle.std.proofs.Common.{◌≡◌, ◌≢◌, ℕ, ◌≤◌, inl, inr, true, false, List, [], ◌∷◌, ◌++◌, Option, Some, None, refl, ap, sym, ◌∙◌, subst, arith, suc, ◌+◌, Bool, eqb, ltb, length}
-use Rattle.std.proofs.lemmas.List.{map-append, reverse-append}
-use Rattle.std.proofs.lemmas.Bool.{cases_Bool, false≢true, eq-eqb, eqb-true, eqb-false, cases_eq, ne_eqb}
-use Rattle.frame_tree.specs.Frames.{frame_at, path_in, parent_of, children_of, IsTree, has_frame, AllBelow, children_under, with_state, values_of, IsNextFrame, new_frame}
-use Rattle.frame_tree.specs.TreeLaws.{is_that, is_child_of, Each}
-use Rattle.frame_tree.proofs.TreeLaws.{found-serial, tree-rising, IsUnder, IsTop, placed, children-by-paths, found-there, there-found, found-path, below-found, missing, frame_at-left, found-each}
-use Rattle.frame_tree.proofs.TreeChanges.{frame_at-stays, rising-filter, filter-found}
-use Rattle.sched_rules.specs.declared.job.Job.{Job}
-use Rattle.sched_rules.specs.Functions.{Functions}
-use Rattle.sched_rules.specs.Trees.{Tree, Tenant, frame_words, words_in, sight, has_child, is_root, with_frame_words, with_ended, is_live_at}
-use Rattle.sched_rules.specs.Laws.{Fitting, Rooting, Mark, Neither, mark_of_state, ParentFits, NextKeeps, InletKeeps, AcceptKeeps, EveryFrameFits, AllFit, has_one}
-use Rattle.sched_laws.specs.Shapes.{IsShaped, AreMarkedChildless, AreLiveRootsThere, live_count}
-use Rattle.sched_laws.specs.Fitted.{JobFits, JobsFit, TenantFits}
+use Rattle.sched_laws.proofs.Common.{◌≡◌, ◌≢◌, ℕ, ◌≤◌, inl, inr, true, false, List, [], ◌∷◌, ◌++◌, Option, Some, None, refl, ap, sym, ◌∙◌, subst, arith, suc, ◌+◌, Bool, eqb, ltb, length, map-append, reverse-append, cases_Bool, false≢true, eq-eqb, eqb-true, eqb-false, cases_eq, ne_eqb, frame_at, path_in, parent_of, children_of, IsTree, has_frame, AllBelow, children_under, with_state, values_of, IsNextFrame, new_frame, is_that, is_child_of, Each, found-serial, tree-rising, IsUnder, IsTop, placed, children-by-paths, found-there, there-found, found-path, below-found, missing, frame_at-left, found-each, frame_at-stays, rising-filter, filter-found, Job, Functions, Tree, Tenant, frame_words, words_in, sight, has_child, is_root, with_frame_words, with_ended, is_live_at, Fitting, Rooting, Mark, Neither, mark_of_state, ParentFits, NextKeeps, InletKeeps, AcceptKeeps, EveryFrameFits, AllFit, has_one, IsShaped, AreMarkedChildless, AreLiveRootsThere, live_count, JobFits, JobsFit, TenantFits, filter, padded, State, has_frame-above, tree-new_frame, new-frame-next, parent_of-path_under, AllBelow-alike, path_in-alike, frame_at-with_state, frame_at_other-with_state, tree-with_state, counted, in_state, holding, opened}
 use Rattle.sched_laws.proofs.Parts.{childless-at, no-child, path-there}
 use Rattle.sched_laws.proofs.Consequences.{root-counted}
 use Rattle.sched_laws.proofs.Holds.{Lists, F, Fact, kids, Holds, fits-holds, found-same, among-kids, not-own-child, holds-with_frame_words, with_frame_words-alike, tree-with_frame_words, frame_at-with_frame_words, frame_at_other-with_frame_words, holds-fits, BeforeState, holds-with_state, BeforePush, holds-push}
-use Rattle.std.specs.List.{filter}
-use Rattle.sched_rules.specs.cactus_stack.Nodes.{padded}
-use Rattle.frame_tree.specs.declared.names.State.{State}
-use Rattle.frame_tree.proofs.Forest.{has_frame-above}
-use Rattle.frame_tree.proofs.TreeValues.{tree-new_frame, new-frame-next, parent_of-path_under, AllBelow-alike, path_in-alike, frame_at-with_state, frame_at_other-with_state, tree-with_state}
-use Rattle.sched_rules.specs.Lone.{counted, in_state, holding, opened}
 
 -- the laws of a procedure
 pub record IsLawful {I A : Type 0} (functions : Functions I A) (fits : Fitting) (rooted : Rooting) : Type 0 where

@@ -1,18 +1,5 @@
 -- A tree with other words in a frame: what is found, whose children, and what is charged.
-use Rattle.std.proofs.Common.{◌≡◌, ◌≢◌, ℕ, suc, ◌+◌, ◌≤◌, inl, inr, Bool, false, eqb, List, [], ◌∷◌, ◌++◌, Some, length, refl, ap, sym, ◌∙◌, arith, true, not, Option, None, subst, append-nil}
-use Rattle.std.specs.List.{filter}
-use Rattle.std.proofs.lemmas.List.{length-set}
-use Rattle.std.proofs.lemmas.List.Sums.{sum_by-append, sum_by-cons}
-use Rattle.std.proofs.lemmas.Bool.{cases_Bool, eqb-true, cases_eq, false≢true, ne_eqb, not-true, not_from_false}
-use Rattle.sched_rules.specs.cactus_stack.Nodes.{charge}
-use Rattle.frame_tree.specs.Frames.{Frame, frame_at, has_frame, children_of, values_of, IsTree, parent_of, goes_under, aborted, frames_without, with_state, IsNextFrame}
-use Rattle.frame_tree.specs.TreeLaws.{is_child_of, AreSerialsRising, AreAlike, is_that, Each, if_kept}
-use Rattle.frame_tree.proofs.TreeLaws.{above-missing, children-by-paths, there-found, found-serial, missing, frame_at-push, frame_at_other-push, tree-rising, placed, under-through, found-each, each-found}
-use Rattle.frame_tree.proofs.TreeValues.{tree-alike, children_of-push, frame_at-with_state, frame_at_other-with_state, children_of-with_state, values_of-with_state}
-use Rattle.sched_rules.specs.Trees.{Tree, charged_for, with_frame_words, stored}
-use Rattle.frame_tree.specs.declared.names.State.{State}
-use Rattle.frame_tree.proofs.TreeChanges.{aborted-itself, rising-filter, frame_at-filter, frame_at-stays, filter-found, tree-aborted, tree-without, frame_at-without, frame_at_other-without, aborted-leaf}
-use Rattle.sched_rules.specs.Laws.{Fitting, Mark, mark_of_state, EachFits, EveryFrameFits}
+use Rattle.sched_laws.proofs.Common.{◌≡◌, ◌≢◌, ℕ, suc, ◌+◌, ◌≤◌, inl, inr, Bool, false, eqb, List, [], ◌∷◌, ◌++◌, Some, length, refl, ap, sym, ◌∙◌, arith, true, not, Option, None, subst, append-nil, filter, length-set, sum_by-append, sum_by-cons, cases_Bool, eqb-true, cases_eq, false≢true, ne_eqb, not-true, not_from_false, charge, Frame, frame_at, has_frame, children_of, values_of, IsTree, parent_of, goes_under, aborted, frames_without, with_state, IsNextFrame, is_child_of, AreSerialsRising, AreAlike, is_that, Each, if_kept, above-missing, children-by-paths, there-found, found-serial, missing, frame_at-push, frame_at_other-push, tree-rising, placed, under-through, found-each, each-found, tree-alike, children_of-push, frame_at-with_state, frame_at_other-with_state, children_of-with_state, values_of-with_state, Tree, charged_for, with_frame_words, stored, State, aborted-itself, rising-filter, frame_at-filter, frame_at-stays, filter-found, tree-aborted, tree-without, frame_at-without, frame_at_other-without, aborted-leaf, Fitting, Mark, mark_of_state, EachFits, EveryFrameFits}
 
 -- stores keep the number of words
 pub length-stored : (stores : List (ℕ × ℕ)) (words : List ℕ) → length (stored stores words) ≡ length words

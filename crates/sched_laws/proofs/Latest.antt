@@ -1,12 +1,5 @@
 -- Which ready frame `newest_ready_of` finds.
-use Rattle.std.proofs.Common.{◌≡◌, ◌≢◌, ℕ, ◌<◌, inl, inr, true, false, List, [], ◌∷◌, Option, Some, None, refl, sym, subst, arith}
-use Rattle.std.proofs.lemmas.Bool.{cases_Bool, false≢true, eq-eqb, ne_eqb}
-use Rattle.frame_tree.specs.declared.{names.State.State, names.FrameId.FrameId}
-use Rattle.frame_tree.specs.Frames.{Frame, frame_at, has_frame, is_ready, ready_name, first_of_two, newest_ready_of, IsReadyAt}
-use Rattle.frame_tree.specs.TreeLaws.{AllAboveSerial, AreSerialsRising}
-use Rattle.frame_tree.proofs.TreeLaws.{missing}
-use Rattle.sched_rules.specs.Trees.{Tree}
-use Rattle.sched_laws.specs.Newest.{IsNewestReady}
+use Rattle.sched_laws.proofs.Common.{◌≡◌, ◌≢◌, ℕ, ◌<◌, inl, inr, true, false, List, [], ◌∷◌, Option, Some, None, refl, sym, subst, arith, cases_Bool, false≢true, eq-eqb, ne_eqb, State, FrameId, Frame, frame_at, has_frame, is_ready, ready_name, first_of_two, newest_ready_of, IsReadyAt, AllAboveSerial, AreSerialsRising, missing, Tree, IsNewestReady}
 
 abbrev F : Type 0
 F = Frame (List ℕ)

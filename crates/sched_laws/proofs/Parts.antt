@@ -1,23 +1,6 @@
 -- Each part of a tenant's shape, under each change of the tree and of the jobs.
-use Rattle.std.proofs.Common.{◌≡◌, ◌≢◌, ℕ, suc, ◌+◌, ◌≤◌, ◌⊎◌, inl, inr, Bool, true, false, eqb, ltb, List, [], ◌∷◌, ◌++◌, Option, Some, None, length, refl, ap, sym, ◌∙◌, arith, length-append, ◌-◌, ◌*◌, ◌<◌, not, replicate}
-use Rattle.std.specs.List.{filter}
-use Rattle.std.proofs.lemmas.List.Elements.{filter-append}
-use Rattle.std.proofs.lemmas.Bool.{cases_Bool, cases_eq, false≢true, eq-eqb, ne_eqb, eqb-false, ltb-false, not_from_false}
-use Rattle.frame_tree.specs.declared.names.State.{State}
-use Rattle.frame_tree.specs.Frames.{Frame, frame_at, has_frame, path_in, AllBelow, parent_of, with_state, children_of, values_of, IsNextFrame, IsTree, goes_under, aborted, frames_without, new_frame}
-use Rattle.frame_tree.specs.TreeLaws.{is_child_of, Each, AreAlike}
-use Rattle.frame_tree.proofs.TreeLaws.{there-found, found-serial, found-path, missing, frame_at-push, frame_at_other-push, tree-rising, each-found, found-each, children-by-paths, found-there, found-ends}
-use Rattle.frame_tree.proofs.TreeChanges.{filter-found, frame_at-stays, AllBelow-filter, tree-aborted, tree-without, tree-without_job}
-use Rattle.frame_tree.proofs.TreeValues.{tree-push, children_of-push, tree-with_state, frame_at-with_state, frame_at_other-with_state, children_of-with_state, tree-new_frame, new-frame-next, parent_of-path_under, AllBelow-alike, path_in-alike, with_state-alike, values_of-with_state}
-use Rattle.sched_rules.specs.declared.job.Job.{Job, TheVariants.Live}
-use Rattle.sched_rules.specs.Trees.{Tree, has_child, is_live_at, with_frame_words, with_ended, Tenant, charged_for, is_root}
-use Rattle.sched_rules.specs.Laws.{Neither, mark_of_state}
-use Rattle.sched_laws.specs.Shapes.{AreMarkedChildless, live_count, AreRootsLive, IsRootThere, AreLiveRootsThere, HaveWords, IsShaped}
+use Rattle.sched_laws.proofs.Common.{◌≡◌, ◌≢◌, ℕ, suc, ◌+◌, ◌≤◌, ◌⊎◌, inl, inr, Bool, true, false, eqb, ltb, List, [], ◌∷◌, ◌++◌, Option, Some, None, length, refl, ap, sym, ◌∙◌, arith, length-append, ◌-◌, ◌*◌, ◌<◌, not, replicate, filter, filter-append, cases_Bool, cases_eq, false≢true, eq-eqb, ne_eqb, eqb-false, ltb-false, not_from_false, State, Frame, frame_at, has_frame, path_in, AllBelow, parent_of, with_state, children_of, values_of, IsNextFrame, IsTree, goes_under, aborted, frames_without, new_frame, is_child_of, Each, AreAlike, there-found, found-serial, found-path, missing, frame_at-push, frame_at_other-push, tree-rising, each-found, found-each, children-by-paths, found-there, found-ends, filter-found, frame_at-stays, AllBelow-filter, tree-aborted, tree-without, tree-without_job, tree-push, children_of-push, tree-with_state, frame_at-with_state, frame_at_other-with_state, children_of-with_state, tree-new_frame, new-frame-next, parent_of-path_under, AllBelow-alike, path_in-alike, with_state-alike, values_of-with_state, Job, Live, Tree, has_child, is_live_at, with_frame_words, with_ended, Tenant, charged_for, is_root, Neither, mark_of_state, AreMarkedChildless, live_count, AreRootsLive, IsRootThere, AreLiveRootsThere, HaveWords, IsShaped, length-replicate, charge, padded, EndsIn, AllBelow-append, has_frame-above, path_in-left, path_in-right, counted, in_state, holding, opened, ended}
 use Rattle.sched_laws.proofs.Holds.{children_of-with_frame_words, length-with_frame_words, with_frame_words-alike, tree-with_frame_words, charged-one, charged-with_frame_words, charged-append, charged-filter, charged-values}
-use Rattle.std.proofs.lemmas.List.{length-replicate}
-use Rattle.sched_rules.specs.cactus_stack.Nodes.{charge, padded}
-use Rattle.frame_tree.proofs.Forest.{EndsIn, AllBelow-append, has_frame-above, path_in-left, path_in-right}
-use Rattle.sched_rules.specs.Lone.{counted, in_state, holding, opened, ended}
 
 -- a frame that computes or has returned has no child in this tree
 abbrev pub IsMarkedChildless : Tree → Frame (List ℕ) → Type 0

@@ -1,15 +1,6 @@
 -- A frame is spendable exactly where no step is left, its Advance would be refused by what the act can't do, or its Inlet by a bad store.
-use Rattle.std.proofs.Common.{◌≡◌, ℕ, ◌⊎◌, inl, inr, Bool, true, false, not, ◌||◌, ◌&&◌, eqb, ltb, List, [], ◌∷◌, Option, Some, None, refl, ap, sym, ◌∙◌, arith}
+use Rattle.sched_laws.proofs.Common.{◌≡◌, ℕ, ◌⊎◌, inl, inr, Bool, true, false, not, ◌||◌, ◌&&◌, eqb, ltb, List, [], ◌∷◌, Option, Some, None, refl, ap, sym, ◌∙◌, arith, cases_Bool, false≢true, eq-eqb, eqb-true, not-false, or_cases, or_left, or_right, and_parts, and_from, State, Running, FrameId, Frame, frame_at, parent_of, Refusal, Advance, Inlet, NotRunning, NoSteps, BadAct, NoNodes, NoSegments, NotReturned, Busy, Functions, Tenant, words_in, left, is_outside, has_child, is_busy_in, unless, applies, refusal_in, lone_refusal, is_run, is_run_by, is_returned, act_by_sight, is_bad_act, is_spawn, segments_for, act_tests, advance_tests, advanced, inlet_tests, taken_in, inlet_under, is_bad_inlet, IsSpendable, IsActRefusal, IsStuck, IsBadInlet, MayBeSpent}
 use Rattle.std.specs.Prelude.{◌↔◌}
-use Rattle.std.proofs.lemmas.Bool.{cases_Bool, false≢true, eq-eqb, eqb-true, not-false, or_cases, or_left, or_right, and_parts, and_from}
-use Rattle.frame_tree.specs.declared.{names.State.State, names.State.TheVariants.Running, names.FrameId.FrameId}
-use Rattle.frame_tree.specs.Frames.{Frame, frame_at, parent_of}
-use Rattle.sched_rules.specs.declared.{refusal.Refusal.Refusal, step.StepOf.TheVariants.Advance, step.StepOf.TheVariants.Inlet}
-use Rattle.sched_rules.specs.declared.refusal.Refusal.TheVariants.{NotRunning, NoSteps, BadAct, NoNodes, NoSegments, NotReturned, Busy}
-use Rattle.sched_rules.specs.Functions.{Functions}
-use Rattle.sched_rules.specs.Trees.{Tenant, words_in, left, is_outside, has_child, is_busy_in}
-use Rattle.sched_rules.specs.Lone.{unless, applies, refusal_in, lone_refusal, is_run, is_run_by, is_returned, act_by_sight, is_bad_act, is_spawn, segments_for, act_tests, advance_tests, advanced, inlet_tests, taken_in, inlet_under, is_bad_inlet, IsSpendable}
-use Rattle.sched_laws.specs.Spends.{IsActRefusal, IsStuck, IsBadInlet, MayBeSpent}
 
 -- the tests of an Advance, as tests
 abbrev Tests : Bool → Bool → Bool → Bool → Bool → List (Bool × Refusal)

@@ -1,22 +1,5 @@
 -- What all tenants have reserved and are charged, under each answer.
-use Rattle.std.proofs.Common.{◌≡◌, ◌↔◌, ℕ, ◌+◌, ◌*◌, ◌≤◌, false, ◌||◌, ltb, leb, List, [], ◌∷◌, Option, Some, None, Result, Ok, Err, length, refl, ap, sym, ◌∙◌, subst, arith}
-use Rattle.std.proofs.lemmas.List.Sums.{sum_by-cons}
-use Rattle.std.proofs.lemmas.Bool.{false≢true, ltb-false, le-ltb, or_parts}
-use Rattle.tenant_quota.specs.Quota.{Quota}
-use Rattle.tenant_quota.specs.Accounts.{reserved_segments, reserved_nodes}
-use Rattle.tenant_quota.specs.declared.account.Account.{Account}
-use Rattle.sched_rules.specs.declared.refusal.Refusal.{Refusal, TheVariants.NoTenant, TheVariants.Lower}
-use Rattle.sched_rules.specs.declared.step.StepOf.{StepOf, TheVariants.Admit, TheVariants.AdmitMore}
-use Rattle.sched_rules.specs.declared.step.DidOf.{DidOf, TheVariants.Admitted}
-use Rattle.sched_rules.specs.Functions.{Functions}
-use Rattle.sched_rules.specs.Trees.{Tenant, admitted_with, account_in, charged_for, left}
-use Rattle.sched_rules.specs.Lone.{Outcome, lone, lone_step, is_lower, raised}
-use Rattle.sched_rules.specs.Runs.{tenant_of}
-use Rattle.sched_rules.specs.Views.{free_in}
-use Rattle.sched_rules.specs.Cores.{CoreState, tenant_in, with_tenant, without_tenant, with_outcome, accounts_in, reservations_in, is_full, reserved_by, is_beyond, admit_tests, step_result, shared_after, charged_in}
-use Rattle.sched_rules.specs.Headline.{is_admission, after_answer, after_answers}
-use Rattle.sched_rules.proofs.Isolation.{there}
-use Rattle.sched_laws.specs.Shapes.{IsShaped, AreShaped, IsReservedWithin, IsCovered}
+use Rattle.sched_laws.proofs.Common.{◌≡◌, ◌↔◌, ℕ, ◌+◌, ◌*◌, ◌≤◌, false, ◌||◌, ltb, leb, List, [], ◌∷◌, Option, Some, None, Result, Ok, Err, length, refl, ap, sym, ◌∙◌, subst, arith, sum_by-cons, false≢true, ltb-false, le-ltb, or_parts, Quota, reserved_segments, reserved_nodes, Account, Refusal, NoTenant, Lower, StepOf, Admit, AdmitMore, DidOf, Admitted, Functions, Tenant, admitted_with, account_in, charged_for, left, Outcome, lone, lone_step, is_lower, raised, tenant_of, free_in, CoreState, tenant_in, with_tenant, without_tenant, with_outcome, accounts_in, reservations_in, is_full, reserved_by, is_beyond, admit_tests, step_result, shared_after, charged_in, is_admission, after_answer, after_answers, there, IsShaped, AreShaped, IsReservedWithin, IsCovered}
 use Rattle.sched_laws.proofs.Shaped.{unless-passed, by-kinds}
 use Rattle.sched_laws.proofs.FitAnswers.{taken-alone}
 use Rattle.sched_laws.proofs.Consequences.{more-taken}

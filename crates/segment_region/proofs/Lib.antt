@@ -1,3 +1,4 @@
+mod Common
 pub mod Entries
 pub mod Whole
 pub mod Counts

@@ -1,24 +1,9 @@
 -- Rows of places in memory: one place is taken out and put back, or seen through a `&`, and memory becomes a row and a row memory.
-use mathlib.Core.Path.{◌≡◌, refl, sym}
-use Prim.Native.Nat.{ℕ, zero, suc, ◌+◌, ◌*◌, ◌<◌}
+use Rattle.segment_region.proofs.Common.{◌≡◌, refl, ℕ, ◌+◌, ◌*◌, ◌<◌, zero-mul, suc-mul, List, [], ◌∷◌, length, get_or, Ura, full_share, ty_array, Val, ent, sep, Fml, Lft, ftrue, fsep, fat, froom, Logic, sem, ‵, some, ◌⊛◌, ◌$◌, ◌∵◌, !, qed, by, move, keep, use1, pick, split, join, frame, fsplit, fjoin, rewrite, done, part_at, part_out, Option, Some, None, type_size, El, R, el_x, elτ, place_owned, row_owned, place_lent, row_lent}
+use mathlib.Core.Path.{sym}
+use Prim.Native.Nat.{zero, suc}
 use native.Mathlib.Omega.{arith}
-use native.Mathlib.Nat.{zero-mul, suc-mul}
-use mathlib.Core.List.{List, [], ◌∷◌}
-use lib.ListN.{length, set, get_or, replicate}
-use seplogic.Ra.Ura.{Ura}
-use base.Fraction.{full_share}
-use mir.Syntax.{ty_array}
-use mir.Val.{Val}
-use base.Logic.{ent, sep}
-use base.Fml.{Fml, Lft, ftrue, fsep, fat, froom}
-use types.Logic.{Logic, sem}
-use types.Kit.{‵, some, ◌⊛◌, ◌$◌, ◌∵◌, !, qed, by, move, keep, use1, pick, split, join, frame, fsplit, fjoin, rewrite, done}
-use denote.Memory.{part_at}
-use borrow.Table.OneValue.{part_out}
-use Rattle.std.specs.Prelude.{Option, Some, None}
-use Rattle.std.specs.Mem.{type_size}
-use Rattle.core.proofs.mem.Param.{El, R, el_x, elτ}
-use Rattle.segment_region.specs.Ownership.{place_owned, row_owned, place_lent, row_lent}
+use lib.ListN.{set, replicate}
 
 -- the bytes of a place
 abbrev pub place_size : El → ℕ

@@ -1,25 +1,6 @@
 -- The machine values of the owners: a base is one pointer, and the cells and the title take no bytes.
-use mathlib.Core.Path.{◌≡◌, refl, subst}
-use Prim.Native.Nat.{ℕ}
-use mathlib.Core.List.{List, [], ◌∷◌, ◌++◌}
-use seplogic.Ra.Ura.{Ura}
-use mir.Val.{Val, vstruct, vcons, vnil, of_list}
-use base.Logic.{ent, emp, sep}
-use base.Fml.{Lft}
-use types.Logic.{Logic, sem}
-use types.Kit.{Item, Goal, Seq, Step, step, ‵, ◌$◌, ◌∵◌, !, qed, move, done, drop as skip, fpick, fpack, fsplit, fjoin, feq_i, feq_l, rewrite}
-use denote.RattleType.{RattleType, Valss}
-use denote.Laws.{Is, shows}
-use denote.RawPtr.{RawPtr, ptr_val}
-use denote.Shadow.{makes_shadow}
-use denote.Steps.{nothing, peeks}
-use denote.Struct.Struct.{Struct, within}
-use denote.Struct.Owning.{shape}
+use Rattle.segment_region.proofs.Common.{◌≡◌, refl, subst, ℕ, List, [], ◌∷◌, ◌++◌, Ura, Val, vstruct, vcons, vnil, of_list, ent, emp, sep, Lft, Logic, sem, Item, Goal, Seq, Step, step, ‵, ◌$◌, ◌∵◌, !, qed, move, done, drop as skip, fpick, fpack, fsplit, fjoin, feq_i, feq_l, rewrite, RattleType, Valss, Is, shows, RawPtr, ptr_val, makes_shadow, nothing, peeks, Struct, within, shape, Tuple, tuple_type, El, R, elτ, one, lawful, Good, word, IsFilled}
 use denote.Struct.Declared as Declared
-use denote.Struct.Tuple.{Tuple, tuple_type}
-use Rattle.core.proofs.mem.Param.{El, R, elτ, one, lawful}
-use Rattle.std_alloc.proofs.RcSteps.{Good, word}
-use Rattle.segment_region.specs.Places.{IsFilled}
 use Rattle.segment_region.specs.contracts.cells.Base as BaseType
 use Rattle.segment_region.specs.contracts.cells.Cells as CellsType
 

@@ -1,18 +1,6 @@
 -- A `&` to the cells can be made of a loan of them, copied, and used for a shorter time: so for each place.
-use Prim.Native.Nat.{ℕ, ◌+◌}
-use Rattle.std.specs.Prelude.{List, [], ◌∷◌, Option, Some, None}
-use Rattle.std.specs.Mem.{type_size}
-use seplogic.Ra.Ura.{Ura}
-use base.Fml.{Lft, Incl, ftrue, ffalse}
-use types.Logic.{Logic}
-use denote.RattleType.{RattleType, RowLaws}
-use denote.Param.Laws.{Laws}
-use denote.RawPtr.{Ptr, block_ptr, null_ptr}
-use denote.Sharing.{ShrLaws, said}
-use denote.SharingLaws.{beside_shr_laws, nothing_shr_laws, said_shr_laws}
-use denote.Shares.{Shares-less}
-use denote.Struct.Lending.{Lends, Lends-both, Lends-nothing, Lends-said, Lends-false}
-use Rattle.segment_region.specs.Ownership.{place_owned, place_lent, row_owned, row_lent, fits, places_owned, places_lent}
+use Rattle.segment_region.proofs.Common.{ℕ, ◌+◌, Option, Some, None, type_size, Ura, Lft, Incl, ftrue, ffalse, Logic, RattleType, RowLaws, Laws, Ptr, block_ptr, null_ptr, ShrLaws, said, beside_shr_laws, nothing_shr_laws, said_shr_laws, Shares-less, Lends, Lends-both, Lends-nothing, Lends-said, Lends-false, place_owned, place_lent, row_owned, row_lent, fits, places_owned, places_lent}
+use Rattle.std.specs.Prelude.{List, [], ◌∷◌}
 
 module _ (R : RattleType) (shared : RowLaws R) where
   place-laws : (block byte : ℕ) (place : Option R.Denot) → ShrLaws (place_lent R block byte place)

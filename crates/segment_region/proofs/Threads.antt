@@ -1,16 +1,6 @@
 -- The owners may cross threads where what they own may.
-use Rattle.std.specs.Prelude.{ℕ, ◌+◌, List, [], ◌∷◌, Option, Some, None}
-use Rattle.std.specs.Mem.{type_size}
-use base.Fraction.{full_share}
-use base.Shift.{Keyless}
-use denote.RattleType.{RattleType}
-use denote.RawPtr.{Ptr, block_ptr, null_ptr}
-use denote.Struct.Struct.{exits_of}
-use denote.Struct.Owning.{shape, fields, to}
-use denote.Param.Send.{IsSend, IsSync, Common, AllSend, part_keyless, owning_send, struct_send, struct_sync, sendable}
-use Rattle.core.specs.declared.alloc.Allocator.{Ghosts}
-use Rattle.std_alloc.proofs.SendSync.{FreesAnywhere, quiet}
-use Rattle.segment_region.specs.Ownership.{row_owned, row_lent, places_owned, places_lent}
+use Rattle.segment_region.proofs.Common.{Option, Some, None, type_size, full_share, Keyless, RattleType, Ptr, block_ptr, null_ptr, exits_of, shape, fields, to, IsSend, IsSync, Common, AllSend, part_keyless, owning_send, struct_send, struct_sync, sendable, Ghosts, FreesAnywhere, quiet, row_owned, row_lent, places_owned, places_lent}
+use Rattle.std.specs.Prelude.{ℕ, ◌+◌, List, [], ◌∷◌}
 use Rattle.segment_region.specs.contracts.cells.Cells as CellsType
 use Rattle.segment_region.specs.contracts.cells.Title as TitleType
 

@@ -1,11 +1,7 @@
 -- What taking, giving and linking keep.
-use Rattle.std.proofs.Common.{◌≡◌, ◌≢◌, Bool, true, false, if◌then◌else◌, ℕ, zero, suc, ◌+◌, ◌-◌, ◌<◌, ◌≤◌, List, [], ◌∷◌, length, replicate, Option, None, Some, get_or, refl, ap, sym, subst, ◌∙◌, arith, get_or-set_same, get_or-set_other}
-use Rattle.std.proofs.Math.ListN.{set}
-use Rattle.std.proofs.lemmas.List.{length-set, length-replicate}
-use Rattle.segment_region.specs.Segments.{Segment, Segments, IsTaken, IsFree, taken_count, with_segment_words, with_link}
-use Rattle.segment_region.specs.Places.{IsFilled}
-use Rattle.segment_region.specs.Blocks.{WordBlock, place_entry, place_link, link_in, segments_of_blocks, IsLink, next_of, IsFreeList, IsWhole}
-use Rattle.segment_region.specs.declared.block.Link.{Link}
+use Rattle.segment_region.proofs.Common.{◌≢◌, Bool, true, false, if◌then◌else◌, zero, suc, ◌-◌, ◌≤◌, replicate, ap, sym, ◌∙◌, arith, get_or-set_same, get_or-set_other, set, length-replicate, Segment, Segments, IsTaken, IsFree, taken_count, with_segment_words, with_link, IsFilled, WordBlock, place_entry, place_link, link_in, segments_of_blocks, IsLink, next_of, IsFreeList, IsWhole, Link}
+use Rattle.std.proofs.Common.{◌≡◌, ℕ, ◌+◌, ◌<◌, List, [], ◌∷◌, length, Option, None, Some, get_or, refl, subst}
+use Rattle.std.proofs.lemmas.List.{length-set}
 use Rattle.segment_region.proofs.Counts.{taken_count-take, taken_count-give, taken_count-write, taken_count-replicate, taken_count-le-length}
 use Rattle.segment_region.proofs.Entries.{length-segments_of_blocks, get_or-segments_of_blocks, none_from_mark, segments_of_blocks-set, segments_of_blocks-more, segments_of_blocks-less, segments_of_blocks-none, segment_of_block-free, segment_of_block-taken, BlockAt, TakenBlock, taken_block, taken_is, words_is, link_is}
 

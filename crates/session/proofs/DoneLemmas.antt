@@ -1,17 +1,6 @@
 -- True replies make true DONE lines and true tables.
-use Rattle.std.proofs.Common.{◌≡◌, ℕ, ◌+◌, List, [], ◌∷◌, ◌++◌, length, Bool, true, false, Option, Some, None, refl, sym, ap, ◌∙◌}
-use Rattle.line_io.specs.Lines.{LineText, Whole, TooLong}
-use Rattle.tenant_quota.specs.Quota.{Quota}
-use Rattle.session.specs.declared.standings.Standing.{Standing}
-use Rattle.session.specs.declared.standings.Standing.TheVariants.{Pending, Done}
-use Rattle.session.specs.Calls.{Call, Hello, Get, OfficeReply, Welcome, Job, Told, Gone}
-use Rattle.session.specs.Forms.{Form, HelloOf, form_of}
-use Rattle.session.specs.Requests.{Request, Fault, Makes, Tabulates, Ends, request, form_request, quota_of, quota_request}
-use Rattle.session.specs.Turns.{Faulted, Closed, turns, turn_text, reply_text, table_text, calls_in, leaving, next_reply, later_replies, seated_after}
-use Rattle.session.specs.Sessions.{calls_for}
-use Rattle.session.specs.Asks.{Asked, asked_at, with_call, asks_after, SaysTrue, ShowsFound, AllTrue}
+use Rattle.session.proofs.Common.{◌≡◌, ℕ, ◌+◌, List, [], ◌∷◌, ◌++◌, length, Bool, true, false, Option, Some, None, refl, sym, ap, ◌∙◌, LineText, Whole, TooLong, Quota, Standing, Pending, Done, Call, Hello, Get, OfficeReply, Welcome, Job, Told, Gone, Form, HelloOf, form_of, Request, Fault, Makes, Tabulates, Ends, request, form_request, quota_of, quota_request, Faulted, Closed, turns, turn_text, reply_text, table_text, calls_in, leaving, next_reply, later_replies, seated_after, calls_for, Asked, asked_at, with_call, asks_after, SaysTrue, ShowsFound, AllTrue, with_request, asks_of_lines, StandingHolds, ReplyHolds, TableHolds, TableReplyHolds, EachDoneIsTrue}
 use Rattle.session.proofs.Served.{next_turns}
-use Rattle.session.specs.DoneLines.{with_request, asks_of_lines, StandingHolds, ReplyHolds, TableHolds, TableReplyHolds, EachDoneIsTrue}
 
 -- ---- where no tenant is there, nothing is asked for
 

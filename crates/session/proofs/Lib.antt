@@ -1,3 +1,4 @@
+mod Common
 pub mod PlaceLemmas
 pub mod Served
 pub mod TrueCalls

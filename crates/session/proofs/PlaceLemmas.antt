@@ -1,10 +1,5 @@
 -- One entry more among the places of a table.
-use Rattle.std.proofs.Common.{◌≡◌, ℕ, suc, ◌+◌, ◌-◌, ◌<◌, ◌≤◌, List, [], ◌∷◌, ◌++◌, length, take, replicate, slice_set, arith, sym, ap, ap₂, ◌∙◌, subst}
-use Rattle.std.proofs.lemmas.List.{length-append, append_assoc}
-use Rattle.std.proofs.Math.Seq.{take-append_seam, set-append_seam}
-use Rattle.othello_eval.specs.declared.bound.Bound.{Bound}
-use Rattle.session.specs.declared.bounds.Bounds.TheInside.{Inside}
-use Rattle.session.specs.Places.{no_bound, bounds_held, IsHeld}
+use Rattle.session.proofs.Common.{◌≡◌, ℕ, suc, ◌+◌, ◌-◌, ◌<◌, ◌≤◌, List, [], ◌∷◌, ◌++◌, length, take, replicate, slice_set, arith, sym, ap, ap₂, ◌∙◌, subst, length-append, append_assoc, take-append_seam, set-append_seam, Bound, Inside, no_bound, bounds_held, IsHeld}
 
 -- entries in their places
 abbrev in_places : List Bound → ℕ → Inside

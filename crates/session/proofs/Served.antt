@@ -1,23 +1,5 @@
 -- Lines that are answered one after another make a session.
-use Rattle.std.proofs.Common.{◌≡◌, ℕ, List, [], ◌∷◌, ◌++◌, map, Bool, true, false, refl, sym, ap, ap₂, ◌∙◌, subst, Result, Ok, Err}
-use Rattle.std.proofs.lemmas.List.{append-nil}
-use Rattle.std.specs.List.{concat}
-use Rattle.line_io.specs.declared.faults.WriteFailed.{WriteFailed}
-use Rattle.line_io.specs.Lines.{LineText}
-use Rattle.line_io.specs.Leads.{Leads, Answers}
-use Rattle.line_io.specs.Streams.{ReadAnswer, WriteAnswer}
-use Rattle.line_io.specs.Writes.{IsAnswered, written_texts}
-use Rattle.line_io.specs.Runs.{bytes_due, write_result}
-use Rattle.line_io.specs.Talks.{Talk}
-use Rattle.session.specs.declared.faults.End.{End}
-use Rattle.session.specs.declared.faults.End.TheVariants.{Bye, EndOfInput}
-use Rattle.session.specs.declared.faults.SessionFault.{SessionFault}
-use Rattle.session.specs.declared.faults.SessionFault.TheVariants.{Read, Write}
-use Rattle.session.specs.Calls.{Call, OfficeReply}
-use Rattle.session.specs.Forms.{is_bye}
-use Rattle.session.specs.Requests.{Request, Fault, Makes, Tabulates, Ends, request}
-use Rattle.session.specs.Turns.{LineTurn, Faulted, Made, Tabulated, Closed, turns, turn_text, calls_in, leaving, by_request, next_reply, later_replies, seated_after}
-use Rattle.session.specs.Sessions.{Called, LeavesIf, Turned, Session, IsAnsweredOf, IsWrittenOf, session_lines, talk_result, texts_for, calls_for}
+use Rattle.session.proofs.Common.{◌≡◌, ℕ, List, [], ◌∷◌, ◌++◌, map, Bool, true, false, refl, sym, ap, ap₂, ◌∙◌, subst, Result, Ok, Err, append-nil, concat, WriteFailed, LineText, Leads, Answers, ReadAnswer, WriteAnswer, IsAnswered, written_texts, bytes_due, write_result, Talk, End, Bye, EndOfInput, SessionFault, Read, Write, Call, OfficeReply, is_bye, Request, Fault, Makes, Tabulates, Ends, request, LineTurn, Faulted, Made, Tabulated, Closed, turns, turn_text, calls_in, leaving, by_request, next_reply, later_replies, seated_after, Called, LeavesIf, Turned, Session, IsAnsweredOf, IsWrittenOf, session_lines, talk_result, texts_for, calls_for}
 
 -- the turns of a line that asks for this, and of the lines after it
 abbrev pub next_turns : Request → Bool → List LineText → List OfficeReply → List LineTurn

@@ -1,13 +1,5 @@
 -- Sessions over an office that keeps its asks.
-use Rattle.std.proofs.Common.{◌≡◌, List, [], ◌∷◌, ap, subst, Result}
-use Rattle.line_io.specs.Leads.{Leads}
-use Rattle.line_io.specs.Streams.{ReadAnswer, WriteAnswer}
-use Rattle.session.specs.declared.faults.End.{End}
-use Rattle.session.specs.declared.faults.SessionFault.{SessionFault}
-use Rattle.session.specs.Calls.{Call, OfficeReply}
-use Rattle.session.specs.Sessions.{Called, Session, calls_for}
-use Rattle.session.specs.Asks.{Asked, asks_after, KeepsAsks, AllTrue}
-use Rattle.session.specs.DoneLines.{TrueSession}
+use Rattle.session.proofs.Common.{◌≡◌, List, [], ◌∷◌, ap, subst, Result, Leads, ReadAnswer, WriteAnswer, End, SessionFault, Call, OfficeReply, Called, Session, calls_for, Asked, asks_after, KeepsAsks, AllTrue, TrueSession}
 use Rattle.session.proofs.DoneLemmas.{each_done}
 
 -- calls through which the asks are led are true

@@ -1,8 +1,5 @@
 -- Amounts, added and compared.
-use Rattle.std.proofs.Common.{◌≡◌, ℕ, ◌+◌, ◌-◌, true, false, ◌&&◌, leb, arith, inl, inr}
-use Rattle.std.proofs.lemmas.Bool.{le-leb, and_from, cases_Bool}
-use Rattle.site_book.specs.declared.amount.Amount.{Amount}
-use Rattle.site_book.specs.Amounts.{nothing, plus, minus, IsAmountWithin, is_amount_within, is_same}
+use Rattle.site_book.proofs.Common.{◌≡◌, ℕ, ◌+◌, ◌-◌, true, arith, le-leb, and_from, Amount, nothing, plus, IsAmountWithin, is_amount_within, is_same}
 
 sum_swap : (a b d : ℕ) → a + (b + d) ≡ b + (a + d)
 sum_swap a b d = omega arith
@@ -40,24 +37,6 @@ within-both a b d e p q = record { sessions = omega (arith, p.sessions, q.sessio
 
 pub within-more : (a b : Amount) → IsAmountWithin b (plus a b)
 within-more a b = record { sessions = omega arith; segments = omega arith; nodes = omega arith }
-
-pub within-first : (a b d : Amount) → IsAmountWithin (plus a b) d → IsAmountWithin a d
-within-first a b d p = record { sessions = omega (arith, p.sessions); segments = omega (arith, p.segments); nodes = omega (arith, p.nodes) }
-
--- a sum is within an amount exactly where its first part is, and the rest is within what is left
-fits_number : (a b d : ℕ) → leb a d ≡ true → leb (a + b) d ≡ leb b (d - a)
-fits_number a b d less = grind arith
-
-pub fits-first : (a b d : Amount) → is_amount_within a d ≡ true → is_amount_within (plus a b) d ≡ is_amount_within b (minus d a)
-fits-first a b d first =
-    let p = within-test a d first in
-    λ i. fits_number a.sessions b.sessions d.sessions (le-leb a.sessions d.sessions p.sessions) i && fits_number a.segments b.segments d.segments (le-leb a.segments d.segments p.segments) i && fits_number a.nodes b.nodes d.nodes (le-leb a.nodes d.nodes p.nodes) i
-
-pub fits-not : (a b d : Amount) → is_amount_within a d ≡ false → is_amount_within (plus a b) d ≡ false
-fits-not a b d first = elim (cases_Bool (is_amount_within (plus a b) d)) [
-  | inl aye ↦ (let p = test-within a d (within-first a b d (within-test (plus a b) d aye)) in absurd cc)
-  | inr nay ↦ nay
-]
 
 pub same-is_same : (a b : Amount) → is_same a b ≡ true → a ≡ b
 same-is_same a b same = grind arith

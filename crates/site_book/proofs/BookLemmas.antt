@@ -1,21 +1,5 @@
 -- What a book's calls leave in its fields.
-use Rattle.std.proofs.Common.{◌≡◌, ℕ, ◌+◌, ◌-◌, ◌<◌, ◌≤◌, Bool, true, false, cond, List, [], ◌∷◌, ◌++◌, length, get_or, set, Option, Some, None, Result, Ok, is_ok, refl, ap, sym, ◌∙◌, subst, inl, inr, arith}
-use Rattle.std.specs.Prelude.{if◌then◌else◌, IfNone}
-use Rattle.std.proofs.lemmas.Bool.{cases_lt}
-use Rattle.std.specs.List.{remove}
-use Rattle.tenant_quota.specs.Quota.{Quota}
-use Rattle.site_book.specs.declared.amount.Amount.{Amount}
-use Rattle.site_book.specs.declared.held.Held.{Held}
-use Rattle.site_book.specs.declared.held.Part.{Part}
-use Rattle.site_book.specs.declared.held.Part.TheVariants.{All}
-use Rattle.site_book.specs.declared.refusal.Refusal.{Refusal}
-use Rattle.site_book.specs.declared.refusal.Refusal.TheVariants.{Gone, Lower}
-use Rattle.site_book.specs.declared.who.Who.{Who}
-use Rattle.site_book.specs.Amounts.{nothing, of_one, plus, minus, IsAmountWithin}
-use Rattle.site_book.specs.Plans.{PlanOf}
-use Rattle.site_book.specs.Grants.{is_in, used, grant_place, grant_of, grants_without, grants_raised, is_no_raise}
-use Rattle.site_book.specs.Books.{BookOf, why_over, why_no_raise, why_not_replan}
-use Rattle.site_book.specs.Keeping.{IsKept}
+use Rattle.site_book.proofs.Common.{◌≡◌, ℕ, ◌+◌, ◌-◌, ◌<◌, ◌≤◌, Bool, true, false, cond, List, [], ◌∷◌, ◌++◌, length, get_or, set, Option, Some, None, Result, Ok, is_ok, refl, ap, sym, ◌∙◌, subst, inl, inr, arith, if◌then◌else◌, IfNone, cases_lt, remove, Quota, Amount, Held, Part, All, Refusal, Gone, Lower, Who, nothing, of_one, plus, minus, IsAmountWithin, PlanOf, is_in, used, grant_place, grant_of, grants_without, grants_raised, is_no_raise, BookOf, why_over, why_no_raise, why_not_replan, IsKept}
 use Rattle.site_book.proofs.GrantLemmas.{place-is, place-none, without-none, used-removed}
 use Rattle.site_book.proofs.Keepings.{kept-open, kept-raise, kept-replan}
 use Rattle.site_book.proofs.RunLemmas.{room-open, room-raise}
@@ -34,16 +18,11 @@ found-held gs read who session i held same is less at =
 
 -- a removal there
 pub removed-list : (gs read : List Held) (who : Who) (session i : ℕ) → read ≡ gs → i ≡ grant_place who session read → i < length gs → remove gs i ≡ grants_without who session gs
-removed-list gs read who session i same is less =
-    let place : i ≡ grant_place who session gs = is ∙ ap (grant_place who session) same in
-    let there : grant_place who session gs < length gs = subst (λ k. k < length gs) place less in
-    ap (remove gs) place ∙ (place-is who session gs there).removed
+removed-list gs read who session i same is less = grind (arith, place-is)
 
 -- where there is none
 pub kept-list : (gs read : List Held) (who : Who) (session i : ℕ) → read ≡ gs → i ≡ grant_place who session read → length gs ≤ i → gs ≡ grants_without who session gs
-kept-list gs read who session i same is past =
-    let place : i ≡ grant_place who session gs = is ∙ ap (grant_place who session) same in
-    sym (without-none who session gs (subst (λ k. length gs ≤ k) place past))
+kept-list gs read who session i same is past = sym (without-none who session gs (subst (λ k. length gs ≤ k) (is ∙ ap (grant_place who session) same) past))
 
 -- a write there
 pub raised-list : (gs read : List Held) (who : Who) (session i : ℕ) (held : Held) (ask : Quota) → read ≡ gs → i ≡ grant_place who session read → i < length gs → held ≡ get_or gs i held → set gs i (record held { ask = ask }) ≡ grants_raised who session ask gs
@@ -86,8 +65,7 @@ opened plan gs book who session ask view kept none =
     kept-open plan gs who session ask kept (subst (λ (b : BookOf). why_over b.plan who ask b.grants ≡ None) (sym view) none)
 
 pub raised : (plan : PlanOf) (gs : List Held) (book : BookOf) (who : Who) (session : ℕ) (ask : Quota) → viewed plan gs ≡ book → IsKept plan gs → why_no_raise book.plan who session ask book.grants (grant_of who session book.grants) ≡ None → IsKept plan (grants_raised who session ask gs)
-raised plan gs book who session ask view kept none =
-    kept-raise plan gs who session ask (grant_of who session gs) kept refl (subst (λ (b : BookOf). why_no_raise b.plan who session ask b.grants (grant_of who session b.grants) ≡ None) (sym view) none)
+raised plan gs book who session ask view kept none = grind (arith, kept-raise)
 
 pub replanned : (plan : PlanOf) (gs : List Held) (book : BookOf) (later : PlanOf) → viewed plan gs ≡ book → why_not_replan book later ≡ None → IsKept later gs
 replanned plan gs book later view none = kept-replan (viewed plan gs) later (subst (λ (b : BookOf). why_not_replan b later ≡ None) (sym view) none)
@@ -110,14 +88,10 @@ gone-why plan who session i ask gs place past = sym (ap (why_no_raise plan who s
 -- the hall has room for what isn't refused
 
 pub opens-room : (plan : PlanOf) (gs : List Held) (book : BookOf) (who : Who) (ask : Quota) (why : Option Refusal) → viewed plan gs ≡ book → IsKept plan gs → why ≡ why_over book.plan who ask book.grants → IfNone why (IsAmountWithin (plus (of_one ask) (used All book.grants)) book.plan.totals)
-opens-room plan gs book who ask None view kept is =
-    subst (λ (b : BookOf). IsAmountWithin (plus (of_one ask) (used All b.grants)) b.plan.totals) view (room-open plan gs who ask kept (subst (λ (b : BookOf). why_over b.plan who ask b.grants ≡ None) (sym view) (sym is)))
-opens-room plan gs book who ask (Some refusal) view kept is = tt
+opens-room plan gs book who ask why view kept is = grind (arith, room-open)
 
 pub raises-room : (plan : PlanOf) (gs : List Held) (book : BookOf) (who : Who) (session : ℕ) (ask : Quota) (why : Option Refusal) → viewed plan gs ≡ book → IsKept plan gs → why ≡ why_no_raise book.plan who session ask book.grants (grant_of who session book.grants) → IfNone why (IsAmountWithin (plus (of_one ask) (used All (grants_without who session book.grants))) book.plan.totals)
-raises-room plan gs book who session ask None view kept is =
-    subst (λ (b : BookOf). IsAmountWithin (plus (of_one ask) (used All (grants_without who session b.grants))) b.plan.totals) view (room-raise plan gs who session ask (grant_of who session gs) kept refl (subst (λ (b : BookOf). why_no_raise b.plan who session ask b.grants (grant_of who session b.grants) ≡ None) (sym view) (sym is)))
-raises-room plan gs book who session ask (Some refusal) view kept is = tt
+raises-room plan gs book who session ask why view kept is = grind (arith, room-raise)
 
 pub few-seats : (plan : PlanOf) (gs : List Held) (book : BookOf) → viewed plan gs ≡ book → IsKept plan gs → book.plan.totals.sessions ≤ 64
 few-seats plan gs book view kept = subst (λ (b : BookOf). b.plan.totals.sessions ≤ 64) view (few-sessions plan kept.fit)

@@ -1,19 +1,5 @@
 -- Nothing is refused exactly where everything that is needed is left.
-use Rattle.std.proofs.Common.{◌≡◌, ℕ, ◌<◌, ◌≤◌, Bool, true, false, not, ◌&&◌, ◌||◌, ltb, eqb, List, [], ◌∷◌, Some, None, refl, sym, subst, inl, inr, ◌⊎◌, arith}
-use Rattle.std.proofs.lemmas.Bool.{cases_Bool, cases_lt, cases_eq, ltb-false, le-ltb, eqb-false, eq-eqb, ne_eqb, or_parts, or_from, and_right, and_parts, and_from}
-use Rattle.tenant_quota.specs.Quota.{Quota, IsAbove}
-use Rattle.site_book.specs.declared.held.Held.{Held}
-use Rattle.site_book.specs.declared.held.Part.{Part}
-use Rattle.site_book.specs.declared.held.Part.TheVariants.{Own, Network, Guests, All}
-use Rattle.site_book.specs.declared.refusal.Refusal.{Refusal}
-use Rattle.site_book.specs.declared.refusal.Refusal.TheVariants.{OverBudget, OverNetwork, OverGuests, Lower}
-use Rattle.site_book.specs.declared.who.Who.{Who}
-use Rattle.site_book.specs.Names.{same_who, is_guest, network_of}
-use Rattle.site_book.specs.Amounts.{of_one, plus, is_amount_within, IsAmountWithin}
-use Rattle.site_book.specs.Plans.{PlanOf, limit_of}
-use Rattle.site_book.specs.Grants.{is_in, used, grants_without, is_no_raise}
-use Rattle.site_book.specs.Books.{first_refusal, is_beyond_part, why_over, why_no_raise}
-use Rattle.site_book.specs.Allowed.{HasBudgetFor, MayGrow}
+use Rattle.site_book.proofs.Common.{◌≡◌, ℕ, Bool, true, false, not, ◌&&◌, List, [], ◌∷◌, Some, None, refl, arith, ltb-false, le-ltb, eqb-false, eq-eqb, ne_eqb, or_parts, or_from, and_right, and_parts, and_from, Quota, IsAbove, Held, Part, Own, Network, Guests, All, Refusal, OverBudget, OverNetwork, OverGuests, Who, same_who, is_guest, network_of, of_one, plus, is_amount_within, IsAmountWithin, PlanOf, limit_of, is_in, used, grants_without, is_no_raise, first_refusal, is_beyond_part, why_over, why_no_raise, HasBudgetFor, MayGrow}
 use Rattle.site_book.proofs.AmountLemmas.{within-test, test-within}
 use Rattle.site_book.proofs.NameLemmas.{same-is, is-same, in-own}
 
@@ -48,16 +34,14 @@ pub allowed : (plan : PlanOf) (who : Who) (ask : Quota) (gs : List Held) → why
 allowed plan who ask gs none =
     let one = none-first (is_beyond_part plan (Own who) who ask (used (Own who) gs)) OverBudget ((is_beyond_part plan (Network (network_of who)) who ask (used (Network (network_of who)) gs), OverNetwork) ∷ (is_beyond_part plan Guests who ask (used Guests gs), OverGuests) ∷ []) none in
     let two = none-first (is_beyond_part plan (Network (network_of who)) who ask (used (Network (network_of who)) gs)) OverNetwork ((is_beyond_part plan Guests who ask (used Guests gs), OverGuests) ∷ []) one.1 in
-    let three = none-first (is_beyond_part plan Guests who ask (used Guests gs)) OverGuests [] two.1 in
     record {
       own = within-part plan (Own who) who ask gs one.0 (in-own who);
       network = λ guest. within-part plan (Network (network_of who)) who ask gs two.0 (in-network who guest);
-      guests = λ guest. within-part plan Guests who ask gs three.0 guest;
+      guests = λ guest. within-part plan Guests who ask gs (none-first (is_beyond_part plan Guests who ask (used Guests gs)) OverGuests [] two.1).0 guest;
     }
 
 part-beyond : (plan : PlanOf) (part : Part) (who : Who) (ask : Quota) (gs : List Held) → (is_in part who ≡ true → IsAmountWithin (plus (of_one ask) (used part gs)) (limit_of plan part)) → is_beyond_part plan part who ask (used part gs) ≡ false
-part-beyond plan part who ask gs so =
-    beyond-not (is_in part who) (is_amount_within (plus (of_one ask) (used part gs)) (limit_of plan part)) (λ own. test-within (plus (of_one ask) (used part gs)) (limit_of plan part) (so own))
+part-beyond plan part who ask gs so = grind (arith, beyond-not, test-within)
 
 pub allowed-to : (plan : PlanOf) (who : Who) (ask : Quota) (gs : List Held) → HasBudgetFor plan who ask gs → why_over plan who ask gs ≡ None
 allowed-to plan who ask gs has =
@@ -67,45 +51,19 @@ allowed-to plan who ask gs has =
 
 -- so of each part of which the customer is one
 pub passes : (plan : PlanOf) (who : Who) (ask : Quota) (gs : List Held) → HasBudgetFor plan who ask gs → (part : Part) → IsPart part → is_in part who ≡ true → IsAmountWithin (plus (of_one ask) (used part gs)) (limit_of plan part)
-passes plan who ask gs has (Own w) is own =
-    subst (λ x. IsAmountWithin (plus (of_one ask) (used (Own x) gs)) (limit_of plan (Own x))) (sym (same-is w who own)) has.own
-passes plan who ask gs has (Network w) is own =
-    let both = and_parts (is_guest who) (same_who w (network_of who)) own in
-    subst (λ x. IsAmountWithin (plus (of_one ask) (used (Network x) gs)) plan.network) (sym (same-is w (network_of who) both.1)) (has.network both.0)
-passes plan who ask gs has Guests is own = has.guests own
-passes plan who ask gs has All is own = absurd is
+passes plan who ask gs has h5 is own = grind (arith, same-is, and_parts)
 
 -- more
 
 pub more-from : (now ask : Quota) → is_no_raise now ask ≡ false → IsAbove now ask
-more-from now ask nay =
-    let outer = or_parts (ltb ask.segments now.segments || ltb ask.nodes now.nodes) (eqb ask.segments now.segments && eqb ask.nodes now.nodes) nay in
-    let inner = or_parts (ltb ask.segments now.segments) (ltb ask.nodes now.nodes) outer.0 in
-    let segments = ltb-false ask.segments now.segments inner.0 in
-    let nodes = ltb-false ask.nodes now.nodes inner.1 in
-    record { segments = segments; nodes = nodes; one = one_more segments nodes outer.1 }
-  where
-    one_more : now.segments ≤ ask.segments → now.nodes ≤ ask.nodes → (eqb ask.segments now.segments && eqb ask.nodes now.nodes) ≡ false → (now.segments < ask.segments) ⊎ (now.nodes < ask.nodes)
-    one_more segments nodes other = elim (cases_eq ask.segments now.segments) [
-      | inl same ↦ (let e : eqb ask.nodes now.nodes ≡ false = rw (eq-eqb ask.segments now.segments same) at other in let ne = eqb-false ask.nodes now.nodes e in inr (elim (cases_lt now.nodes ask.nodes) [ inl less ↦ less | inr le ↦ absurd (ne (omega arith)) ]))
-      | inr ne ↦ inl (elim (cases_lt now.segments ask.segments) [ inl less ↦ less | inr le ↦ absurd (ne (omega arith)) ])
-    ]
+more-from now ask nay = grind (arith, or_parts, ltb-false, eq-eqb, eqb-false)
 
 more-to : (now ask : Quota) → IsAbove now ask → is_no_raise now ask ≡ false
-more-to now ask more =
-    or_from (ltb ask.segments now.segments || ltb ask.nodes now.nodes) (eqb ask.segments now.segments && eqb ask.nodes now.nodes)
-    (or_from (ltb ask.segments now.segments) (ltb ask.nodes now.nodes) (le-ltb ask.segments now.segments more.segments) (le-ltb ask.nodes now.nodes more.nodes))
-    (elim more.one [
-      | inl less ↦ (let e : eqb ask.segments now.segments ≡ false = ne_eqb ask.segments now.segments (λ q. omega arith) in rw e refl)
-      | inr less ↦ (let e : eqb ask.nodes now.nodes ≡ false = ne_eqb ask.nodes now.nodes (λ q. omega arith) in rw e (and_right (eqb ask.segments now.segments) false refl))
-    ])
+more-to now ask more = grind (arith, or_from, le-ltb, ne_eqb, and_right)
 
 -- what a raise that isn't refused has passed
 pub grow-from : (plan : PlanOf) (who : Who) (session : ℕ) (ask : Quota) (gs : List Held) (held : Held) → why_no_raise plan who session ask gs (Some held) ≡ None → MayGrow plan who session ask gs held
-grow-from plan who session ask gs held none = elim (cases_Bool (is_no_raise held.ask ask)) [
-  | inl aye ↦ (let some : Some Lower ≡ None = rw aye at none in absurd cc)
-  | inr nay ↦ record { more = more-from held.ask ask nay; left = allowed plan who ask (grants_without who session gs) (rw nay at none) }
-]
+grow-from plan who session ask gs held none = grind (arith, more-from, allowed)
 
 pub grow-to : (plan : PlanOf) (who : Who) (session : ℕ) (ask : Quota) (gs : List Held) (held : Held) → MayGrow plan who session ask gs held → why_no_raise plan who session ask gs (Some held) ≡ None
 grow-to plan who session ask gs held may = rw (more-to held.ask ask may.more) (allowed-to plan who ask (grants_without who session gs) may.left)

@@ -1,17 +1,5 @@
 -- What a new grant, a raise and an end leave of what some grants have together.
-use Rattle.std.proofs.Common.{◌≡◌, ℕ, zero, suc, ◌<◌, ◌≤◌, Bool, true, false, ◌&&◌, ◌||◌, cond, List, [], ◌∷◌, ◌++◌, length, get_or, set, ltb, Some, None, refl, ap, sym, ◌∙◌, inl, inr, arith}
-use Rattle.std.proofs.lemmas.Bool.{cases_Bool}
-use Rattle.std.proofs.lemmas.Bool.Decides.{nat_tests}
-use Rattle.std.specs.Option.{is_some}
-use Rattle.std.specs.List.{remove}
-use Rattle.tenant_quota.specs.Quota.{Quota}
-use Rattle.site_book.specs.declared.amount.Amount.{Amount}
-use Rattle.site_book.specs.declared.held.Held.{Held}
-use Rattle.site_book.specs.declared.held.Part.{Part}
-use Rattle.site_book.specs.declared.held.Part.TheVariants.{All}
-use Rattle.site_book.specs.declared.who.Who.{Who}
-use Rattle.site_book.specs.Amounts.{nothing, of_one, plus, IsAmountWithin}
-use Rattle.site_book.specs.Grants.{is_in, used_by, used, is_held_as, grant_place, grant_of, grants_without, grants_raised}
+use Rattle.site_book.proofs.Common.{◌≡◌, ℕ, suc, ◌<◌, ◌≤◌, Bool, true, false, ◌&&◌, ◌||◌, cond, List, [], ◌∷◌, ◌++◌, length, get_or, set, ltb, Some, None, refl, ap, ◌∙◌, inl, inr, arith, cases_Bool, nat_tests, is_some, remove, Quota, Amount, Held, Part, All, Who, nothing, of_one, plus, IsAmountWithin, is_in, used_by, used, is_held_as, grant_place, grant_of, grants_without, grants_raised}
 use Rattle.site_book.proofs.AmountLemmas.{plus_swap, plus_group, within_same, within-plus, within-more}
 
 -- of one grant more
@@ -109,9 +97,8 @@ used-alike f g (held ∷ gs) same = λ i. cond (same held.who i) (plus (of_one h
 
 -- what all have but the one at a place
 pub used-removed : (test : Who → Bool) (gs : List Held) (i : ℕ) (held : Held) → i < length gs → held ≡ get_or gs i held → used_by test gs ≡ cond (test held.who) (plus (of_one held.ask) (used_by test (remove gs i))) (used_by test (remove gs i))
-used-removed test [] i held less at = absurd (omega arith)
-used-removed test (g ∷ gs) zero held less at = ap (λ (x : Held). cond (test x.who) (plus (of_one x.ask) (used_by test gs)) (used_by test gs)) (sym at)
 used-removed test (g ∷ gs) (suc i) held less at = grind (arith, used-removed test gs i held, plus_swap)
+used-removed test gs i held less at = grind arith
 
 -- a session is there exactly where its place is one of a grant
 pub there-is : (who : Who) (session : ℕ) (gs : List Held) → ltb (grant_place who session gs) (length gs) ≡ is_some (grant_of who session gs)

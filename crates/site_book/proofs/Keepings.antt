@@ -1,22 +1,5 @@
 -- Each event leaves all budgets kept.
-use Rattle.std.proofs.Common.{◌≡◌, ℕ, ◌≤◌, true, false, not, ◌&&◌, List, [], ◌∷◌, ◌++◌, length, Option, Some, None, refl, ap, sym, ◌∙◌, subst, inl, inr, ◌⊎◌, arith}
-use Rattle.std.proofs.lemmas.Bool.{cases_Bool, and_parts, and_from, and_right, not-false}
-use Rattle.std.specs.Option.{is_none}
-use Rattle.tenant_quota.specs.Quota.{Quota}
-use Rattle.site_book.specs.declared.amount.Amount.{Amount}
-use Rattle.site_book.specs.declared.held.Held.{Held}
-use Rattle.site_book.specs.declared.held.Part.{Part}
-use Rattle.site_book.specs.declared.held.Part.TheVariants.{Own, Network, Guests, All}
-use Rattle.site_book.specs.declared.refusal.Refusal.{Refusal}
-use Rattle.site_book.specs.declared.refusal.Refusal.TheVariants.{Unfit, Beyond}
-use Rattle.site_book.specs.declared.who.Who.{Who}
-use Rattle.site_book.specs.Names.{same_who, is_guest, network_of}
-use Rattle.site_book.specs.Amounts.{nothing, is_amount_within, is_same, IsAmountWithin}
-use Rattle.site_book.specs.Plans.{PlanOf, limit_of, sums_fit}
-use Rattle.site_book.specs.Grants.{is_in, used, grant_of, grants_without, grants_raised}
-use Rattle.site_book.specs.Books.{BookOf, BookEvent, Opens, Raises, Closes, Replans, why_over, why_no_raise, is_over, part_over, are_within, why_not_replan, answer_of_book, taken, book_after_answer, book_after}
-use Rattle.site_book.specs.Allowed.{HasBudgetFor}
-use Rattle.site_book.specs.Keeping.{IsKept}
+use Rattle.site_book.proofs.Common.{◌≡◌, ℕ, ◌≤◌, true, false, not, ◌&&◌, List, [], ◌∷◌, ◌++◌, length, Option, Some, None, refl, ap, sym, ◌∙◌, subst, inl, inr, ◌⊎◌, arith, cases_Bool, and_parts, and_from, and_right, not-false, is_none, Quota, Amount, Held, Part, Own, Network, Guests, All, Refusal, Unfit, Beyond, Who, same_who, is_guest, network_of, nothing, is_amount_within, is_same, IsAmountWithin, PlanOf, limit_of, sums_fit, is_in, used, grant_of, grants_without, grants_raised, BookOf, BookEvent, Opens, Raises, Closes, Replans, why_over, why_no_raise, is_over, part_over, are_within, why_not_replan, answer_of_book, taken, book_after_answer, book_after, HasBudgetFor, IsKept}
 use Rattle.site_book.proofs.AmountLemmas.{within-test, test-within, within_trans, within_nothing, same-is_same, same-self}
 use Rattle.site_book.proofs.NameLemmas.{same-is, in-own}
 use Rattle.site_book.proofs.GrantLemmas.{within-push, used-without_le, used-with_ask, used-with_ask_other, found-own, used-all}
@@ -58,8 +41,7 @@ kept-raise plan gs who session ask None kept is none = absurd cc
 kept-raise plan gs who session ask (Some held) kept is none = kept-grow plan gs who session ask held kept is (grow-from plan who session ask gs held none).left
 
 pub kept-close : (plan : PlanOf) (gs : List Held) (who : Who) (session : ℕ) → IsKept plan gs → IsKept plan (grants_without who session gs)
-kept-close plan gs who session kept =
-    kept-of plan (grants_without who session gs) kept.fit (λ part is. within_trans _ _ _ (used-without_le (is_in part) who session gs) (kept.within part))
+kept-close plan gs who session kept = grind (arith, kept-of, within_trans, used-without_le)
 
 -- another plan
 
@@ -93,10 +75,7 @@ some-within plan all (g ∷ gs) part is within =
     ]
 
 pub within-plan : (plan : PlanOf) (gs : List Held) → are_within plan gs gs ≡ true → (part : Part) → IsPart part → IsAmountWithin (used part gs) (limit_of plan part)
-within-plan plan gs within part is = elim (some-within plan gs gs part is within) [
-  | inl now ↦ now
-  | inr none ↦ subst (λ (a : Amount). IsAmountWithin a (limit_of plan part)) (sym none) (within_nothing (limit_of plan part))
-]
+within-plan plan gs within part is = grind (arith, some-within, within_nothing)
 
 -- what a plan that comes in has passed
 pub record ComesIn (book : BookOf) (plan : PlanOf) : Type 0 where
@@ -143,6 +122,4 @@ are-within plan all [] within = refl
 are-within plan all (g ∷ gs) within = and_from (is_none (part_over plan all g.who)) (are_within plan all gs) (none-part plan all g.who within) (are-within plan all gs within)
 
 pub let-in : (book : BookOf) (plan : PlanOf) → plan.totals ≡ book.plan.totals → sums_fit plan ≡ true → ((part : Part) → IsAmountWithin (used part book.grants) (limit_of plan part)) → why_not_replan book plan ≡ None
-let-in book plan totals fit within =
-    let same : is_same plan.totals book.plan.totals ≡ true = ap (is_same plan.totals) (sym totals) ∙ same-self plan.totals in
-    rw (same, fit, are-within plan book.grants book.grants within) refl
+let-in book plan totals fit within = grind (arith, same-self, are-within)

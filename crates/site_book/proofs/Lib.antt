@@ -1,4 +1,5 @@
 pub mod ComingLemmas
+mod Common
 mod NameLemmas
 pub mod AmountLemmas
 mod GrantLemmas
@@ -7,5 +8,6 @@ mod Totals
 pub mod Keepings
 mod Views
 mod Isolation
-mod RunLemmas
+pub mod RunLemmas
 mod BookLemmas
+mod Rules

@@ -1,9 +1,5 @@
 -- Who is the same as whom.
-use Rattle.std.proofs.Common.{◌≡◌, true, arith}
-use Rattle.site_book.specs.declared.held.Part.TheVariants.{Own}
-use Rattle.site_book.specs.declared.who.Who.{Who}
-use Rattle.site_book.specs.Names.{same_who}
-use Rattle.site_book.specs.Grants.{is_in}
+use Rattle.site_book.proofs.Common.{◌≡◌, true, arith, Own, Who, same_who, is_in}
 
 pub same-is : (a b : Who) → same_who a b ≡ true → a ≡ b
 same-is a b same = grind arith

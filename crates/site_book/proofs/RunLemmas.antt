@@ -1,17 +1,5 @@
 -- What holds after each list of events.
-use Rattle.std.proofs.Common.{◌≡◌, ℕ, true, List, [], ◌∷◌, ◌++◌, Option, Some, None, refl, ap, ◌∙◌, subst, arith}
-use Rattle.tenant_quota.specs.Quota.{Quota}
-use Rattle.site_book.specs.declared.amount.Amount.{Amount}
-use Rattle.site_book.specs.declared.held.Held.{Held}
-use Rattle.site_book.specs.declared.held.Part.TheVariants.{All}
-use Rattle.site_book.specs.declared.refusal.Refusal.{Refusal}
-use Rattle.site_book.specs.declared.who.Who.{Who}
-use Rattle.site_book.specs.Amounts.{of_one, plus, IsAmountWithin}
-use Rattle.site_book.specs.Plans.{PlanOf}
-use Rattle.site_book.specs.Grants.{used, grant_of, grants_without, grants_raised}
-use Rattle.site_book.specs.Books.{BookOf, BookEvent, Opens, Raises, Closes, Replans, why_over, why_no_raise, answer_of_book, book_after_answer, book_after}
-use Rattle.site_book.specs.Events.{book_after_events, answers, Name, names_without, open_after, still_open, names_granted}
-use Rattle.site_book.specs.Keeping.{IsKept}
+use Rattle.site_book.proofs.Common.{◌≡◌, ℕ, true, List, [], ◌∷◌, ◌++◌, Option, Some, None, refl, ap, ◌∙◌, subst, arith, Quota, Amount, Held, All, Refusal, Who, of_one, plus, IsAmountWithin, PlanOf, used, grant_of, grants_without, grants_raised, BookOf, BookEvent, why_over, why_no_raise, answer_of_book, book_after_answer, book_after, book_after_events, answers, Name, names_without, open_after, still_open, names_granted, IsKept}
 use Rattle.site_book.proofs.GrantLemmas.{used-push, used-with_ask}
 use Rattle.site_book.proofs.BudgetLemmas.{grow-from}
 use Rattle.site_book.proofs.Keepings.{comes-in, kept-after, kept-open, kept-grow}
@@ -23,11 +11,7 @@ kept-run book (event ∷ events) kept = kept-run (book_after book event) events 
 -- the totals stay
 
 totals-answer : (book : BookOf) (event : BookEvent) (answer : Option Refusal) → answer_of_book book event ≡ answer → (book_after_answer book event answer).plan.totals ≡ book.plan.totals
-totals-answer book (Opens who session ask) None is = refl
-totals-answer book (Raises who session ask) None is = refl
-totals-answer book (Closes who session) None is = refl
-totals-answer book (Replans plan) None is = (comes-in book plan is).totals
-totals-answer book event (Some refusal) is = refl
+totals-answer book event answer is = grind (arith, comes-in)
 
 pub totals-run : (book : BookOf) (events : List BookEvent) → (book_after_events book events).plan.totals ≡ book.plan.totals
 totals-run book [] = refl
@@ -54,19 +38,12 @@ names-without : (who : Who) (session : ℕ) (gs : List Held) → names_granted (
 names-without who session [] = refl
 names-without who session (g ∷ gs) = grind (arith, names-without who session gs)
 
-names-with_ask : (who : Who) (session : ℕ) (ask : Quota) (gs : List Held) → names_granted (grants_raised who session ask gs) ≡ names_granted gs
+pub names-with_ask : (who : Who) (session : ℕ) (ask : Quota) (gs : List Held) → names_granted (grants_raised who session ask gs) ≡ names_granted gs
 names-with_ask who session ask [] = refl
 names-with_ask who session ask (g ∷ gs) = grind (arith, names-with_ask who session ask gs)
 
 names-answer : (book : BookOf) (event : BookEvent) (answer : Option Refusal) → answer_of_book book event ≡ answer → names_granted (book_after_answer book event answer).grants ≡ open_after (names_granted book.grants) event answer
-names-answer book (Opens who session ask) None is = names-push (record { who = who; session = session; ask = ask }) book.grants
-names-answer book (Raises who session ask) None is = names-with_ask who session ask book.grants
-names-answer book (Closes who session) None is = names-without who session book.grants
-names-answer book (Replans plan) None is = refl
-names-answer book (Opens who session ask) (Some refusal) is = refl
-names-answer book (Raises who session ask) (Some refusal) is = refl
-names-answer book (Closes who session) (Some refusal) is = absurd cc
-names-answer book (Replans plan) (Some refusal) is = refl
+names-answer book event answer is = grind (arith, names-push, names-with_ask, names-without)
 
 pub names-run : (book : BookOf) (events : List BookEvent) → names_granted (book_after_events book events).grants ≡ still_open (names_granted book.grants) events (answers book events)
 names-run book [] = refl

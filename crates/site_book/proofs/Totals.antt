@@ -1,16 +1,5 @@
 -- Where each part is within its budget, and the budgets fit, all sessions together are within the totals.
-use Rattle.std.proofs.Common.{◌≡◌, ℕ, suc, ◌+◌, ◌-◌, ◌≤◌, Bool, true, false, ◌&&◌, ◌||◌, cond, leb, eqb, List, [], ◌∷◌, get_or, refl, sym, subst, inl, inr, zero-add, add-zero, arith}
-use Rattle.std.proofs.lemmas.Bool.{cases_Bool, and_parts, leb-true, le-leb, eq-eqb}
-use Rattle.site_book.specs.declared.amount.Amount.{Amount}
-use Rattle.site_book.specs.declared.held.Held.{Held}
-use Rattle.site_book.specs.declared.held.Part.{Part}
-use Rattle.site_book.specs.declared.held.Part.TheVariants.{Own, Guests, All}
-use Rattle.site_book.specs.declared.who.Who.{Who}
-use Rattle.site_book.specs.declared.who.Who.TheVariants.{Named, V4, V6}
-use Rattle.site_book.specs.Names.{same_who, is_guest}
-use Rattle.site_book.specs.Amounts.{nothing, of_one, plus, sum_of, is_amount_within, IsAmountWithin}
-use Rattle.site_book.specs.Plans.{PlanOf, limit_of, sums_fit}
-use Rattle.site_book.specs.Grants.{is_in, used_by, used}
+use Rattle.site_book.proofs.Common.{◌≡◌, ℕ, suc, ◌+◌, ◌-◌, ◌≤◌, Bool, true, false, ◌&&◌, ◌||◌, cond, leb, eqb, List, [], ◌∷◌, get_or, refl, sym, subst, inl, inr, zero-add, add-zero, arith, cases_Bool, and_parts, leb-true, le-leb, eq-eqb, Amount, Held, Part, Own, Guests, All, Who, Named, V4, V6, same_who, is_guest, nothing, of_one, plus, sum_of, is_amount_within, IsAmountWithin, PlanOf, limit_of, sums_fit, is_in, used_by, used}
 use Rattle.site_book.proofs.AmountLemmas.{within-test, within_trans, within_same, within-more, within-both, plus_swap}
 use Rattle.site_book.proofs.GrantLemmas.{used-split, used-alike}
 use Rattle.site_book.proofs.BudgetLemmas.{IsPart}
@@ -28,19 +17,13 @@ place_apart : (k n : ℕ) → (eqb k n && leb (suc k) n) ≡ false
 place_apart k n = grind arith
 
 from-split : (k : ℕ) (w : Who) → from_place k w ≡ (is_in (Own (Named k)) w || from_place (suc k) w)
-from-split k (Named number) = place_split k number
-from-split k (V4 address) = refl
-from-split k (V6 network) = refl
+from-split k w = grind (arith, place_split)
 
 from-apart : (k : ℕ) (w : Who) → (is_in (Own (Named k)) w && from_place (suc k) w) ≡ false
-from-apart k (Named number) = place_apart k number
-from-apart k (V4 address) = refl
-from-apart k (V6 network) = refl
+from-apart k w = grind (arith, place_apart)
 
 from-all : (w : Who) → is_in All w ≡ from_place 0 w
-from-all (Named number) = sym (le-leb 0 number (omega arith))
-from-all (V4 address) = refl
-from-all (V6 network) = refl
+from-all w = grind (arith, le-leb)
 
 -- nobody is named from a place on: then only guests are left
 from-guests : (k : ℕ) (w : Who) → ((n : ℕ) → same_who (Named (k + n)) w ≡ false) → from_place k w ≡ is_guest w
@@ -53,28 +36,21 @@ from-guests k (V6 network) out = refl
 
 -- who has nothing isn't there
 out-first : (part : Part) (g : Held) (gs : List Held) → IsAmountWithin (used part (g ∷ gs)) nothing → is_in part g.who ≡ false
-out-first part g gs none = elim (cases_Bool (is_in part g.who)) [
-  | inl aye ↦ (let one : used part (g ∷ gs) ≡ plus (of_one g.ask) (used part gs) = rw aye refl in let p : IsAmountWithin (plus (of_one g.ask) (used part gs)) nothing = subst (λ (a : Amount). IsAmountWithin a nothing) one none in absurd (omega (arith, p.sessions)))
-  | inr nay ↦ nay
-]
+out-first part g gs none = grind arith
 
 used-tail : (part : Part) (g : Held) (gs : List Held) → IsAmountWithin (used part gs) (used part (g ∷ gs))
 used-tail part g gs = elim (is_in part g.who) as (λ b. IsAmountWithin (used part gs) (cond b (plus (of_one g.ask) (used part gs)) (used part gs))) [ true ↦ within-more (of_one g.ask) (used part gs) | false ↦ within_same (used part gs) ]
 
 none-named : (k : ℕ) (gs : List Held) → ((n : ℕ) → IsAmountWithin (used (Own (Named (k + n))) gs) nothing) → used_by (from_place k) gs ≡ used Guests gs
 none-named k [] none = refl
-none-named k (g ∷ gs) none =
-    let first = from-guests k g.who (λ n. out-first (Own (Named (k + n))) g gs (none n)) in
-    let rest = none-named k gs (λ n. within_trans _ _ _ (used-tail (Own (Named (k + n))) g gs) (none n)) in
-    λ i. cond (first i) (plus (of_one g.ask) (rest i)) (rest i)
+none-named k (g ∷ gs) none = grind (arith, none-named k gs, from-guests, out-first, within_trans, used-tail)
 
 next : (k n : ℕ) → k + suc n ≡ suc k + n
 next k n = omega arith
 
 bound : (customers : List Amount) (k : ℕ) (gs : List Held) (guests : Amount) → IsAmountWithin (used Guests gs) guests → ((n : ℕ) → IsAmountWithin (used (Own (Named (k + n))) gs) (get_or customers n nothing)) → IsAmountWithin (used_by (from_place k) gs) (plus guests (sum_of customers))
 bound [] k gs guests few own =
-    let none : (n : ℕ) → IsAmountWithin (used (Own (Named (k + n))) gs) nothing = own in
-    subst (λ (a : Amount). IsAmountWithin a (plus guests nothing)) (sym (none-named k gs none)) (record { sessions = omega (arith, few.sessions); segments = omega (arith, few.segments); nodes = omega (arith, few.nodes) })
+    subst (λ (a : Amount). IsAmountWithin a (plus guests nothing)) (sym (none-named k gs own)) (record { sessions = omega (arith, few.sessions); segments = omega (arith, few.segments); nodes = omega (arith, few.nodes) })
 bound (c ∷ cs) k gs guests few own =
     let first : IsAmountWithin (used (Own (Named k)) gs) c = subst (λ n. IsAmountWithin (used (Own (Named n)) gs) c) (add-zero k) (own 0) in
     let rest = bound cs (suc k) gs guests few (λ n. subst (λ m. IsAmountWithin (used (Own (Named m)) gs) (get_or cs n nothing)) (next k n) (own (suc n))) in

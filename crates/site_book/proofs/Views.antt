@@ -1,12 +1,5 @@
 -- What some customers see of the grants.
-use Rattle.std.proofs.Common.{◌≡◌, ℕ, Bool, true, false, List, [], ◌∷◌, ◌++◌, refl, ap, sym, ◌∙◌, arith, eqb}
-use Rattle.std.proofs.lemmas.Bool.{and_parts}
-use Rattle.tenant_quota.specs.Quota.{Quota}
-use Rattle.site_book.specs.declared.held.Held.{Held}
-use Rattle.site_book.specs.declared.who.Who.{Who}
-use Rattle.site_book.specs.Names.{same_who}
-use Rattle.site_book.specs.Grants.{used_by, is_held_as, grant_of, grants_without, grants_raised}
-use Rattle.site_book.specs.Events.{grants_of}
+use Rattle.site_book.proofs.Common.{◌≡◌, ℕ, Bool, true, false, List, [], ◌∷◌, ◌++◌, refl, ap, sym, ◌∙◌, arith, eqb, and_parts, Quota, Held, Who, same_who, used_by, is_held_as, grant_of, grants_without, grants_raised, grants_of}
 use Rattle.site_book.proofs.NameLemmas.{same-is}
 
 held-who : (who : Who) (session : ℕ) (g : Held) → is_held_as who session g ≡ true → who ≡ g.who

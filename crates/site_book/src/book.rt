@@ -73,6 +73,7 @@ impl Book {
     }
 
     /// Whether a customer's session of this number is there.
+    #[tactic(auto, using(crate::proofs::Rules::has_rules))]
     pub fn has(&self, who: Who, session: u64) -> bool
         ensures { result ≡ is_some (grant_of who session self.now.grants) }
     {
@@ -209,6 +210,7 @@ pub fn why_over(plan: &Plan, grants: &[Held], who: Who, ask: Reserve) -> Option<
 }
 
 /// Why a customer's session of this number isn't raised to this.
+#[tactic(auto, using(crate::proofs::Rules::why_no_raise_rules))]
 fn why_no_raise(
     plan: &Plan,
     grants: &[Held],

@@ -156,6 +156,7 @@ pub(crate) fn take_out(grants: &mut Vec<Held>, who: Who, session: u64)
 }
 
 /// Lets the first grant of this session, which is there, have this.
+#[tactic(auto, using(crate::proofs::Rules::set_ask_rules))]
 pub(crate) fn set_ask(grants: &mut Vec<Held>, who: Who, session: u64, ask: Reserve)
     requires { grant_of who session grants.old.items ≢ None }
     ensures grants { grants.new.items ≡ grants_raised who session ask grants.old.items }

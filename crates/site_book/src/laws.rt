@@ -24,6 +24,7 @@ ghost use Rattle.site_book.specs.Comings.{coming, told_by};
 
 /// A refusal is a customer's own: a session and a raise are granted exactly where the customer's own budget and, of a guest, those
 /// of its wider network and of all guests allow it.
+#[tactic(auto, using(crate::proofs::Rules::a_refusal_is_ones_own_rules))]
 pub fn a_refusal_is_ones_own()
     ensures opens { (plan : PlanOf) (who : Who) (ask : Quota) (grants : List Held) →
         ((why_over plan who ask grants ≡ None) ↔ HasBudgetFor plan who ask grants) }
@@ -43,6 +44,7 @@ pub fn nobody_is_over_budget()
 
 /// What the book grants the hall has room for: after every list of events, where a session or a raise isn't refused, all sessions
 /// with it are within the hall's totals.
+#[tactic(auto, using(crate::proofs::Rules::the_hall_has_room_rules))]
 pub fn the_hall_has_room()
     ensures opens { (plan : PlanOf) (events : List BookEvent) → IsTrue (sums_fit plan) → (who : Who) (ask : Quota) →
         let book = book_after_events (new_book plan) events in
@@ -54,6 +56,7 @@ pub fn the_hall_has_room()
 {}
 
 /// Another plan comes in exactly where it is of a hall with the same totals, its sums fit, and all that is out is within it.
+#[tactic(auto, using(crate::proofs::Rules::a_plan_comes_in_rules))]
 pub fn a_plan_comes_in()
     ensures { (book : BookOf) (plan : PlanOf) → ((why_not_replan book plan ≡ None)
         ↔ ((plan.totals ≡ book.plan.totals) × IsTrue (sums_fit plan) × ((part : Part) → IsAmountWithin (used part book.grants) (limit_of plan part)))) }
@@ -82,6 +85,7 @@ pub fn all_comes_back()
 {}
 
 /// Who comes enters exactly where the book allows it, whoever is idle.
+#[tactic(auto, using(crate::proofs::ComingLemmas::only_enters))]
 pub fn who_has_budget_enters()
     ensures enters { (plan : PlanOf) (grants : List Held) (roll : List Present) (who : Who) (ask : Quota) (now most : ℕ) →
         why_over plan who ask grants ≡ None → coming plan grants roll who ask now most ≡ Enters }

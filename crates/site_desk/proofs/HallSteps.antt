@@ -1,23 +1,5 @@
 -- What a hall's steps do to its seats.
-use Rattle.std.proofs.Common.{◌≡◌, ℕ, ◌+◌, ◌^◌, ◌≤◌, ◌⊎◌, inl, inr, true, false, ◌||◌, eqb, leb, ltb, Option, Some, None, Result, Ok, Err, refl, ap, sym, ◌∙◌, arith}
-use Rattle.std.proofs.lemmas.Bool.{cases_Bool, false≢true}
-use Rattle.std.proofs.lemmas.Bool.Decides.{nat_tests}
-use Rattle.tenant_quota.specs.Quota.{Quota}
-use Rattle.sched_rules.specs.declared.refusal.Refusal.{Refusal}
-use Rattle.sched_rules.specs.declared.refusal.Refusal.TheVariants.{OldTenant, OutOfMemory}
-use Rattle.sched_rules.specs.declared.step.StepOf.{StepOf}
-use Rattle.sched_rules.specs.declared.step.StepOf.TheVariants.{Admit, AdmitMore, Leave}
-use Rattle.sched_rules.specs.declared.step.DidOf.{DidOf}
-use Rattle.sched_rules.specs.declared.step.DidOf.TheVariants.{Left}
-use Rattle.sched_rules.specs.Functions.{Functions}
-use Rattle.sched_rules.specs.Trees.{Tenant, admitted_with}
-use Rattle.sched_rules.specs.Lone.{Outcome, lone, lone_step, is_lower}
-use Rattle.sched_rules.specs.Runs.{tenant_of, answer_of}
-use Rattle.sched_rules.specs.Cores.{CoreState, tenant_in, with_outcome, reservations_in, is_full, is_beyond, step_result, shared_with}
-use Rattle.sched_rules.specs.Headline.{AreNumbersGiven, IsOneStep, is_admission}
-use Rattle.sched_rules.proofs.Isolation.{IsTaken, step-taken, shared-after-taken}
-use Rattle.sched_laws.proofs.Shaped.{by-kinds, unless-passed}
-use Rattle.site_desk.specs.Booked.{is_within_seat}
+use Rattle.site_desk.proofs.Common.{◌≡◌, ℕ, true, false, Option, Some, None, Result, Ok, refl, ap, sym, ◌∙◌, arith, false≢true, Quota, Refusal, StepOf, Admit, AdmitMore, Leave, DidOf, Left, Functions, Tenant, admitted_with, Outcome, lone, lone_step, tenant_of, CoreState, tenant_in, with_outcome, shared_with, AreNumbersGiven, IsOneStep, is_admission, IsTaken, step-taken, shared-after-taken, by-kinds, unless-passed, is_within_seat}
 
 -- a step within its seat is no admission
 pub no-admission : {A : Type 0} (step : StepOf A) → is_within_seat step ≡ true → is_admission step ≡ false
@@ -80,41 +62,6 @@ module _ {I A : Type 0} (functions : Functions I A) where
   -- the seats after a taken step
   pub moved : (before after : CoreState) (step : StepOf A) (o : Option Tenant) → after ≡ shared_with before step o → (after.tenants ≡ with_outcome (tenant_of step) o before.tenants) × (after.totals ≡ before.totals)
   moved before after step o is = (ap (λ (s : CoreState). s.tenants) is, ap (λ (s : CoreState). s.totals) is)
-
-  -- refusals
-
-  err-is : (a b : Refusal) → ◌≡◌ {A = Result (DidOf I) Refusal} (Err a) (Err b) → a ≡ b
-  err-is a b e = cc
-
-  old-number : (n newest : ℕ) → n ≡ newest + 1 → (eqb n 0 || leb n newest || ltb (2 ^ 62) n) ≡ true → 2 ^ 62 ≤ newest
-  old-number n newest next old = grind (arith, nat_tests)
-
-  -- where there is room an admission is refused for a number or for memory
-  pub admit-refused : (before after : CoreState) (n : ℕ) (q : Quota) (refusal : Refusal) → n ≡ before.newest + 1 → is_full (reservations_in before) q ≡ false → IsOneStep functions before (Admit n q) (Err refusal) after →
-      ((refusal ≡ OldTenant) ⊎ (refusal ≡ OutOfMemory)) × (refusal ≡ OldTenant → 2 ^ 62 ≤ before.newest)
-  admit-refused before after n q refusal next room one = elim (cases_Bool (eqb n 0 || leb n before.newest || ltb (2 ^ 62) n)) [
-    | inl old ↦ (let is = err-is refusal OldTenant ((one.answered.0 refl).refused OldTenant (rw old refl)) in (inl is, λ same. old-number n before.newest next old))
-    | inr young ↦ elim ((one.answered.0 refl).else_taken (rw (young, room) refl)) [
-      | inl taken ↦ absurd (let none : ◌≡◌ {A = Result (DidOf I) Refusal} (Err refusal) (answer_of (step_result {A = A} functions before (Admit n q))) = taken in not_taken n q young room refusal none)
-      | inr out ↦ (let is = err-is refusal OutOfMemory out in (inr is, λ same. absurd (not_both refusal is same)))
-    ]
-  ]
-    where
-      not_taken : (n : ℕ) (q : Quota) → (eqb n 0 || leb n before.newest || ltb (2 ^ 62) n) ≡ false → is_full (reservations_in before) q ≡ false → (refusal : Refusal) → ◌≡◌ {A = Result (DidOf I) Refusal} (Err refusal) (answer_of (step_result {A = A} functions before (Admit n q))) → ⊥
-      not_taken n q young room refusal e = grind arith
-
-      not_both : (refusal : Refusal) → refusal ≡ OutOfMemory → refusal ≡ OldTenant → ⊥
-      not_both refusal one other = cc
-
-  -- where there is room a raise is refused for memory alone
-  pub more-refused : (before after : CoreState) (n : ℕ) (q : Quota) (tenant : Tenant) (refusal : Refusal) → tenant_in before.tenants n ≡ Some tenant → is_lower tenant.reserve q ≡ false → is_beyond (reservations_in before) tenant.reserve q ≡ false → IsOneStep functions before (AdmitMore n q) (Err refusal) after → refusal ≡ OutOfMemory
-  more-refused before after n q tenant refusal at more room one = elim ((one.answered.0 refl).else_taken (rw (at, more, room) refl)) [
-    | inl taken ↦ absurd (not_taken refusal taken)
-    | inr out ↦ err-is refusal OutOfMemory out
-  ]
-    where
-      not_taken : (refusal : Refusal) → ◌≡◌ {A = Result (DidOf I) Refusal} (Err refusal) (answer_of (step_result {A = A} functions before (AdmitMore n q))) → ⊥
-      not_taken refusal e = grind arith
 
   -- a leave of who is there is taken
   pub leave-taken : (before after : CoreState) (n : ℕ) (tenant : Tenant) (answer : Result (DidOf I) Refusal) → tenant_in before.tenants n ≡ Some tenant → IsOneStep functions before (Leave n) answer after → answer ≡ Ok Left

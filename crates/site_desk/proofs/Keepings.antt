@@ -1,37 +1,6 @@
 -- Each call leaves the grants the hall's tenants.
-use Rattle.std.proofs.Common.{◌≡◌, ℕ, ◌+◌, ◌<◌, ◌≤◌, inl, inr, true, false, List, [], ◌∷◌, ◌++◌, Option, Some, None, Result, Ok, Err, refl, ap, sym, ◌∙◌, subst, arith}
-use Rattle.std.proofs.lemmas.Bool.{cases_Bool}
-use Rattle.std.specs.Option.{is_some}
-use Rattle.number_index.specs.Places.{AreRising}
-use Rattle.tenant_quota.specs.Quota.{Quota}
-use Rattle.sched_rules.specs.declared.refusal.Refusal.{Refusal}
-use Rattle.sched_rules.specs.declared.step.StepOf.{StepOf}
-use Rattle.sched_rules.specs.declared.step.StepOf.TheVariants.{Admit, AdmitMore, Leave}
-use Rattle.sched_rules.specs.declared.step.DidOf.{DidOf}
-use Rattle.sched_rules.specs.Trees.{Tenant, admitted_with}
-use Rattle.sched_rules.specs.Lone.{is_lower}
-use Rattle.sched_rules.specs.Runs.{tenant_of}
-use Rattle.sched_rules.specs.Cores.{tenant_in, with_outcome, reservations_in, is_full, is_beyond}
-use Rattle.sched_rules.specs.Headline.{AreNumbersGiven}
-use Rattle.sched_rules.proofs.Tenants.{tenant_in-new}
-use Rattle.sched_rules.proofs.Isolation.{IsTaken}
-use Rattle.hall.specs.jamboree_rules.declared.leaf.Leaf.{Leaf}
-use Rattle.hall.specs.jamboree_rules.declared.leaf.LeafAnswer.{LeafAnswer}
-use Rattle.hall.specs.jamboree_rules.Procedure.{jamboree}
-use Rattle.hall.specs.Halls.{HallOf, IsDecided}
-use Rattle.site_book.specs.declared.amount.Amount.{Amount}
-use Rattle.site_book.specs.declared.held.Held.{Held}
-use Rattle.site_book.specs.declared.held.Part.TheVariants.{All}
+use Rattle.site_desk.proofs.Common.{◌≡◌, ℕ, ◌+◌, ◌<◌, ◌≤◌, inl, inr, true, false, List, [], ◌∷◌, ◌++◌, Option, Some, None, Result, Ok, Err, refl, ap, sym, ◌∙◌, subst, arith, cases_Bool, is_some, AreRising, Quota, Refusal, StepOf, Admit, AdmitMore, Leave, DidOf, Tenant, admitted_with, is_lower, tenant_of, tenant_in, with_outcome, reservations_in, is_full, is_beyond, AreNumbersGiven, tenant_in-new, IsTaken, Leaf, LeafAnswer, jamboree, HallOf, IsDecided, Amount, Held, All, Lower, Who, of_one, plus, IsAmountWithin, used, grant_of, grants_without, BookOf, Opens, Raises, Closes, taken, why_no_raise, IsBooked, TookInHall, is_within_seat, Seat, seats_in_book, seats_in_hall, number_of}
 use Rattle.site_book.specs.declared.refusal.Refusal.{Refusal as BookRefusal}
-use Rattle.site_book.specs.declared.refusal.Refusal.TheVariants.{Lower}
-use Rattle.site_book.specs.declared.who.Who.{Who}
-use Rattle.site_book.specs.Amounts.{of_one, plus, IsAmountWithin}
-use Rattle.site_book.specs.Plans.{PlanOf}
-use Rattle.site_book.specs.Grants.{used, grant_of, grants_without}
-use Rattle.site_book.specs.Books.{BookOf, Opens, Raises, Closes, taken, why_no_raise, why_not_replan}
-use Rattle.site_book.proofs.Keepings.{comes-in}
-use Rattle.site_desk.specs.Booked.{IsBooked, TookInHall, is_within_seat}
-use Rattle.site_desk.specs.BookedSeats.{Seat, seats_in_book, seats_in_hall, number_of}
 use Rattle.site_desk.proofs.SeatLemmas.{set_seat, drop_seats, seat_at, amount_of, hall-same, hall-new, hall-set, hall-drop, IsThere, hall-at, book-push, book-set, book-drop, book-at, taken-upto, rising-push, rising-set, rising-drop, book-amount, used-found, not_full, not_beyond}
 use Rattle.site_desk.proofs.HallSteps.{went, admit-outcome, more-outcome, leave-outcome, stayed, moved}
 
@@ -58,26 +27,13 @@ booked-as hall hall' book book' seats is totals given plan by_hall by_book risin
     let segments = ap (λ (q : Quota). q.segments) totals in
     let nodes = ap (λ (q : Quota). q.nodes) totals in
     let plan_segments = ap (λ (a : Amount). a.segments) plan in
-    let plan_nodes = ap (λ (a : Amount). a.nodes) plan in
     record {
       seated = by_book ∙ sym by_hall;
       rising = subst (AreRising number_of) (sym by_hall) rising;
       given = given;
       segments = omega (arith, is.segments, segments, plan_segments);
-      nodes = omega (arith, is.nodes, nodes, plan_nodes);
+      nodes = omega (arith, is.nodes, nodes, ap (λ (a : Amount). a.nodes) plan);
     }
-
-pub booked-new : (hall : HallOf) (book : BookOf) → hall.shared.tenants ≡ [] → book.grants ≡ [] → book.plan.totals.segments ≤ hall.shared.totals.segments → book.plan.totals.nodes ≤ hall.shared.totals.nodes → IsBooked hall book
-booked-new hall book nobody nothing segments nodes = record {
-  seated = ap seats_in_book nothing ∙ ap seats_in_hall (sym nobody);
-  rising = subst (λ es. AreRising number_of (seats_in_hall es)) (sym nobody) tt;
-  given = given;
-  segments = segments;
-  nodes = nodes;
-}
-  where
-    given : AreNumbersGiven hall.shared
-    given = rw nobody tt
 
 -- a tenant more
 
@@ -138,12 +94,6 @@ booked-went hall hall' book step is within took =
 pub booked-step : (hall hall' : HallOf) (book : BookOf) (step : Step) (answer : Result (DidOf Leaf) Refusal) → IsBooked hall book → is_within_seat step ≡ true → IsDecided hall step answer hall' → IsBooked hall' book
 booked-step hall hall' book step (Ok did) is within decided = booked-went hall hall' book step is within (did, decided)
 booked-step hall hall' book step (Err refusal) is within decided = subst (λ h. IsBooked h book) (sym decided.refused) is
-
--- another plan
-
-pub booked-replan : (hall : HallOf) (book : BookOf) (plan : PlanOf) → IsBooked hall book → why_not_replan book plan ≡ None → IsBooked hall (record book { plan = plan })
-booked-replan hall book plan is none =
-    booked-as hall hall book (record book { plan = plan }) (seats_in_hall hall.shared.tenants) is refl is.given (comes-in book plan none).totals refl is.seated is.rising
 
 -- room
 

@@ -1,3 +1,4 @@
+mod Common
 mod SeatLemmas
 mod HallSteps
 mod Keepings

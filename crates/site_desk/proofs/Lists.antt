@@ -1,25 +1,6 @@
 -- Who is listed is who has a grant, after each call.
-use Rattle.std.proofs.Common.{◌≡◌, ℕ, ◌<◌, ◌≤◌, ◌&&◌, inl, inr, Bool, true, false, cond, eqb, List, [], ◌∷◌, ◌++◌, length, refl, ap, sym, ◌∙◌, subst, arith, length-append}
-use Rattle.std.proofs.lemmas.Bool.{cases_Bool}
+use Rattle.site_desk.proofs.Common.{◌≡◌, ℕ, ◌<◌, ◌≤◌, ◌&&◌, inl, inr, Bool, true, false, cond, eqb, List, [], ◌∷◌, ◌++◌, length, refl, ap, sym, ◌∙◌, subst, arith, length-append, cases_Bool, Quota, Held, Who, same_who, is_held_as, grants_without, BookOf, Opens, Raises, Closes, taken, Name, names_granted, PlanOf, Mark, Spoke, Waits, Told as told_to, Present, Whom, is_meant, is_present_as, marked, marked_all, marked_if, names_present, newcomer, without_present, stays, told_by, told_unless, with_staying, Turned, ByBook, OldTenant, OutOfMemory, BookedOf, IsRaise, IsListed, names-with_ask}
 use Rattle.std.specs.Prelude.{Result, Ok, Err}
-use Rattle.tenant_quota.specs.Quota.{Quota}
-use Rattle.site_book.specs.declared.held.Held.{Held}
-use Rattle.site_book.specs.declared.who.Who.{Who}
-use Rattle.site_book.specs.Names.{same_who}
-use Rattle.site_book.specs.Grants.{is_held_as, grants_raised, grants_without}
-use Rattle.site_book.specs.Books.{BookOf, Opens, Raises, Closes, taken}
-use Rattle.site_book.specs.Events.{Name, names_granted}
-use Rattle.site_book.specs.Plans.{PlanOf}
-use Rattle.site_book.specs.declared.present.Mark.{Mark}
-use Rattle.site_book.specs.declared.present.Mark.TheVariants.{Spoke, Waits, Told as told_to}
-use Rattle.site_book.specs.declared.present.Present.{Present}
-use Rattle.site_book.specs.declared.present.Whom.{Whom}
-use Rattle.site_book.specs.Rolls.{is_meant, is_present_as, marked, marked_all, marked_if, names_present, newcomer, without_present}
-use Rattle.site_book.specs.Comings.{stays, told_by, told_unless, with_staying}
-use Rattle.site_desk.specs.declared.turned.Turned.{Turned}
-use Rattle.site_desk.specs.declared.turned.Turned.TheVariants.{ByBook, OldTenant, OutOfMemory}
-use Rattle.site_desk.specs.Booked.{BookedOf, IsRaise}
-use Rattle.site_desk.specs.Sites.{IsListed}
 
 abbrev name_of : Present → Name
 name_of p = (p.who, p.session)
@@ -47,8 +28,7 @@ pub names_told : (plan : PlanOf) (before gs : List Held) (roll : List Present) �
 names_told plan before [] roll alike = refl
 names_told plan before (g ∷ gs) [] alike = refl
 names_told plan before (g ∷ gs) (p ∷ roll) alike =
-    let rest : length gs ≡ length roll = omega (arith, alike) in
-    λ i. told-name (stays plan before g p) p i ∷ names_told plan (with_staying (stays plan before g p) before g) gs roll rest i
+    λ i. told-name (stays plan before g p) p i ∷ names_told plan (with_staying (stays plan before g p) before g) gs roll (omega (arith, alike)) i
 
 pub roll-push : (roll : List Present) (p : Present) → names_present (roll ++ p ∷ []) ≡ names_present roll ++ name_of p ∷ []
 roll-push [] p = refl
@@ -57,13 +37,6 @@ roll-push (q ∷ roll) p = ap (λ (l : List Name). name_of q ∷ l) (roll-push r
 pub book-push : (gs : List Held) (g : Held) → names_granted (gs ++ g ∷ []) ≡ names_granted gs ++ (g.who, g.session) ∷ []
 book-push [] g = refl
 book-push (h ∷ gs) g = ap (λ (l : List Name). (h.who, h.session) ∷ l) (book-push gs g)
-
-pub names-with_ask : (who : Who) (n : ℕ) (q : Quota) (gs : List Held) → names_granted (grants_raised who n q gs) ≡ names_granted gs
-names-with_ask who n q [] = refl
-names-with_ask who n q (g ∷ gs) = elim (cases_Bool (is_held_as who n g)) [
-  | inl aye ↦ rw aye refl
-  | inr nay ↦ rw nay (ap (λ (l : List Name). (g.who, g.session) ∷ l) (names-with_ask who n q gs))
-]
 
 abbrev is_named : Who → ℕ → Name → Bool
 is_named who n name = same_who who name.0 && (eqb n name.1)
@@ -121,6 +94,5 @@ listed_raised before after roll who n q (Err OutOfMemory) is h = subst (λ (b : 
 -- where a session was entered in the book there is a place for it in the roll
 pub has_place : (book book' : BookOf) (roll : List Present) (who : Who) (n : ℕ) (q : Quota) → IsListed book roll → book' ≡ taken book (Opens who n q) → length book'.grants ≤ 64 → length roll < 64
 has_place book book' roll who n q is entered few =
-    let many : length book.grants ≡ length roll = alike book.grants roll is in
     let more : length book'.grants ≡ length (book.grants ++ record { who = who; session = n; ask = q } ∷ []) = ap (λ (b : BookOf). length b.grants) entered in
-    omega (arith, length-append book.grants (record { who = who; session = n; ask = q } ∷ []), more, many, few)
+    omega (arith, length-append book.grants (record { who = who; session = n; ask = q } ∷ []), more, alike book.grants roll is, few)

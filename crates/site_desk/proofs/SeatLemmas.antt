@@ -1,23 +1,5 @@
 -- Seats, by a book's grants and by a hall's tenants.
-use Rattle.std.proofs.Common.{◌≡◌, ℕ, ◌+◌, ◌<◌, ◌≤◌, inl, inr, true, false, cond, eqb, List, [], ◌∷◌, ◌++◌, length, Option, Some, None, refl, ap, sym, ◌∙◌, subst, arith}
-use Rattle.std.proofs.lemmas.Bool.{cases_Bool, eqb-true, eq-eqb, ne_eqb, and_parts, or_from, lt-leb, le-ltb}
-use Rattle.std.proofs.lemmas.List.Sums.{sum_by-cons}
-use Rattle.number_index.specs.Places.{AreAbove, AreRising}
-use Rattle.tenant_quota.specs.Quota.{Quota}
-use Rattle.tenant_quota.specs.Accounts.{reserved_segments, reserved_nodes}
-use Rattle.tenant_quota.specs.declared.account.Account.{Account}
-use Rattle.sched_rules.specs.Trees.{Tenant, account_in}
-use Rattle.sched_rules.specs.Cores.{CoreState, tenant_in, with_tenant, without_tenant, accounts_in, reservations_in, is_full, is_beyond}
-use Rattle.sched_rules.specs.Headline.{AreNumbersTaken}
-use Rattle.site_book.specs.declared.amount.Amount.{Amount}
-use Rattle.site_book.specs.declared.held.Held.{Held}
-use Rattle.site_book.specs.declared.held.Part.TheVariants.{All}
-use Rattle.site_book.specs.declared.who.Who.{Who}
-use Rattle.site_book.specs.Names.{same_who}
-use Rattle.site_book.specs.Amounts.{nothing, of_one, plus, IsAmountWithin}
-use Rattle.site_book.specs.Grants.{used, is_held_as, grant_of, grants_without, grants_raised}
-use Rattle.site_book.proofs.AmountLemmas.{plus_swap}
-use Rattle.site_desk.specs.BookedSeats.{Seat, seats_in_book, seats_in_hall, number_of}
+use Rattle.site_desk.proofs.Common.{◌≡◌, ℕ, ◌+◌, ◌<◌, ◌≤◌, inl, inr, true, false, cond, eqb, List, [], ◌∷◌, ◌++◌, length, Option, Some, None, refl, ap, sym, ◌∙◌, subst, arith, cases_Bool, eqb-true, eq-eqb, ne_eqb, and_parts, or_from, lt-leb, le-ltb, sum_by-cons, AreAbove, AreRising, Quota, reserved_segments, reserved_nodes, Account, Tenant, account_in, CoreState, tenant_in, with_tenant, without_tenant, accounts_in, reservations_in, is_full, is_beyond, AreNumbersTaken, Amount, Held, All, Who, same_who, nothing, of_one, plus, IsAmountWithin, used, is_held_as, grant_of, grants_without, grants_raised, plus_swap, Seat, seats_in_book, seats_in_hall, number_of}
 
 abbrev Entries : Type 0
 Entries = List (ℕ × Tenant)
@@ -121,9 +103,7 @@ book-set who n q (g ∷ gs) held is rising = elim (cases_Bool (is_held_as who n 
 
 drop-above : (n : ℕ) (ss : List Seat) → AreAbove number_of n ss → drop_seats n ss ≡ ss
 drop-above n [] above = refl
-drop-above n (s ∷ ss) above =
-    let more : n < s.0 = above.0 in
-    rw (ne_eqb s.0 n (λ e. omega (arith, e, more))) (ap (λ (r : List Seat). s ∷ r) (drop-above n ss above.1))
+drop-above n (s ∷ ss) above = rw (ne_eqb s.0 n (λ e. omega (arith, e, above.0))) (ap (λ (r : List Seat). s ∷ r) (drop-above n ss above.1))
 
 pub book-drop : (who : Who) (n : ℕ) (gs : List Held) (held : Held) → grant_of who n gs ≡ Some held → AreRising number_of (seats_in_book gs) → seats_in_book (grants_without who n gs) ≡ drop_seats n (seats_in_book gs)
 book-drop who n [] held is rising = absurd cc

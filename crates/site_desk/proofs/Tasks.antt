@@ -1,9 +1,5 @@
 -- What a worker is given that has waited, where nobody who shares has a ready frame.
-use Rattle.std.proofs.Common.{◌≡◌, inr, false, Option, Some, None, subst}
-use Rattle.sched_rules.specs.Views.{named, ready_count}
-use Rattle.frame_tree.specs.Frames.{IsReadyAt}
-use Rattle.pool_rules.specs.declared.task.Task.{Task}
-use Rattle.site_desk.specs.Sites.{SiteOf, IsAnyTask, IsNextTask, IsSitePick}
+use Rattle.site_desk.proofs.Common.{◌≡◌, inr, false, Option, Some, None, subst, named, ready_count, IsReadyAt, Task, SiteOf, IsAnyTask, IsNextTask, IsSitePick}
 
 pub next_by : (before after : SiteOf) (found : Option Task) → before.closed ≡ false → IsSitePick before None after → IsAnyTask after found → IsNextTask before found after
 next_by before after None is_open picked h = inr (is_open, picked, subst (λ (s : SiteOf). ready_count s.booked.hall.shared.tenants ≡ 0) picked.0 h)

@@ -1,7 +1,5 @@
 -- What each answer keeps, a chain of answers keeps.
-use Rattle.std.proofs.Common.{◌≡◌, ℕ, List, [], ◌∷◌, sym, ap, ◌∙◌}
-use Rattle.line_io.specs.Lines.{LineText}
-use Rattle.line_io.specs.Leads.{Answers}
+use Rattle.site_office.proofs.Common.{◌≡◌, ℕ, List, [], ◌∷◌, sym, ap, ◌∙◌, LineText, Answers}
 
 pub chain-keeps : {A N : Type 0} (answers : A → LineText → List ℕ → A → Type 0) (name : A → N) → ((a : A) (line : LineText) (text : List ℕ) (b : A) → answers a line text b → name b ≡ name a)
     → (a : A) (lines : List LineText) (texts : List (List ℕ)) (b : A) → Answers answers a lines texts b → name b ≡ name a

@@ -1,17 +1,5 @@
 -- Whether a tenant is there, through the lines of a session.
-use Rattle.std.proofs.Common.{◌≡◌, ℕ, List, [], ◌∷◌, Bool, true, false, Option, sym, ap, subst, ◌∙◌}
-use Rattle.line_io.specs.Lines.{LineText}
-use Rattle.line_io.specs.Leads.{Answers}
-use Rattle.session.specs.Calls.{Call, Hello, Reserve, Get, Leave, OfficeReply, Gone}
-use Rattle.session.specs.Requests.{Request, Fault, Makes, Tabulates, Ends}
-use Rattle.session.specs.Sessions.{LeavesIf, Turned}
-use Rattle.session.specs.Turns.{seated_after}
-use Rattle.tenant_quota.specs.Quota.{Quota}
-use Rattle.site_office.specs.declared.reception.Greeted.{Greeted}
-use Rattle.site_office.specs.declared.reception.Greeted.TheVariants.{Known, Unknown, Crowded}
-use Rattle.site_office.specs.declared.reception.Info.{Info}
-use Rattle.site_office.specs.Lines.{SiteRequest, Greets, Raises, Informs, Plain}
-use Rattle.site_office.specs.Turns.{IsRefused, IsWelcomed, IsGreeted, IsRaised, SiteTurned}
+use Rattle.site_office.proofs.Common.{◌≡◌, ℕ, List, [], ◌∷◌, Bool, true, false, Option, sym, ap, subst, ◌∙◌, LineText, Answers, Call, Hello, Reserve, Get, Leave, OfficeReply, Gone, Request, Fault, Makes, Tabulates, Ends, LeavesIf, Turned, seated_after, Quota, Greeted, Known, Unknown, Crowded, Info, SiteRequest, Greets, Raises, Informs, Plain, IsRefused, IsWelcomed, IsGreeted, IsRaised, SiteTurned}
 
 -- what each answer keeps true stays true through a chain of them
 pub chain-holds : {A : Type 0} (answers : A → LineText → List ℕ → A → Type 0) (holds : A → Type 0) → ((a : A) (line : LineText) (text : List ℕ) (b : A) → answers a line text b → holds a → holds b)

@@ -1,3 +1,4 @@
+mod Common
 mod TokenLemmas
 mod ChainLemmas
 mod ClerkLemmas

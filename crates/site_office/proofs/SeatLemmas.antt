@@ -1,22 +1,6 @@
 -- What a seat shows of its jobs, as a session has it.
-use Rattle.std.proofs.Common.{◌≡◌, ℕ, map, false, Option, Some, None, refl, sym, subst, ap, ◌∙◌, Result, Ok, Err}
-use Rattle.std.specs.Prelude.{List, Contains, IfErr}
-use Rattle.std.specs.Option.{is_some}
-use Rattle.desk_rules.specs.jamboree_core.declared.outcomes.Outcome.{Outcome}
-use Rattle.sched_rules.specs.declared.refusal.Refusal.{Refusal}
-use Rattle.sched_rules.specs.declared.refusal.Refusal.TheVariants.{NoJob}
-use Rattle.sched_rules.specs.Refusals.{refusal_number}
-use Rattle.tenant_quota.specs.Quota.{Quota}
-use Rattle.session.specs.Calls.{Cancel, Reserve, Reserved, Ended, Told as ToldOf, Refused, reply_of}
-use Rattle.session.specs.Asks.{Asked, asked_at, IsJobReply, KeepsAsks, SaysTrue}
-use Rattle.session.specs.declared.standings.Standing.{Standing}
-use Rattle.desk_rules.specs.declared.asked.SeatAsked.{SeatAsked}
-use Rattle.desk_rules.specs.Asked.{cancel_refusals, IsShown, seat_asked_at}
-use Rattle.desk_office.specs.Offices.{ask_of, told_answer}
-use Rattle.desk_office.proofs.SeatLemmas.{asked_at-map, told_of, says, refused_by, unasked}
-use Rattle.site_desk.specs.Seats.{SiteSeatOf}
-use Rattle.site_office.specs.Refusing.{raise_refusals}
-use Rattle.site_office.specs.Offices.{asks_of_seat}
+use Rattle.site_office.proofs.Common.{◌≡◌, ℕ, map, false, Option, Some, None, refl, sym, subst, ap, ◌∙◌, Result, Ok, Err, Contains, IfErr, is_some, Outcome, Refusal, NoJob, refusal_number, Quota, Cancel, Reserve, Reserved, Ended, Told as ToldOf, Refused, reply_of, Asked, asked_at, IsJobReply, KeepsAsks, SaysTrue, Standing, SeatAsked, cancel_refusals, IsShown, seat_asked_at, ask_of, told_answer, asked_at-map, told_of, says, refused_by, unasked, SiteSeatOf, raise_refusals, asks_of_seat}
+use Rattle.std.specs.Prelude.{List}
 
 -- what the seat that is there shows of a job
 pub seat_shows : (here : Option SiteSeatOf) (seat : SiteSeatOf) (job : ℕ) (answer : Result Outcome Refusal) (said : Result Standing Refusal) → here ≡ Some seat → IsShown (seat_asked_at seat.asked job) answer → said ≡ told_answer answer

@@ -1,9 +1,5 @@
 -- A token is shorter than its line.
-use Rattle.std.proofs.Common.{◌≡◌, ℕ, suc, ◌<◌, ◌≤◌, List, [], ◌∷◌, length, eqb, cond, Bool, true, false, sym, subst, arith, Option, Some, None, codes}
-use Rattle.std.specs.Option.{option_map}
-use Rattle.std.specs.Str.{bytes_eq}
-use Rattle.protocol.specs.Words.{split_at_space}
-use Rattle.site_office.specs.Tokens.{last_word, word_after, word_after_two, token_after, token_by, token_of}
+use Rattle.site_office.proofs.Common.{◌≡◌, ℕ, suc, ◌<◌, ◌≤◌, List, [], ◌∷◌, length, eqb, cond, Bool, true, false, sym, subst, arith, Option, Some, None, codes, option_map, bytes_eq, split_at_space, last_word, word_after, word_after_two, token_after, token_by, token_of}
 
 -- what follows the first space is shorter than this
 rest_short : Option (List ℕ × List ℕ) → ℕ → Type 0

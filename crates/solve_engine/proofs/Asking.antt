@@ -1,27 +1,6 @@
 -- What was asked stays asked, and what has become of the job answers it.
-use Rattle.std.proofs.Common.{◌≡◌, ℕ, Bool, true, false, ◌&&◌, eqb, List, [], ◌∷◌, ◌++◌, Option, Some, None, Result, Ok, refl, ap, ap₂, sym, ◌∙◌, subst, append-nil, rules}
-use Rattle.std.specs.Prelude.{is_ok, if◌then◌else◌, IsSome}
-use Rattle.tenant_quota.specs.Quota.{Quota}
-use Rattle.othello_board.specs.Words.{cells, cells_of}
-use Rattle.sched_rules.specs.declared.refusal.Refusal.{Refusal}
-use Rattle.sched_rules.specs.declared.step.StepOf.{StepOf}
-use Rattle.sched_rules.specs.declared.step.StepOf.TheVariants.{Submit}
-use Rattle.sched_rules.specs.declared.step.DidOf.{DidOf}
-use Rattle.sched_rules.specs.Runs.{tenant_of}
-use Rattle.sched_rules.specs.Trees.{Tenant}
-use Rattle.sched_rules.specs.Cores.{CoreState, shared_by_nobody, tenant_in}
-use Rattle.jamboree_core.specs.sched_laws.Fitted.{submits, origins_after}
-use Rattle.jamboree_core.specs.jamboree_rules.declared.leaf.LeafAnswer.{LeafAnswer}
-use Rattle.jamboree_core.specs.jamboree_rules.Places.{root_words}
-use Rattle.jamboree_core.specs.jamboree.declared.reply.Reply.{Reply}
-use Rattle.jamboree_core.specs.jamboree.Replies.{board_of}
-use Rattle.jamboree_core.specs.Replies.{IsSearch}
-use Rattle.jamboree_core.specs.Searching.{TenantSearches, ServesSearches, CoreSearches, origin_at}
+use Rattle.solve_engine.proofs.Common.{◌≡◌, ℕ, Bool, true, false, ◌&&◌, eqb, List, [], ◌∷◌, ◌++◌, Option, Some, None, Result, Ok, refl, ap, ap₂, sym, ◌∙◌, subst, append-nil, rules, is_ok, if◌then◌else◌, IsSome, Quota, cells, cells_of, Refusal, StepOf, Submit, DidOf, tenant_of, Tenant, CoreState, shared_by_nobody, tenant_in, submits, origins_after, LeafAnswer, root_words, Reply, board_of, IsSearch, TenantSearches, ServesSearches, CoreSearches, origin_at, Done, IsReplyOn, AnswersTo, nobody-searches, core-tenant, core-serves, HasAsked, HasReserved}
 use Rattle.jamboree_core.specs.declared.outcomes.Outcome.{Outcome}
-use Rattle.jamboree_core.specs.declared.outcomes.Outcome.TheVariants.{Done}
-use Rattle.jamboree_core.specs.Outcomes.{IsReplyOn, AnswersTo}
-use Rattle.jamboree_core.proofs.Serving.{nobody-searches, core-tenant, core-serves}
-use Rattle.solve_engine.specs.Asked.{HasAsked, HasReserved}
 
 -- a core with no tenant was asked nothing
 pub nothing-asked : (totals : Quota) (shared : CoreState) → shared ≡ shared_by_nobody totals → HasAsked [] shared

@@ -1,3 +1,4 @@
+mod Common
 pub mod RefusalLemmas
 pub mod Staying
 pub mod Asking

@@ -1,16 +1,6 @@
 -- Where each line is answered by a text that `solve` may answer to it, what is written is the answers to the lines for some list of
 -- refused growths.
-use Rattle.std.proofs.Common.{◌≡◌, ℕ, suc, Bool, List, [], ◌∷◌, ◌++◌, length, refl, sym, ap, ◌∙◌, append_assoc, append-nil, arith, length-append, Result, Ok, Err}
-use Rattle.std.specs.List.{concat}
-use Rattle.line_io.specs.declared.faults.LineFault.{LineFault}
-use Rattle.line_io.specs.declared.faults.WriteFailed.{WriteFailed}
-use Rattle.line_io.specs.Lines.{LineText, lines_of}
-use Rattle.line_io.specs.Leads.{Answers}
-use Rattle.line_io.specs.Streams.{ReadAnswer, WriteAnswer}
-use Rattle.line_io.specs.Writes.{IsAnswered, written_texts, with_newline}
-use Rattle.line_io.specs.Runs.{Run, IsOutput, answers_to, bytes_due, write_result}
-use Rattle.line_io.proofs.ByFunction.{Run-written}
-use Rattle.solve_engine.specs.Solving.{solve_line, solve_line_unless, IsSolvedLine, answers_unless, SolvedRun}
+use Rattle.solve_engine.proofs.Common.{◌≡◌, ℕ, suc, Bool, List, [], ◌∷◌, ◌++◌, length, refl, sym, ap, ◌∙◌, append_assoc, append-nil, arith, length-append, Result, Ok, Err, concat, LineFault, WriteFailed, LineText, lines_of, Answers, ReadAnswer, WriteAnswer, IsAnswered, written_texts, with_newline, Run, IsOutput, answers_to, bytes_due, write_result, Run-written, solve_line, solve_line_unless, IsSolvedLine, answers_unless, SolvedRun}
 
 -- which of these lines met a refused growth: a flag for each, and the answers are those texts
 pub record AreRefusals (lines : List LineText) (texts : List (List ℕ)) : Type 0 where

@@ -1,18 +1,7 @@
 -- What a worker offers is a worker's step or Spend, and where that is taken its tenant stays, with what it reserved.
-use Rattle.std.proofs.Common.{◌≡◌, ℕ, true, false, ◌==◌, if◌then◌else◌, IfSome, Option, Some, None, Ok, refl, subst}
-use Rattle.sched_rules.specs.declared.step.StepOf.{StepOf}
-use Rattle.sched_rules.specs.declared.step.StepOf.TheVariants.{Take, Steal}
-use Rattle.sched_rules.specs.Functions.{Functions}
-use Rattle.sched_rules.specs.Trees.{Tenant}
-use Rattle.sched_rules.specs.Lone.{Outcome, lone_step}
-use Rattle.jamboree_core.proofs.sched_laws_Shaped.{by-kinds}
-use Rattle.jamboree_core.specs.jamboree_rules.declared.leaf.LeafAnswer.{LeafAnswer}
-use Rattle.pool_rules.specs.declared.turn.Action.{Action}
-use Rattle.pool_rules.specs.declared.turn.Action.TheVariants.{Get, Run, Bring, TakeIn, Finish as FinishRoot}
-use Rattle.pool_rules.specs.declared.turn.Holding.{Holding}
-use Rattle.pool_rules.specs.declared.turn.Holding.TheVariants.{Nothing, Next, Computing, GivingUp}
-use Rattle.pool_rules.specs.Turns.{step_of, offered}
-use Rattle.solve_engine.specs.Asked.{IsWork}
+use Rattle.solve_engine.proofs.Common.{◌≡◌, ℕ, true, false, ◌==◌, IfSome, Option, Some, None, Ok, refl, subst, StepOf, Take, Steal, Functions, Tenant, Outcome, lone_step, by-kinds, LeafAnswer, Action, Get, Bring, TakeIn, Finish as FinishRoot, Holding, Nothing, Next, Computing, GivingUp, step_of, offered, IsWork}
+use Rattle.std.proofs.Common.{if◌then◌else◌}
+use Rattle.pool_rules.specs.declared.turn.Action.TheVariants.{Run}
 
 -- for each action
 action-work : (worker : ℕ) (action : Action) → IsWork (step_of worker action)

@@ -1,29 +1,5 @@
 -- What a search keeps: it begins by an admission and a Submit, and goes on by a worker's steps.
-use Rattle.std.proofs.Common.{◌≡◌, ◌≢◌, ℕ, inl, inr, false, eqb, ltb, [], ◌∷◌, ◌++◌, Option, Some, None, Result, Ok, Err, refl, ap, sym, ◌∙◌, arith}
-use Rattle.std.proofs.lemmas.Bool.{cases_Bool, eqb-true, eqb-false}
-use Rattle.std.proofs.lemmas.Bool.Decides.{nat_tests}
-use Rattle.tenant_quota.specs.Quota.{Quota, IsWithinLimits}
-use Rattle.sched_rules.specs.declared.refusal.Refusal.{Refusal}
-use Rattle.sched_rules.specs.declared.step.StepOf.{StepOf}
-use Rattle.sched_rules.specs.declared.step.StepOf.TheVariants.{Admit, Submit}
-use Rattle.sched_rules.specs.declared.step.DidOf.{DidOf}
-use Rattle.sched_rules.specs.declared.step.DidOf.TheVariants.{Admitted}
-use Rattle.sched_rules.specs.Trees.{Tenant, admitted_with, left}
-use Rattle.sched_rules.specs.Lone.{Outcome, lone, lone_step, lone_refusal, refusal_in, submitted}
-use Rattle.sched_rules.specs.Runs.{tenant_of, answer_of}
-use Rattle.sched_rules.specs.Cores.{CoreState, CoreOf, shared_by_nobody, shared_with, tenant_in}
-use Rattle.sched_rules.specs.Headline.{IsOneStep, AreNumbersGiven}
-use Rattle.sched_rules.proofs.Tenants.{tenant_in-with_outcome, tenant_in_other-with_outcome}
-use Rattle.sched_rules.proofs.Isolation.{IsTaken, step-taken, shared-after-taken}
-use Rattle.jamboree_core.proofs.sched_core_Stepping.{IsRunning, runs-begin, runs-on}
-use Rattle.jamboree_core.specs.sched_laws.Fitted.{submits}
-use Rattle.jamboree_core.specs.jamboree_rules.declared.leaf.Leaf.{Leaf}
-use Rattle.jamboree_core.specs.jamboree_rules.declared.leaf.LeafAnswer.{LeafAnswer}
-use Rattle.jamboree_core.specs.jamboree_rules.Procedure.{jamboree}
-use Rattle.jamboree_core.specs.jamboree_rules.Places.{root_words}
-use Rattle.jamboree_core.specs.Replies.{IsSearch}
-use Rattle.jamboree_core.specs.jamboree.declared.procedure.Jamboree.{Jamboree}
-use Rattle.solve_engine.specs.Asked.{HasRun, HasReserved, WorksOn, IsWork, Keeps, IsNewCore}
+use Rattle.solve_engine.proofs.Common.{◌≡◌, ◌≢◌, ℕ, inl, inr, false, eqb, ltb, [], ◌∷◌, ◌++◌, Option, Some, None, Result, Ok, Err, refl, ap, sym, ◌∙◌, arith, cases_Bool, eqb-true, eqb-false, nat_tests, Quota, IsWithinLimits, Refusal, StepOf, Admit, Submit, DidOf, Admitted, Tenant, admitted_with, left, Outcome, lone, lone_step, lone_refusal, refusal_in, submitted, tenant_of, answer_of, CoreState, CoreOf, shared_by_nobody, shared_with, tenant_in, IsOneStep, AreNumbersGiven, tenant_in-with_outcome, tenant_in_other-with_outcome, IsTaken, step-taken, shared-after-taken, IsRunning, runs-begin, runs-on, submits, Leaf, LeafAnswer, jamboree, root_words, IsSearch, Jamboree, HasRun, HasReserved, WorksOn, IsWork, Keeps, IsNewCore}
 use Rattle.solve_engine.proofs.Staying.{Stays, step-stays}
 use Rattle.solve_engine.proofs.Asking.{StepSearches, step-asks, submit-asks, nothing-asked}
 

@@ -1,12 +1,5 @@
 -- The seats of thieves are joined to the owners'.
-use Rattle.std.proofs.Common.{◌≡◌, ℕ, zero, suc, ◌+◌, ◌<◌, ◌≤◌, List, [], ◌∷◌, ◌++◌, length, map, take, drop, set, get_or, All, sym, refl, ap, ◌∙◌, subst, arith, add-one, vec_len}
-use Rattle.std.proofs.lemmas.List.{length-map, map-set, drop_more, drop-set-lt, get_or-map, take-append-drop}
-use Rattle.std.proofs.lemmas.List.Elements.{All-head, All-tail, All-cons, All-nil, All-map}
-use Rattle.task_deques.specs.declared.owner.Owner.{Owner}
-use Rattle.task_deques.specs.declared.thief.Thief.{Thief}
-use Rattle.task_deques.specs.declared.returned.Returned.{Returned}
-use Rattle.task_deques.specs.Seats.{DequeIn, DequeSeatIn, owner_seat, thief_seat, joined}
-use Rattle.task_deques.specs.Deals.{WorkerSeatsIn, PostsIn, owner_seats, thief_seats, deques, posts_of, with_row, with_rows, zip_seats, whole_deques, returned, IsWhole}
+use Rattle.task_deques.proofs.Common.{◌≡◌, ℕ, zero, suc, ◌+◌, ◌<◌, ◌≤◌, List, [], ◌∷◌, ◌++◌, length, map, take, drop, set, get_or, All, sym, refl, ap, ◌∙◌, subst, arith, add-one, vec_len, length-map, map-set, drop_more, drop-set-lt, get_or-map, take-append-drop, All-head, All-tail, All-cons, All-map, Owner, Thief, Returned, DequeIn, DequeSeatIn, owner_seat, thief_seat, joined, WorkerSeatsIn, PostsIn, owner_seats, thief_seats, deques, posts_of, with_row, with_rows, zip_seats, whole_deques, returned, IsWhole}
 
 -- what holds of each mapped element
 pub all_unmapped : {X Y : Type 0} (P : Y → Type 0) (f : X → Y) (xs : List X) → All P (map f xs) → All (λ x. P (f x)) xs
@@ -40,9 +33,8 @@ module _ {A : Type 0} where
   turn_joins : (owners : List (DequeSeatIn A)) (place : ℕ) (thief : DequeSeatIn A) (left : List (DequeSeatIn A)) (d : DequeSeatIn A) → place < length owners →
       let after = set owners place (joined (get_or owners place d) thief) in
       take (suc place) after ++ with_row (drop (suc place) after) left ≡ take place owners ++ with_row (drop place owners) (thief ∷ left)
-  turn_joins [] place thief left d inside = absurd (omega arith)
-  turn_joins (o ∷ os) zero thief left d inside = refl
   turn_joins (o ∷ os) (suc place) thief left d inside = ap (λ (l : List (DequeSeatIn A)). o ∷ l) (turn_joins os place thief left d (omega arith))
+  turn_joins owners place thief left d inside = grind arith
 
   -- there is an owner at the place of the next thief
   pub turn_inside : (owners : List (Owner A)) (place : ℕ) (thief : Thief A) (old left : List (Thief A)) (total : List (DequeSeatIn A)) → old ≡ thief ∷ left → IsTurn (owner_seats owners) place (thief_seats old) total → place < length owners
@@ -96,18 +88,12 @@ module _ {A : Type 0} where
 
   -- joining changes no deque
   pub deques-with_row : (owners row : List (DequeSeatIn A)) → deques (with_row owners row) ≡ deques owners
-  deques-with_row [] row = refl
-  deques-with_row (o ∷ os) [] = refl
   deques-with_row (o ∷ os) (t ∷ row) = ap (λ (l : List (DequeIn A)). o.deque ∷ l) (deques-with_row os row)
+  deques-with_row owners row = grind arith
 
   pub length-with_row : (owners row : List (DequeSeatIn A)) → length (with_row owners row) ≡ length owners
-  length-with_row [] row = refl
-  length-with_row (o ∷ os) [] = refl
   length-with_row (o ∷ os) (t ∷ row) = ap suc (length-with_row os row)
-
-  pub length-with_rows : (owners : List (DequeSeatIn A)) (rows : List (List (DequeSeatIn A))) → length (with_rows owners rows) ≡ length owners
-  length-with_rows owners [] = refl
-  length-with_rows owners (row ∷ rows) = length-with_rows (with_row owners row) rows ∙ length-with_row owners row
+  length-with_row owners row = grind arith
 
   -- a loop over rows: what is left comes to the whole
   pub record AreTurns (owners : List (DequeSeatIn A)) (rows : List (List (DequeSeatIn A))) (total : List (DequeSeatIn A)) : Type 0 where
@@ -118,20 +104,18 @@ module _ {A : Type 0} where
   -- and each owner has one part more
   pub parts-with_row : (owners row : List (DequeSeatIn A)) (left : ℕ) → deques row ≡ deques owners → All (λ seat. seat.tally.parts ≡ 1) row → All (λ seat. seat.tally.parts + (left + 1) ≡ 64) owners →
       All (λ seat. seat.tally.parts + left ≡ 64) (with_row owners row)
-  parts-with_row [] row left are one parts = All-nil (λ (seat : DequeSeatIn A). seat.tally.parts + left ≡ 64)
-  parts-with_row (o ∷ os) [] left are one parts = absurd cc
   parts-with_row (o ∷ os) (t ∷ row) left are one parts =
       let mine : t.tally.parts ≡ 1 = All-head (λ (seat : DequeSeatIn A). seat.tally.parts ≡ 1) t row one in
       let its : o.tally.parts + (left + 1) ≡ 64 = All-head (λ (seat : DequeSeatIn A). seat.tally.parts + (left + 1) ≡ 64) o os parts in
       let rest : deques row ≡ deques os = cc in
       All-cons (λ (seat : DequeSeatIn A). seat.tally.parts + left ≡ 64) (joined o t) (with_row os row) (omega arith)
       (parts-with_row os row left rest (All-tail (λ (seat : DequeSeatIn A). seat.tally.parts ≡ 1) t row one) (All-tail (λ (seat : DequeSeatIn A). seat.tally.parts + (left + 1) ≡ 64) o os parts))
+  parts-with_row owners row left are one parts = grind arith
 
   -- owners and rows come apart again
   pub own_of_zip : (owners : List (DequeSeatIn A)) (rows : List (List (DequeSeatIn A))) → length owners ≡ length rows → map (λ (its : WorkerSeatsIn A). its.own) (zip_seats owners rows) ≡ owners
-  own_of_zip [] rows len = refl
-  own_of_zip (o ∷ os) [] len = absurd (omega arith)
   own_of_zip (o ∷ os) (row ∷ rows) len = ap (λ (l : List (DequeSeatIn A)). o ∷ l) (own_of_zip os rows (omega arith))
+  own_of_zip owners rows len = grind arith
 
   pub thieves_of_zip : (owners : List (DequeSeatIn A)) (rows : List (List (DequeSeatIn A))) → length owners ≡ length rows → map (λ (its : WorkerSeatsIn A). its.thieves) (zip_seats owners rows) ≡ rows
   thieves_of_zip [] [] len = refl
@@ -140,9 +124,8 @@ module _ {A : Type 0} where
   thieves_of_zip (o ∷ os) (row ∷ rows) len = ap (λ (l : List (List (DequeSeatIn A))). row ∷ l) (thieves_of_zip os rows (omega arith))
 
   pub length_of_zip : (owners : List (DequeSeatIn A)) (rows : List (List (DequeSeatIn A))) → length owners ≡ length rows → length (zip_seats owners rows) ≡ length owners
-  length_of_zip [] rows len = refl
-  length_of_zip (o ∷ os) [] len = absurd (omega arith)
   length_of_zip (o ∷ os) (row ∷ rows) len = ap suc (length_of_zip os rows (omega arith))
+  length_of_zip owners rows len = grind arith
 
   pub zip_push : (owners : List (DequeSeatIn A)) (rows : List (List (DequeSeatIn A))) (own : DequeSeatIn A) (row : List (DequeSeatIn A)) → length owners ≡ length rows →
       zip_seats (owners ++ own ∷ []) (rows ++ row ∷ []) ≡ zip_seats owners rows ++ record { own = own; thieves = row } ∷ []
@@ -171,8 +154,7 @@ module _ {A : Type 0} where
       let each = all_unmapped P posts_of all is in
       let own : map (λ (other : PostsIn A). other.own) (map posts_of all) ≡ deques owners = deques_of_posts all ∙ ap deques (own_of_zip owners rows len) in
       let R : List (DequeSeatIn A) → Type 0 = λ (row : List (DequeSeatIn A)). deques row ≡ deques owners in
-      let those : All R (map (λ (its : WorkerSeatsIn A). its.thieves) all) = All-map R (λ (its : WorkerSeatsIn A). its.thieves) all (λ k d inside. (each k d inside).0 ∙ own) in
-      subst (All R) (thieves_of_zip owners rows len) those
+      subst (All R) (thieves_of_zip owners rows len) (All-map R (λ (its : WorkerSeatsIn A). its.thieves) all (λ k d inside. (each k d inside).0 ∙ own))
 
   -- and the owners lack as many parts as there are rows
   pub parts_of_whole : (owners : List (DequeSeatIn A)) (rows : List (List (DequeSeatIn A))) → length owners ≡ length rows → IsWhole (map posts_of (zip_seats owners rows)) → All (λ seat. seat.tally.parts + length owners ≡ 64) owners

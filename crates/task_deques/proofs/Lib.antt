@@ -1,3 +1,4 @@
+mod Common
 pub mod TallyLemmas
 pub mod RuleLemmas
 pub mod SeatLemmas

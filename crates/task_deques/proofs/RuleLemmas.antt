@@ -1,11 +1,5 @@
 -- Each kind of step keeps the rule of a deque.
-use Rattle.std.proofs.Common.{◌≡◌, ℕ, ◌+◌, ◌-◌, ◌<◌, List, [], ◌∷◌, ◌++◌, set, refl, arith}
-use mathlib.Core.Option.{some}
-use lib.ListN.{get_elem?}
-use Rattle.crossbeam_deque.specs.Tasks.{Pushes, Takes, Pops, Finds, Forks, Merges, Learns}
-use Rattle.task_deques.specs.declared.rule.Tally.{Tally}
-use Rattle.pool_rules.specs.declared.task.Task.{Task}
-use Rattle.task_deques.specs.Tallies.{tally, weigh, IsEmptied, IsEachOnce}
+use Rattle.task_deques.proofs.Common.{◌≡◌, ℕ, ◌+◌, ◌-◌, ◌<◌, List, [], ◌∷◌, ◌++◌, set, refl, arith, some, get_elem?, Pushes, Takes, Pops, Finds, Forks, Merges, Learns, Tally, Task, tally, weigh, IsEmptied, IsEachOnce}
 use Rattle.task_deques.proofs.TallyLemmas.{weigh-append, total-snoc, total-set, alone, idle_set, idle_snoc}
 
 pub begins : IsEachOnce [] (tally 64 [] [] ∷ [])

@@ -1,16 +1,5 @@
 -- Seats in lists: one of them steals, a part of each is cut off, and they are dealt to workers.
-use Rattle.std.proofs.Common.{◌≡◌, ℕ, zero, suc, ◌+◌, ◌-◌, ◌<◌, List, [], ◌∷◌, ◌++◌, length, map, take, drop, set, get_or, All, Option, Some, None, IfSome, IfNone, sym, refl, ap, ◌∙◌, subst, arith, append_assoc}
-use Rattle.std.proofs.lemmas.List.{map-set, get_or-map, length-map, map_push, map_more}
-use Rattle.std.proofs.lemmas.List.Edits.{map_over_more}
-use Rattle.std.proofs.Math.Seq.{map-set_same}
-use Rattle.std.proofs.lemmas.List.Elements.{All-head, All-tail, All-map}
-use Rattle.pool_rules.specs.declared.task.Task.{Task}
-use Rattle.task_deques.specs.declared.owner.Owner.{Owner}
-use Rattle.task_deques.specs.declared.thief.Thief.{Thief}
-use Rattle.task_deques.specs.declared.ends.DequeEnds.{DequeEnds}
-use Rattle.task_deques.specs.Tallies.{tally}
-use Rattle.task_deques.specs.Seats.{DequeIn, DequeSeatIn, owner_seat, owner_room, thief_seat, with_taken, with_part_cut, new_thief}
-use Rattle.task_deques.specs.Deals.{WorkerSeatsIn, PostsIn, owner_seats, thief_seats, deques, worker_seats, worker_room, posts_of, posts, IsStolen, IsDealt, IsWhole, fresh_with, beside}
+use Rattle.task_deques.proofs.Common.{◌≡◌, ℕ, zero, suc, ◌+◌, ◌-◌, ◌<◌, List, [], ◌∷◌, ◌++◌, length, map, take, drop, set, get_or, All, Option, Some, None, IfSome, IfNone, sym, refl, ap, ◌∙◌, subst, arith, append_assoc, map-set, get_or-map, length-map, map_push, map_more, map_over_more, map-set_same, All-head, All-tail, All-map, Task, Owner, Thief, DequeEnds, tally, DequeIn, DequeSeatIn, owner_seat, owner_room, thief_seat, with_taken, with_part_cut, new_thief, WorkerSeatsIn, PostsIn, owner_seats, thief_seats, deques, worker_seats, worker_room, posts_of, posts, IsStolen, IsDealt, IsWhole, fresh_with, beside}
 use Rattle.task_deques.proofs.JoinLemmas.{all_unmapped}
 
 module _ {A : Type 0} where
@@ -36,8 +25,7 @@ module _ {A : Type 0} where
   -- the thief at a place finds nothing
   pub thief_waited : (thieves : List (Thief A)) (place : ℕ) (before after : Thief A) (result : Option Task) → before ≡ get_or thieves place before →
       IfNone result (thief_seat after ≡ thief_seat before) → IfNone result (thief_seats (set thieves place after) ≡ thief_seats thieves)
-  thief_waited thieves place before after None at same = map-set_same thief_seat thieves place after before (same ∙ ap thief_seat at)
-  thief_waited thieves place before after (Some task) at same = tt
+  thief_waited thieves place before after result at same = grind (arith, map-set_same)
 
   -- where a loop that goes up is, nothing was changed yet
   pub same_at : (f : DequeSeatIn A → DequeSeatIn A) (seats : List (DequeSeatIn A)) (place : ℕ) (d : DequeSeatIn A) → get_or (map f (take place seats) ++ drop place seats) place d ≡ get_or seats place d
@@ -157,17 +145,10 @@ module _ {A : Type 0} where
       let sum : parts + length all ≡ 64 = omega arith in
       All-map P posts_of (map (beside thieves) seats) (All-map (λ (its : WorkerSeatsIn A). P (posts_of its)) (beside thieves) seats (All-map (λ (s : DequeSeatIn A). P (posts_of (beside thieves s))) (fresh_with parts) owners (λ k d inside. (rows, sum))))
 
-  -- the same of a list of seats and of ends that are equal to these
-  dealt_ends : (parts : ℕ) (owners seats : List (DequeSeatIn A)) (all : List (WorkerSeatsIn A)) → seats ≡ map (fresh_with parts) owners → parts ≡ 64 - length owners → all ≡ map (beside (map new_thief seats)) seats → IsDealt all
-  dealt_ends parts owners seats all are count is = grind (arith, dealt)
-
-  whole_ends : (parts : ℕ) (owners seats : List (DequeSeatIn A)) (all : List (DequeEnds A)) → seats ≡ map (fresh_with parts) owners → parts + length owners ≡ 64 → map worker_seats all ≡ map (beside (map new_thief seats)) seats → IsWhole (map posts all)
-  whole_ends parts owners seats all are count is = grind (arith, posts_by_seats, whole)
-
   -- so ends are dealt where each of the owners of new deques has given a part to each worker
   pub ends_dealt : (count : ℕ) (made owners : List (Owner A)) (all : List (DequeEnds A)) → count ≡ length made → count < 64 → owner_seats owners ≡ map (fresh_with (64 - count)) (owner_seats made) →
       map worker_seats all ≡ map (beside (map new_thief (owner_seats owners))) (owner_seats owners) → IsDealt (map worker_seats all) × IsWhole (map posts all)
-  ends_dealt count made owners all len few are is = grind (arith, length-map, dealt_ends, whole_ends)
+  ends_dealt count made owners all len few are is = grind (arith, length-map, dealt, posts_by_seats, whole)
 
   -- with the room of the owners of new deques
   pub room_dealt : (room : ℕ) (made owners : List (Owner A)) (all : List (DequeEnds A)) → All (λ owner. owner_room owner ≡ room) made → map owner_room owners ≡ map owner_room made →
@@ -187,12 +168,3 @@ module _ {A : Type 0} where
   -- ends change in place, and their posts don't
   pub posts_same : (all : List (DequeEnds A)) (place : ℕ) (x y : DequeEnds A) → x ≡ get_or all place x → posts y ≡ posts x → map posts (set all place y) ≡ map posts all
   posts_same all place x y at same = map-set_same posts all place y x (same ∙ ap posts at)
-
-  -- one more of the ends is put back
-  pub put_posts : (back after : List (WorkerSeatsIn A)) (its : WorkerSeatsIn A) (old left total : List (PostsIn A)) → after ≡ back ++ its ∷ [] → old ≡ posts_of its ∷ left → map posts_of back ++ old ≡ total → map posts_of after ++ left ≡ total
-  put_posts back after its old left total is steps so_far =
-      ap (λ (l : List (WorkerSeatsIn A)). map posts_of l ++ left) is
-      ∙ ap (λ (l : List (PostsIn A)). l ++ left) (map_push posts_of back its)
-      ∙ append_assoc (map posts_of back) (posts_of its ∷ []) left
-      ∙ ap (λ (l : List (PostsIn A)). map posts_of back ++ l) (sym steps)
-      ∙ so_far

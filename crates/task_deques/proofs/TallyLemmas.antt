@@ -1,11 +1,5 @@
 -- Sums over the seats of a deque.
-use Rattle.std.proofs.Common.{◌≡◌, ℕ, zero, suc, ◌+◌, ◌≤◌, List, [], ◌∷◌, ◌++◌, length, set, sym, refl, ap, arith}
-use mathlib.Core.Option.{some, some-injective, some-ne-none}
-use lib.ListN.{get_elem?}
-use Rattle.crossbeam_deque.proofs.Lists.{at_set, at_snoc}
-use Rattle.task_deques.specs.declared.rule.Tally.{Tally}
-use Rattle.pool_rules.specs.declared.task.Task.{Task}
-use Rattle.task_deques.specs.Tallies.{weigh, total, IdleIsEmpty}
+use Rattle.task_deques.proofs.Common.{◌≡◌, ℕ, zero, suc, ◌+◌, ◌≤◌, List, [], ◌∷◌, ◌++◌, length, set, sym, refl, ap, arith, some, some-injective, some-ne-none, get_elem?, at_set, at_snoc, Tally, Task, weigh, total, IdleIsEmpty}
 
 pub weigh-append : (h : Task → ℕ) (xs ys : List Task) → weigh h (xs ++ ys) ≡ weigh h xs + weigh h ys
 weigh-append h [] ys = omega arith
@@ -16,14 +10,12 @@ total-snoc f [] v = omega arith
 total-snoc f (x ∷ xs) v = omega (arith, total-snoc f xs v)
 
 pub total-set : (f : Tally → ℕ) (l : List Tally) (j : ℕ) (v w : Tally) → get_elem? l j ≡ some v → total f (set l j w) + f v ≡ total f l + f w
-total-set f [] j v w e = absurd (some-ne-none v (sym e))
-total-set f (x ∷ xs) zero v w e = omega (arith, ap f (some-injective x v e))
 total-set f (x ∷ xs) (suc j) v w e = omega (arith, total-set f xs j v w e)
+total-set f l j v w e = grind arith
 
 pub term_le : (f : Tally → ℕ) (l : List Tally) (j : ℕ) (v : Tally) → get_elem? l j ≡ some v → f v ≤ total f l
-term_le f [] j v e = absurd (some-ne-none v (sym e))
-term_le f (x ∷ xs) zero v e = omega (arith, ap f (some-injective x v e))
 term_le f (x ∷ xs) (suc j) v e = omega (arith, term_le f xs j v e)
+term_le f l j v e = grind arith
 
 -- where f is 0 of each seat with no part, and no seat has a part, it is 0 of all
 none_left : (f : Tally → ℕ) (l : List Tally) → ((j : ℕ) (u : Tally) → get_elem? l j ≡ some u → u.parts ≡ 0 → f u ≡ 0) → total (λ u. u.parts) l ≡ 0 → total f l ≡ 0

@@ -15,6 +15,7 @@ use std::alloc::{AllocError, Allocator};
 
 /// Makes a deque with room for so many tasks for each of the workers 1 to `last`, and deals the ends: those of each
 /// worker, in the order of their numbers. `Err` only where memory is refused.
+#[tactic(auto, using(crate::proofs::SeatLemmas::new_of_fresh, crate::proofs::SeatLemmas::ends_dealt))]
 pub fn deal<A: Allocator + Clone>(
     alloc: A,
     last: Worker,
@@ -70,6 +71,7 @@ fn rows<A: Allocator + Clone>(
 
 /// A thief at each deque, in the order of the deques; each gets one part of its deque's owner. `Err` only where memory
 /// is refused.
+#[tactic(auto, using(crate::proofs::SeatLemmas::owner_gives))]
 fn row<A: Allocator>(
     alloc: A,
     owners: &mut Vec<Owner<A>, A>,

@@ -81,6 +81,7 @@ fn steal_between<A: Allocator>(
 }
 
 /// The task that the thief at this place steals; `None` where it finds none.
+#[tactic(auto, using(crate::proofs::SeatLemmas::thief_waited))]
 fn steal_at<A: Allocator>(thieves: &mut Vec<Thief<A>, A>, place: usize) -> Option<Task>
     requires { place < vec_len thieves.old }
     ensures taken { IfSome result (λ task. IsStolen task (thief_seats thieves.old.items) (thief_seats thieves.new.items)) }

@@ -8,6 +8,7 @@ use crate::thief::Thief;
 use std::alloc::Allocator;
 
 /// The owners, with the seats of all thieves joined to theirs.
+#[tactic(auto, using(std::proofs::lemmas::List::nil_from_length, crate::proofs::JoinLemmas::rows_done))]
 pub(crate) fn joined<A: Allocator>(
     owners: Vec<Owner<A>, A>,
     rows: Vec<Vec<Thief<A>, A>, A>,

@@ -35,6 +35,7 @@ impl<A: Allocator> Returned<A> {
     }
 
     /// How many workers' ends have come back.
+    #[tactic(auto, using(crate::proofs::JoinLemmas::length_back))]
     pub fn count(&self) -> usize
         ensures { result ≡ length (returned self.now) }
     {
@@ -42,6 +43,7 @@ impl<A: Allocator> Returned<A> {
     }
 
     /// Adds a worker's ends after those that came back before.
+    #[tactic(auto, using(crate::proofs::JoinLemmas::length_back, std::proofs::lemmas::List::map_push, crate::proofs::JoinLemmas::zip_push, crate::proofs::JoinLemmas::row_each))]
     pub fn put(&mut self, ends: DequeEnds<A>)
         requires { length (returned self.old) < returned_room self.old }
         ensures ends { returned self.new ≡ returned self.old ++ worker_seats ends ∷ [] }
@@ -55,6 +57,7 @@ impl<A: Allocator> Returned<A> {
     /// How many tasks were pushed on all deques together, how many were taken from them, and how many
     /// are left, where all ends came back. Of each deque what was pushed is what was taken and what is
     /// left, each task as often.
+    #[tactic(auto, using(crate::proofs::JoinLemmas::rows_back, crate::proofs::JoinLemmas::parts_back, crate::proofs::JoinLemmas::whole_back))]
     pub fn sums(self) -> Sums
         requires { IsWhole (map posts_of (returned self)) }
         ensures pushed { result.pushed ≡ sum_by (λ deque. length deque.tally.pushed) (whole_deques (returned self)) }

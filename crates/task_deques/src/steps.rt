@@ -30,6 +30,7 @@ pub(crate) fn push<A: Allocator>(owner: &mut OwnerEnd<A>, task: Task) -> Result<
 }
 
 /// Takes the newest task. `None` where none was found: for an owner with all 64 parts, all that was pushed was taken.
+#[tactic(auto, using(crate::proofs::RuleLemmas::finds))]
 pub(crate) fn pop<A: Allocator>(owner: &mut OwnerEnd<A>) -> Option<Task>
     requires { 0 < (worker_view owner.old).parts }
     ensures same { (worker_deque owner.new ≡ worker_deque owner.old) × (worker_flavor owner.new ≡ worker_flavor owner.old) }
@@ -80,6 +81,7 @@ pub(crate) fn join<A: Allocator>(owner: &mut OwnerEnd<A>, seat: DequeSeat<A>)
 }
 
 /// How many tasks wait at one moment of the call. For an owner with all 64 parts they are those pushed and not taken.
+#[tactic(auto, using(crate::proofs::RuleLemmas::learns))]
 pub(crate) fn waiting<A: Allocator>(owner: &mut OwnerEnd<A>) -> usize
     ensures same { (worker_deque owner.new ≡ worker_deque owner.old) × (worker_flavor owner.new ≡ worker_flavor owner.old) }
     ensures tally { worker_view owner.new ≡ worker_view owner.old }
@@ -90,6 +92,7 @@ pub(crate) fn waiting<A: Allocator>(owner: &mut OwnerEnd<A>) -> usize
 
 /// How many tasks are left, for an owner with all 64 parts: what was pushed is what was taken and these, each task as
 /// often.
+#[tactic(auto, using(crate::proofs::RuleLemmas::learns))]
 pub(crate) fn left<A: Allocator>(owner: &mut OwnerEnd<A>) -> usize
     requires { (worker_view owner.old).parts ≡ 64 }
     ensures same { (worker_deque owner.new ≡ worker_deque owner.old) × (worker_flavor owner.new ≡ worker_flavor owner.old) }

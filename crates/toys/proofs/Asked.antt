@@ -1,28 +1,7 @@
 -- `Counted::asked` at a call. Assumes `Logic`.
 --     Asks, at_asked, asked_goes, asked_gives      its contract, what it is handed, and the allocator that it shows, if there is one
-use Rattle.std.proofs.Common.{◌≡◌, refl, ap, ◌∙◌, List, [], ◌∷◌, ◌++◌, Option, Some, None, IfSome, Bor}
-use lib.Dec.{T, lit<}
-use seplogic.Ra.Ura.{Ura}
-use mir.Syntax.{Callee, a_type, named}
-use mir.Val.{Val, vptr, of_list, has_ty, WT}
-use base.Logic.{SProp, ent, sep, ex, guard, emp, id⊢}
-use base.Fml.{Lft, Share, Fml, ftrue, fsep}
-use prog.Memory.{Memory}
-use prog.Routine.{Routine}
-use types.Logic.{Logic, sem}
-use contract.BorrowLft.{◌⊑◌}
-use contract.Monad.{Fun, fact, fact_i}
-use types.Kit.{‵, raw, ◌⊛◌, some, later, given, ◌$◌, ◌∵◌, !, qed, move, keep, use0, use1, split, join, pick, learn, fsplit, fjoin, fpick, feq_l, feq_i, check, show, await, updating, now as at_once, done}
-use types.Match.{live}
-use denote.RattleType.{RattleType}
-use denote.Memory.{hidden_shr}
-use denote.Param.{layout, layouts, param}
-use denote.Ref.{ShrRef, shr_vals}
-use denote.Steps.{only, nothing}
-use denote.Triple.Statement.{Contract}
-use denote.Triple.Spec.{triple_of}
+use Rattle.toys.proofs.Common.{◌≡◌, refl, ap, ◌∙◌, List, [], ◌∷◌, ◌++◌, Option, Some, None, IfSome, Bor, T, lit<, Ura, Callee, a_type, named, Val, vptr, of_list, has_ty, WT, SProp, ent, sep, ex, guard, emp, id⊢, Lft, Share, Fml, ftrue, fsep, Memory, Routine, Logic, sem, ◌⊑◌, Fun, fact, fact_i, ‵, raw, ◌⊛◌, some, later, given, ◌$◌, ◌∵◌, !, qed, move, keep, use0, use1, split, join, pick, learn, fsplit, fjoin, fpick, feq_l, feq_i, check, show, await, updating, now as at_once, done, live, RattleType, hidden_shr, layout, layouts, param, ShrRef, shr_vals, only, nothing, Contract, triple_of, Al, seen}
 use Rattle.std.specs.contracts.option.Option as O
-use Rattle.std.proofs.alloc.Calls.{Al, seen}
 use Rattle.toys.specs.contracts.counting.Counted as L
 use Rattle.toys.specs.contracts.counting.Counted.asked as F
 use Rattle.toys.specs.contracts.counting.Counted.asked.Key as key

@@ -1,20 +1,5 @@
 -- `tick` at a call: what it is handed, and what a caller has of it. Assumes `Logic`.
-use Rattle.std.proofs.Common.{◌≡◌, ℕ, List, [], ◌∷◌, refl, ap}
-use seplogic.Ra.Ura.{Ura}
-use mir.Val.{Val, vunit, vptr}
-use base.Logic.{SProp, ent, sep, guard, id⊢}
-use base.Fml.{Lft, Share, ftrue, fsep, flft}
-use prog.Memory.{Memory}
-use prog.Routine.{Routine}
-use types.Logic.{Logic, sem}
-use contract.Monad.{Fun}
-use types.Kit.{‵, ◌⊛◌, some, later, ◌$◌, ◌∵◌, !, qed, move, keep, use1, split, join, pick, fjoin, feq_i, feq_l, check, await, updating, now as at_once, done}
-use denote.RattleType.{RattleType}
-use denote.Memory.{hidden_shr}
-use denote.Builtin.{u64, unit}
-use denote.Steps.{nothing, only}
-use denote.Triple.Statement.{Contract}
-use denote.Triple.Spec.{triple_of}
+use Rattle.toys.proofs.Common.{◌≡◌, ℕ, List, [], ◌∷◌, refl, ap, Ura, Val, vunit, vptr, SProp, ent, sep, guard, id⊢, Lft, Share, ftrue, fsep, flft, Memory, Routine, Logic, sem, Fun, ‵, ◌⊛◌, some, later, ◌$◌, ◌∵◌, !, qed, move, keep, use1, split, join, pick, fjoin, feq_i, feq_l, check, await, updating, now as at_once, done, RattleType, hidden_shr, u64, unit, nothing, only, Contract, triple_of}
 use Rattle.std.specs.contracts.cell.Cell as CE
 use Rattle.toys.specs.contracts.counting.tick as TK
 

@@ -1,4 +1,4 @@
-use Rattle.std.proofs.Common.{arith}
+use Rattle.cactus_stack.proofs.Common.{arith}
 use Rattle.cactus_stack.proofs.Grown.{fresh_chain_grows, fresh_chain_of_one}
 use Rattle.cactus_stack.proofs.chain.+fresh_chain.Goals as goal
 

@@ -1,4 +1,4 @@
-use Rattle.std.proofs.Common.{arith}
+use Rattle.cactus_stack.proofs.Common.{arith}
 use Rattle.cactus_stack.proofs.Grown.{give-rest-of, given-back-of}
 use Rattle.cactus_stack.proofs.chain.+give_chain.Goals as goal
 

@@ -1,5 +1,4 @@
-use Rattle.std.proofs.Common.{◌≡◌, length, arith}
-use Rattle.std.proofs.Math.Seq.{take-length}
+use Rattle.cactus_stack.proofs.Common.{◌≡◌, length, arith, take-length}
 use Rattle.cactus_stack.proofs.chain.fill.Goals as goal
 
 pub returns : goal.returns

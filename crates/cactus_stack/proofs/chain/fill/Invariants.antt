@@ -1,4 +1,4 @@
-use Rattle.std.proofs.Common.{◌≡◌, ◌++◌, take, drop}
+use Rattle.cactus_stack.proofs.Common.{◌≡◌, ◌++◌, take, drop}
 use Rattle.cactus_stack.proofs.chain.fill.Given as goal
 
 abbrev pub invariant-loop-i : goal.invariant-loop-i

@@ -1,5 +1,4 @@
-use Rattle.std.proofs.Common.{refl, ◌∙◌, rules}
-use Rattle.cactus_stack.specs.Places.{place_at, resized}
+use Rattle.cactus_stack.proofs.Common.{refl, ◌∙◌, rules, place_at, resized}
 use Rattle.cactus_stack.proofs.Steps.{IsChange, changed, still_stored, kept_node, is_read, close_change}
 use Rattle.cactus_stack.proofs.stack.free.Given.{Over}
 use Rattle.cactus_stack.proofs.stack.free.Goals.{After-give_chain}

@@ -1,5 +1,4 @@
-use Rattle.std.proofs.Common.{◌≡◌, take}
-use Rattle.desk.specs.jamboree.Replies.{table_of}
+use Rattle.desk_office.proofs.Common.{◌≡◌, take, table_of}
 use Rattle.desk_office.proofs.outcomes.bounds_of.Given as goal
 
 abbrev pub invariant-loop-number : goal.invariant-loop-number

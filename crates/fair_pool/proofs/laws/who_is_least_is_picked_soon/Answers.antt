@@ -1,7 +1,4 @@
-use Rattle.std.proofs.Common.{◌+◌, ◌*◌, ◌<◌, ◌≤◌, arith}
-use Rattle.std.specs.Prelude.{count_by}
-use Rattle.std.proofs.Math.Nat.{mul-le-mul_left}
-use Rattle.fair_pool.specs.Waits.{is_ahead, picks_in}
+use Rattle.fair_pool.proofs.Common.{◌+◌, ◌*◌, ◌<◌, ◌≤◌, arith, count_by, mul-le-mul_left, is_ahead, picks_in}
 use Rattle.fair_pool.proofs.WaitLemmas.{few-picks, few-tasks}
 use Rattle.fair_pool.proofs.laws.who_is_least_is_picked_soon.Goals as goal
 

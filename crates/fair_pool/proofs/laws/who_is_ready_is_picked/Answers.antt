@@ -1,6 +1,4 @@
-use Rattle.std.proofs.Common.{◌+◌, ◌*◌, ◌≤◌, arith}
-use Rattle.std.proofs.Math.Nat.{mul-le-mul_left}
-use Rattle.fair_pool.specs.Waits.{picks_in}
+use Rattle.fair_pool.proofs.Common.{◌+◌, ◌*◌, ◌≤◌, arith, mul-le-mul_left, picks_in}
 use Rattle.fair_pool.proofs.WaitLemmas.{few-tasks}
 use Rattle.fair_pool.proofs.LeadLemmas.{led-picks, lead-after}
 use Rattle.fair_pool.proofs.laws.who_is_ready_is_picked.Goals as goal

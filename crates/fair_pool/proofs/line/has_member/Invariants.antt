@@ -1,5 +1,4 @@
-use Rattle.std.proofs.Common.{◌≡◌, drop}
-use Rattle.fair_pool.specs.Lines.{has_member}
+use Rattle.fair_pool.proofs.Common.{◌≡◌, drop, has_member}
 use Rattle.fair_pool.proofs.line.has_member.Given as goal
 
 abbrev pub invariant-loop-account : goal.invariant-loop-account

@@ -1,5 +1,4 @@
-use Rattle.std.proofs.Common.{◌≡◌, drop}
-use Rattle.fair_pool.specs.Lines.{has_rival}
+use Rattle.fair_pool.proofs.Common.{◌≡◌, drop, has_rival}
 use Rattle.fair_pool.proofs.line.has_rival.Given as goal
 
 abbrev pub invariant-loop-account : goal.invariant-loop-account

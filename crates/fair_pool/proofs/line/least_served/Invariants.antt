@@ -1,5 +1,4 @@
-use Rattle.std.proofs.Common.{◌≡◌, None, drop}
-use Rattle.fair_pool.specs.Lines.{least_from}
+use Rattle.fair_pool.proofs.Common.{◌≡◌, None, drop, least_from}
 use Rattle.fair_pool.proofs.line.least_served.Given as goal
 
 abbrev pub invariant-loop-account : goal.invariant-loop-account

@@ -1,4 +1,4 @@
-use Rattle.fair_pool.specs.Lines.{IsBestBelow}
+use Rattle.fair_pool.proofs.Common.{IsBestBelow}
 use Rattle.fair_pool.proofs.line.next_in.Given as goal
 
 abbrev pub invariant-loop-place : goal.invariant-loop-place

@@ -1,5 +1,4 @@
-use Rattle.std.proofs.Common.{◌≡◌, drop}
-use Rattle.fair_pool.specs.Lines.{place_from}
+use Rattle.fair_pool.proofs.Common.{◌≡◌, drop, place_from}
 use Rattle.fair_pool.proofs.line.place_of.Given as goal
 
 abbrev pub invariant-loop-place : goal.invariant-loop-place

@@ -1,5 +1,4 @@
-use Rattle.std.proofs.Common.{◌≡◌}
-use Rattle.fair_pool.specs.Picks.{seen_up_to}
+use Rattle.fair_pool.proofs.Common.{◌≡◌, seen_up_to}
 use Rattle.fair_pool.proofs.picks.see_all.Given as goal
 
 abbrev pub invariant-loop-place : goal.invariant-loop-place

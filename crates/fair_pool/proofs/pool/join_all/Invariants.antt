@@ -1,6 +1,4 @@
-use Rattle.std.proofs.Common.{◌≡◌, ◌+◌, ◌≤◌, ◌++◌, map, length}
-use Rattle.std.specs.Vec.Iter.{into_iter_items, into_iter_len}
-use Rattle.task_deques.specs.Deals.{posts, posts_of, returned, returned_room}
+use Rattle.fair_pool.proofs.Common.{◌≡◌, ◌+◌, ◌≤◌, ◌++◌, map, length, into_iter_items, into_iter_len, posts, posts_of, returned, returned_room}
 use Rattle.fair_pool.proofs.pool.join_all.Given as goal
 
 abbrev pub invariant-loop-handle : goal.invariant-loop-handle

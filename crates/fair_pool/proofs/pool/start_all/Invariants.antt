@@ -1,6 +1,5 @@
-use Rattle.std.proofs.Common.{◌≡◌, ◌+◌, ◌≤◌, ◌++◌, map, vec_len, vec_capacity}
-use Rattle.std.specs.Vec.Iter.{into_iter_items, into_iter_len}
-use Rattle.task_deques.specs.Deals.{posts}
+use Rattle.fair_pool.proofs.Common.{◌≡◌, ◌+◌, ◌≤◌, ◌++◌, map, vec_len, into_iter_items, into_iter_len, posts}
+use Rattle.std.proofs.Common.{vec_capacity}
 use Rattle.fair_pool.proofs.pool.start_all.Given as goal
 
 abbrev pub invariant-loop-ends : goal.invariant-loop-ends

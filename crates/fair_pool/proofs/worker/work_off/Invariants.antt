@@ -1,5 +1,4 @@
-use Rattle.std.proofs.Common.{◌≡◌}
-use Rattle.task_deques.specs.Deals.{posts}
+use Rattle.fair_pool.proofs.Common.{◌≡◌, posts}
 use Rattle.fair_pool.proofs.worker.work_off.Given as goal
 
 abbrev pub invariant-loop : goal.invariant-loop

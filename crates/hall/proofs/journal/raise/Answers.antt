@@ -1,12 +1,6 @@
 -- The journal that is raised is the tenant's.
-use Rattle.std.proofs.Common.{◌≡◌, ℕ, List, [], Result, Ok, Err, OnOk, length, ap, ◌∙◌, arith}
-use Rattle.sched_rules.specs.declared.step.StepOf.{StepOf}
-use Rattle.sched_rules.specs.declared.step.StepOf.TheVariants.{AdmitMore}
-use Rattle.jamboree_core.specs.jamboree_rules.declared.leaf.LeafAnswer.{LeafAnswer}
-use Rattle.number_index.specs.Places.{IsAt}
-use Rattle.number_index.proofs.Edits.{at-within, at-own, at-said, at-set}
-use Rattle.hall.specs.Entries.{long_steps}
-use Rattle.hall.specs.Journals.{owner_of_journal, journal_in, longer, raise_count}
+use Rattle.hall.proofs.Common.{◌≡◌, ℕ, List, [], Result, Ok, Err, length, ap, ◌∙◌, arith, StepOf, AdmitMore, LeafAnswer, IsAt, at-within, at-own, at-said, at-set, long_steps, owner_of_journal, journal_in, longer, raise_count}
+use Rattle.std.proofs.Common.{OnOk}
 use Rattle.hall.proofs.Lists.{at-place, steps_of}
 use Rattle.hall.proofs.journal.raise.Given.{Over}
 use Rattle.hall.proofs.journal.raise.Goals.{After-index_mut-journal}
@@ -34,15 +28,13 @@ pub raise-requires-clause-place : goal.raise-requires-clause-place
 raise-requires-clause-place g c =
     let same = steps g (goal.at.raise-requires-clause-place g c).After-index_mut-journal in
     let raises = ap (λ (steps : List (StepOf LeafAnswer)). raise_count steps) same in
-    let long = ap (λ (steps : List (StepOf LeafAnswer)). length steps) same in
-    omega (arith, raises, long, c.requires.place)
+    omega (arith, raises, ap (λ (steps : List (StepOf LeafAnswer)). length steps) same, c.requires.place)
 
 pub raise-requires-clause-long : goal.raise-requires-clause-long
 raise-requires-clause-long g c =
     let same = steps g (goal.at.raise-requires-clause-long g c).After-index_mut-journal in
     let raises = ap (λ (steps : List (StepOf LeafAnswer)). raise_count steps) same in
-    let long = ap (λ (steps : List (StepOf LeafAnswer)). long_steps steps) same in
-    omega (arith, raises, long, c.requires.long)
+    omega (arith, raises, ap (λ (steps : List (StepOf LeafAnswer)). long_steps steps) same, c.requires.long)
 
 pub raise-requires-clause-taken : goal.raise-requires-clause-taken
 raise-requires-clause-taken g c = rw (own g (goal.at.raise-requires-clause-taken g c).After-index_mut-journal) c.requires.taken
@@ -61,5 +53,4 @@ pub index_mut-journal-requires : goal.index_mut-journal-requires
 index_mut-journal-requires g c =
     let len = c.as_slice.ensures.len in let same = ap length c.as_slice.ensures.value in
     let found = at-place c.args.tenant c.args.journals.now.items _ c.place_of-at.result c.requires.rising c.requires.there c.as_slice.ensures.value c.place_of-at.ensures in
-    let within = at-within owner_of_journal c.args.tenant c.args.journals.now.items c.place_of-at.result found in
-    omega (arith, len, same, within)
+    omega (arith, len, same, at-within owner_of_journal c.args.tenant c.args.journals.now.items c.place_of-at.result found)

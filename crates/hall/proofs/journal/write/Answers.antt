@@ -1,7 +1,4 @@
-use Rattle.std.proofs.Common.{[], length, ap, sym, ◌∙◌, arith}
-use Rattle.number_index.proofs.Edits.{at-within, at-own, at-said, at-set}
-use Rattle.hall.specs.Entries.{long_steps}
-use Rattle.hall.specs.Journals.{owner_of_journal, longer}
+use Rattle.hall.proofs.Common.{[], length, ap, sym, ◌∙◌, arith, at-within, at-own, at-said, at-set, long_steps, owner_of_journal, longer}
 use Rattle.hall.proofs.Lists.{at-place, steps_of, places_of, longs_of, further-longer}
 use Rattle.hall.proofs.journal.write.Goals as goal
 
@@ -9,8 +6,7 @@ pub index_mut-journal-requires : goal.index_mut-journal-requires
 index_mut-journal-requires g c =
     let len = c.as_slice.ensures.len in let same = ap length c.as_slice.ensures.value in
     let place = at-place c.args.tenant c.args.journals.now.items _ c.place_of-at.result c.requires.rising c.requires.there c.as_slice.ensures.value c.place_of-at.ensures in
-    let within = at-within owner_of_journal c.args.tenant c.args.journals.now.items c.place_of-at.result place in
-    omega (arith, len, same, within)
+    omega (arith, len, same, at-within owner_of_journal c.args.tenant c.args.journals.now.items c.place_of-at.result place)
 
 pub write-requires : goal.write-requires
 write-requires g c =

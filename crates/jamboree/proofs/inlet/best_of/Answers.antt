@@ -1,5 +1,4 @@
-use Rattle.std.proofs.Common.{arith}
-use Rattle.std.proofs.lemmas.Int.{ints, clamps}
+use Rattle.jamboree.proofs.Common.{arith, ints, clamps}
 use Rattle.jamboree.proofs.inlet.best_of.Goals as goal
 
 pub returns-clause-high : goal.returns-clause-high

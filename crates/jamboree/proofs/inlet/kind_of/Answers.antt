@@ -1,6 +1,4 @@
-use Rattle.std.specs.Prelude.{neg_ℤ}
-use Rattle.jamboree_rules.specs.Acts.{seen}
-use Rattle.jamboree.specs.Views.{frame_in}
+use Rattle.jamboree.proofs.Common.{neg_ℤ, seen, frame_in}
 use Rattle.jamboree.proofs.InletLemmas.{is-low, is-high, kind-low, kind-other}
 use Rattle.jamboree.proofs.inlet.kind_of.Goals as goal
 

@@ -1,4 +1,4 @@
-use Rattle.jamboree.specs.Views.{frame_with}
+use Rattle.jamboree.proofs.Common.{frame_with}
 use Rattle.jamboree.proofs.ActLemmas.{negated-beta, negated-floor, act-by, spawns-by, again-stores}
 use Rattle.jamboree.proofs.next.search_again.Goals as goal
 

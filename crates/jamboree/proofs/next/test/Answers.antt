@@ -1,8 +1,5 @@
-use Rattle.std.proofs.Common.{ℕ, ◌∙◌, ap}
-use Rattle.jamboree_rules.specs.Acts.{spawns}
-use Rattle.std.specs.Prelude.{◌+ℤ◌, pos, neg_ℤ}
-use Rattle.jamboree_rules.specs.Frames.{rest_at, floor}
-use Rattle.jamboree.specs.Views.{frame_with}
+use Rattle.jamboree.proofs.Common.{◌∙◌, ap, spawns, ◌+ℤ◌, pos, neg_ℤ, rest_at, floor, frame_with}
+use Rattle.std.proofs.Common.{ℕ}
 use Rattle.jamboree.proofs.ActLemmas.{negated-floor, negated-more, act-by, spawns-by, start-stores}
 use Rattle.jamboree.proofs.next.test.Goals as goal
 

@@ -1,14 +1,5 @@
-use Rattle.std.specs.Prelude.{◌==◌, ◌≤◌, ◌&&◌, nat_lt, nat_le, slice_index, List, Bool, true, false}
-use Rattle.std.proofs.Common.{◌≡◌, ℕ, ◌+◌, ◌<◌, drop, length, subst, refl, sym, ◌∙◌, ap, arith}
-use Rattle.std.proofs.lemmas.Bool.{and_parts, lt-ltb, le-ltb, ltb-true, le-leb, lt-leb}
-use Rattle.std.proofs.lemmas.List.{length-map, length-drop}
-use Rattle.jamboree_rules.specs.Places.{status_of}
-use Rattle.jamboree_rules.specs.sched_rules.declared.act.Act.{Act}
-use Rattle.jamboree_rules.specs.Acts.{first_open, tests, tests_from}
-use Rattle.jamboree.specs.declared.frame.View.{View}
-use Rattle.jamboree.specs.declared.plan.Plan.TheVariants.{Ends, Waits}
-use Rattle.jamboree.specs.Plans.{act_for}
-use Rattle.jamboree.specs.Views.{frame_with, entries_of, statuses_in}
+use Rattle.jamboree.proofs.Common.{◌==◌, ◌≤◌, ◌&&◌, nat_lt, nat_le, slice_index, List, Bool, true, false, subst, sym, ◌∙◌, ap, arith, and_parts, lt-ltb, le-ltb, ltb-true, le-leb, lt-leb, length-map, length-drop, status_of, Act, first_open, tests, tests_from, View, Ends, Waits, act_for, frame_with, entries_of, statuses_in}
+use Rattle.std.proofs.Common.{◌≡◌, ℕ, ◌+◌, ◌<◌, drop, length, refl}
 use Rattle.jamboree.proofs.ActLemmas.{again-by, test-by, tests-by}
 use Rattle.jamboree.proofs.next.tests.Goals as goal
 
@@ -32,23 +23,10 @@ returns-then-frame-choices c =
     let v = c.args.frame.now in
     let w = c.args.words.now in
     let f = frame_with v (entries_of w) in
-    let n = c.first_open-open.result in
     subst (λ (k : ℕ). act_for c.test.result ≡ tests_from f k) c.first_open-open.ensures.value
-    (test-by f n (act_for c.test.result) (sym c.has_failed.ensures ∙ c.if-has_failed.false)
+    (test-by f c.first_open-open.result (act_for c.test.result) (sym c.has_failed.ensures ∙ c.if-has_failed.false)
     (lt-ltb v.spawned (length (statuses_in w)) (omega (arith, length-map (drop 12 w) status_of, length-drop 12 w, c.requires.entries, c.if-frame-choices.true)))
-    (λ all. c.test.ensures all (entries_of w) n c.rest_at-then-frame-choices.ensures))
-
-pub has_failed-requires : goal.has_failed-requires
-has_failed-requires c = let small = c.first_open-open.ensures.small in omega (arith, small)
-
-pub rest_at-requires : goal.rest_at-requires
-rest_at-requires c = let small = c.first_open-open.ensures.small in omega (arith, small)
-
-pub search_again-requires-clause-deep : goal.search_again-requires-clause-deep
-search_again-requires-clause-deep c = c.requires.deep
-
-pub search_again-requires-clause-choices : goal.search_again-requires-clause-choices
-search_again-requires-clause-choices c = c.requires.choices
+    (λ all. c.test.ensures all (entries_of w) c.first_open-open.result c.rest_at-then-frame-choices.ensures))
 
 pub search_again-requires-clause-inside : goal.search_again-requires-clause-inside
 search_again-requires-clause-inside c =
@@ -56,21 +34,6 @@ search_again-requires-clause-inside c =
     let n = c.first_open-open.result in
     let parts = and_parts (nat_lt n (length (statuses_in w))) (slice_index (statuses_in w) n == 3) (sym c.has_failed.ensures ∙ c.if-has_failed.true) in
     inside w n c.args.frame.now.count c.requires.entries (ltb-true n (length (statuses_in w)) parts.0)
-
-pub rest_at-requires-then-frame-choices : goal.rest_at-requires-then-frame-choices
-rest_at-requires-then-frame-choices c = let few = c.args.frame.now.few in omega (arith, few, c.if-frame-choices.true)
-
-pub test-requires-clause-deep : goal.test-requires-clause-deep
-test-requires-clause-deep c = c.requires.deep
-
-pub test-requires-clause-choices : goal.test-requires-clause-choices
-test-requires-clause-choices c = c.requires.choices
-
-pub test-requires-clause-next : goal.test-requires-clause-next
-test-requires-clause-next c = refl
-
-pub test-requires-clause-inside : goal.test-requires-clause-inside
-test-requires-clause-inside c = omega arith
 
 -- what is next where no test has failed and no choice is left to be tested, by whether all are settled
 untested : (v : View) (w : List ℕ) (n : ℕ) (act : Act) (all : Bool) → length w ≡ 12 + v.count → n ≡ first_open (statuses_in w) →

@@ -1,4 +1,4 @@
-use Rattle.jamboree.specs.Views.{frame_with, entries_of}
+use Rattle.jamboree.proofs.Common.{frame_with, entries_of}
 use Rattle.jamboree.proofs.SightLemmas.{inlet-by-form}
 use Rattle.jamboree.proofs.procedure.plan_inlet_of.Goals as goal
 

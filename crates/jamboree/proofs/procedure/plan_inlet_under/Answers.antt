@@ -1,14 +1,8 @@
-use Rattle.std.proofs.Common.{◌∙◌, map}
-use Rattle.jamboree_rules.specs.Frames.{may_be_child}
-use Rattle.jamboree_rules.specs.Places.{status_of, entry_rest}
-use Rattle.jamboree.specs.Views.{frame_in, frame_with}
+use Rattle.jamboree.proofs.Common.{◌∙◌, may_be_child, status_of, entry_rest, frame_in, frame_with}
+use Rattle.std.proofs.Common.{map}
 use Rattle.jamboree.proofs.InletLemmas.{by-told}
 use Rattle.jamboree.proofs.SightLemmas.{inlet-with}
 use Rattle.jamboree.proofs.procedure.plan_inlet_under.Goals as goal
-
-pub returns-then-not-may_be_under : goal.returns-then-not-may_be_under
-returns-then-not-may_be_under c own below =
-    by-told _ (may_be_child (frame_with c.args.frame.now own) (frame_with c.args.child.now below)) _ _ _ _ c.may_be_under.ensures c.if-not-may_be_under.true c.wakes.ensures
 
 pub returns : goal.returns
 returns c own below =

@@ -1,4 +1,5 @@
-use Rattle.std.proofs.Common.{◌≡◌, take, length}
+use Rattle.jamboree.proofs.Common.{take}
+use Rattle.std.proofs.Common.{◌≡◌, length}
 use Rattle.jamboree.proofs.KnowledgeLemmas.{said_by}
 use Rattle.jamboree.proofs.reading.known_in.Given as goal
 

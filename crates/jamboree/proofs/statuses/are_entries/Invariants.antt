@@ -1,5 +1,5 @@
 use Rattle.std.proofs.Common.{◌≡◌, drop}
-use Rattle.jamboree_rules.specs.Places.{are_entries}
+use Rattle.jamboree.proofs.Common.{are_entries}
 use Rattle.jamboree.proofs.StatusLemmas.{left}
 use Rattle.jamboree.proofs.statuses.are_entries.Given as goal
 

@@ -1,4 +1,4 @@
-use Rattle.std.proofs.Common.{sym, ◌∙◌}
+use Rattle.jamboree.proofs.Common.{sym, ◌∙◌}
 use Rattle.jamboree.proofs.StatusLemmas.{entry-some, entry-none}
 use Rattle.jamboree.proofs.statuses.has_failed.Goals as goal
 

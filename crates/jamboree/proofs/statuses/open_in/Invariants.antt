@@ -1,5 +1,5 @@
 use Rattle.std.proofs.Common.{◌≡◌, ℕ, ◌<◌, map, slice_index}
-use Rattle.jamboree_rules.specs.Places.{status_of}
+use Rattle.jamboree.proofs.Common.{status_of}
 use Rattle.jamboree.proofs.statuses.open_in.Given as goal
 
 abbrev pub invariant-loop-number : goal.invariant-loop-number

@@ -1,7 +1,5 @@
-use Rattle.std.proofs.Common.{◌≡◌, ℕ, ◌+◌, ◌-◌, ◌≤◌, length, sym, ◌∙◌, arith}
-use Rattle.std.proofs.lemmas.Bool.{false≢true}
-use Rattle.jamboree_rules.specs.Places.{is_formed}
-use Rattle.jamboree.proofs.InletLemmas.{not-true}
+use Rattle.jamboree.proofs.Common.{sym, ◌∙◌, arith, false≢true, false_from_ne_true, is_formed}
+use Rattle.std.proofs.Common.{◌≡◌, ℕ, ◌+◌, ◌-◌, ◌≤◌, length}
 use Rattle.jamboree.proofs.ViewLemmas.{formed-parts, formed-rest}
 use Rattle.jamboree.proofs.view.is_formed.Goals as goal
 
@@ -11,15 +9,10 @@ rest-count l n k is whole = omega (arith, is, whole)
 whole-count : (l n k : ℕ) → l ≡ n → 12 ≤ l → l - 12 ≡ k → n ≡ 12 + k
 whole-count l n k is long rest = omega (arith, is, long, rest)
 
-pub returns-then-len-head : goal.returns-then-len-head
-returns-then-len-head c =
-    let w = c.args.words.now in
-    sym (not-true (is_formed w) (λ e. let parts = formed-parts w c.read_head-head.result c.read_head-head.ensures e in c.if-len-head.true (rest-count _ _ _ c.len-len.ensures.value parts.0.0)))
-
 pub returns-then-not-is_frame : goal.returns-then-not-is_frame
 returns-then-not-is_frame c =
     let w = c.args.words.now in
-    sym (not-true (is_formed w) (λ e. let parts = formed-parts w c.read_head-head.result c.read_head-head.ensures e in false≢true (sym c.if-not-is_frame.true ∙ (c.is_frame.ensures ∙ parts.1))))
+    sym (false_from_ne_true (is_formed w) (λ e. let parts = formed-parts w c.read_head-head.result c.read_head-head.ensures e in false≢true (sym c.if-not-is_frame.true ∙ (c.is_frame.ensures ∙ parts.1))))
 
 pub returns : goal.returns
 returns c =

@@ -1,26 +1,18 @@
-use Rattle.std.proofs.Common.{◌∙◌, refl, arith}
+use Rattle.jamboree.proofs.Common.{◌∙◌, arith, head_of, entries_of}
+use Rattle.std.proofs.Common.{refl}
 use Rattle.jamboree.proofs.ViewLemmas.{formed-parts, frame-is}
-use Rattle.jamboree.specs.Views.{head_of, entries_of}
 use Rattle.jamboree.proofs.view.view.Goals as goal
 
 pub view-requires-clause-form : goal.view-requires-clause-form
 view-requires-clause-form c = (formed-parts c.args.words.now c.read_head.result c.read_head.ensures c.requires).1
 
-pub view-requires-clause-few : goal.view-requires-clause-few
-view-requires-clause-few c = omega (arith, c.len-count.ensures.value, c.len-count.ensures.in_limits)
-
 pub view-requires-clause-counted : goal.view-requires-clause-counted
 view-requires-clause-counted c =
     let parts = formed-parts c.args.words.now c.read_head.result c.read_head.ensures c.requires in omega (arith, c.len-count.ensures.value, parts.0.0)
 
-pub returns-clause-frame : goal.returns-clause-frame
-returns-clause-frame c =
-    c.view.ensures.frame (entries_of c.args.words.now) ∙ frame-is c.args.words.now c.read_head.result (entries_of c.args.words.now) c.read_head.ensures refl
-
 pub returns-clause-entries : goal.returns-clause-entries
 returns-clause-entries c =
-    let parts = formed-parts c.args.words.now c.read_head.result c.read_head.ensures c.requires in
-    omega (arith, c.len-count.ensures.value, parts.0.0, c.view.ensures.count)
+    omega (arith, c.len-count.ensures.value, (formed-parts c.args.words.now c.read_head.result c.read_head.ensures c.requires).0.0, c.view.ensures.count)
 
 pub read_head-requires : goal.read_head-requires
 read_head-requires c = let parts = formed-parts c.args.words.now (head_of c.args.words.now) refl c.requires in omega (arith, parts.0.0)

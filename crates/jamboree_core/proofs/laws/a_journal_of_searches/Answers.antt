@@ -1,4 +1,4 @@
-use Rattle.sched_laws.specs.Fitted.{origins_of}
+use Rattle.jamboree_core.proofs.Common.{origins_of}
 use Rattle.jamboree_core.proofs.Serving.{tenant-replies}
 use Rattle.jamboree_core.proofs.JournalLemmas.{journal-searches}
 use Rattle.jamboree_core.proofs.laws.a_journal_of_searches.Goals as goal

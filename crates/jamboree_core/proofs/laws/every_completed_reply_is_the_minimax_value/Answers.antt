@@ -1,6 +1,4 @@
-use Rattle.sched_laws.specs.Fitted.{origins_of, TenantFits}
-use Rattle.sched_rules.specs.Headline.{taken_steps}
-use Rattle.sched_rules.specs.Runs.{only}
+use Rattle.jamboree_core.proofs.Common.{origins_of, TenantFits, taken_steps, only}
 use Rattle.jamboree_core.proofs.Replying.{searched, replies-held}
 use Rattle.jamboree_core.proofs.laws.every_completed_reply_is_the_minimax_value.Goals as goal
 

@@ -1,4 +1,4 @@
-use Rattle.sched_laws.specs.Fitted.{TenantFits}
+use Rattle.jamboree_core.proofs.Common.{TenantFits}
 use Rattle.jamboree_core.proofs.Replying.{searched, all-sound}
 use Rattle.jamboree_core.proofs.laws.every_frame_is_sound.Goals as goal
 

@@ -1,4 +1,4 @@
-use Rattle.jamboree_rules.specs.Procedure.{jamboree}
+use Rattle.jamboree_core.proofs.Common.{jamboree}
 use Rattle.jamboree_core.proofs.JournalLemmas.{journal-begins, journal-goes-on, others-stay}
 use Rattle.jamboree_core.proofs.laws.how_journals_grow.Goals as goal
 

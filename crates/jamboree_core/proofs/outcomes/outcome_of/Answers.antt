@@ -1,4 +1,4 @@
-use Rattle.std.proofs.Common.{sym}
+use Rattle.jamboree_core.proofs.Common.{sym}
 use Rattle.jamboree_core.proofs.OutcomeLemmas.{served-job, answers-asked, none-asked}
 use Rattle.jamboree_core.proofs.outcomes.outcome_of.Goals as goal
 

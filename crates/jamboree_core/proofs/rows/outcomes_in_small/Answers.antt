@@ -1,4 +1,4 @@
-use Rattle.std.proofs.Common.{refl}
+use Rattle.jamboree_core.proofs.Common.{refl}
 use Rattle.jamboree_core.proofs.rows.outcomes_in_small.Goals as goal
 
 pub returns : goal.returns

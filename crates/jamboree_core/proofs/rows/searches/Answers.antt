@@ -1,7 +1,5 @@
-use Rattle.std.proofs.Common.{refl, arith}
+use Rattle.jamboree_core.proofs.Common.{refl, arith, few, admitted_then, submit_of, asked_once, admitted_with}
 use Rattle.std.specs.Prelude.{[], ◌∷◌}
-use Rattle.jamboree_core.specs.Rows.{few, admitted_then, submit_of, asked_once}
-use Rattle.sched_rules.specs.Trees.{admitted_with}
 use Rattle.jamboree_core.proofs.JournalLemmas.{journal-searches}
 use Rattle.jamboree_core.proofs.rows.searches.Goals as goal
 

@@ -1,14 +1,4 @@
-use Rattle.std.proofs.Common.{◌≡◌, ℕ, negsuc, ap, ◌∙◌, arith}
-use Rattle.std.proofs.lemmas.Int.{ints}
-use Rattle.othello_board.specs.Rules.{squares, squares_beside}
-use Rattle.othello_moves.specs.declared.choices.Choice.TheVariants.{Square}
-use Rattle.othello_moves.specs.Choices.{in_order}
-use Rattle.jamboree_rules.specs.othello_eval.declared.bound.BoundKind.{BoundKind}
-use Rattle.jamboree_rules.specs.othello_eval.declared.bound.BoundKind.TheVariants.{Low, High, Exact}
-use Rattle.jamboree_rules.specs.othello_eval.Values.{weights}
-use Rattle.jamboree_rules.specs.othello_eval.Minimax.{minimax, best_choice}
-use Rattle.jamboree_rules.specs.othello_eval.Rows.{entry}
-use Rattle.jamboree_rules.specs.Frames.{coded}
+use Rattle.jamboree_core.proofs.Common.{◌≡◌, ℕ, negsuc, ap, ◌∙◌, arith, ints, squares, squares_beside, Square, in_order, BoundKind, Low, High, Exact, weights, minimax, best_choice, entry, coded}
 use Rattle.jamboree_core.proofs.OpeningReply.{worth, best, answered}
 use Rattle.jamboree_core.proofs.rows.what_a_search_answers.Goals as goal
 

@@ -1,6 +1,5 @@
-use Rattle.std.proofs.Common.{◌≡◌, ℕ, List, slice_index, bit_and, refl, ap, ◌∙◌, arith}
-use Rattle.jamboree_rules.specs.Places.{root_words}
-use Rattle.jamboree_core.specs.Replies.{AreRootWords}
+use Rattle.jamboree_core.proofs.Common.{◌≡◌, ℕ, List, bit_and, refl, ap, ◌∙◌, arith, root_words, AreRootWords}
+use Rattle.std.proofs.Common.{slice_index}
 use Rattle.jamboree_core.proofs.rows.what_a_search_is_asked.Goals as goal
 
 -- the word at a place

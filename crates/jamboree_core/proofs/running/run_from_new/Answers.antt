@@ -1,7 +1,4 @@
-use Rattle.std.proofs.Common.{ℕ, ap, subst}
-use Rattle.jamboree.specs.declared.procedure.Jamboree.{Jamboree}
-use Rattle.jamboree_core.specs.Searching.{IsHeadlineInFull}
-use Rattle.jamboree_core.specs.NewRuns.{submitted_by}
+use Rattle.jamboree_core.proofs.Common.{ℕ, ap, subst, Jamboree, IsHeadlineInFull, submitted_by}
 use Rattle.jamboree_core.proofs.Serving.{headline-from-new, core-serves}
 use Rattle.jamboree_core.proofs.running.run_from_new.Goals as goal
 

@@ -1,5 +1,5 @@
 use Rattle.std.proofs.Common.{refl}
-use Rattle.jamboree_rules.specs.Procedure.{jamboree}
+use Rattle.jamboree_rules.proofs.Common.{jamboree}
 use Rattle.jamboree_rules.proofs.Keeping.{inlet-keeps, inlet-possible}
 use Rattle.jamboree_rules.proofs.laws.inlet_keeps.Goals as goal
 

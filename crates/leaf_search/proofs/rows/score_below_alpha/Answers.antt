@@ -1,5 +1,4 @@
-use Rattle.std.proofs.Common.{pos, negsuc, arith}
-use Rattle.std.proofs.lemmas.Int.{ints}
+use Rattle.leaf_search.proofs.Common.{pos, negsuc, arith, ints}
 use Rattle.leaf_search.proofs.WindowLemmas.{bound_below}
 use Rattle.leaf_search.proofs.rows.score_below_alpha.Goals as goal
 

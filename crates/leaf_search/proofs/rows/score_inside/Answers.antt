@@ -1,5 +1,4 @@
-use Rattle.std.proofs.Common.{pos, arith}
-use Rattle.std.proofs.lemmas.Int.{ints}
+use Rattle.leaf_search.proofs.Common.{pos, arith, ints}
 use Rattle.leaf_search.proofs.WindowLemmas.{bound_inside}
 use Rattle.leaf_search.proofs.rows.score_inside.Goals as goal
 

@@ -1,14 +1,4 @@
-use Rattle.std.proofs.Common.{rules, ◌≡◌, ℕ, true, false, neg_ℤ, ◌-◌, refl, sym, ◌∙◌, ap, subst, arith}
-use Rattle.std.specs.Int.{int_max}
-use Rattle.std.proofs.lemmas.Int.{ints, clamps}
-use Rattle.othello_board.specs.Words.{cells}
-use Rattle.othello_eval.specs.othello_moves.Choices.{choices, after, plies}
-use Rattle.othello_eval.proofs.othello_moves_DescentLemmas.{goes_down}
-use Rattle.othello_eval.specs.Values.{final_value}
-use Rattle.othello_eval.specs.Minimax.{minimax, choice_value}
-use Rattle.leaf_search.specs.Bounds.{IsBound}
-use Rattle.leaf_search.specs.declared.scored.Counted.{Counted}
-use Rattle.othello_eval.proofs.MinimaxLemmas.{minimax-deeper, minimax-over}
+use Rattle.leaf_search.proofs.Common.{rules, ◌≡◌, ℕ, true, false, neg_ℤ, ◌-◌, refl, sym, ◌∙◌, ap, subst, arith, int_max, ints, clamps, cells, choices, after, plies, goes_down, final_value, minimax, choice_value, IsBound, Counted, minimax-deeper, minimax-over}
 use Rattle.leaf_search.proofs.WindowLemmas.{all_bound, Searched-turn, IsSearching-cut, IsSearching-all, IsSearching-real, IsSearching-next, exact_bound, worth_is, some_left, none_left}
 use Rattle.leaf_search.proofs.tree.+search.Goals as goal
 

@@ -1,8 +1,4 @@
-use Rattle.std.proofs.Common.{length, ◌+◌, ◌*◌}
-use Rattle.othello_board.specs.Words.{cells}
-use Rattle.othello_eval.specs.othello_moves.Choices.{choices}
-use Rattle.othello_eval.proofs.othello_moves_DescentLemmas.{passing}
-use Rattle.othello_eval.specs.Minimax.{choice_value}
+use Rattle.leaf_search.proofs.Common.{length, ◌+◌, ◌*◌, cells, choices, passing, choice_value}
 use Rattle.leaf_search.proofs.WindowLemmas.{Searched}
 use Rattle.leaf_search.proofs.tree.+search.Given as goal
 

@@ -1,13 +1,4 @@
-use Rattle.std.proofs.Common.{◌≡◌, true, false, neg_ℤ, ◌-◌, find, refl, sym, ◌∙◌, ap, subst, arith}
-use Rattle.std.specs.Int.{int_max}
-use Rattle.std.proofs.lemmas.Int.{ints}
-use Rattle.othello_board.specs.Words.{cells}
-use Rattle.othello_eval.specs.othello_moves.Choices.{choices, after, plies}
-use Rattle.othello_eval.specs.Values.{final_value}
-use Rattle.othello_eval.specs.Minimax.{choice_value, int_equal}
-use Rattle.leaf_search.specs.Bounds.{IsBound}
-use Rattle.leaf_search.specs.declared.scored.Scored.{Scored}
-use Rattle.othello_eval.proofs.MinimaxLemmas.{minimax-deeper, best_choice-deeper, minimax-over, best_choice-over}
+use Rattle.leaf_search.proofs.Common.{◌≡◌, true, false, neg_ℤ, ◌-◌, find, refl, sym, ◌∙◌, ap, subst, arith, int_max, ints, cells, choices, after, plies, final_value, choice_value, int_equal, IsBound, Scored, minimax-deeper, best_choice-deeper, minimax-over, best_choice-over}
 use Rattle.leaf_search.proofs.WindowLemmas.{all_bound, all_best, IsSearching-turn, IsSearching-cut, IsSearching-all, IsSearching-real, IsSearching-next, cut_score, exact_bound, still_chosen, worth_is, some_left, none_left}
 use Rattle.leaf_search.proofs.tree.best_of.Goals as goal
 

@@ -1,7 +1,4 @@
-use Rattle.std.proofs.Common.{length}
-use Rattle.othello_board.specs.Words.{cells}
-use Rattle.othello_eval.specs.othello_moves.Choices.{choices}
-use Rattle.othello_eval.specs.Minimax.{choice_value}
+use Rattle.leaf_search.proofs.Common.{length, cells, choices, choice_value}
 use Rattle.leaf_search.proofs.WindowLemmas.{IsSearching}
 use Rattle.leaf_search.proofs.tree.best_of.Given as goal
 

@@ -1,10 +1,4 @@
-use Rattle.std.proofs.Common.{◌≡◌, ◌↔◌, Bool, IsTrue, true, false, [], sym, ◌∙◌, ap, arith}
-use Rattle.std.proofs.lemmas.Int.{ints}
-use Rattle.othello_board.specs.declared.boards.Board.{Board}
-use Rattle.othello_board.specs.Words.{cells}
-use Rattle.othello_eval.specs.othello_moves.Choices.{choices}
-use Rattle.othello_eval.specs.Minimax.{minimax}
-use Rattle.othello_eval.proofs.MinimaxLemmas.{minimax_leaf_there, minimax-over}
+use Rattle.leaf_search.proofs.Common.{◌≡◌, ◌↔◌, Bool, IsTrue, true, false, [], sym, ◌∙◌, ap, arith, ints, Board, cells, choices, minimax, minimax_leaf_there, minimax-over}
 use Rattle.leaf_search.proofs.tree.entered.Goals as goal
 
 -- where the game is over

@@ -1,10 +1,4 @@
-use Rattle.std.proofs.Common.{◌≡◌, sym, ◌∙◌, ap, subst, arith, IfSome, Contains}
-use Rattle.std.proofs.lemmas.Int.{ints}
-use Rattle.othello_board.specs.Words.{cells}
-use Rattle.othello_eval.specs.othello_moves.Choices.{choices}
-use Rattle.othello_eval.specs.Minimax.{minimax}
-use Rattle.othello_eval.proofs.MinimaxLemmas.{best_choice-leaf}
-use Rattle.leaf_search.specs.declared.scored.Scored.{Scored}
+use Rattle.leaf_search.proofs.Common.{◌≡◌, sym, ◌∙◌, ap, subst, arith, IfSome, Contains, ints, cells, choices, minimax, best_choice-leaf, Scored}
 use Rattle.leaf_search.proofs.WindowLemmas.{exact_bound}
 use Rattle.leaf_search.proofs.tree.search.Goals as goal
 

@@ -1,5 +1,4 @@
-use Rattle.std.proofs.Common.{◌∙◌, arith}
-use Rattle.std.proofs.lemmas.Result.{err_from_is_err_and}
+use Rattle.line_io.proofs.Common.{◌∙◌, arith, err_from_is_err_and}
 use Rattle.line_io.proofs.Blocks.{Block-start, Block-byte, Block-line, Block-failed}
 use Rattle.line_io.proofs.answering.answer_block.Goals as goal
 use Rattle.line_io.proofs.answering.answer_block.Goals.{then-byte-eq-LF+in_ok-answer_line, else-byte-eq-LF}

@@ -1,7 +1,4 @@
-use Rattle.std.proofs.Common.{◌≡◌, [], sym, ap, ◌∙◌}
-use Rattle.std.specs.Option.{option_to_list, option_map}
-use Rattle.line_io.specs.Held.{last_line}
-use Rattle.line_io.specs.Views.{text_of}
+use Rattle.line_io.proofs.Common.{◌≡◌, [], sym, ap, ◌∙◌, option_to_list, option_map, last_line, text_of}
 use Rattle.line_io.proofs.Answered.{LinesAnswered-none, LinesAnswered-same}
 use Rattle.line_io.proofs.answering.answer_last.Goals as goal
 

@@ -1,4 +1,4 @@
-use Rattle.std.proofs.Common.{◌∙◌}
+use Rattle.line_io.proofs.Common.{◌∙◌}
 use Rattle.line_io.proofs.Answered.{LinesAnswered-one}
 use Rattle.line_io.proofs.answering.answer_line.Goals as goal
 

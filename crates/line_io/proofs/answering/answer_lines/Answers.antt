@@ -1,4 +1,4 @@
-use Rattle.std.proofs.lemmas.Result.{err_from_is_err_and}
+use Rattle.line_io.proofs.Common.{err_from_is_err_and}
 use Rattle.line_io.proofs.Whole.{read-gave, read-ended, length-front, Run-start, Run-more, Run-read_failed, Run-too_much, Run-ended, Run-last_failed, Run-write_failed}
 use Rattle.line_io.proofs.answering.answer_lines.Goals as goal
 

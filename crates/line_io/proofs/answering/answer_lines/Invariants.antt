@@ -1,4 +1,4 @@
-use Rattle.std.proofs.Common.{◌-◌}
+use Rattle.line_io.proofs.Common.{◌-◌}
 use Rattle.line_io.proofs.Whole.{RunSoFar}
 use Rattle.line_io.proofs.answering.answer_lines.Given as goal
 

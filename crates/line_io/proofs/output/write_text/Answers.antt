@@ -1,6 +1,4 @@
-use Rattle.std.proofs.Common.{arith, rules}
-use Rattle.std.proofs.lemmas.List.{length-drop}
-use Rattle.std.proofs.lemmas.Result.{err_from_is_err_and}
+use Rattle.line_io.proofs.Common.{arith, rules, length-drop, err_from_is_err_and}
 use Rattle.line_io.proofs.Written.{Sent-more, Sent-failed, offered-all}
 use Rattle.line_io.proofs.output.write_text.Goals as goal
 

@@ -1,4 +1,4 @@
-use Rattle.std.proofs.Common.{length, ◌-◌, ◌≤◌}
+use Rattle.line_io.proofs.Common.{length, ◌-◌, ◌≤◌}
 use Rattle.line_io.proofs.Written.{Sent}
 use Rattle.line_io.proofs.output.write_text.Given as goal
 

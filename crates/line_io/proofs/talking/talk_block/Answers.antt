@@ -1,5 +1,4 @@
-use Rattle.std.proofs.Common.{◌∙◌, ap, sym, not, arith, rules}
-use Rattle.std.proofs.lemmas.Result.{err_from_is_err_and}
+use Rattle.line_io.proofs.Common.{◌∙◌, ap, sym, not, arith, rules, err_from_is_err_and}
 use Rattle.line_io.proofs.Talked.{Talk-start, Talk-byte, Talk-line, Talk-stopped, Talk-failed, Talk-end}
 use Rattle.line_io.proofs.talking.talk_block.Goals as goal
 use Rattle.line_io.proofs.talking.talk_block.Goals.{then-byte-eq-LF+in_ok-talk_line+else-branch, else-byte-eq-LF}

@@ -1,6 +1,4 @@
-use Rattle.std.proofs.Common.{◌≡◌, ◌∙◌, refl, sym, ap, Ok, not, Bool, true, false, true≢false}
-use Rattle.std.proofs.lemmas.Result.{err_from_is_err_and}
-use Rattle.std.proofs.lemmas.Bool.{not-true}
+use Rattle.line_io.proofs.Common.{◌≡◌, ◌∙◌, refl, sym, ap, Ok, not, Bool, true, false, true≢false, err_from_is_err_and, not-true}
 use Rattle.line_io.proofs.Whole.{read-gave, read-ended}
 use Rattle.line_io.proofs.Talks.{Talking-start, Talking-more, Talk-read_failed, Talk-stopped, Talk-write_failed, Talk-ended, Talk-last_failed}
 use Rattle.line_io.proofs.talking.talk_lines.Goals as goal

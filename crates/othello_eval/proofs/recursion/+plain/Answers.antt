@@ -1,11 +1,4 @@
-use Rattle.std.proofs.Common.{rules, ◌≡◌, ◌<◌, ◌-◌, ℕ, ℤ, List, sym, ap, ◌∙◌, subst, to_z, w32, Some, arith}
-use Rattle.othello_board.specs.Words.{cells}
-use Rattle.othello_board.specs.declared.cells.Cell.{Cell}
-use Rattle.othello_moves.specs.declared.choices.Choice.{Choice}
-use Rattle.othello_moves.specs.Choices.{choices, plies}
-use Rattle.othello_moves.proofs.AllowedLemmas.{goes_down, length-cells}
-use Rattle.othello_eval.specs.Values.{IsWithin}
-use Rattle.othello_eval.specs.Minimax.{minimax, choice_value}
+use Rattle.othello_eval.proofs.Common.{rules, ◌≡◌, ◌<◌, ◌-◌, ℕ, ℤ, List, sym, ap, ◌∙◌, subst, to_z, w32, Some, arith, cells, Cell, Choice, choices, plies, goes_down, length-cells, IsWithin, minimax, choice_value}
 use Rattle.othello_eval.proofs.MinimaxLemmas.{minimax-over, best_choice-over, minimax_within, same_bits, within_more, child_value, leaf_value_at, leaf_choice_at, start_value, start_choice, running_more, running_same, running_all, left_chosen, next_chosen}
 use Rattle.othello_eval.proofs.recursion.+plain.Goals as goal
 

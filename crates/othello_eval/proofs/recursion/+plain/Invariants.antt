@@ -1,8 +1,4 @@
-use Rattle.std.proofs.Common.{◌+◌, ◌*◌, ◌≡◌, Some, All, Contains, length}
-use Rattle.othello_board.specs.Words.{cells}
-use Rattle.othello_moves.specs.Choices.{choices}
-use Rattle.othello_eval.specs.Minimax.{minimax, choice_value, best_choice}
-use Rattle.othello_moves.proofs.AllowedLemmas.{passing}
+use Rattle.othello_eval.proofs.Common.{◌+◌, ◌*◌, ◌≡◌, Some, All, Contains, length, cells, choices, minimax, choice_value, best_choice, passing}
 use Rattle.othello_eval.proofs.MinimaxLemmas.{running}
 use Rattle.othello_eval.proofs.recursion.+plain.Given as goal
 

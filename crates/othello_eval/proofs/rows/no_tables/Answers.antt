@@ -1,11 +1,4 @@
-use Rattle.std.proofs.Common.{◌≡◌, pos, refl, ap, arith, length}
-use Rattle.othello_board.specs.Rules.{squares, squares_beside}
-use Rattle.othello_moves.specs.declared.choices.Choice.TheVariants.{Square}
-use Rattle.othello_moves.specs.Choices.{in_order}
-use Rattle.othello_eval.specs.declared.bound.BoundKind.TheVariants.{High, Exact}
-use Rattle.othello_eval.specs.Values.{weights}
-use Rattle.othello_eval.specs.Minimax.{minimax, best_choice}
-use Rattle.othello_eval.specs.Rows.{entry}
+use Rattle.othello_eval.proofs.Common.{◌≡◌, pos, refl, ap, arith, length, squares, squares_beside, Square, in_order, High, Exact, weights, minimax, best_choice, entry}
 use Rattle.othello_eval.proofs.rows.no_tables.Goals as goal
 
 pub returns : goal.returns

@@ -1,12 +1,4 @@
-use Rattle.std.proofs.Common.{refl, arith}
-use Rattle.std.proofs.lemmas.List.Elements.{All-from_recursion}
-use Rattle.othello_board.specs.Rules.{squares, squares_beside}
-use Rattle.othello_moves.specs.Choices.{in_order}
-use Rattle.othello_moves.specs.Rows.{two_discs_from_there}
-use Rattle.othello_eval.specs.Values.{weights}
-use Rattle.othello_eval.specs.Minimax.{minimax, best_choice}
-use Rattle.othello_eval.specs.Rows.{corner_or_edge, corner_and_edge, to_pass}
-use Rattle.othello_eval.specs.Tables.{IsTrueBound, IsExactIfBest}
+use Rattle.othello_eval.proofs.Common.{refl, arith, All-from_recursion, squares, squares_beside, in_order, two_discs_from_there, weights, minimax, best_choice, corner_or_edge, corner_and_edge, to_pass, IsTrueBound, IsExactIfBest}
 use Rattle.othello_eval.proofs.TableLemmas.{apart}
 use Rattle.othello_eval.proofs.rows.tables_of_a_best_move.Goals as goal
 

@@ -1,13 +1,5 @@
-use Rattle.std.proofs.Common.{refl, arith, []}
-use Rattle.std.proofs.lemmas.List.Elements.{All-from_recursion}
-use Rattle.othello_board.specs.Rules.{squares, squares_beside}
-use Rattle.othello_moves.specs.Choices.{in_order}
-use Rattle.othello_eval.specs.Values.{weights}
-use Rattle.othello_eval.specs.Minimax.{minimax, best_choice}
+use Rattle.othello_eval.proofs.Common.{refl, arith, [], All-from_recursion, squares, squares_beside, in_order, weights, minimax, best_choice, opening, all_opposing, equal_moves, IsTrueBound, IsExactIfBest}
 use Rattle.othello_eval.proofs.TableLemmas.{apart}
-use Rattle.othello_board.specs.Rows.{opening}
-use Rattle.othello_eval.specs.Rows.{all_opposing, equal_moves}
-use Rattle.othello_eval.specs.Tables.{IsTrueBound, IsExactIfBest}
 use Rattle.othello_eval.proofs.rows.tables_of_equal_moves.Goals as goal
 
 pub returns : goal.returns

@@ -1,8 +1,4 @@
-use Rattle.std.proofs.Common.{◌≡◌, ◌+◌, sym, ap, ◌∙◌, drop, pos, ◌+ℤ◌, ◌*ℤ◌, get_or, to_z, w32, subst, arith}
-use Rattle.std.proofs.lemmas.Int.{ints}
-use Rattle.othello_board.specs.Words.{cells}
-use Rattle.othello_eval.specs.Values.{weights, discs_value, IsWithin}
-use Rattle.othello_eval.specs.Masks.{disc_difference}
+use Rattle.othello_eval.proofs.Common.{◌≡◌, ◌+◌, sym, ap, ◌∙◌, drop, pos, ◌+ℤ◌, ◌*ℤ◌, get_or, to_z, w32, subst, arith, ints, cells, weights, discs_value, IsWithin, disc_difference}
 use Rattle.othello_eval.proofs.ValueLemmas.{weighed_within}
 use Rattle.othello_eval.proofs.MaskLemmas.{weighed_sum, weight_table, sums_more, sum_fits, sums_next, sums_end, weight_fits, weighed_sum-discs_value}
 use Rattle.othello_eval.proofs.values.discs_value.Goals as goal

@@ -1,4 +1,4 @@
-use Rattle.std.proofs.Common.{◌≡◌, ◌*◌, ◌≤ℤ◌, ◌+ℤ◌, pos, neg_ℤ, drop}
+use Rattle.othello_eval.proofs.Common.{◌≡◌, ◌*◌, ◌≤ℤ◌, ◌+ℤ◌, pos, neg_ℤ, drop}
 use Rattle.othello_eval.proofs.MaskLemmas.{weighed_sum, weight_table}
 use Rattle.othello_eval.proofs.values.discs_value.Given as goal
 

@@ -1,5 +1,4 @@
-use Rattle.std.proofs.Common.{sym, subst, arith}
-use Rattle.othello_eval.specs.Values.{IsWithin}
+use Rattle.othello_eval.proofs.Common.{sym, subst, arith, IsWithin}
 use Rattle.othello_eval.proofs.MaskLemmas.{product_within, product_is}
 use Rattle.othello_eval.proofs.values.weighed.Goals as goal
 

@@ -1,5 +1,4 @@
-use Rattle.std.proofs.Common.{arith}
-use Rattle.std.proofs.lemmas.Int.{ints}
+use Rattle.othello_eval.proofs.Common.{arith, ints}
 use Rattle.othello_eval.proofs.weighed.half_value.Goals as goal
 
 pub returns-clause-value : goal.returns-clause-value

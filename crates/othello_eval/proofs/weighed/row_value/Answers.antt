@@ -1,5 +1,4 @@
-use Rattle.std.proofs.Common.{refl, sym, subst}
-use Rattle.othello_eval.specs.Values.{IsWithin}
+use Rattle.othello_eval.proofs.Common.{refl, sym, subst, IsWithin}
 use Rattle.othello_eval.proofs.MaskLemmas.{row_read, row_within}
 use Rattle.othello_eval.proofs.weighed.row_value.Goals as goal
 

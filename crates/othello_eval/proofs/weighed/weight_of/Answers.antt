@@ -1,5 +1,4 @@
-use Rattle.std.proofs.Common.{sym, subst}
-use Rattle.othello_eval.specs.Values.{IsWithin}
+use Rattle.othello_eval.proofs.Common.{sym, subst, IsWithin}
 use Rattle.othello_eval.proofs.ValueLemmas.{weight_read, weight_within}
 use Rattle.othello_eval.proofs.weighed.weight_of.Goals as goal
 

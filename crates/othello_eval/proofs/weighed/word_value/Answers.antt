@@ -1,7 +1,4 @@
-use Rattle.std.proofs.Common.{◌≡◌, to_z, of_z, w32, ◌+ℤ◌, sym, subst, arith}
-use Rattle.std.proofs.lemmas.Int.{ints}
-use Rattle.othello_board.specs.Words.{cells_of}
-use Rattle.othello_eval.specs.Values.{weights, discs_value, IsWithin}
+use Rattle.othello_eval.proofs.Common.{◌≡◌, to_z, of_z, w32, ◌+ℤ◌, sym, subst, arith, ints, cells_of, weights, discs_value, IsWithin}
 use Rattle.othello_eval.proofs.MaskLemmas.{board-rows}
 use Rattle.othello_eval.proofs.ValueLemmas.{weighed_within}
 use Rattle.othello_eval.proofs.weighed.word_value.Goals as goal

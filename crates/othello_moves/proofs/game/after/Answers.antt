@@ -1,6 +1,4 @@
-use Rattle.std.proofs.Common.{subst, Contains}
-use Rattle.othello_board.specs.Words.{cells}
-use Rattle.othello_moves.specs.Choices.{choices}
+use Rattle.othello_moves.proofs.Common.{subst, Contains, cells, choices}
 use Rattle.othello_moves.proofs.AllowedLemmas.{contained_allowed}
 use Rattle.othello_moves.proofs.game.after.Goals as goal
 

@@ -1,7 +1,4 @@
-use Rattle.std.proofs.Common.{ap, ◌∙◌, drop}
-use Rattle.std.proofs.lemmas.List.{drop-drop}
-use Rattle.othello_board.specs.Words.{cells}
-use Rattle.othello_moves.specs.Choices.{choices}
+use Rattle.othello_moves.proofs.Common.{ap, ◌∙◌, drop, drop-drop, cells, choices}
 use Rattle.othello_moves.proofs.game.choice.Goals as goal
 
 pub loop-preserved : goal.loop-preserved

@@ -1,6 +1,4 @@
-use Rattle.std.proofs.Common.{◌≡◌, drop}
-use Rattle.othello_board.specs.Words.{cells}
-use Rattle.othello_moves.specs.Choices.{choices}
+use Rattle.othello_moves.proofs.Common.{◌≡◌, drop, cells, choices}
 use Rattle.othello_moves.proofs.game.choice.Given as goal
 
 abbrev pub invariant-loop : goal.invariant-loop

@@ -1,8 +1,5 @@
-use Rattle.std.proofs.Common.{filter, ap, ◌∙◌, arith}
+use Rattle.othello_moves.proofs.Common.{filter, ap, ◌∙◌, arith, squares, is_legal, bits_of, exchanged-cells_of}
 use Rattle.std.proofs.lemmas.Nat.{and_comm}
-use Rattle.othello_board.specs.Rules.{squares, is_legal}
-use Rattle.othello_board.specs.Words.{bits_of}
-use Rattle.othello_board.proofs.CellLemmas.{exchanged-cells_of}
 use Rattle.othello_moves.proofs.LaneLemmas.{by_lanes}
 use Rattle.othello_moves.proofs.legal.both_moves.Goals as goal
 

@@ -1,4 +1,4 @@
-use Rattle.std.proofs.Common.{arith}
+use Rattle.othello_moves.proofs.Common.{arith}
 use Rattle.othello_moves.proofs.LaneLemmas.{both_lines}
 use Rattle.othello_moves.proofs.legal.moves.Goals as goal
 

@@ -1,5 +1,4 @@
-use Rattle.std.proofs.Common.{w64}
-use Rattle.std.proofs.lemmas.Nat.Bits.{bit_at_set_same, bit_at_set_other}
+use Rattle.position_text.proofs.Common.{w64, bit_at_set_same, bit_at_set_other}
 use Rattle.position_text.proofs.discs.with_bit.Goals as goal
 
 pub returns-clause-here : goal.returns-clause-here

@@ -1,4 +1,4 @@
-use Rattle.position_text.specs.Spelling.{written}
+use Rattle.position_text.proofs.Common.{written}
 use Rattle.position_text.proofs.WrittenText.{written_is, written_spells}
 use Rattle.position_text.proofs.laws.written_spells.Goals as goal
 

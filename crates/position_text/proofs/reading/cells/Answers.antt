@@ -1,4 +1,4 @@
-use Rattle.std.proofs.Common.{refl, sym, ◌∙◌}
+use Rattle.position_text.proofs.Common.{refl, sym, ◌∙◌}
 use Rattle.position_text.proofs.ReadingLemmas.{one_more, held_spelled}
 use Rattle.position_text.proofs.reading.cells.Goals as goal
 

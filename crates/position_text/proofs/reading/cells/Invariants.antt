@@ -1,4 +1,4 @@
-use Rattle.position_text.specs.Discs.{HoldsFirst}
+use Rattle.position_text.proofs.Common.{HoldsFirst}
 use Rattle.position_text.proofs.reading.cells.Given as goal
 
 abbrev pub invariant-loop-square : goal.invariant-loop-square

@@ -1,4 +1,4 @@
-use Rattle.std.proofs.Common.{◌∙◌, refl, sym, arith}
+use Rattle.position_text.proofs.Common.{◌∙◌, refl, sym, arith}
 use Rattle.position_text.proofs.Readings.{spells_seen, ok_exactly}
 use Rattle.position_text.proofs.reading.read.Goals as goal
 

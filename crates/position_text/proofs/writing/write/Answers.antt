@@ -1,4 +1,4 @@
-use Rattle.std.proofs.Common.{arith, refl}
+use Rattle.position_text.proofs.Common.{arith, refl}
 use Rattle.position_text.proofs.WrittenText.{writes_none, writes_all, is_written, written_spells}
 use Rattle.position_text.proofs.writing.write.Goals as goal
 

@@ -1,4 +1,4 @@
-use Rattle.std.proofs.Common.{sym, ◌∙◌}
+use Rattle.sched_core.proofs.Common.{sym, ◌∙◌}
 use Rattle.sched_core.proofs.Deciding.{seen-words, seen-child}
 use Rattle.sched_core.proofs.acts.may_do.Goals as goal
 

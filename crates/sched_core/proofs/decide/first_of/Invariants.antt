@@ -1,5 +1,4 @@
-use Rattle.std.proofs.Common.{◌≡◌, drop}
-use Rattle.sched_rules.specs.Lone.{unless}
+use Rattle.sched_core.proofs.Common.{◌≡◌, drop, unless}
 use Rattle.sched_core.proofs.decide.first_of.Given as goal
 
 abbrev pub invariant-loop-test : goal.invariant-loop-test

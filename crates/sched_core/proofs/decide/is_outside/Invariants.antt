@@ -1,5 +1,4 @@
-use Rattle.std.proofs.Common.{◌≡◌, drop}
-use Rattle.sched_rules.specs.Trees.{is_outside as is_outside_of}
+use Rattle.sched_core.proofs.Common.{◌≡◌, drop, is_outside as is_outside_of}
 use Rattle.sched_core.proofs.decide.is_outside.Given as goal
 
 abbrev pub invariant-loop-store : goal.invariant-loop-store

@@ -1,7 +1,4 @@
-use Rattle.frame_tree.proofs.TreeChanges.{aborted-itself}
-use Rattle.sched_rules.specs.Changes.{without_frame, without_under, ending_job}
-use Rattle.sched_rules.specs.Lone.{ended}
-use Rattle.sched_laws.proofs.Consequences.{shaped-in}
+use Rattle.sched_core.proofs.Common.{aborted-itself, without_frame, without_under, ending_job, ended, shaped-in}
 use Rattle.sched_core.proofs.TakenStep.{IsWith, begins, then-changed}
 use Rattle.sched_core.proofs.Ending.{IsNamed, named-there, with-named, with-there, as-change, aborted-childless}
 use Rattle.sched_core.proofs.ends.end_at.Given.{Over}

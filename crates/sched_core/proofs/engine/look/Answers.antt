@@ -1,4 +1,4 @@
-use Rattle.std.proofs.Common.{sym, ◌∙◌}
+use Rattle.sched_core.proofs.Common.{sym, ◌∙◌}
 use Rattle.sched_core.proofs.Looking.{no-frame}
 use Rattle.sched_core.proofs.engine.look.Goals as goal
 

@@ -1,5 +1,4 @@
-use Rattle.std.proofs.Common.{◌≡◌, None, sym, ◌∙◌}
-use Rattle.sched_rules.specs.Views.{frame_in_core}
+use Rattle.sched_core.proofs.Common.{◌≡◌, None, sym, ◌∙◌, frame_in_core}
 use Rattle.sched_core.proofs.Looking.{no-frame}
 use Rattle.sched_core.proofs.engine.look_in.Goals as goal
 

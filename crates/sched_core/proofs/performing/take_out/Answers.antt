@@ -1,6 +1,4 @@
-use Rattle.std.proofs.Common.{◌≡◌, true, refl, sym, ◌∙◌}
-use Rattle.sched_rules.specs.Changes.{on_tenant, without_frame, without_under}
-use Rattle.sched_core.specs.StepResults.{staying_with}
+use Rattle.sched_core.proofs.Common.{◌≡◌, true, refl, sym, ◌∙◌, on_tenant, without_frame, without_under, staying_with}
 use Rattle.sched_core.proofs.TakenStep.{begins, then-changed}
 use Rattle.sched_core.proofs.Ending.{as-change}
 use Rattle.sched_core.proofs.Inlets.{parent-found, stays-beside, aborts-child, same-tenant}

@@ -1,5 +1,4 @@
-use Rattle.std.proofs.Common.{[]}
-use Rattle.sched_rules.specs.Cores.{shared_by_nobody}
+use Rattle.sched_laws.proofs.Common.{[], shared_by_nobody}
 use Rattle.sched_laws.proofs.FitAnswers.{run-fits, nobody-fits}
 use Rattle.sched_laws.proofs.laws.each_job_holds_what_it_was_asked.Goals as goal
 

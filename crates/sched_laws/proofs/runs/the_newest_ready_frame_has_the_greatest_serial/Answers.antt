@@ -1,4 +1,4 @@
-use Rattle.frame_tree.proofs.TreeLaws.{tree-rising}
+use Rattle.sched_laws.proofs.Common.{tree-rising}
 use Rattle.sched_laws.proofs.Latest.{newest-found, newest-none}
 use Rattle.sched_laws.proofs.runs.the_newest_ready_frame_has_the_greatest_serial.Goals as goal
 

@@ -1,4 +1,4 @@
-use Rattle.std.proofs.Common.{arith}
+use Rattle.sched_laws.proofs.Common.{arith}
 use Rattle.sched_laws.proofs.Sums.{reserved-answer, reserved-answers}
 use Rattle.sched_laws.proofs.totals.reservations_stay_within_the_totals.Goals as goal
 

@@ -1,62 +1,14 @@
 -- `allocate` cuts what the allocator gives into empty places, and keeps the token to give it back.
-use mathlib.Core.Path.{◌≡◌, refl, sym, ap, subst}
+use Rattle.segment_region.proofs.Common.{◌≡◌, refl, subst, ℕ, ◌*◌, ◌<◌, ◌^◌, List, [], ◌∷◌, ◌++◌, lit<, length, Ura, Incl-trans, Fn, w64, ty_array, inst_fn, Val, vptr, vint, vstruct, vcons, vnil, SProp, ent, Lft, ftrue, flft, capped_fits, Memory, align, capped, Routine, Env, Calls, Loops, WpFn, Wp, after_seq, at_return, Logic, ◌⊑◌, Fun, fact, tables, FmC, Post as After, Item, ⋆, ‵, raw, ◌⊛◌, any_q, later, await, at_ret, ◌$◌, ◌∵◌, !, qed, by, move, keep, drop, use0, use1, use2, use3, split, join, fsplit, fjoin, feq_l, flt_i, flt_l, suffices, frame, done, live, vrt, in_variant, whole, agg, stop, fld, bin, lit, size_word, align_word, of_opd, and_then, no_more, first, switches_on, exec, returns, enter, alloc_all, pass_all, free_all, look_at, get, get_in, get_tag, sets, sets_last, is, lands_as, env, RattleType, owns, Is, hidden_shr, layout, Ptr, block_ptr, Bor, plain, types_at, RefOf, usize, yes, nothing, heard, owned, Struct, Struct-Makes, Tuple, Triple, calls_at, framed, says, Stays, stay_dropped, walk_of, ends_at, Goes-dropped, None, IfOk, Ok, Err, FitsInBlock, proved_at, El, R, elτ, Al, Answer-typed, takes_key, Takes, at_takes, Answered, Takes-goes, Takes-gives, answers, uncapped, block_ty, block_size, block_align, P, as_written, ok_of, err_of, after, head, arm_body, Good, word, word-Good, first_Good, row_owned}
+use mathlib.Core.Path.{sym, ap}
 use mathlib.Core.Bool.{true, false}
-use Prim.Native.Nat.{ℕ, ◌*◌, ◌<◌, ◌^◌}
 use native.Mathlib.Omega.{arith}
-use mathlib.Core.List.{List, [], ◌∷◌, ◌++◌}
-use lib.Dec.{lit<}
-use lib.ListN.{length, replicate, length-replicate}
-use seplogic.Ra.Ura.{Ura}
-use base.Fml.{Incl-trans}
-use mir.Syntax.{Fn, Body, w64, ty_array}
-use mir.MapTy.{inst_fn}
-use mir.Val.{Val, vptr, vint, vstruct, vcons, vnil}
-use base.Logic.{SProp, ent}
-use base.Fml.{Lft, ftrue, flft}
-use prog.Capped.{capped_fits}
-use prog.Memory.{Memory, align, capped}
-use prog.Routine.{Routine}
-use prog.Wp.{Env, Calls, Loops, WpFn, Wp, after_seq, at_return}
-use types.Logic.{Logic}
-use contract.BorrowLft.{◌⊑◌}
-use contract.Monad.{Fun, fact}
-use contract.Running.{tables}
-use sound.WpLaws.{FmC}
-use types.Kit.{Post as After, Item, ⋆, ‵, raw, ◌⊛◌, any_q, later, await, at_ret, ◌$◌, ◌∵◌, !, qed, by, move, keep, drop, use0, use1, use2, use3, split, join, fsplit, fjoin, feq_l, flt_i, flt_l, suffices, frame, done}
-use types.Match.{live, vrt, in_variant}
-use types.Part.{whole, agg}
-use types.Run.{stop, fld, bin, lit, size_word, align_word, of_opd, and_then, no_more, first, switches_on, exec, returns, enter}
-use types.ByLocal.{alloc_all, pass_all, free_all, look_at, get, get_in, get_tag, sets, sets_last, is, lands_as, env}
-use denote.RattleType.{RattleType, owns}
-use denote.Laws.{Is}
-use denote.Memory.{hidden_shr}
-use denote.Param.{layout}
-use denote.RawPtr.{Ptr, block_ptr}
-use denote.Ref.{Bor}
-use denote.Signature.{plain, types_at}
-use denote.Builtin.{RefOf, usize}
-use denote.Exit.{yes}
-use denote.Steps.{nothing, heard, owned}
-use denote.Struct.Struct.{Struct, Struct-Makes}
+use lib.ListN.{replicate, length-replicate}
+use mir.Syntax.{Body}
 use denote.Struct.Declared as Declared
-use denote.Struct.Tuple.{Tuple}
-use denote.Triple.Statement.{Triple}
-use denote.Triple.Call.{calls_at}
-use denote.Triple.Table.{framed}
-use denote.Triple.Walked.{says, Stays, stay_dropped, walk_of, ends_at, Goes-dropped}
-use Rattle.std.specs.Prelude.{None, IfOk, Ok, Err}
-use Rattle.std.specs.Vec.Ownership.{FitsInBlock}
-use Rattle.std.proofs.raw_atomic.Walks.{proved_at}
 use Rattle.core.specs.contracts.alloc.AllocError as AllocErrorType
 use Rattle.core.specs.contracts.result.Result as ResultType
-use Rattle.core.proofs.mem.Param.{El, R, elτ}
-use Rattle.core.proofs.alloc.Calls.{Al, Answer-typed, takes_key, Takes, at_takes, Answered, Takes-goes, Takes-gives, answers}
-use Rattle.core.proofs.slots.Leases.{uncapped, block_ty, block_size, block_align, args, P}
-use Rattle.std_alloc.proofs.RawLayout.{as_written}
-use Rattle.std_alloc.proofs.ResultValues.{ok_of, err_of}
-use Rattle.std_alloc.proofs.VecSteps.Shapes.{after, head, arm_body}
-use Rattle.std_alloc.proofs.RcSteps.{Good, word, word-Good, first_Good}
-use Rattle.segment_region.specs.Ownership.{row_owned}
+use Rattle.core.proofs.slots.Leases.{args}
 use Rattle.segment_region.proofs.Memory.{place_size, emptied}
 use Rattle.segment_region.proofs.Owners.{BaseRow, CellsRow, MarkRow, mark, mark_made, base_made, three, three_made}
 use Rattle.segment_region.specs.contracts.cells.Title as TitleType

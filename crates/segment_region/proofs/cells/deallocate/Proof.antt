@@ -1,49 +1,8 @@
 -- `deallocate` makes memory of the places again, whatever lies in them, and hands it back with the token.
-use mathlib.Core.Path.{◌≡◌, refl, sym, ap, subst, ◌∙◌}
-use Prim.Native.Nat.{ℕ, ◌*◌, ◌<◌, ◌^◌}
+use Rattle.segment_region.proofs.Common.{◌≡◌, refl, subst, ℕ, ◌*◌, ◌<◌, ◌^◌, List, [], ◌∷◌, ◌++◌, T, length, Ura, Fn, w64, ty_unit, ty_array, inst_fn, Val, vptr, vint, vunit, has_ty, WT, SProp, ent, never, id⊢, Incl-trans, Lft, ftrue, froom, flft, capped_fits, Memory, align, capped, Routine, Calls, Loops, WpFn, Logic, ◌⊑◌, Fun, fact, tables, FmC, Item, ⋆, ‵, raw, ◌⊛◌, given, later, await, learn, at_ret, ◌$◌, ◌∵◌, !, qed, by, move, keep, drop, use1, split, join, group, rewrite, fsplit, fjoin, feq_i, feq_l, flt_l, suffices, done, whole, sub, stop, fld, bin, unit_lit, size_word, align_word, of_opd, and_then, no_more, first, blocks, exec, returns, enter, alloc_all, pass_all, free_all, look_at, get, get_in, sets, is, lands_last, env, RattleType, owns, hidden_shr, Ptr, ptr_val, in_a_block, Bor, plain, types_at, RefOf, usize, yes, no, nothing, heard, Triple, calls_at_last, framed, Stays, stay_dropped, walk_of, ends_at, Goes-dropped, proved_at, El, R, elτ, Al, token, gives_key, Gives, at_gives, Gives-goes, Gives-Gives, Goes-blank, uncapped, block_ty, block_size, block_align, P, as_raw, after, word, word-Good, places_owned, title_owned}
+use mathlib.Core.Path.{sym, ap, ◌∙◌}
 use native.Mathlib.Omega.{arith}
-use mathlib.Core.List.{List, [], ◌∷◌, ◌++◌}
-use lib.Dec.{T}
-use lib.ListN.{length}
-use seplogic.Ra.Ura.{Ura}
-use mir.Syntax.{Fn, w64, ty_unit, ty_array}
-use mir.MapTy.{inst_fn}
-use mir.Val.{Val, vptr, vint, vunit, has_ty, WT}
-use base.Logic.{SProp, ent, never, id⊢}
-use base.Fml.{Incl-trans, Lft, ftrue, froom, flft}
-use prog.Capped.{capped_fits}
-use prog.Memory.{Memory, align, capped}
-use prog.Routine.{Routine}
-use prog.Wp.{Calls, Loops, WpFn}
-use types.Logic.{Logic}
-use contract.BorrowLft.{◌⊑◌}
-use contract.Monad.{Fun, fact}
-use contract.Running.{tables}
-use sound.WpLaws.{FmC}
-use types.Kit.{Item, ⋆, ‵, raw, ◌⊛◌, given, later, await, learn, at_ret, ◌$◌, ◌∵◌, !, qed, by, move, keep, drop, use1, split, join, group, rewrite, fsplit, fjoin, feq_i, feq_l, flt_l, suffices, done}
-use types.Part.{whole, sub}
-use types.Run.{stop, fld, bin, unit_lit, size_word, align_word, of_opd, and_then, no_more, first, blocks, exec, returns, enter}
-use types.ByLocal.{alloc_all, pass_all, free_all, look_at, get, get_in, sets, is, lands_last, env}
-use denote.RattleType.{RattleType, owns}
-use denote.Memory.{hidden_shr}
-use denote.RawPtr.{Ptr, ptr_val, in_a_block}
-use denote.Ref.{Bor}
-use denote.Signature.{plain, types_at}
-use denote.Builtin.{RefOf, usize}
-use denote.Exit.{yes, no}
-use denote.Steps.{nothing, heard}
-use denote.Triple.Statement.{Triple}
-use denote.Triple.Call.{calls_at_last}
-use denote.Triple.Table.{framed}
-use denote.Triple.Walked.{Stays, stay_dropped, walk_of, ends_at, Goes-dropped}
-use Rattle.std.proofs.raw_atomic.Walks.{proved_at}
-use Rattle.core.proofs.mem.Param.{El, R, elτ}
-use Rattle.core.proofs.alloc.Calls.{Al, token, gives_key, Gives, at_gives, Gives-goes, Gives-Gives, Goes-blank}
-use Rattle.core.proofs.slots.Leases.{uncapped, block_ty, block_size, block_align, args, P}
-use Rattle.std_alloc.proofs.RawLayout.{as_raw}
-use Rattle.std_alloc.proofs.VecSteps.Shapes.{after}
-use Rattle.std_alloc.proofs.RcSteps.{word, word-Good}
-use Rattle.segment_region.specs.Ownership.{places_owned, title_owned}
+use Rattle.core.proofs.slots.Leases.{args}
 use Rattle.segment_region.proofs.Memory.{place_size, freed}
 use Rattle.segment_region.proofs.Owners.{BaseRow, CellsRow, mark, mark_had, base_had}
 use Rattle.segment_region.specs.contracts.cells.Title as TitleType

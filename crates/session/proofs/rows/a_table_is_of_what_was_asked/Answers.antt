@@ -1,9 +1,4 @@
-use Rattle.std.proofs.Common.{◌≡◌, Some, subst}
-use Rattle.std.specs.Fmt.{digits}
-use Rattle.othello_board.specs.Rules.{squares}
-use Rattle.othello_eval.specs.Tables.{IsTable}
-use Rattle.session.specs.Asks.{Asked}
-use Rattle.session.specs.Rows.{opening_board}
+use Rattle.session.proofs.Common.{◌≡◌, Some, subst, digits, squares, IsTable, Asked, opening_board}
 use Rattle.session.proofs.rows.a_table_is_of_what_was_asked.Goals as goal
 
 -- what is there is what was asked

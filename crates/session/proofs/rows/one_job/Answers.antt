@@ -1,6 +1,4 @@
-use Rattle.std.proofs.Common.{refl}
-use Rattle.std.specs.Fmt.{digits}
-use Rattle.othello_board.specs.Rules.{squares}
+use Rattle.session.proofs.Common.{refl, digits, squares}
 use Rattle.session.proofs.rows.one_job.Goals as goal
 
 pub returns : goal.returns

@@ -1,11 +1,4 @@
-use Rattle.std.proofs.Common.{◌≡◌, ℕ, List, sym, subst, rules, ◌∙◌}
-use Rattle.line_io.specs.Lines.{LineText}
-use Rattle.line_io.specs.Talks.{Talk}
-use Rattle.session.specs.declared.serving.Clerk.{Clerk}
-use Rattle.session.specs.declared.office.Office.{Ghosts}
-use Rattle.session.specs.Forms.{is_bye}
-use Rattle.session.specs.Requests.{request}
-use Rattle.session.specs.Sessions.{Turned}
+use Rattle.session.proofs.Common.{◌≡◌, ℕ, List, sym, subst, rules, ◌∙◌, LineText, Talk, Clerk, Ghosts, is_bye, request, Turned}
 use Rattle.session.proofs.Served.{talk-session, chain-keeps, Session-office}
 use Rattle.session.proofs.serving.serve_lines.Goals as goal
 

@@ -1,5 +1,4 @@
-use Rattle.std.proofs.Common.{◌≡◌, ◌+◌, ◌*◌, ◌≤◌, ◌++◌, drop, length}
-use Rattle.session.specs.Turns.{entries_text}
+use Rattle.session.proofs.Common.{◌≡◌, ◌+◌, ◌*◌, ◌≤◌, ◌++◌, drop, length, entries_text}
 use Rattle.session.proofs.texts.push_entries.Given as goal
 
 abbrev pub invariant-loop-bound : goal.invariant-loop-bound

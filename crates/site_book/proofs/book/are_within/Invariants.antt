@@ -1,5 +1,4 @@
-use Rattle.std.proofs.Common.{◌≡◌, drop}
-use Rattle.site_book.specs.Books.{are_within}
+use Rattle.site_book.proofs.Common.{◌≡◌, drop, are_within}
 use Rattle.site_book.proofs.book.are_within.Given as goal
 
 -- those so far are within, so the rest decides

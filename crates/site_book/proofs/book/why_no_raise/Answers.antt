@@ -1,24 +1,7 @@
 -- The tests in their order.
-use Rattle.std.proofs.Common.{◌≡◌, true, false, refl, ap, sym, ◌∙◌}
-use Rattle.site_book.specs.declared.held.Held.{Held}
-use Rattle.site_book.specs.declared.held.Part.TheVariants.{Own, Network, Guests}
-use Rattle.site_book.specs.Names.{network_of}
-use Rattle.site_book.specs.Grants.{used, grants_without, is_no_raise}
-use Rattle.site_book.specs.Books.{why_beyond}
-use Rattle.site_book.proofs.BookLemmas.{gone-why, raise-is, found-held, removed-list}
+use Rattle.site_book.proofs.Common.{◌≡◌, false, refl, ap, sym, ◌∙◌, Held, Own, Network, Guests, network_of, used, grants_without, is_no_raise, why_beyond}
+use Rattle.site_book.proofs.BookLemmas.{raise-is, found-held, removed-list}
 use Rattle.site_book.proofs.book.why_no_raise.Goals as goal
-
-pub returns-then-place-grants : goal.returns-then-place-grants
-returns-then-place-grants c =
-    gone-why c.args.plan.now c.args.who c.args.session c.place_of-place.result c.args.ask c.args.grants.now c.place_of-place.ensures.place c.if-place-grants.true
-
-pub returns-then-is_lower : goal.returns-then-is_lower
-returns-then-is_lower c =
-    let gs = c.args.grants.now in
-    let held = c.index-grants-place.result in
-    let found = found-held gs gs c.args.who c.args.session c.place_of-place.result held refl c.place_of-place.ensures.place c.if-place-grants.false c.index-grants-place.is in
-    let low : is_no_raise held.ask c.args.ask ≡ true = ap (λ (h : Held). is_no_raise h.ask c.args.ask) c.index-grants-place.is ∙ (sym c.is_lower.ensures ∙ c.if-is_lower.true) in
-    raise-is c.args.plan.now c.args.who c.args.session c.args.ask gs held true found low
 
 pub returns : goal.returns
 returns c =

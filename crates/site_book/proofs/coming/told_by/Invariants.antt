@@ -1,5 +1,4 @@
-use Rattle.std.proofs.Common.{◌≡◌, ◌+◌, ◌≤◌, ◌++◌, [], length}
-use Rattle.site_book.specs.Comings.{told_by}
+use Rattle.site_book.proofs.Common.{◌≡◌, ◌+◌, ◌≤◌, ◌++◌, [], length, told_by}
 use Rattle.site_book.proofs.coming.told_by.Given as goal
 
 -- those so far and the rest are all

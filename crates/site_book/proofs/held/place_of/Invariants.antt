@@ -1,5 +1,4 @@
-use Rattle.std.proofs.Common.{◌≡◌, ◌+◌, drop}
-use Rattle.site_book.specs.Grants.{grant_place}
+use Rattle.site_book.proofs.Common.{◌≡◌, ◌+◌, drop, grant_place}
 use Rattle.site_book.proofs.held.place_of.Given as goal
 
 -- none of those before is of the session

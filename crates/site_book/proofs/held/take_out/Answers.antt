@@ -1,4 +1,4 @@
-use Rattle.std.proofs.Common.{◌∙◌, arith}
+use Rattle.site_book.proofs.Common.{◌∙◌, arith}
 use Rattle.site_book.proofs.BookLemmas.{removed-list, kept-list}
 use Rattle.site_book.proofs.held.take_out.Goals as goal
 

@@ -1,5 +1,5 @@
 -- The grant at the place is one of the part, or it isn't.
-use Rattle.std.proofs.Common.{sym, ◌∙◌}
+use Rattle.site_book.proofs.Common.{sym, ◌∙◌}
 use Rattle.site_book.proofs.BookLemmas.{own-within, own-less, other-same}
 use Rattle.site_book.proofs.held.used_besides.Goals as goal
 

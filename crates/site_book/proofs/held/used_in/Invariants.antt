@@ -1,5 +1,4 @@
-use Rattle.std.proofs.Common.{◌≡◌, ◌+◌, ◌*◌, ◌≤◌, drop}
-use Rattle.site_book.specs.Grants.{used}
+use Rattle.site_book.proofs.Common.{◌≡◌, ◌+◌, ◌*◌, ◌≤◌, drop, used}
 use Rattle.site_book.proofs.held.used_in.Given as goal
 
 -- what is summed so far and the rest are all

@@ -1,8 +1,5 @@
-use Rattle.std.proofs.Common.{[]}
+use Rattle.site_book.proofs.Common.{[], Told as those_told, remaining, told_by}
 use Rattle.site_book.proofs.Keepings.{kept-new, let-in}
-use Rattle.site_book.specs.declared.present.Leaver.TheVariants.{Told as those_told}
-use Rattle.site_book.specs.Rolls.{remaining}
-use Rattle.site_book.specs.Comings.{told_by}
 use Rattle.site_book.proofs.ComingLemmas.{left-kept}
 use Rattle.site_book.proofs.laws.a_plan_comes_in_once_they_have_gone.Goals as goal
 

@@ -1,7 +1,4 @@
-use Rattle.std.proofs.Common.{ap, ◌∙◌}
-use Rattle.site_book.specs.Grants.{used}
-use Rattle.site_book.specs.Books.{new_book}
-use Rattle.site_book.specs.Events.{book_after_events}
+use Rattle.site_book.proofs.Common.{ap, ◌∙◌, used, new_book, book_after_events}
 use Rattle.site_book.proofs.RunLemmas.{names-run, no-names}
 use Rattle.site_book.proofs.laws.all_comes_back.Goals as goal
 

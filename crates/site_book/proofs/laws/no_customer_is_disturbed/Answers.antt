@@ -1,7 +1,4 @@
-use Rattle.std.proofs.Common.{sym, ap}
-use Rattle.site_book.specs.declared.who.Who.TheVariants.{Named}
-use Rattle.site_book.specs.Names.{same_who, is_guest}
-use Rattle.site_book.specs.Books.{BookOf, new_book}
+use Rattle.site_book.proofs.Common.{sym, ap, Named, same_who, is_guest, BookOf, new_book}
 use Rattle.site_book.proofs.Isolation.{run-theirs, told-theirs, named-whole, guests-whole, guest-among}
 use Rattle.site_book.proofs.laws.no_customer_is_disturbed.Goals as goal
 

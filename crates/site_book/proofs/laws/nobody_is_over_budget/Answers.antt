@@ -1,5 +1,4 @@
-use Rattle.site_book.specs.Books.{new_book}
-use Rattle.site_book.specs.Events.{book_after_events}
+use Rattle.site_book.proofs.Common.{new_book, book_after_events}
 use Rattle.site_book.proofs.Keepings.{kept-new, kept-few}
 use Rattle.site_book.proofs.RunLemmas.{kept-run, totals-run}
 use Rattle.site_book.proofs.laws.nobody_is_over_budget.Goals as goal

@@ -1,4 +1,4 @@
-use Rattle.site_book.specs.Rolls.{idlest}
+use Rattle.site_book.proofs.Common.{idlest}
 use Rattle.site_book.proofs.ComingLemmas.{ends_idle, idlest-there, idle-parts}
 use Rattle.site_book.proofs.laws.only_idle_guests_go_for_another.Goals as goal
 

@@ -1,6 +1,4 @@
-use Rattle.std.proofs.Common.{ap, ◌∙◌, sym}
-use Rattle.site_book.specs.declared.refusal.Refusal.TheVariants.{OverGuests}
-use Rattle.site_book.specs.Books.{why_over}
+use Rattle.site_book.proofs.Common.{ap, ◌∙◌, sym, OverGuests, why_over}
 use Rattle.site_book.proofs.ComingLemmas.{refused_now, refused_then, refused_idle, nobody-idle}
 use Rattle.site_book.proofs.laws.who_is_refused_has_no_room.Goals as goal
 

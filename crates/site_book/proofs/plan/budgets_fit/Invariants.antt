@@ -1,5 +1,4 @@
-use Rattle.std.proofs.Common.{◌≡◌, length}
-use Rattle.site_book.specs.Amounts.{is_amount_within, plus, sum_of}
+use Rattle.site_book.proofs.Common.{◌≡◌, length, is_amount_within, plus, sum_of}
 use Rattle.site_book.proofs.plan.budgets_fit.Given as goal
 
 -- the rest is within what is left exactly where all is within the totals

@@ -1,5 +1,4 @@
-use Rattle.std.proofs.Common.{◌≡◌, drop}
-use Rattle.site_book.specs.Rolls.{idler, idlest}
+use Rattle.site_book.proofs.Common.{◌≡◌, drop, idler, idlest}
 use Rattle.site_book.proofs.roll.idlest.Given as goal
 
 -- the idlest so far and that of the rest give the idlest of all

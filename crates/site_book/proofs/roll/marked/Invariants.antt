@@ -1,5 +1,4 @@
-use Rattle.std.proofs.Common.{◌≡◌, ◌+◌, ◌≤◌, ◌++◌, length}
-use Rattle.site_book.specs.Rolls.{marked_all}
+use Rattle.site_book.proofs.Common.{◌≡◌, ◌+◌, ◌≤◌, ◌++◌, length, marked_all}
 use Rattle.site_book.proofs.roll.marked.Given as goal
 
 -- those so far and the rest are all

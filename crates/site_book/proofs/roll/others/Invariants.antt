@@ -1,5 +1,5 @@
-use Rattle.std.proofs.Common.{◌≡◌, ◌+◌, ◌≤◌, ◌++◌, length, if◌then◌else◌}
-use Rattle.site_book.specs.Rolls.{without_present}
+use Rattle.site_book.proofs.Common.{◌≡◌, ◌+◌, ◌≤◌, ◌++◌, length, without_present}
+use Rattle.std.proofs.Common.{if◌then◌else◌}
 use Rattle.site_book.proofs.roll.others.Given as goal
 
 -- what is kept so far and what is to be kept of the rest are all that is kept

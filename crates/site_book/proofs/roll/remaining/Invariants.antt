@@ -1,5 +1,4 @@
-use Rattle.std.proofs.Common.{◌≡◌, ◌+◌, ◌≤◌, ◌++◌, length}
-use Rattle.site_book.specs.Rolls.{remaining}
+use Rattle.site_book.proofs.Common.{◌≡◌, ◌+◌, ◌≤◌, ◌++◌, length, remaining}
 use Rattle.site_book.proofs.roll.remaining.Given as goal
 
 -- what is left so far and what is left of the rest is all that is left

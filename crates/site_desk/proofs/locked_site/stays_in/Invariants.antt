@@ -1,5 +1,4 @@
-use Rattle.std.proofs.Common.{◌≡◌, drop}
-use Rattle.site_desk.specs.Sites.{stays_in}
+use Rattle.site_desk.proofs.Common.{◌≡◌, drop, stays_in}
 use Rattle.site_desk.proofs.locked_site.stays_in.Given as goal
 
 -- those so far don't decide, so the rest does

@@ -1,5 +1,4 @@
-use Rattle.std.proofs.Common.{sym, ◌∙◌}
-use Rattle.site_book.specs.Grants.{grant_of}
+use Rattle.site_desk.proofs.Common.{sym, ◌∙◌, grant_of}
 use Rattle.site_desk.proofs.Keepings.{found-of, tenant-of, booked-leave}
 use Rattle.site_desk.proofs.steps.leave.Goals as goal
 

@@ -1,8 +1,4 @@
-use Rattle.std.proofs.Common.{subst}
-use Rattle.sched_rules.specs.declared.step.StepOf.TheVariants.{Leave}
-use Rattle.sched_rules.specs.declared.step.DidOf.TheVariants.{Left}
-use Rattle.hall.specs.Halls.{IsDecided}
-use Rattle.hall.specs.jamboree_rules.Procedure.{jamboree}
+use Rattle.site_desk.proofs.Common.{subst, Leave, Left, IsDecided, jamboree}
 use Rattle.site_desk.proofs.HallSteps.{leave-taken}
 use Rattle.site_desk.proofs.steps.let_go.Goals as goal
 

@@ -1,4 +1,4 @@
-use Rattle.std.proofs.Common.{sym, ◌∙◌}
+use Rattle.site_desk.proofs.Common.{sym, ◌∙◌}
 use Rattle.site_desk.proofs.Keepings.{may-raise, booked-raise}
 use Rattle.site_desk.proofs.steps.raise.Goals as goal
 

@@ -1,11 +1,5 @@
-use Rattle.std.proofs.Common.{◌≡◌, ℕ, List, sym, subst, rules, ◌∙◌}
-use Rattle.line_io.specs.Lines.{LineText}
-use Rattle.session.specs.declared.office.Office.{Ghosts}
-use Rattle.session.specs.Sessions.{LeavesIf}
+use Rattle.site_office.proofs.Common.{◌≡◌, ℕ, List, sym, subst, rules, ◌∙◌, LineText, Ghosts, LeavesIf, Clerk, site_request, SiteTurned}
 use Rattle.site_office.specs.declared.reception.Reception.{Ghosts as ReceptionGhosts}
-use Rattle.site_office.specs.declared.clerk.Clerk.{Clerk}
-use Rattle.site_office.specs.Lines.{site_request}
-use Rattle.site_office.specs.Turns.{SiteTurned}
 use Rattle.site_office.proofs.ChainLemmas.{chain-keeps}
 use Rattle.site_office.proofs.clerk.serve_site.Goals as goal
 

@@ -1,10 +1,5 @@
-use Rattle.std.proofs.Common.{◌≡◌, ℕ, List, sym, ◌∙◌}
-use Rattle.line_io.specs.Lines.{LineText}
-use Rattle.session.specs.declared.office.Office.{Ghosts}
+use Rattle.site_office.proofs.Common.{◌≡◌, ℕ, List, sym, ◌∙◌, LineText, Ghosts, Clerk, site_request, SiteTurned}
 use Rattle.site_office.specs.declared.reception.Reception.{Ghosts as ReceptionGhosts}
-use Rattle.site_office.specs.declared.clerk.Clerk.{Clerk}
-use Rattle.site_office.specs.Lines.{site_request}
-use Rattle.site_office.specs.Turns.{SiteTurned}
 use Rattle.site_office.proofs.ClerkLemmas.{chain-holds, leaves, site_turned}
 use Rattle.site_office.proofs.laws.nobody_stays.Goals as goal
 

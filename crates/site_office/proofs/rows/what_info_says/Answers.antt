@@ -1,5 +1,4 @@
-use Rattle.std.proofs.Common.{refl}
-use Rattle.std.specs.Fmt.{digits}
+use Rattle.site_office.proofs.Common.{refl, digits}
 use Rattle.site_office.proofs.rows.what_info_says.Goals as goal
 
 pub returns : goal.returns

@@ -1,5 +1,4 @@
-use Rattle.std.proofs.Common.{ap, ◌∙◌}
-use Rattle.std.specs.Option.{is_some}
+use Rattle.site_office.proofs.Common.{ap, ◌∙◌, is_some}
 use Rattle.site_office.proofs.SeatLemmas.{none_of}
 use Rattle.site_office.proofs.serving.serve_connection.Goals as goal
 

@@ -1,4 +1,4 @@
-use Rattle.std.proofs.Common.{◌<◌, length, arith}
+use Rattle.site_office.proofs.Common.{◌<◌, length, arith}
 use Rattle.site_office.proofs.TokenLemmas.{token-short}
 use Rattle.site_office.proofs.tokens.without_token.Goals as goal
 

@@ -1,7 +1,4 @@
-use Rattle.std.proofs.Common.{◌∙◌, ap₂, rules, w32}
-use Rattle.std.proofs.lemmas.Int.{to_z-of_z}
-use mir.Val.{SFits}
-use Rattle.othello_eval.specs.Minimax.{minimax, best_choice}
+use Rattle.solve_engine.proofs.Common.{◌∙◌, ap₂, rules, w32, to_z-of_z, SFits, minimax, best_choice}
 use Rattle.solve_engine.proofs.Asking.{asked-serves, outcome-to, outcome-there, reply-of, reply-cells}
 use Rattle.solve_engine.proofs.job.answer_in.Goals as goal
 

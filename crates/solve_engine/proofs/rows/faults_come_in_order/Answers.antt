@@ -1,6 +1,4 @@
-use Rattle.std.proofs.Common.{refl}
-use Rattle.std.specs.Fmt.{digits}
-use Rattle.othello_board.specs.Rules.{squares}
+use Rattle.solve_engine.proofs.Common.{refl, digits, squares}
 use Rattle.solve_engine.proofs.rows.faults_come_in_order.Goals as goal
 
 pub returns : goal.returns

@@ -1,6 +1,4 @@
-use Rattle.std.proofs.Common.{ℕ, ap, subst}
-use Rattle.jamboree_core.specs.jamboree.declared.procedure.Jamboree.{Jamboree}
-use Rattle.solve_engine.specs.Asked.{IsNewCore}
+use Rattle.solve_engine.proofs.Common.{ℕ, ap, subst, Jamboree, IsNewCore}
 use Rattle.solve_engine.proofs.searching.search_within.Goals as goal
 
 pub answer_in-requires-clause-there : goal.answer_in-requires-clause-there

@@ -1,8 +1,4 @@
-use Rattle.std.proofs.Common.{Result, Ok, Err}
-use Rattle.std.specs.Prelude.{OnOk}
-use Rattle.line_io.specs.declared.faults.LineFault.{LineFault}
-use Rattle.line_io.specs.Streams.{ReadAnswer, WriteAnswer}
-use Rattle.solve_engine.specs.Solving.{solve_out_unless, SolvedRun}
+use Rattle.solve_engine.proofs.Common.{Result, Ok, Err, OnOk, LineFault, ReadAnswer, WriteAnswer, solve_out_unless, SolvedRun}
 use Rattle.solve_engine.proofs.solving.solve_bytes.Goals as goal
 
 -- what follows from a run that ended well

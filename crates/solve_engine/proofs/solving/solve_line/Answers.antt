@@ -1,8 +1,4 @@
-use Rattle.std.proofs.Common.{ap, ap₂, ◌∙◌, true, false, rules, w32}
-use Rattle.std.proofs.lemmas.Int.{to_z-of_z}
-use mir.Val.{SFits}
-use Rattle.protocol.specs.Texts.{value_text, error_text}
-use Rattle.solve_engine.specs.Solving.{question_answer, solved_unless}
+use Rattle.solve_engine.proofs.Common.{ap, ap₂, ◌∙◌, true, false, rules, w32, to_z-of_z, SFits, value_text, error_text, question_answer, solved_unless}
 use Rattle.solve_engine.proofs.solving.solve_line.Goals as goal
 
 pub returns-in-Ok-solve_by_core-clause-text : goal.returns-in-Ok-solve_by_core-clause-text

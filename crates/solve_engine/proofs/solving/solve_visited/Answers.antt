@@ -1,5 +1,4 @@
-use Rattle.line_io.proofs.ByFunction.{Run-related}
-use Rattle.solve_engine.specs.Solving.{IsVisitedLine}
+use Rattle.solve_engine.proofs.Common.{Run-related, IsVisitedLine}
 use Rattle.solve_engine.proofs.solving.solve_visited.Goals as goal
 
 pub returns : goal.returns

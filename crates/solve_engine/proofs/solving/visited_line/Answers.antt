@@ -1,8 +1,4 @@
-use Rattle.std.proofs.Common.{ap, ap₂, ◌∙◌, rules, w32}
-use Rattle.std.proofs.lemmas.Int.{to_z-of_z}
-use mir.Val.{SFits}
-use Rattle.protocol.specs.Texts.{visited_text}
-use Rattle.solve_engine.specs.Solving.{question_answer, solved_with_count}
+use Rattle.solve_engine.proofs.Common.{ap, ap₂, ◌∙◌, rules, w32, to_z-of_z, SFits, visited_text, question_answer, solved_with_count}
 use Rattle.solve_engine.proofs.solving.visited_line.Goals as goal
 
 pub returns-in-Ok-clause-text : goal.returns-in-Ok-clause-text

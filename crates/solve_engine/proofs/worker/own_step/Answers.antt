@@ -1,5 +1,4 @@
-use Rattle.std.proofs.Common.{IfSome, sym, subst}
-use Rattle.solve_engine.specs.Asked.{IsWork}
+use Rattle.solve_engine.proofs.Common.{IfSome, sym, subst, IsWork}
 use Rattle.solve_engine.proofs.Staying.{held-work}
 use Rattle.solve_engine.proofs.worker.own_step.Goals as goal
 

@@ -1,4 +1,4 @@
-use Rattle.solve_engine.specs.Asked.{Keeps}
+use Rattle.solve_engine.proofs.Common.{Keeps}
 use Rattle.solve_engine.proofs.worker.work.Given as goal
 
 abbrev pub invariant-loop-turn : goal.invariant-loop-turn

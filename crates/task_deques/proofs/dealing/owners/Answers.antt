@@ -1,7 +1,4 @@
-use Rattle.std.proofs.Common.{◌≡◌, [], arith}
-use Rattle.std.proofs.lemmas.List.Elements.{All-push}
-use Rattle.task_deques.specs.Tallies.{tally}
-use Rattle.task_deques.specs.Seats.{owner_seat, owner_room}
+use Rattle.task_deques.proofs.Common.{◌≡◌, [], arith, All-push, tally, owner_seat, owner_room}
 use Rattle.task_deques.proofs.dealing.owners.Goals as goal
 
 pub loop-made-preserved : goal.loop-made-preserved

@@ -1,6 +1,4 @@
-use Rattle.std.proofs.Common.{◌≡◌, ◌≤◌, [], All, vec_len, vec_capacity}
-use Rattle.task_deques.specs.Tallies.{tally}
-use Rattle.task_deques.specs.Seats.{owner_seat, owner_room}
+use Rattle.task_deques.proofs.Common.{◌≡◌, ◌≤◌, [], All, vec_len, vec_capacity, tally, owner_seat, owner_room}
 use Rattle.task_deques.proofs.dealing.owners.Given as goal
 
 abbrev pub invariant-loop-made : goal.invariant-loop-made

@@ -1,13 +1,6 @@
-use Rattle.std.proofs.Common.{◌≡◌, List, Some, map, ap, arith}
-use Rattle.std.proofs.lemmas.List.Elements.{All-pop}
-use Rattle.std.specs.Vec.Iter.{into_iter_items}
-use Rattle.task_deques.specs.Seats.{DequeSeatIn, owner_seat, new_thief}
-use Rattle.task_deques.specs.Deals.{owner_seats, thief_seats, worker_seats, beside}
+use Rattle.task_deques.proofs.Common.{◌≡◌, List, Some, map, ap, arith, All-pop, into_iter_items, DequeSeatIn, owner_seat, new_thief, owner_seats, thief_seats, worker_seats, beside}
 use Rattle.task_deques.proofs.SeatLemmas.{gives, gives_room}
 use Rattle.task_deques.proofs.dealing.paired.Goals as goal
-
-pub take_last-thieves-requires : goal.take_last-thieves-requires
-take_last-thieves-requires g c = omega (arith, c.in-Some.ensures.steps.1, c.loop-own.invariant.2)
 
 pub loop-own-preserved : goal.loop-own-preserved
 loop-own-preserved g c =

@@ -1,7 +1,4 @@
-use Rattle.std.proofs.Common.{◌≡◌, ◌+◌, ◌≤◌, ◌++◌, map, All, vec_len, vec_capacity}
-use Rattle.std.specs.Vec.Iter.{into_iter_items, into_iter_len}
-use Rattle.task_deques.specs.Seats.{owner_room, new_thief}
-use Rattle.task_deques.specs.Deals.{owner_seats, thief_seats, worker_seats, worker_room, beside}
+use Rattle.task_deques.proofs.Common.{◌≡◌, ◌+◌, ◌≤◌, ◌++◌, map, All, vec_len, vec_capacity, into_iter_items, into_iter_len, owner_room, new_thief, owner_seats, thief_seats, worker_seats, worker_room, beside}
 use Rattle.task_deques.proofs.dealing.paired.Given as goal
 
 abbrev pub invariant-loop-own : goal.invariant-loop-own

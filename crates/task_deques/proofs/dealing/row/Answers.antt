@@ -1,17 +1,6 @@
-use Rattle.std.proofs.Common.{◌<◌, List, length, ap, ◌∙◌, arith, rules}
-use Rattle.std.proofs.Math.Seq.{map-set_same}
-use Rattle.task_deques.specs.Seats.{DequeSeatIn, owner_seat, owner_room, with_part_cut, new_thief}
-use Rattle.task_deques.specs.Deals.{owner_seats}
-use Rattle.task_deques.proofs.SeatLemmas.{owner_at, owner_gives, cut_at, row_push}
+use Rattle.task_deques.proofs.Common.{◌<◌, List, length, ap, ◌∙◌, arith, rules, map-set_same, DequeSeatIn, owner_seat, owner_room, with_part_cut, new_thief, owner_seats}
+use Rattle.task_deques.proofs.SeatLemmas.{owner_at, cut_at, row_push}
 use Rattle.task_deques.proofs.dealing.row.Goals as goal
-
-pub thief-requires-clause-parts : goal.thief-requires-clause-parts
-thief-requires-clause-parts g c =
-    (owner_gives _ _ _ _ (omega (arith, c.loop-place.owners.ok.0, c.loop-place.invariant.4)) (omega (arith, c.loop-place.invariant.5)) c.index_mut.ensures.value c.loop-place.invariant.0 c.requires).0
-
-pub thief-requires-clause-none_taken : goal.thief-requires-clause-none_taken
-thief-requires-clause-none_taken g c =
-    (owner_gives _ _ _ _ (omega (arith, c.loop-place.owners.ok.0, c.loop-place.invariant.4)) (omega (arith, c.loop-place.invariant.5)) c.index_mut.ensures.value c.loop-place.invariant.0 c.requires).1
 
 pub loop-place-preserved : goal.loop-place-preserved
 loop-place-preserved g c =

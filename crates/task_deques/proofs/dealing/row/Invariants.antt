@@ -1,6 +1,4 @@
-use Rattle.std.proofs.Common.{◌≡◌, ◌≤◌, ◌++◌, map, take, drop, length, vec_len, vec_capacity}
-use Rattle.task_deques.specs.Seats.{owner_room, with_part_cut, new_thief}
-use Rattle.task_deques.specs.Deals.{owner_seats, thief_seats}
+use Rattle.task_deques.proofs.Common.{◌≡◌, ◌≤◌, ◌++◌, map, take, drop, length, vec_len, vec_capacity, owner_room, with_part_cut, new_thief, owner_seats, thief_seats}
 use Rattle.task_deques.proofs.dealing.row.Given as goal
 
 abbrev pub invariant-loop-place : goal.invariant-loop-place

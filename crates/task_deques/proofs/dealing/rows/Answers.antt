@@ -1,8 +1,4 @@
-use Rattle.std.proofs.Common.{◌≡◌, ◌-◌, ◌+◌, ◌<◌, [], List, length, map, refl, sym, ap, ◌∙◌, arith, rules, vec_len}
-use Rattle.std.proofs.lemmas.List.Elements.{All-map, All-same, All-push}
-use Rattle.task_deques.specs.Tallies.{tally}
-use Rattle.task_deques.specs.Seats.{DequeSeatIn, owner_seat, with_part_cut, new_thief}
-use Rattle.task_deques.specs.Deals.{owner_seats, thief_seats, fresh_with}
+use Rattle.task_deques.proofs.Common.{◌≡◌, ◌-◌, ◌+◌, ◌<◌, [], List, length, map, refl, sym, ap, ◌∙◌, arith, rules, All-map, All-same, All-push, tally, DequeSeatIn, owner_seat, with_part_cut, new_thief, owner_seats, thief_seats, fresh_with}
 use Rattle.task_deques.proofs.SeatLemmas.{fresh_same, cut_again, new_of_fresh}
 use Rattle.task_deques.proofs.dealing.rows.Goals as goal
 
@@ -27,33 +23,14 @@ row-requires g c =
 pub loop-made-preserved : goal.loop-made-preserved
 loop-made-preserved g c =
     let before : List (DequeSeatIn g.row.A.Denot) = owner_seats c.args.owners.now.items in
-    let at = c.loop-made in
     let made = c.loop-made._made in
     let less : (64 - made) - 1 ≡ 64 - (made + 1) = omega arith in
     let row = c.in_ok-row.field-0 in
     let new : thief_seats row.items ≡ map new_thief before = c.in_ok-row.ensures.thieves ∙ ap (λ (l : List (DequeSeatIn g.row.A.Denot)). map new_thief l) c.loop-made.invariant.0 ∙ new_of_fresh (64 - made) before in (
       c.in_ok-row.ensures.owners ∙ ap (λ (l : List (DequeSeatIn g.row.A.Denot)). map with_part_cut l) c.loop-made.invariant.0 ∙ cut_again (64 - made) before ∙ ap (λ n. map (fresh_with n) before) less,
-      rw c.push_reserved.ensures.items (All-push (λ r. thief_seats r.items ≡ map new_thief before) at.rows.items row c.loop-made.invariant.1 new),
+      rw c.push_reserved.ensures.items (All-push (λ r. thief_seats r.items ≡ map new_thief before) c.loop-made.rows.items row c.loop-made.invariant.1 new),
       omega (arith, c.push_reserved.ensures.len),
       omega (arith, c.push_reserved.ensures.capacity),
       search rules,
       c.in_ok-row.ensures.room ∙ c.loop-made.invariant.5,
     )
-
-pub push_reserved-requires : goal.push_reserved-requires
-push_reserved-requires g c = omega arith
-
-pub returns-clause-count : goal.returns-clause-count
-returns-clause-count g c = omega arith
-
-pub returns-clause-owners : goal.returns-clause-owners
-returns-clause-owners g c =
-    let before : List (DequeSeatIn g.row.A.Denot) = owner_seats c.args.owners.now.items in
-    let all : c.loop-made._made ≡ vec_len c.args.owners.now = omega arith in
-    c.loop-made.invariant.0 ∙ ap (λ n. map (fresh_with (64 - n)) before) all
-
-pub returns-clause-room : goal.returns-clause-room
-returns-clause-room g c = c.loop-made.invariant.5
-
-pub returns-clause-rows : goal.returns-clause-rows
-returns-clause-rows g c = c.loop-made.invariant.1

@@ -1,6 +1,4 @@
-use Rattle.std.proofs.Common.{◌≡◌, ◌-◌, ◌<◌, ◌≤◌, map, All, vec_len, vec_capacity}
-use Rattle.task_deques.specs.Seats.{owner_room, new_thief}
-use Rattle.task_deques.specs.Deals.{owner_seats, thief_seats, fresh_with}
+use Rattle.task_deques.proofs.Common.{◌≡◌, ◌-◌, ◌<◌, ◌≤◌, map, All, vec_len, vec_capacity, owner_room, new_thief, owner_seats, thief_seats, fresh_with}
 use Rattle.task_deques.proofs.dealing.rows.Given as goal
 
 abbrev pub invariant-loop-made : goal.invariant-loop-made

@@ -1,10 +1,7 @@
-use Rattle.std.proofs.Common.{arith}
-use Rattle.task_deques.proofs.SeatLemmas.{thief_stole, thief_waited}
+use Rattle.task_deques.proofs.Common.{arith}
+use Rattle.task_deques.proofs.SeatLemmas.{thief_stole}
 use Rattle.task_deques.proofs.ends.steal_at.Goals as goal
 
 pub returns-clause-taken : goal.returns-clause-taken
 returns-clause-taken g c =
     thief_stole c.args.thieves.now.items c.args.place c.index_mut.result.now c.steal.new.self c.steal.result (omega (arith, c.args.thieves.now.ok.0)) c.index_mut.ensures.value c.steal.ensures.taken
-
-pub returns-clause-unchanged : goal.returns-clause-unchanged
-returns-clause-unchanged g c = thief_waited c.args.thieves.now.items c.args.place c.index_mut.result.now c.steal.new.self c.steal.result c.index_mut.ensures.value c.steal.ensures.unchanged

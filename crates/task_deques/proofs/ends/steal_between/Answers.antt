@@ -1,6 +1,4 @@
-use Rattle.std.proofs.Common.{List, subst}
-use Rattle.task_deques.specs.Seats.{DequeSeatIn}
-use Rattle.task_deques.specs.Deals.{thief_seats, IsStolen}
+use Rattle.task_deques.proofs.Common.{List, subst, DequeSeatIn, thief_seats, IsStolen}
 use Rattle.task_deques.proofs.ends.steal_between.Goals as goal
 
 pub returns-in-Some-clause-taken : goal.returns-in-Some-clause-taken

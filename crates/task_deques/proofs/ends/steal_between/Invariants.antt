@@ -1,5 +1,4 @@
-use Rattle.std.proofs.Common.{◌≡◌, ◌≤◌, vec_len}
-use Rattle.task_deques.specs.Deals.{thief_seats}
+use Rattle.task_deques.proofs.Common.{◌≡◌, ◌≤◌, vec_len, thief_seats}
 use Rattle.task_deques.proofs.ends.steal_between.Given as goal
 
 abbrev pub invariant-loop-place : goal.invariant-loop-place

@@ -1,27 +1,20 @@
-use Rattle.std.proofs.Common.{◌≡◌, ◌+◌, ◌<◌, List, All, length, take, sum_by, ap, sym, subst, ◌∙◌, arith, rules}
-use Rattle.std.proofs.lemmas.List.{take_all, length-map}
-use Rattle.std.proofs.lemmas.List.Sums.{sum_by_more}
-use Rattle.std.proofs.lemmas.List.Elements.{All-more}
-use Rattle.task_deques.specs.Seats.{DequeSeatIn, owner_seat}
-use Rattle.task_deques.specs.Deals.{owner_seats, IsAccounted}
+use Rattle.task_deques.proofs.Common.{◌≡◌, ◌+◌, ◌<◌, List, All, length, take, sum_by, ap, sym, subst, ◌∙◌, arith, rules, take_all, length-map, sum_by_more, All-more, DequeSeatIn, owner_seat, owner_seats, IsAccounted}
 use Rattle.task_deques.proofs.SeatLemmas.{seat_at, seats_same}
 use Rattle.task_deques.proofs.joining.added.Goals as goal
 
 pub sums-sums-requires : goal.sums-sums-requires
 sums-sums-requires g c =
     let at = c.loop-place in
-    let x = c.index_mut.result.now in
     let seats : List (DequeSeatIn g.row.A.Denot) = owner_seats c.args.owners.items in
     let inside : at.place < length at.owners.items = omega (arith, at.owners.ok.0, c.loop-place.invariant.6) in
-    let here = seat_at at.owners.items seats at.place x inside c.index_mut.ensures.value c.loop-place.invariant.0 in
+    let here = seat_at at.owners.items seats at.place c.index_mut.result.now inside c.index_mut.ensures.value c.loop-place.invariant.0 in
     let within : at.place < length seats = omega (arith, ap length c.loop-place.invariant.0, length-map at.owners.items owner_seat) in
-    subst (λ (s : DequeSeatIn g.row.A.Denot). s.tally.parts ≡ 64) here (c.requires.parts at.place (owner_seat x) within)
+    subst (λ (s : DequeSeatIn g.row.A.Denot). s.tally.parts ≡ 64) here (c.requires.parts at.place (owner_seat c.index_mut.result.now) within)
 
 pub loop-place-preserved : goal.loop-place-preserved
 loop-place-preserved g c =
     let at = c.loop-place in
     let x = c.index_mut.result.now in
-    let sums = c.sums-sums.result in
     let seats : List (DequeSeatIn g.row.A.Denot) = owner_seats c.args.owners.items in
     let inside : at.place < length at.owners.items = omega (arith, at.owners.ok.0, c.loop-place.invariant.6) in
     let here = seat_at at.owners.items seats at.place x inside c.index_mut.ensures.value c.loop-place.invariant.0 in
@@ -30,13 +23,12 @@ loop-place-preserved g c =
     sum_by_more (λ (deque : DequeSeatIn g.row.A.Denot). length deque.tally.pushed) seats at.place (owner_seat x) within ∙ ap (λ (s : DequeSeatIn g.row.A.Denot). sum_by (λ (deque : DequeSeatIn g.row.A.Denot). length deque.tally.pushed) (take at.place seats) + length s.tally.pushed) here in
     let taken : sum_by (λ deque. length deque.tally.taken) (take (at.place + 1) seats) ≡ sum_by (λ deque. length deque.tally.taken) (take at.place seats) + length (owner_seat x).tally.taken =
     sum_by_more (λ (deque : DequeSeatIn g.row.A.Denot). length deque.tally.taken) seats at.place (owner_seat x) within ∙ ap (λ (s : DequeSeatIn g.row.A.Denot). sum_by (λ (deque : DequeSeatIn g.row.A.Denot). length deque.tally.taken) (take at.place seats) + length s.tally.taken) here in
-    let each = c.sums-sums.ensures.each_once in
-    let mine : IsAccounted (owner_seat x) = (each.0, each.2) in (
+    let mine : IsAccounted (owner_seat x) = (c.sums-sums.ensures.each_once.0, c.sums-sums.ensures.each_once.2) in (
       seats_same at.owners.items at.place x c.sums-sums.new.self c.index_mut.ensures.value c.sums-sums.ensures.unchanged ∙ c.loop-place.invariant.0,
       omega (arith, pushed, c.sums-sums.ensures.pushed, c.loop-place.invariant.1),
       omega (arith, taken, c.sums-sums.ensures.taken, c.loop-place.invariant.2),
       All-more IsAccounted seats at.place (owner_seat x) within c.loop-place.invariant.3 (subst IsAccounted (sym here) mine),
-      omega (arith, sums.sum, c.loop-place.invariant.4),
+      omega (arith, c.sums-sums.result.sum, c.loop-place.invariant.4),
       omega (arith, c.sums-sums.ensures.counted, c.loop-place.invariant.5),
       search rules,
       search rules,

@@ -1,5 +1,4 @@
-use Rattle.std.proofs.Common.{◌≡◌, ◌+◌, ◌*◌, ◌≤◌, take, length, sum_by, All, vec_len}
-use Rattle.task_deques.specs.Deals.{owner_seats, IsAccounted}
+use Rattle.task_deques.proofs.Common.{◌≡◌, ◌+◌, ◌*◌, ◌≤◌, take, length, sum_by, All, vec_len, owner_seats, IsAccounted}
 use Rattle.task_deques.proofs.joining.added.Given as goal
 
 abbrev pub invariant-loop-place : goal.invariant-loop-place

@@ -1,18 +1,6 @@
-use Rattle.std.proofs.Common.{◌≡◌, [], List, sym, subst, refl, arith}
-use Rattle.std.proofs.lemmas.List.{nil_from_length}
-use Rattle.std.specs.Vec.Iter.{into_iter_items}
-use Rattle.task_deques.specs.declared.thief.Thief.{Thief}
-use Rattle.task_deques.specs.Seats.{DequeSeatIn}
-use Rattle.task_deques.specs.Deals.{owner_seats, thief_seats, with_row}
+use Rattle.task_deques.proofs.Common.{◌≡◌, [], List, subst, arith, nil_from_length, into_iter_items, Thief, DequeSeatIn, owner_seats, thief_seats, with_row}
 use Rattle.task_deques.proofs.JoinLemmas.{IsTurn, turn_inside, joins_here, joined_here, joined_all}
 use Rattle.task_deques.proofs.joining.join_row.Goals as goal
-
-pub loop-thief-init : goal.loop-thief-init
-loop-thief-init g c =
-    let owners : List (DequeSeatIn g.row.A.Denot) = owner_seats c.args.owners.now.items in
-    let row = c.args.row.items in
-    subst (λ (l : List (Thief g.row.A.Denot)). IsTurn owners 0 (thief_seats l) (with_row owners (thief_seats row))) (sym c.into_iter-thief-iterator.ensures.into_iter_gives.0)
-    (record { comes_to = refl; same = c.requires.deques; parts = c.requires.parts })
 
 pub index_mut-requires : goal.index_mut-requires
 index_mut-requires g c =

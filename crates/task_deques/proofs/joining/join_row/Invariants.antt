@@ -1,5 +1,4 @@
-use Rattle.std.specs.Vec.Iter.{into_iter_items}
-use Rattle.task_deques.specs.Deals.{owner_seats, thief_seats, with_row}
+use Rattle.task_deques.proofs.Common.{into_iter_items, owner_seats, thief_seats, with_row}
 use Rattle.task_deques.proofs.JoinLemmas.{IsTurn}
 use Rattle.task_deques.proofs.joining.join_row.Given as goal
 

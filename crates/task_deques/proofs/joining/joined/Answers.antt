@@ -1,10 +1,5 @@
-use Rattle.std.proofs.Common.{◌≡◌, [], List, map, length, ap, sym, subst, ◌∙◌, refl, arith}
-use Rattle.std.proofs.lemmas.List.{nil_from_length, length-map}
-use Rattle.std.proofs.lemmas.List.Elements.{All-map}
-use Rattle.std.specs.Vec.Iter.{into_iter_items}
-use Rattle.task_deques.specs.Seats.{DequeSeatIn, owner_seat}
-use Rattle.task_deques.specs.Deals.{owner_seats, thief_seats, with_rows, deques}
-use Rattle.task_deques.proofs.JoinLemmas.{AreTurns, one_part, length-with_row, next_row, row_room, rows_turn, rows_done}
+use Rattle.task_deques.proofs.Common.{◌≡◌, List, map, length, ap, sym, subst, ◌∙◌, refl, arith, length-map, All-map, into_iter_items, DequeSeatIn, owner_seat, owner_seats, thief_seats, with_rows, deques}
+use Rattle.task_deques.proofs.JoinLemmas.{AreTurns, one_part, length-with_row, next_row, row_room, rows_turn}
 use Rattle.task_deques.proofs.joining.joined.Goals as goal
 
 pub loop-row-init : goal.loop-row-init
@@ -24,9 +19,6 @@ loop-row-init g c =
 pub join_row-requires-clause-deques : goal.join_row-requires-clause-deques
 join_row-requires-clause-deques g c = (row_room _ _ _ _ (next_row _ _ _ _ _ _ c.in-Some.ensures.steps.0 c.loop-row.invariant.0)).0
 
-pub join_row-requires-clause-parts : goal.join_row-requires-clause-parts
-join_row-requires-clause-parts g c = (row_room _ _ _ _ (next_row _ _ _ _ _ _ c.in-Some.ensures.steps.0 c.loop-row.invariant.0)).1
-
 pub loop-row-preserved : goal.loop-row-preserved
 loop-row-preserved g c =
     let at = c.loop-row in
@@ -37,12 +29,3 @@ loop-row-preserved g c =
       rows_turn owners (owner_seats after.items) _ _ _ (one_part row.items) c.join_row.ensures (next_row _ _ _ _ _ _ c.in-Some.ensures.steps.0 at.invariant.0),
       omega (arith, length-map after.items owner_seat, length-map at.owners.items owner_seat, after.ok.0, at.owners.ok.0, at.invariant.1),
     )
-
-pub returns : goal.returns
-returns g c =
-    let at = c.loop-row in
-    let owners : List (DequeSeatIn g.row.A.Denot) = owner_seats at.owners.items in
-    let total : List (DequeSeatIn g.row.A.Denot) = with_rows (owner_seats c.args.owners.items) (map (λ row. thief_seats row.items) c.args.rows.items) in
-    let none : into_iter_items at.row-iterator ≡ [] = nil_from_length (into_iter_items at.row-iterator) (omega (arith, c.in-None.ensures.steps.0, at.row-iterator.rest.ok.0)) in
-    let done = rows_done owners total (subst (λ l. AreTurns owners (map (λ row. thief_seats row.items) l) total) none at.invariant.0) in
-    record { seats = done.0; parts = done.1; count = at.invariant.1 }

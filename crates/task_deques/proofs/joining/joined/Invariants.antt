@@ -1,6 +1,4 @@
-use Rattle.std.proofs.Common.{◌≡◌, map, vec_len}
-use Rattle.std.specs.Vec.Iter.{into_iter_items}
-use Rattle.task_deques.specs.Deals.{owner_seats, thief_seats, with_rows}
+use Rattle.task_deques.proofs.Common.{◌≡◌, map, vec_len, into_iter_items, owner_seats, thief_seats, with_rows}
 use Rattle.task_deques.proofs.JoinLemmas.{AreTurns}
 use Rattle.task_deques.proofs.joining.joined.Given as goal
 

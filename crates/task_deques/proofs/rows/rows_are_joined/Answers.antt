@@ -1,7 +1,4 @@
-use Rattle.std.proofs.Common.{[], ◌∷◌, refl, arith}
-use Rattle.std.proofs.lemmas.List.Elements.{All-from_recursion}
-use Rattle.task_deques.specs.Deals.{IsAccounted}
-use Rattle.task_deques.specs.Rows.{worker_task, seat}
+use Rattle.task_deques.proofs.Common.{[], ◌∷◌, refl, arith, All-from_recursion, IsAccounted, worker_task, seat}
 use Rattle.task_deques.proofs.rows.rows_are_joined.Goals as goal
 
 pub returns : goal.returns

@@ -1,5 +1,4 @@
-use Rattle.std.proofs.Common.{[], ◌∷◌, refl, inl, inr, arith}
-use Rattle.task_deques.specs.Rows.{seat}
+use Rattle.task_deques.proofs.Common.{[], ◌∷◌, refl, inl, inr, arith, seat}
 use Rattle.task_deques.proofs.rows.tasks_are_taken.Goals as goal
 
 pub returns : goal.returns

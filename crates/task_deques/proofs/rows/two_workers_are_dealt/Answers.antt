@@ -1,10 +1,4 @@
-use Rattle.std.proofs.Common.{◌≡◌, ℕ, ◌+◌, ◌-◌, List, [], length, map, refl, ap, arith}
-use Rattle.std.proofs.lemmas.List.Elements.{All-from_recursion}
-use Rattle.task_deques.specs.declared.rule.Tally.{Tally}
-use Rattle.task_deques.specs.Tallies.{tally}
-use Rattle.task_deques.specs.Seats.{Deque, new_thief}
-use Rattle.task_deques.specs.Deals.{WorkerSeats, Posts, posts_of, IsDealt, IsWhole}
-use Rattle.task_deques.specs.Rows.{two_thieves, new_worker, two_workers, played_seats}
+use Rattle.task_deques.proofs.Common.{◌≡◌, ℕ, ◌+◌, ◌-◌, List, [], length, map, refl, ap, arith, All-from_recursion, Tally, tally, Deque, new_thief, WorkerSeats, Posts, posts_of, IsDealt, IsWhole, two_thieves, new_worker, two_workers, played_seats}
 use Rattle.task_deques.proofs.rows.two_workers_are_dealt.Goals as goal
 
 -- what each of the workers that were dealt has

@@ -1,4 +1,4 @@
-use Rattle.task_deques.proofs.RuleLemmas.{takes, pops, finds}
+use Rattle.task_deques.proofs.RuleLemmas.{takes, pops}
 use Rattle.task_deques.proofs.steps.pop.Goals as goal
 
 pub pop_as-requires-clause-fifo : goal.pop_as-requires-clause-fifo
@@ -6,6 +6,3 @@ pop_as-requires-clause-fifo g c = λ _. takes _ _ c.requires
 
 pub pop_as-requires-clause-lifo : goal.pop_as-requires-clause-lifo
 pop_as-requires-clause-lifo g c = λ _. pops _ _ c.requires
-
-pub pop_as-requires-clause-empty : goal.pop_as-requires-clause-empty
-pop_as-requires-clause-empty g c = finds _ _

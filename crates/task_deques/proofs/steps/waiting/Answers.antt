@@ -1,11 +1,6 @@
-use Rattle.std.proofs.Common.{arith}
-use Rattle.crossbeam_deque.specs.Handles.{worker_view}
+use Rattle.task_deques.proofs.Common.{arith, worker_view}
 use Rattle.task_deques.proofs.TallyLemmas.{weigh-one}
-use Rattle.task_deques.proofs.RuleLemmas.{learns}
 use Rattle.task_deques.proofs.steps.waiting.Goals as goal
-
-pub len_as-requires : goal.len_as-requires
-len_as-requires g c = learns _ _
 
 pub returns-clause-counts : goal.returns-clause-counts
 returns-clause-counts g c = λ all.

@@ -1,6 +1,4 @@
-use Rattle.std.proofs.Common.{◌≡◌, ◌+◌, suc, [], length, Some, None, sym, ◌∙◌, arith}
-use Rattle.std.proofs.lemmas.Option.{slice_get-get_or}
-use Rattle.cactus_stack.specs.Nodes.{node_parent}
+use Rattle.cactus_stack.proofs.Common.{◌≡◌, ◌+◌, suc, [], length, Some, None, sym, ◌∙◌, arith, slice_get-get_or, node_parent}
 use Rattle.cactus_stack.proofs.LawFacts.{sight-level, no-sight}
 use Rattle.cactus_stack.proofs.sight.Sight.up.Goals as goal
 

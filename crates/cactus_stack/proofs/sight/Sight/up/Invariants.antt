@@ -1,5 +1,4 @@
-use Rattle.std.proofs.Common.{drop, Some}
-use Rattle.cactus_stack.specs.Nodes.{IsSight}
+use Rattle.cactus_stack.proofs.Common.{drop, Some, IsSight}
 use Rattle.cactus_stack.proofs.sight.Sight.up.Given as goal
 
 abbrev pub invariant-loop-above : goal.invariant-loop-above

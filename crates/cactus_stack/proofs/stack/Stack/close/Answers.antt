@@ -1,4 +1,4 @@
-use Rattle.std.proofs.Common.{[], ◌∷◌, refl, ◌∙◌}
+use Rattle.cactus_stack.proofs.Common.{[], ◌∷◌, refl, ◌∙◌}
 use Rattle.cactus_stack.proofs.LawFacts.{alone}
 use Rattle.cactus_stack.proofs.Steps.{closed, depths-stay}
 use Rattle.cactus_stack.proofs.stack.Stack.close.Goals as goal

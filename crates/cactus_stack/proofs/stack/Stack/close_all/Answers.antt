@@ -1,5 +1,4 @@
-use Rattle.std.proofs.Common.{◌≡◌, ◌+◌, ◌<◌, suc, length, take, refl, ◌∙◌, arith}
-use Rattle.std.proofs.lemmas.List.{take_all}
+use Rattle.cactus_stack.proofs.Common.{◌≡◌, ◌+◌, ◌<◌, suc, length, take, refl, ◌∙◌, arith, take_all}
 use Rattle.cactus_stack.proofs.LawFacts.{without-more, still_there}
 use Rattle.cactus_stack.proofs.Steps.{closed, depths-stay}
 use Rattle.cactus_stack.proofs.stack.Stack.close_all.Goals as goal

@@ -1,6 +1,4 @@
-use Rattle.std.proofs.Common.{◌≡◌, ℕ, take}
-use Rattle.cactus_stack.specs.Nodes.{without}
-use Rattle.cactus_stack.specs.Places.{place_at, nodes_from, AreStored}
+use Rattle.cactus_stack.proofs.Common.{◌≡◌, ℕ, take, without, place_at, nodes_from, AreStored}
 use Rattle.cactus_stack.proofs.stack.Stack.close_all.Given as goal
 
 abbrev pub invariant-loop-node : goal.invariant-loop-node

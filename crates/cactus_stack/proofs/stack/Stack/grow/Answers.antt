@@ -1,6 +1,4 @@
-use Rattle.std.proofs.Common.{◌≡◌, ◌+◌, ◌++◌, replicate, refl, arith}
-use Rattle.cactus_stack.specs.Nodes.{node_words, with_node_words}
-use Rattle.cactus_stack.specs.Places.{with_len, nodes_from, IsStack}
+use Rattle.cactus_stack.proofs.Common.{◌≡◌, ◌+◌, ◌++◌, replicate, refl, arith, node_words, with_node_words, with_len, nodes_from, IsStack}
 use Rattle.cactus_stack.proofs.Content.{charge-some}
 use Rattle.cactus_stack.proofs.Steps.{IsRead, is_read, free-is, grown}
 use Rattle.cactus_stack.proofs.stack.Stack.grow.Given.{Over}

@@ -1,8 +1,4 @@
-use Rattle.std.proofs.Common.{◌≡◌, ◌+◌, Some, refl, sym, ap, ◌∙◌, arith}
-use Rattle.std.proofs.Math.ListN.{set}
-use Rattle.cactus_stack.specs.Nodes.{padded, IsUnused, with_node}
-use Rattle.cactus_stack.specs.Places.{nodes_from, IsUnder, IsStack}
-use Rattle.cactus_stack.specs.declared.place.Place.{Place}
+use Rattle.cactus_stack.proofs.Common.{◌≡◌, ◌+◌, Some, refl, sym, ap, ◌∙◌, arith, set, padded, IsUnused, with_node, nodes_from, IsUnder, IsStack, Place}
 use Rattle.cactus_stack.proofs.Steps.{is_read, depth_in_limits, free-is, opened}
 use Rattle.cactus_stack.proofs.stack.Stack.open.Given.{Over}
 use Rattle.cactus_stack.proofs.stack.Stack.open.Goals.{in-Some, in-None, After-index_mut}

@@ -1,4 +1,4 @@
-use Rattle.std.proofs.Common.{arith}
+use Rattle.cactus_stack.proofs.Common.{arith}
 use Rattle.cactus_stack.proofs.Steps.{kept_node}
 use Rattle.cactus_stack.proofs.stack.Stack.sizes_are_in_limits.Goals as goal
 

@@ -1,6 +1,4 @@
-use Rattle.std.proofs.Common.{◌≡◌, suc, ◌<◌, ◌∙◌, ◌/◌, Some, get_or, arith}
-use Rattle.cactus_stack.specs.Chains.{chain}
-use Rattle.cactus_stack.specs.Places.{len_at}
+use Rattle.cactus_stack.proofs.Common.{◌≡◌, suc, ◌<◌, ◌∙◌, ◌/◌, Some, get_or, arith, chain, len_at}
 use Rattle.cactus_stack.proofs.Content.{front_of_sound, place_of_sound, place_is_taken}
 use Rattle.cactus_stack.proofs.Steps.{kept_node, stored_word}
 use Rattle.cactus_stack.proofs.stack.Stack.store.Given.{Over}

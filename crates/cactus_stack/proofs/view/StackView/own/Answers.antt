@@ -1,6 +1,4 @@
-use Rattle.std.proofs.Common.{◌≡◌, ℕ, get_or, sym, ap, ◌∙◌}
-use Rattle.cactus_stack.specs.Places.{len_at, words_in_chain}
-use Rattle.cactus_stack.specs.declared.place.Place.{Place}
+use Rattle.cactus_stack.proofs.Common.{◌≡◌, ℕ, get_or, sym, ap, ◌∙◌, len_at, words_in_chain, Place}
 use Rattle.cactus_stack.proofs.Steps.{is_read}
 use Rattle.cactus_stack.proofs.view.StackView.own.Goals as goal
 

@@ -1,6 +1,4 @@
-use Rattle.std.proofs.Common.{sym, ap, ◌∙◌}
-use Rattle.cactus_stack.specs.Nodes.{parent_of_node}
-use Rattle.cactus_stack.specs.declared.place.Place.{Place}
+use Rattle.cactus_stack.proofs.Common.{sym, ap, ◌∙◌, parent_of_node, Place}
 use Rattle.cactus_stack.proofs.Steps.{is_read}
 use Rattle.cactus_stack.proofs.view.StackView.parent.Goals as goal
 

@@ -1,4 +1,4 @@
-use Rattle.std.proofs.Common.{sym, arith, ◌<◌, ◌∙◌}
+use Rattle.cactus_stack.proofs.Common.{sym, arith, ◌<◌, ◌∙◌}
 use Rattle.cactus_stack.proofs.Content.{front_of_sound, place_of_sound, place_is_taken, word_of_sound}
 use Rattle.cactus_stack.proofs.words.Words.get.Goals as goal
 

@@ -1,4 +1,4 @@
-use Rattle.std.proofs.Common.{sym}
+use Rattle.cactus_stack.proofs.Common.{sym}
 use Rattle.cactus_stack.proofs.Content.{length-words_in}
 use Rattle.cactus_stack.proofs.words.Words.len.Goals as goal
 

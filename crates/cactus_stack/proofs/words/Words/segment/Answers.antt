@@ -1,5 +1,4 @@
-use Rattle.std.proofs.Common.{arith, ◌<◌, ◌∙◌}
-use Rattle.cactus_stack.specs.Nodes.{charge}
+use Rattle.cactus_stack.proofs.Common.{arith, ◌<◌, ◌∙◌, charge}
 use Rattle.cactus_stack.proofs.Content.{front_of_block, place_of_block, block_is_taken, words_of_block}
 use Rattle.cactus_stack.proofs.words.Words.segment.Goals as goal
 

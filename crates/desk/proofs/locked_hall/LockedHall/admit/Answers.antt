@@ -1,9 +1,4 @@
-use Rattle.std.proofs.Common.{rules, ◌≡◌, ◌<◌, ◌++◌, ◌∷◌, [], ℕ, List, sym, ap, ◌∙◌, subst, refl, arith}
-use Rattle.sched_rules.specs.declared.step.StepOf.{StepOf}
-use Rattle.sched_rules.specs.declared.step.StepOf.TheVariants.{Admit}
-use Rattle.hall.specs.jamboree_rules.declared.leaf.LeafAnswer.{LeafAnswer}
-use Rattle.desk.specs.Traces.{Known}
-use Rattle.desk.specs.Histories.{AllOwn, AreSeats, HasNoLeave, IsSeated, IsComeBy}
+use Rattle.desk.proofs.Common.{rules, ◌≡◌, ◌<◌, ◌++◌, ◌∷◌, [], ℕ, List, sym, ap, ◌∙◌, subst, refl, arith, StepOf, Admit, LeafAnswer, Known, AllOwn, AreSeats, HasNoLeave, IsSeated, IsComeBy}
 use Rattle.desk.proofs.Coming.{come_admitted, new_unused}
 use Rattle.desk.proofs.Judged.{tenant_in-new}
 use Rattle.desk.proofs.locked_hall.LockedHall.admit.Goals as goal

@@ -1,5 +1,4 @@
-use Rattle.std.proofs.Common.{rules, Contains, IfErr}
-use Rattle.desk_rules.specs.Asked.{ask_refusals}
+use Rattle.desk.proofs.Common.{rules, Contains, IfErr, ask_refusals}
 use Rattle.desk.proofs.Refused.{ask_refused}
 use Rattle.desk.proofs.locked_hall.LockedHall.ask.Goals as goal
 

@@ -1,8 +1,4 @@
-use Rattle.std.proofs.Common.{rules, ℕ, List, sym, subst}
-use Rattle.sched_rules.specs.declared.step.StepOf.{StepOf}
-use Rattle.hall.specs.jamboree_rules.declared.leaf.LeafAnswer.{LeafAnswer}
-use Rattle.hall.specs.Halls.{HallOf}
-use Rattle.desk.specs.Histories.{IsComeBy}
+use Rattle.desk.proofs.Common.{rules, ℕ, List, sym, subst, StepOf, LeafAnswer, HallOf, IsComeBy}
 use Rattle.desk.proofs.Coming.{come_begun}
 use Rattle.desk.proofs.locked_hall.LockedHall.new.Goals as goal
 

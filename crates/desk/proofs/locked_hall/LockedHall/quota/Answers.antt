@@ -1,4 +1,4 @@
-use Rattle.std.proofs.Common.{rules}
+use Rattle.desk.proofs.Common.{rules}
 use Rattle.desk.proofs.locked_hall.LockedHall.quota.Goals as goal
 
 pub returns : goal.returns

@@ -1,5 +1,4 @@
-use Rattle.std.proofs.Common.{rules, Contains, IfErr}
-use Rattle.desk.specs.Seats.{reserve_refusals}
+use Rattle.desk.proofs.Common.{rules, Contains, IfErr, reserve_refusals}
 use Rattle.desk.proofs.Refused.{reserve_refused}
 use Rattle.desk.proofs.locked_hall.LockedHall.reserve.Goals as goal
 

@@ -1,6 +1,4 @@
-use Rattle.std.proofs.Common.{◌≡◌, ap, ◌∙◌, subst}
-use Rattle.hall.specs.jamboree_rules.Procedure.{jamboree}
-use Rattle.desk.specs.Seats.{SeatOf, seeing}
+use Rattle.desk.proofs.Common.{◌≡◌, ap, ◌∙◌, subst, jamboree, SeatOf, seeing}
 use Rattle.desk.proofs.Judged.{Rights, Headlines}
 use Rattle.desk.proofs.Coming.{looks}
 use Rattle.desk.proofs.locked_hall.LockedHall.show.Goals as goal

@@ -1,9 +1,4 @@
-use Rattle.std.proofs.Common.{rules, ◌≡◌, ℕ, List, sym, ap, ◌∙◌, subst, refl}
-use Rattle.sched_rules.specs.Runs.{tenant_of}
-use Rattle.sched_rules.specs.declared.step.StepOf.{StepOf}
-use Rattle.hall.specs.jamboree_rules.declared.leaf.LeafAnswer.{LeafAnswer}
-use Rattle.desk.specs.Traces.{Known, own as own_by}
-use Rattle.desk.specs.Histories.{with_taken, AreSeats, HasNoLeave, IsComeBy, IsTrueTo}
+use Rattle.desk.proofs.Common.{rules, ◌≡◌, ℕ, List, sym, ap, ◌∙◌, subst, refl, tenant_of, StepOf, LeafAnswer, Known, own as own_by, with_taken, AreSeats, HasNoLeave, IsComeBy, IsTrueTo}
 use Rattle.desk.proofs.Offering.{offered}
 use Rattle.desk.proofs.Coming.{come_offered, leave_taken, no_leave_taken, told}
 use Rattle.desk.proofs.Owners.{seats_taken, steps_are_mine}

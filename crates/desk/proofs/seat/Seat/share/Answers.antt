@@ -1,4 +1,4 @@
-use Rattle.std.proofs.Common.{rules}
+use Rattle.desk.proofs.Common.{rules}
 use Rattle.desk.proofs.seat.Seat.share.Goals as goal
 
 pub returns : goal.returns

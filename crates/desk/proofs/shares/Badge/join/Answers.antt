@@ -1,4 +1,4 @@
-use Rattle.std.proofs.Common.{rules}
+use Rattle.desk.proofs.Common.{rules}
 use Rattle.desk.proofs.shares.Badge.join.Goals as goal
 
 pub invariant_of-result : goal.invariant_of-result

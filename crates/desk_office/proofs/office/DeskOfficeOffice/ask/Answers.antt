@@ -1,5 +1,5 @@
-use Rattle.desk_office.specs.Moments.{OfficeOf}
-use Rattle.desk_office.proofs.TurnLemmas.{ask_turn, ask_none}
+use Rattle.desk_office.proofs.Common.{OfficeOf}
+use Rattle.desk_office.proofs.TurnLemmas.{ask_turn}
 use Rattle.desk_office.proofs.office.DeskOfficeOffice.ask.Goals as goal
 
 pub returns-in-Some : goal.returns-in-Some
@@ -8,8 +8,3 @@ returns-in-Some g c =
     let asked = c.args.question.now in
     let told = c.ask.ensures in
     ask_turn g.L.DeskLedger.begun from c.in-Some.seat c.ask.new.seat asked.position.board asked.depth asked.position.side c.ask.result c.in-Some.is asked.shallow told.asked told.full told.told told.refused
-
-pub returns-in-None : goal.returns-in-None
-returns-in-None g c =
-    let from : OfficeOf = record { seat = c.args.self.now.seat; knew = c.args.self.now.knew } in
-    ask_none g.L.DeskLedger.begun from c.args.question.now.depth _ c.args.question.now.position.side c.in-None.is

@@ -1,5 +1,5 @@
-use Rattle.desk_office.specs.Moments.{OfficeOf}
-use Rattle.desk_office.proofs.TurnLemmas.{cancel_turn, cancel_none}
+use Rattle.desk_office.proofs.Common.{OfficeOf}
+use Rattle.desk_office.proofs.TurnLemmas.{cancel_turn}
 use Rattle.desk_office.proofs.office.DeskOfficeOffice.cancel.Goals as goal
 
 pub returns-in-Some : goal.returns-in-Some
@@ -7,8 +7,3 @@ returns-in-Some g c =
     let from : OfficeOf = record { seat = c.args.self.now.seat; knew = c.args.self.now.knew } in
     let told = c.cancel.ensures in
     cancel_turn g.L.DeskLedger.begun from c.in-Some.seat c.cancel.new.seat c.args.job c.cancel.result c.in-Some.is told.share told.none told.told told.refused
-
-pub returns-in-None : goal.returns-in-None
-returns-in-None g c =
-    let from : OfficeOf = record { seat = c.args.self.now.seat; knew = c.args.self.now.knew } in
-    cancel_none g.L.DeskLedger.begun from c.args.job c.in-None.is

@@ -1,5 +1,5 @@
-use Rattle.desk_office.specs.Moments.{OfficeOf}
-use Rattle.desk_office.proofs.TurnLemmas.{wait_turn, wait_none}
+use Rattle.desk_office.proofs.Common.{OfficeOf}
+use Rattle.desk_office.proofs.TurnLemmas.{wait_turn}
 use Rattle.desk_office.proofs.office.DeskOfficeOffice.wait.Goals as goal
 
 pub returns-in-Some : goal.returns-in-Some
@@ -7,8 +7,3 @@ returns-in-Some g c =
     let from : OfficeOf = record { seat = c.args.self.now.seat; knew = c.args.self.now.knew } in
     let told = c.wait_seen.ensures in
     wait_turn g.L.DeskLedger.begun from c.in-Some.seat c.wait_seen.new.seat c.args.job c.wait_seen.result c.told_answer.result c.in-Some.is told.look told.shown told.told c.told_answer.ensures
-
-pub returns-in-None : goal.returns-in-None
-returns-in-None g c =
-    let from : OfficeOf = record { seat = c.args.self.now.seat; knew = c.args.self.now.knew } in
-    wait_none g.L.DeskLedger.begun from c.args.job c.in-None.is

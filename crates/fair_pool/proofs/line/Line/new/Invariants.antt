@@ -1,6 +1,4 @@
-use Rattle.std.proofs.Common.{◌≡◌, ◌≤◌, replicate}
-use Rattle.std.specs.Prelude.{vec_capacity}
-use Rattle.fair_pool.specs.Accounts.{free_account}
+use Rattle.fair_pool.proofs.Common.{◌≡◌, ◌≤◌, replicate, vec_capacity, free_account}
 use Rattle.fair_pool.proofs.line.Line.new.Given as goal
 
 abbrev pub invariant-loop-place : goal.invariant-loop-place

@@ -1,4 +1,5 @@
-use Rattle.std.proofs.Common.{rules, ◌≡◌, ◌∙◌, slice_index_or, length-set}
+use Rattle.fair_pool.proofs.Common.{rules, ◌≡◌, ◌∙◌, length-set}
+use Rattle.std.proofs.Common.{slice_index_or}
 use Rattle.fair_pool.proofs.NameLemmas.{names_put, names_stay}
 use Rattle.fair_pool.proofs.line.Line.put.Goals as goal
 

@@ -1,5 +1,4 @@
-use Rattle.std.proofs.Common.{◌≡◌, ◌≤◌, replicate}
-use Rattle.std.specs.Prelude.{vec_capacity}
+use Rattle.fair_pool.proofs.Common.{◌≡◌, ◌≤◌, replicate, vec_capacity}
 use Rattle.fair_pool.proofs.shares.FairShare.new.Given as goal
 
 abbrev pub invariant-loop-customer : goal.invariant-loop-customer

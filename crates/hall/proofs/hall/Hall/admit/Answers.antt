@@ -1,5 +1,5 @@
 -- What the core would refuse is refused.
-use Rattle.std.proofs.Common.{sym, rules}
+use Rattle.hall.proofs.Common.{sym, rules}
 use Rattle.hall.proofs.Halls.{refused}
 use Rattle.hall.proofs.hall.Hall.admit.Goals as goal
 

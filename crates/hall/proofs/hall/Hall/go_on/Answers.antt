@@ -1,17 +1,6 @@
 -- A taken step goes on in its tenant's journal.
-use Rattle.std.proofs.Common.{◌≡◌, ℕ, ◌+◌, true, Option, None, ap, sym, subst, ◌∙◌, rules}
-use Rattle.std.specs.Prelude.{Result, Ok, Err, is_ok}
-use Rattle.std.proofs.lemmas.Bool.{false≢true}
-use Rattle.sched_rules.specs.declared.refusal.Refusal.{Refusal}
-use Rattle.sched_rules.specs.declared.step.DidOf.{DidOf}
-use Rattle.sched_rules.specs.Cores.{CoreState}
-use Rattle.sched_rules.specs.Headline.{IsOneStep, AreNumbersGiven}
-use Rattle.jamboree_core.specs.jamboree_rules.declared.leaf.Leaf.{Leaf}
-use Rattle.jamboree_core.specs.jamboree_rules.Procedure.{jamboree}
-use Rattle.jamboree_core.specs.Replies.{IsSearch}
-use Rattle.tenant_quota.specs.Quota.{Quota}
-use Rattle.hall.specs.Journals.{is_appended, raise_in}
-use Rattle.hall.specs.Halls.{HallOf, IsHall}
+use Rattle.hall.proofs.Common.{◌≡◌, ℕ, ◌+◌, true, Option, None, ap, sym, subst, ◌∙◌, rules, is_ok, false≢true, Refusal, DidOf, CoreState, IsOneStep, AreNumbersGiven, Leaf, jamboree, IsSearch, Quota, is_appended, raise_in, HallOf, IsHall}
+use Rattle.std.specs.Prelude.{Result, Ok, Err}
 use Rattle.hall.proofs.Lists.{IsAllowed}
 use Rattle.hall.proofs.Halls.{on-ok, Step, GoesOn, goes-on}
 use Rattle.hall.proofs.hall.Hall.go_on.Goals as goal

@@ -1,6 +1,4 @@
-use Rattle.std.proofs.Common.{ℕ, ◌+◌, sym, ◌∙◌, ap, length, arith, refl, rules}
-use Rattle.number_index.proofs.Edits.{at-within}
-use Rattle.hall.specs.Journals.{owner_of_journal}
+use Rattle.hall.proofs.Common.{ℕ, ◌+◌, sym, ◌∙◌, ap, length, arith, refl, rules, at-within, owner_of_journal}
 use Rattle.hall.proofs.Lists.{at-place, at-left}
 use Rattle.hall.proofs.Halls.{leaves-off}
 use Rattle.hall.proofs.hall.Hall.leave.Goals as goal
@@ -10,8 +8,7 @@ remove-journal-requires g c =
     let off = leaves-off _ _ _ c.args.number c.in-Ok.did c.step.new.self.shared c.self.invariant (rw c.in-Ok.is at c.step.ensures.one) c.step.ensures.known in
     let place = at-place c.args.number c.self.inside.journals.items _ c.place_of-at.result c.self.invariant.rising off.has c.as_slice.ensures.value c.place_of-at.ensures in
     let len = c.as_slice.ensures.len in let same = ap length c.as_slice.ensures.value in
-    let within = at-within owner_of_journal c.args.number c.self.inside.journals.items c.place_of-at.result place in
-    omega (arith, len, same, within)
+    omega (arith, len, same, at-within owner_of_journal c.args.number c.self.inside.journals.items c.place_of-at.result place)
 
 pub invariant_of-self : goal.invariant_of-self
 invariant_of-self g c =

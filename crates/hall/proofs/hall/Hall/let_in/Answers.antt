@@ -1,4 +1,4 @@
-use Rattle.std.proofs.Common.{ℕ, ◌+◌, sym, ◌∙◌, ap, rules}
+use Rattle.hall.proofs.Common.{ℕ, ◌+◌, sym, ◌∙◌, ap, rules}
 use Rattle.hall.proofs.Halls.{admitted}
 use Rattle.hall.proofs.hall.Hall.let_in.Goals as goal
 

@@ -3,8 +3,7 @@ use Rattle.hall.proofs.hall.Hall.outcome.Goals as goal
 
 pub outcome_of-requires : goal.outcome_of-requires
 outcome_of-requires g c =
-    let explained = c.self.invariant.explained in
-    served c.self.inside.core.procedure.grain _ _ (explained.tenants c.args.tenant) (explained.searches c.args.tenant)
+    served c.self.inside.core.procedure.grain _ _ (c.self.invariant.explained.tenants c.args.tenant) (c.self.invariant.explained.searches c.args.tenant)
 
 pub returns-clause-asked : goal.returns-clause-asked
 returns-clause-asked g c =

@@ -1,16 +1,7 @@
 -- There is room for all entries that the journal has, and for the new ones; the long one stands for the step.
-use Rattle.std.proofs.Common.{◌≡◌, ◌+◌, ◌*◌, List, [], ◌∷◌, ◌++◌, Result, Ok, Err, OnOk, false, length, length-append, refl, ap, sym, ◌∙◌, arith}
-use Rattle.std.specs.Prelude.{is_err}
-use Rattle.std.proofs.lemmas.Bool.{true≢false}
-use Rattle.sched_rules.specs.declared.step.StepOf.TheVariants.{AdmitMore}
-use Rattle.hall.specs.declared.entry.JournalEntry.{JournalEntry}
-use Rattle.hall.specs.declared.entry.JournalEntry.TheVariants.{Long}
-use Rattle.hall.specs.declared.entry.LongEntry.{LongEntry}
-use Rattle.hall.specs.declared.entry.LongEntry.TheVariants.{Raised}
-use Rattle.hall.specs.Entries.{long_count}
-use Rattle.hall.specs.Journals.{JournalOf, longer, raise_count}
+use Rattle.hall.proofs.Common.{◌≡◌, ◌+◌, ◌*◌, List, [], ◌∷◌, ◌++◌, Result, Ok, Err, false, length, length-append, refl, ap, sym, ◌∙◌, arith, is_err, true≢false, AdmitMore, JournalEntry, Long, LongEntry, Raised, long_count, JournalOf, longer, raise_count}
+use Rattle.std.proofs.Common.{OnOk}
 use Rattle.hall.proofs.Lists.{raise-more}
-use Rattle.hall.proofs.Halls.{wanting}
 use Rattle.hall.proofs.Entries.{seen, counts, long_count-more, written-raise}
 use Rattle.hall.proofs.journal.Journal.raise.Given.{Over}
 use Rattle.hall.proofs.journal.Journal.raise.Goals.{After-push_reserved, After-push_reserved-2}
@@ -71,9 +62,3 @@ invariant_of-self-2 g c =
 
 pub returns-clause-written : goal.returns-clause-written
 returns-clause-written g c = written g (goal.at.returns-clause-written g c).After-push_reserved-2
-
-pub returns-then-is_err-clause-one : goal.returns-then-is_err-clause-one
-returns-then-is_err-clause-one g c = wanting _ _ _ refl c.requires.taken
-
-pub returns-then-is_err-2-clause-one : goal.returns-then-is_err-2-clause-one
-returns-then-is_err-2-clause-one g c = wanting _ _ _ refl c.requires.taken

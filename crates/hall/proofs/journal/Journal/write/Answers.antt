@@ -1,7 +1,5 @@
 -- There is room for the entry, which stands for the step.
-use Rattle.std.proofs.Common.{None, ap, sym, ◌∙◌, arith}
-use Rattle.hall.specs.Entries.{long_count}
-use Rattle.hall.specs.Journals.{JournalOf, raise_count}
+use Rattle.hall.proofs.Common.{None, ap, sym, ◌∙◌, arith, long_count, JournalOf, raise_count}
 use Rattle.hall.proofs.Lists.{counted-after}
 use Rattle.hall.proofs.Entries.{has-room, written-short, long_count-more}
 use Rattle.hall.proofs.journal.Journal.write.Goals as goal

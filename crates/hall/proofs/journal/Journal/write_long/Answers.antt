@@ -1,8 +1,5 @@
 -- There is room for both entries, and the long one stands for the step.
-use Rattle.std.proofs.Common.{[], ◌∷◌, None, length, length-append, ap, ◌∙◌, arith}
-use Rattle.hall.specs.declared.entry.JournalEntry.TheVariants.{Long}
-use Rattle.hall.specs.Entries.{long_count}
-use Rattle.hall.specs.Journals.{JournalOf, raise_count}
+use Rattle.hall.proofs.Common.{[], ◌∷◌, None, length, length-append, ap, ◌∙◌, arith, Long, long_count, JournalOf, raise_count}
 use Rattle.hall.proofs.Lists.{counted-after}
 use Rattle.hall.proofs.Entries.{has-room, has-long-room, written-long, long_count-more}
 use Rattle.hall.proofs.journal.Journal.write_long.Goals as goal
@@ -21,8 +18,6 @@ pub invariant_of-self : goal.invariant_of-self
 invariant_of-self g c =
     let more = long_count-more Long c.self.inside.entries.items in
     let same = ap long_count c.push_reserved.ensures.items in
-    let added = ap length c.push_reserved-2.ensures.items in
-    let one = length-append c.self.inside.longs.items (c.of.result ∷ []) in
     let done =
     written-long c.self.inside.tenant c.self.inside.places c.self.inside.long_places c.self.inside.entries.items c.push_reserved.new.self.items c.of.result c.self.inside.longs.items c.push_reserved-2.new.self.items c.args.self.now c.args.step.now c.self.view_is c.self.invariant.2 c.push_reserved.ensures.items c.push_reserved-2.ensures.items
     (rw c.requires.writable.own at c.of.ensures) in
@@ -30,7 +25,7 @@ invariant_of-self g c =
     let before = ap (λ (j : JournalOf). raise_count j.steps) c.self.view_is in (
       omega (arith, c.self.invariant.0, c.push_reserved.ensures.capacity),
       omega (arith, c.self.invariant.1, c.push_reserved-2.ensures.capacity),
-      omega (arith, same, more, added, one, c.self.invariant.2),
+      omega (arith, same, more, ap length c.push_reserved-2.ensures.items, length-append c.self.inside.longs.items (c.of.result ∷ []), c.self.invariant.2),
       omega (arith, c.self.invariant.3, before, raises),
     )
 

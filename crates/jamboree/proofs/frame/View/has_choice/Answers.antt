@@ -1,8 +1,4 @@
-use Rattle.std.proofs.Common.{inl, inr, ⊎_elim, ap, arith}
-use Rattle.std.proofs.lemmas.Bool.Decides.{nat_tests}
-use Rattle.jamboree_rules.proofs.Forms.{frame-told}
-use Rattle.jamboree.specs.Numbers.{phase_number}
-use Rattle.jamboree.specs.Views.{frame_in}
+use Rattle.jamboree.proofs.Common.{inl, inr, ⊎_elim, ap, arith, nat_tests, frame-told, phase_number, frame_in}
 use Rattle.jamboree.proofs.frame.View.has_choice.Goals as goal
 
 pub returns-in-First : goal.returns-in-First

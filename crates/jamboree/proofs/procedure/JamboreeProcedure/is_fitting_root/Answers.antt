@@ -1,8 +1,4 @@
-use Rattle.std.specs.Prelude.{ℕ, []}
-use Rattle.std.proofs.Common.{sym, subst}
-use Rattle.cactus_stack.specs.Nodes.{padded}
-use Rattle.jamboree_rules.specs.sched_rules.Laws.{Neither}
-use Rattle.jamboree_rules.specs.Fits.{AreFitting, IsRoot}
+use Rattle.jamboree.proofs.Common.{ℕ, [], sym, subst, padded, Neither, AreFitting, IsRoot}
 use Rattle.jamboree.proofs.procedure.JamboreeProcedure.is_fitting_root.Goals as goal
 
 pub returns-then-size-eq-SIZE : goal.returns-then-size-eq-SIZE

@@ -1,9 +1,5 @@
-use Rattle.std.proofs.Common.{◌∙◌, ap, Some}
-use Rattle.othello_board.specs.Words.{cells}
-use Rattle.othello_moves.specs.Choices.{choices}
-use Rattle.jamboree_rules.specs.othello_eval.Minimax.{best_choice}
-use Rattle.jamboree_rules.specs.othello_eval.Tables.{IsTrueBound, IsExactIfBest}
-use Rattle.jamboree.specs.Replies.{table_of}
+use Rattle.jamboree.proofs.Common.{◌∙◌, ap, cells, choices, best_choice, IsTrueBound, IsExactIfBest, table_of}
+use Rattle.std.proofs.Common.{Some}
 use Rattle.jamboree.proofs.KnowledgeLemmas.{bound-at, bound-holds, places-held}
 use Rattle.jamboree.proofs.reply.Reply.bound.Goals as goal
 

@@ -1,13 +1,5 @@
-use Rattle.std.proofs.Common.{◌≡◌, ◌≤◌, ℕ, List, take, length, sym, ◌∙◌, ap, subst, arith}
-use Rattle.std.proofs.lemmas.List.{length-drop}
-use Rattle.othello_moves.specs.Choices.{choices}
-use Rattle.jamboree_rules.specs.othello_eval.Minimax.{minimax, best_choice}
-use Rattle.jamboree_rules.specs.othello_eval.Tables.{entered, IsTable}
-use Rattle.jamboree_rules.specs.Frames.{Frame, board}
-use Rattle.jamboree_rules.specs.Places.{frame_of, are_entries}
-use Rattle.jamboree_rules.specs.Entries.{bounds_of}
-use Rattle.jamboree.specs.Codes.{decoded}
-use Rattle.jamboree.specs.Knowledge.{bounds_by}
+use Rattle.jamboree.proofs.Common.{take, sym, ◌∙◌, ap, subst, arith, length-drop, choices, minimax, best_choice, entered, IsTable, Frame, board, frame_of, are_entries, bounds_of, decoded, bounds_by}
+use Rattle.std.proofs.Common.{◌≡◌, ◌≤◌, ℕ, List, length}
 use Rattle.jamboree.proofs.ActLemmas.{best-wide}
 use Rattle.jamboree.proofs.KnowledgeLemmas.{table-read}
 use Rattle.jamboree.proofs.ReplyLemmas.{kept-root}
@@ -24,9 +16,7 @@ kept_entries-entries-requires c = omega (arith, c.kept_view-root.ensures.entries
 
 pub known_in-requires-clause-few : goal.known_in-requires-clause-few
 known_in-requires-clause-few c =
-    let k = kept-root c.args.words.now c.requires in
-    let len = ap (λ (es : List ℕ). length es) c.kept_entries-entries.ensures in
-    omega (arith, len, length-drop 12 c.args.words.now, k.few)
+    omega (arith, ap (λ (es : List ℕ). length es) c.kept_entries-entries.ensures, length-drop 12 c.args.words.now, (kept-root c.args.words.now c.requires).few)
 
 pub known_in-requires-clause-entries : goal.known_in-requires-clause-entries
 known_in-requires-clause-entries c = ap are_entries c.kept_entries-entries.ensures ∙ (kept-root c.args.words.now c.requires).entries

@@ -1,9 +1,5 @@
-use Rattle.std.proofs.Common.{◌≡◌, ◌<ℤ◌, ◌≤ℤ◌, true, refl, sym, ◌∙◌, arith}
-use Rattle.std.proofs.lemmas.Int.{ints}
-use Rattle.jamboree_rules.specs.Frames.{is_leaf, greatest}
-use Rattle.jamboree_rules.specs.Places.{score_of}
-use Rattle.jamboree_rules.specs.Leaves.{IsLeaf, leaf-told}
-use Rattle.jamboree_rules.proofs.LeafLemmas.{leaf-is}
+use Rattle.jamboree.proofs.Common.{sym, ◌∙◌, arith, ints, is_leaf, score_of, IsLeaf, leaf-told, leaf-is}
+use Rattle.std.proofs.Common.{◌≡◌, ◌<ℤ◌, true, refl}
 use Rattle.jamboree.proofs.ViewLemmas.{word-high, as-wide}
 use Rattle.jamboree.proofs.view.Head.leaf.Goals as goal
 
@@ -15,12 +11,11 @@ returns c =
     let told : is_leaf own c.args.self.opp c.args.self.depth (score_of alpha) (score_of beta) ≡ true = sym c.is_leaf.ensures ∙ c.if-not-is_leaf.false in
     let l : IsLeaf own c.args.self.opp c.args.self.depth (score_of alpha) (score_of beta) = leaf-told own c.args.self.opp c.args.self.depth (score_of alpha) (score_of beta) told in
     let window : score_of alpha <ℤ score_of beta = l.window in
-    let high : score_of beta ≤ℤ greatest = l.high in
     leaf-is _ own c.args.self.opp c.args.self.depth (score_of alpha) (score_of beta)
     (record {
       own_is = refl;
       opp_is = refl;
       depth_is = refl;
       alpha_is = as-wide alpha c.score_of_word.result c.score_of_word.ensures (word-high alpha (omega (arith, ints)));
-      beta_is = as-wide beta c.score_of_word-2.result c.score_of_word-2.ensures (word-high beta high);
+      beta_is = as-wide beta c.score_of_word-2.result c.score_of_word-2.ensures (word-high beta l.high);
     })

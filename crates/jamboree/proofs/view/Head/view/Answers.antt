@@ -1,13 +1,10 @@
-use Rattle.std.proofs.Common.{[], ap, ◌∙◌, refl, arith}
-use Rattle.jamboree_rules.specs.Frames.{is_frame}
+use Rattle.jamboree.proofs.Common.{ap, ◌∙◌, arith, is_frame}
+use Rattle.std.proofs.Common.{[], refl}
 use Rattle.jamboree.proofs.ViewLemmas.{ranged, frame-read, alpha-low, below-beta, beta-high, best-low, best-high}
 use Rattle.jamboree.proofs.view.Head.view.Goals as goal
 
 pub score_of_word-requires-3 : goal.score_of_word-requires-3
 score_of_word-requires-3 c = let r = ranged c.args.self c.requires.form in omega (arith, r.best)
-
-pub invariant_of-result-2-clause-few : goal.invariant_of-result-2-clause-few
-invariant_of-result-2-clause-few c = c.requires.few
 
 pub invariant_of-result-2-clause-least : goal.invariant_of-result-2-clause-least
 invariant_of-result-2-clause-least c = alpha-low c.args.self _ (ranged c.args.self c.requires.form) c.score_of_word.ensures
@@ -24,9 +21,6 @@ invariant_of-result-2-clause-low c = best-low c.args.self _ (ranged c.args.self 
 pub invariant_of-result-2-clause-high : goal.invariant_of-result-2-clause-high
 invariant_of-result-2-clause-high c = best-high c.args.self _ (ranged c.args.self c.requires.form) c.score_of_word-3.ensures
 
-pub overflow_cast-result : goal.overflow_cast-result
-overflow_cast-result c = let r = ranged c.args.self c.requires.form in omega (arith, r.depth)
-
 pub score_of_word-requires : goal.score_of_word-requires
 score_of_word-requires c = let r = ranged c.args.self c.requires.form in omega (arith, r.alpha_high)
 
@@ -41,14 +35,3 @@ of-requires-2 c = (ranged c.args.self c.requires.form).phase
 
 pub invariant_of-result : goal.invariant_of-result
 invariant_of-result c = record { disjoint = (ranged c.args.self c.requires.form).disjoint }
-
-pub invariant_of-result-2-clause-form : goal.invariant_of-result-2-clause-form
-invariant_of-result-2-clause-form c =
-    rw c.requires.counted (ap is_frame (frame-read c.args.self [] c.of.result c.of-2.result _ _ _ (ranged c.args.self c.requires.form) c.score_of_word.ensures c.score_of_word-2.ensures c.of.ensures c.of-2.ensures c.score_of_word-3.ensures) ∙ c.requires.form)
-
-pub returns-clause-frame : goal.returns-clause-frame
-returns-clause-frame c entries =
-    rw c.requires.counted (frame-read c.args.self entries c.of.result c.of-2.result _ _ _ (ranged c.args.self c.requires.form) c.score_of_word.ensures c.score_of_word-2.ensures c.of.ensures c.of-2.ensures c.score_of_word-3.ensures)
-
-pub returns-clause-count : goal.returns-clause-count
-returns-clause-count c = refl

@@ -1,7 +1,5 @@
-use Rattle.std.proofs.Common.{refl, ◌∙◌, ap}
-use Rattle.std.specs.Prelude.{ℕ, List, slice_index}
-use Rattle.jamboree_rules.specs.Places.{frame_of}
-use Rattle.jamboree_rules.specs.Entries.{bounds_of}
+use Rattle.jamboree_core.proofs.Common.{refl, ◌∙◌, ap, slice_index, frame_of, bounds_of}
+use Rattle.std.specs.Prelude.{ℕ, List}
 use Rattle.jamboree_core.proofs.outcomes.Outcome.of.Goals as goal
 
 pub returns-in-Done : goal.returns-in-Done

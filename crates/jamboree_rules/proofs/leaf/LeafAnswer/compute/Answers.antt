@@ -1,8 +1,5 @@
-use Rattle.std.proofs.Common.{◌≡◌, ◌<ℤ◌, ◌≤ℤ◌, pos, negsuc, ℤ, to_z, of_z, w32, arith, Option}
-use Rattle.std.proofs.lemmas.Int.{ints}
-use Rattle.othello_moves.specs.declared.choices.Choice.{Choice}
-use Rattle.leaf_search.specs.othello_eval.Values.{IsWithin}
-use Rattle.leaf_search.specs.Bounds.{IsBound}
+use Rattle.jamboree_rules.proofs.Common.{to_z, of_z, w32, arith, ints, Choice, IsWithin, IsBound}
+use Rattle.std.proofs.Common.{◌≡◌, ◌<ℤ◌, ◌≤ℤ◌, pos, negsuc, ℤ, Option}
 use Rattle.jamboree_rules.proofs.leaf.LeafAnswer.compute.Goals as goal
 
 as_wide : (s : ℤ) → negsuc 199999 ≤ℤ s → s ≤ℤ pos 200000 → to_z w32 (of_z w32 s) ≡ s

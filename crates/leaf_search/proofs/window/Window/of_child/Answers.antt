@@ -1,5 +1,4 @@
-use Rattle.std.proofs.Common.{arith}
-use Rattle.std.proofs.lemmas.Int.{ints, clamps}
+use Rattle.leaf_search.proofs.Common.{arith, ints, clamps}
 use Rattle.leaf_search.proofs.window.Window.of_child.Goals as goal
 
 pub invariant_of-result : goal.invariant_of-result

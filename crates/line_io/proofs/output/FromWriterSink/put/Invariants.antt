@@ -1,4 +1,4 @@
-use Rattle.std.specs.Io.KnownBytes.{Keeps}
+use Rattle.line_io.proofs.Common.{Keeps}
 use Rattle.line_io.proofs.output.FromWriterSink.put.Given as goal
 
 abbrev pub invariant-loop : goal.invariant-loop

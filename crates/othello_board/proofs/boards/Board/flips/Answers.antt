@@ -1,4 +1,4 @@
-use Rattle.std.proofs.Common.{arith}
+use Rattle.othello_board.proofs.Common.{arith}
 use Rattle.othello_board.proofs.PlayLemmas.{flips_in_lanes}
 use Rattle.othello_board.proofs.boards.Board.flips.Goals as goal
 

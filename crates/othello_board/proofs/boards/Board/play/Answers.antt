@@ -1,7 +1,4 @@
-use Rattle.std.proofs.Common.{◌≡◌, ◌<◌, ◌*◌, ◌%◌, ◌^◌, ◌∷◌, arith, bit_or}
-use Rattle.std.proofs.lemmas.Nat.{one_shl, or_lt, mod_below}
-use Rattle.othello_board.specs.Rules.{flips}
-use Rattle.othello_board.specs.Words.{cells}
+use Rattle.othello_board.proofs.Common.{◌≡◌, ◌<◌, ◌*◌, ◌%◌, ◌^◌, ◌∷◌, arith, bit_or, one_shl, or_lt, mod_below, flips, cells}
 use Rattle.othello_board.proofs.PlayLemmas.{play_disjoint, played-cells_of, bit_at-made}
 use Rattle.othello_board.proofs.boards.Board.play.Goals as goal
 

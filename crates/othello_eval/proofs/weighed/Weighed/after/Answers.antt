@@ -1,7 +1,4 @@
-use Rattle.std.proofs.Common.{subst, Contains}
-use Rattle.othello_board.specs.Words.{cells}
-use Rattle.othello_moves.specs.Choices.{choices}
-use Rattle.othello_moves.proofs.AllowedLemmas.{contained_allowed}
+use Rattle.othello_eval.proofs.Common.{subst, Contains, cells, choices, contained_allowed}
 use Rattle.othello_eval.proofs.weighed.Weighed.after.Goals as goal
 
 pub play-requires-clause-on_board : goal.play-requires-clause-on_board

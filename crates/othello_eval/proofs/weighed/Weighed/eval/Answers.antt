@@ -1,11 +1,4 @@
-use Rattle.std.proofs.Common.{◌≡◌, ◌≤◌, ◌<◌, ◌^◌, ℕ, List, length, filter, count_ones, sym, ap, ap₂, ◌∙◌, pos, ◌+ℤ◌, ◌-ℤ◌, ◌*ℤ◌, subst, arith}
-use Rattle.othello_board.specs.declared.cells.Cell.{Cell}
-use Rattle.othello_board.specs.Rules.{squares, exchanged, is_legal}
-use Rattle.othello_board.specs.Words.{cells, bits_of}
-use Rattle.othello_moves.specs.Choices.{legal_squares}
-use Rattle.othello_moves.proofs.AllowedLemmas.{legal_squares_fit}
-use Rattle.othello_moves.proofs.BitLemmas.{length-in_order}
-use Rattle.othello_eval.specs.Values.{weights, discs_value, eval, IsWithin}
+use Rattle.othello_eval.proofs.Common.{◌≡◌, ◌≤◌, ◌<◌, ◌^◌, ℕ, List, length, filter, count_ones, sym, ap, ap₂, ◌∙◌, pos, ◌+ℤ◌, ◌-ℤ◌, ◌*ℤ◌, subst, arith, Cell, squares, exchanged, is_legal, cells, bits_of, legal_squares, legal_squares_fit, length-in_order, weights, discs_value, eval, IsWithin}
 use Rattle.othello_eval.proofs.ValueLemmas.{eval_within, known_within, small_fits, difference_fits, mobility_fits, eval_fits, eval_is}
 use Rattle.othello_eval.proofs.weighed.Weighed.eval.Goals as goal
 

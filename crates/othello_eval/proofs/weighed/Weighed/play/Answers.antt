@@ -1,6 +1,4 @@
-use Rattle.std.proofs.Common.{arith}
-use Rattle.std.proofs.lemmas.Int.{ints}
-use Rattle.othello_board.specs.Words.{cells}
+use Rattle.othello_eval.proofs.Common.{arith, ints, cells}
 use Rattle.othello_eval.proofs.ValueLemmas.{known_within, known_bits, after_move}
 use Rattle.othello_eval.proofs.weighed.Weighed.play.Goals as goal
 

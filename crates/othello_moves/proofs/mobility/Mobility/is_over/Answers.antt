@@ -1,6 +1,4 @@
-use Rattle.std.proofs.Common.{bit_or, arith}
-use Rattle.std.proofs.lemmas.Bool.{eqb-true, eq-eqb}
-use Rattle.othello_board.specs.Words.{cells}
+use Rattle.othello_moves.proofs.Common.{bit_or, arith, eqb-true, eq-eqb, cells}
 use Rattle.othello_moves.proofs.BitLemmas.{over_exactly}
 use Rattle.othello_moves.proofs.mobility.Mobility.is_over.Goals as goal
 

@@ -1,7 +1,5 @@
-use Rattle.std.proofs.Common.{sym, ap, ◌∙◌, bit_and, ne_eqb, arith, filter}
-use Rattle.othello_board.specs.Rules.{squares, is_legal}
-use Rattle.othello_board.specs.Words.{cells, bits_of}
-use Rattle.othello_moves.specs.Sequence.{sequence}
+use Rattle.othello_moves.proofs.Common.{sym, ap, ◌∙◌, bit_and, arith, filter, squares, is_legal, cells, bits_of, sequence}
+use Rattle.std.proofs.Common.{ne_eqb}
 use Rattle.othello_moves.proofs.BitLemmas.{choices-words, choices-pass}
 use Rattle.othello_moves.proofs.sequence.Choices.new.Goals as goal
 use Rattle.othello_moves.proofs.sequence.Choices.new.Goals.{then-is_stuck, else-is_stuck}

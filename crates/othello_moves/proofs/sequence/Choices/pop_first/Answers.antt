@@ -1,4 +1,4 @@
-use Rattle.std.proofs.Common.{sym, ◌∙◌, rules, arith}
+use Rattle.othello_moves.proofs.Common.{sym, ◌∙◌, rules, arith}
 use Rattle.othello_moves.proofs.BitLemmas.{sequence-first, sequence-second, sequence-pass, sequence-none, taken_first, taken_none}
 use Rattle.othello_moves.proofs.sequence.Choices.pop_first.Goals as goal
 

@@ -1,6 +1,5 @@
 -- A new bit stands where the other word has none.
-use Rattle.std.proofs.Common.{◌∙◌}
-use Rattle.std.proofs.lemmas.Nat.{and_comm}
+use Rattle.position_text.proofs.Common.{◌∙◌, and_comm}
 use Rattle.position_text.proofs.ReadingLemmas.{still_apart}
 use Rattle.position_text.proofs.discs.Discs.with.Goals as goal
 use Rattle.position_text.proofs.discs.Discs.with.Goals.{in-Disc-Black, in-Disc-White, in-Blank}

@@ -1,8 +1,4 @@
-use Rattle.std.specs.Prelude.{not}
-use Rattle.std.proofs.Common.{◌≡◌, refl, sym, arith}
-use Rattle.std.proofs.lemmas.Result.{err_from_is_err_and}
-use Rattle.sched_rules.specs.declared.step.StepOf.TheVariants.{Answer}
-use Rattle.sched_store.specs.Reads.{words_under}
+use Rattle.sched_core.proofs.Common.{not, ◌≡◌, refl, sym, arith, err_from_is_err_and, Answer, words_under}
 use Rattle.sched_core.proofs.Deciding.{passed-on, lost, answer-told}
 use Rattle.sched_core.proofs.Fitting.{own-fits}
 use Rattle.sched_core.proofs.engine.Engine.accepted.Goals as goal

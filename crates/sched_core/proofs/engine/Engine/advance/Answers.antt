@@ -1,5 +1,4 @@
-use Rattle.std.proofs.Common.{refl}
-use Rattle.std.proofs.lemmas.Result.{err_from_is_err_and}
+use Rattle.sched_core.proofs.Common.{refl, err_from_is_err_and}
 use Rattle.sched_core.proofs.Deciding.{root-is, advance-told}
 use Rattle.sched_core.proofs.TakenStep.{step_result-refused}
 use Rattle.sched_core.proofs.Acting.{IsSetOut, sets-out}

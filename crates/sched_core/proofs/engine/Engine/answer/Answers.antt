@@ -1,6 +1,4 @@
-use Rattle.std.proofs.Common.{refl}
-use Rattle.sched_rules.specs.declared.step.StepOf.TheVariants.{Answer}
-use Rattle.frame_tree.proofs.TreeLaws.{found-serial}
+use Rattle.sched_core.proofs.Common.{refl, Answer, found-serial}
 use Rattle.sched_core.proofs.TakenStep.{step_result-taken, then-run, step-left}
 use Rattle.sched_core.proofs.Ending.{with-named}
 use Rattle.sched_core.proofs.Acting.{IsAnswered, is-answered, not-false, computes-holds, may-hold}

@@ -1,7 +1,4 @@
-use Rattle.std.proofs.Common.{refl}
-use Rattle.sched_rules.specs.declared.job.Job.TheVariants.{Cancelled as CancelledJob}
-use Rattle.sched_rules.specs.declared.step.StepOf.TheVariants.{Cancel}
-use Rattle.sched_rules.specs.Lone.{ended}
+use Rattle.sched_core.proofs.Common.{refl, Cancelled as CancelledJob, Cancel, ended}
 use Rattle.sched_core.proofs.TakenStep.{begins, then-changed, step_result-taken}
 use Rattle.sched_core.proofs.Ending.{cancel-going, cancel-root}
 use Rattle.sched_core.proofs.engine.Engine.cancel.Goals as goal

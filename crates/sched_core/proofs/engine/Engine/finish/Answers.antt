@@ -1,9 +1,4 @@
-use Rattle.std.proofs.Common.{◌≡◌, refl, ◌∙◌}
-use Rattle.sched_rules.specs.declared.job.Job.TheVariants.{Done}
-use Rattle.sched_rules.specs.declared.step.StepOf.TheVariants.{Finish}
-use Rattle.sched_rules.specs.Trees.{kept_words}
-use Rattle.sched_rules.specs.Lone.{ended, counted}
-use Rattle.frame_tree.proofs.TreeLaws.{found-serial}
+use Rattle.sched_core.proofs.Common.{◌≡◌, refl, ◌∙◌, Done, Finish, kept_words, ended, counted, found-serial}
 use Rattle.sched_core.proofs.TakenStep.{step_result-taken, begins, then-changed, step-left}
 use Rattle.sched_core.proofs.Ending.{finish-going, named-words}
 use Rattle.sched_core.proofs.engine.Engine.finish.Goals as goal

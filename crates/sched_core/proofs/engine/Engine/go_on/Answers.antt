@@ -1,5 +1,4 @@
-use Rattle.std.proofs.Common.{inl, inr, sym}
-use Rattle.frame_tree.proofs.TreeLaws.{found-there}
+use Rattle.sched_core.proofs.Common.{inl, inr, sym, found-there}
 use Rattle.sched_core.proofs.Acting.{go-came, grow-came, spawn-came, compute-came, waits-came, wait-came, return-came, held-by-runner}
 use Rattle.sched_core.proofs.engine.Engine.go_on.Goals as goal
 

@@ -1,6 +1,4 @@
-use Rattle.std.proofs.Common.{◌≡◌, true, false, refl, sym, ◌∙◌}
-use Rattle.std.proofs.lemmas.Result.{err_from_is_err_and}
-use Rattle.sched_store.specs.Reads.{words_under}
+use Rattle.sched_core.proofs.Common.{◌≡◌, true, false, refl, sym, ◌∙◌, err_from_is_err_and, words_under}
 use Rattle.sched_core.proofs.TakenStep.{step_result-refused}
 use Rattle.sched_core.proofs.Parents.{parent-there, inlet-told}
 use Rattle.sched_core.proofs.Inlets.{IsTakenOut, takes-in, may-be-taken-in, takes-out, still-there, still-inside, stored-left, counted-there, step_result-inlet}

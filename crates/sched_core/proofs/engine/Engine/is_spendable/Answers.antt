@@ -1,4 +1,4 @@
-use Rattle.std.proofs.Common.{sym, ◌∙◌}
+use Rattle.sched_core.proofs.Common.{sym, ◌∙◌}
 use Rattle.sched_core.proofs.Deciding.{spend-running, seen-words, seen-child}
 use Rattle.sched_core.proofs.engine.Engine.is_spendable.Goals as goal
 

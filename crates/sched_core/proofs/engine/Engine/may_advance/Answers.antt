@@ -1,4 +1,4 @@
-use Rattle.std.proofs.Common.{◌∙◌, ap, refl}
+use Rattle.sched_core.proofs.Common.{◌∙◌, ap, refl}
 use Rattle.sched_core.proofs.Deciding.{advance-told}
 use Rattle.sched_core.proofs.engine.Engine.may_advance.Goals as goal
 

@@ -1,9 +1,4 @@
-use Rattle.std.proofs.Common.{◌∙◌, refl, ap, arith, Bool}
-use Rattle.std.specs.Prelude.{◌||◌, not}
-use Rattle.std.proofs.lemmas.Bool.Decides.{nat_tests}
-use Rattle.std.proofs.lemmas.Result.{err_from_is_err_and}
-use Rattle.sched_rules.specs.Lone.{is_returned}
-use Rattle.sched_rules.specs.declared.step.StepOf.TheVariants.{Finish}
+use Rattle.sched_core.proofs.Common.{◌∙◌, refl, ap, arith, Bool, ◌||◌, not, nat_tests, err_from_is_err_and, is_returned, Finish}
 use Rattle.sched_core.proofs.Deciding.{passed-on, lost, root-is, finish-told}
 use Rattle.sched_core.proofs.engine.Engine.may_finish.Goals as goal
 

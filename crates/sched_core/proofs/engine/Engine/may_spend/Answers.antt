@@ -1,6 +1,4 @@
-use Rattle.std.proofs.Common.{refl}
-use Rattle.std.proofs.lemmas.Result.{err_from_is_err_and}
-use Rattle.sched_rules.specs.declared.step.StepOf.TheVariants.{Spend}
+use Rattle.sched_core.proofs.Common.{refl, err_from_is_err_and, Spend}
 use Rattle.sched_core.proofs.Deciding.{passed-on, lost}
 use Rattle.sched_core.proofs.engine.Engine.may_spend.Goals as goal
 

@@ -1,7 +1,4 @@
-use Rattle.std.proofs.Common.{◌≡◌, Result, Ok, Err, refl, ◌∙◌}
-use Rattle.std.specs.Result.{result_err}
-use Rattle.sched_rules.specs.declared.refusal.Refusal.{Refusal}
-use Rattle.sched_rules.specs.Lone.{refusal_in}
+use Rattle.sched_core.proofs.Common.{◌≡◌, Result, Ok, Err, refl, ◌∙◌, result_err, Refusal, refusal_in}
 use Rattle.sched_core.proofs.engine.Engine.refusal.Goals as goal
 
 -- the refusal of a test is its error

@@ -1,6 +1,4 @@
-use Rattle.std.proofs.Common.{refl}
-use Rattle.std.proofs.lemmas.Result.{err_from_is_err_and}
-use Rattle.sched_rules.specs.declared.step.StepOf.TheVariants.{Inlet}
+use Rattle.sched_core.proofs.Common.{refl, err_from_is_err_and, Inlet}
 use Rattle.sched_core.proofs.Deciding.{told-on, lost}
 use Rattle.sched_core.proofs.engine.Engine.returned.Goals as goal
 

@@ -1,5 +1,4 @@
-use Rattle.std.proofs.Common.{arith}
-use Rattle.std.proofs.lemmas.Bool.Decides.{nat_tests}
+use Rattle.sched_core.proofs.Common.{arith, nat_tests}
 use Rattle.sched_core.proofs.TakenStep.{left-still}
 use Rattle.sched_core.proofs.engine.Engine.run.Goals as goal
 

@@ -1,9 +1,4 @@
-use Rattle.std.proofs.Common.{◌≡◌, refl}
-use Rattle.frame_tree.specs.Frames.{root_of}
-use Rattle.sched_rules.specs.declared.job.Job.TheVariants.{Spent as SpentJob}
-use Rattle.sched_rules.specs.declared.step.StepOf.TheVariants.{Spend}
-use Rattle.sched_rules.specs.Changes.{on_tenant}
-use Rattle.sched_rules.specs.Lone.{ended}
+use Rattle.sched_core.proofs.Common.{◌≡◌, refl, root_of, Spent as SpentJob, Spend, on_tenant, ended}
 use Rattle.sched_core.proofs.TakenStep.{step_result-taken, begins, then-changed}
 use Rattle.sched_core.proofs.Ending.{spend-going, spend-root}
 use Rattle.sched_core.proofs.engine.Engine.spend.Goals as goal

@@ -1,7 +1,4 @@
-use Rattle.std.proofs.Common.{refl}
-use Rattle.std.proofs.lemmas.Result.{err_from_is_err_and}
-use Rattle.sched_rules.specs.declared.step.StepOf.TheVariants.{Steal}
-use Rattle.frame_tree.proofs.TreeLaws.{found-serial}
+use Rattle.sched_core.proofs.Common.{refl, err_from_is_err_and, Steal, found-serial}
 use Rattle.sched_core.proofs.TakenStep.{step_result-taken, step_result-refused, steal-going, begins, then-run, step-left}
 use Rattle.sched_core.proofs.engine.Engine.steal.Goals as goal
 

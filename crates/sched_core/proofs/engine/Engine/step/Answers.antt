@@ -1,4 +1,4 @@
-use Rattle.std.proofs.Common.{refl}
+use Rattle.sched_core.proofs.Common.{refl}
 use Rattle.sched_core.proofs.Stepping.{one-step, one-admission}
 use Rattle.sched_core.proofs.engine.Engine.step.Goals as goal
 

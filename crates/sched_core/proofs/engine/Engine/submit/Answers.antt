@@ -1,10 +1,4 @@
-use Rattle.std.proofs.Common.{◌≡◌, ◌+◌, refl, arith}
-use Rattle.std.proofs.lemmas.Result.{err_from_is_err_and}
-use Rattle.std.proofs.lemmas.Bool.Decides.{nat_tests}
-use Rattle.sched_rules.specs.declared.job.Job.TheVariants.{Live}
-use Rattle.sched_rules.specs.declared.step.StepOf.TheVariants.{Submit}
-use Rattle.sched_rules.specs.Changes.{on_tenant, with_job}
-use Rattle.sched_laws.proofs.Consequences.{shaped-in}
+use Rattle.sched_core.proofs.Common.{◌≡◌, ◌+◌, refl, arith, err_from_is_err_and, nat_tests, Live, Submit, on_tenant, with_job, shaped-in}
 use Rattle.sched_core.proofs.TakenStep.{step_result-refused, step_result-taken, then-changed}
 use Rattle.sched_core.proofs.Ending.{with-there}
 use Rattle.sched_core.proofs.Beginning.{submit-opens, fresh-root}

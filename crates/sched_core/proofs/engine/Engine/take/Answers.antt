@@ -1,6 +1,4 @@
-use Rattle.std.proofs.Common.{refl}
-use Rattle.sched_rules.specs.declared.step.StepOf.TheVariants.{Take}
-use Rattle.frame_tree.proofs.TreeLaws.{found-serial}
+use Rattle.sched_core.proofs.Common.{refl, Take, found-serial}
 use Rattle.sched_core.proofs.TakenStep.{step_result-taken, take-going, begins, then-run, step-left}
 use Rattle.sched_core.proofs.engine.Engine.take.Goals as goal
 

@@ -1,4 +1,4 @@
-use Rattle.sched_laws.proofs.Sums.{free-whole}
+use Rattle.sched_core.proofs.Common.{free-whole}
 use Rattle.sched_core.proofs.scheduler.Core.free_segments.Goals as goal
 
 pub returns-clause-whole : goal.returns-clause-whole

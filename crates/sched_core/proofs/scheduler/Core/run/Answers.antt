@@ -1,5 +1,4 @@
-use Rattle.std.proofs.Common.{◌≡◌, ◌∙◌, take, refl, arith}
-use Rattle.std.proofs.lemmas.List.{take_more}
+use Rattle.sched_core.proofs.Common.{◌≡◌, ◌∙◌, take, refl, arith, take_more}
 use Rattle.sched_core.proofs.Stepping.{runs-begin, runs-on, runs-out, fits-on, take-all}
 use Rattle.sched_core.proofs.scheduler.Core.run.Goals as goal
 

@@ -1,5 +1,4 @@
-use Rattle.std.proofs.Common.{◌≡◌, ◌+◌, ◌≤◌, length, take, vec_len}
-use Rattle.std.specs.Vec.{vec_capacity}
+use Rattle.sched_core.proofs.Common.{◌≡◌, ◌+◌, ◌≤◌, length, take, vec_len, vec_capacity}
 use Rattle.sched_core.proofs.Stepping.{IsRunning}
 use Rattle.sched_core.proofs.scheduler.Core.run.Given as goal
 

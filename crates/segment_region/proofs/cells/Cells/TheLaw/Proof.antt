@@ -1,13 +1,5 @@
 -- A `&` to the cells reaches what lies in each place.
-use mathlib.Core.List.{[], ◌++◌}
-use base.Fml.{Incl-trans}
-use contract.BorrowLft.{meet_⊑_left}
-use denote.RattleType.{RattleType}
-use denote.RawPtr.{RawPtr}
-use denote.Param.Laws.{Laws}
-use denote.Param.Shared.{copy_shared}
-use denote.Struct.Laws.{field_copy}
-use denote.Struct.Lending.{of_Lends}
+use Rattle.segment_region.proofs.Common.{[], ◌++◌, Incl-trans, meet_⊑_left, RattleType, RawPtr, Laws, copy_shared, field_copy, of_Lends}
 use Rattle.core.specs.contracts.marker.PhantomData as mark
 use Rattle.segment_region.specs.contracts.cells.Cells as cells
 use Rattle.segment_region.proofs.cells.Cells.TheLaw.Statement.{statement}

@@ -1,7 +1,5 @@
-use denote.RattleType.{RattleType}
-use denote.Param.Send.{IsSend}
+use Rattle.segment_region.proofs.Common.{RattleType, IsSend, the_row}
 use Rattle.segment_region.proofs.Threads.{cells-move}
-use Rattle.segment_region.specs.contracts.cells.Cells.{the_row}
 
 pub send : (R : RattleType) → IsSend R → IsSend (the_row R)
 send R is = cells-move R is

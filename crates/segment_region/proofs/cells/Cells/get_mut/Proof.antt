@@ -1,46 +1,7 @@
 -- `get_mut` lends one place on, and the cells end with what is left in it.
-use mathlib.Core.Path.{◌≡◌, refl, sym, subst, ◌∙◌}
-use Prim.Native.Nat.{ℕ, ◌+◌, ◌*◌, ◌<◌, ◌^◌}
+use Rattle.segment_region.proofs.Common.{◌≡◌, refl, subst, ℕ, ◌+◌, ◌*◌, ◌<◌, ◌^◌, List, [], ◌∷◌, ◌++◌, length, get_or, length-set, Ura, full_share, Fn, named, w64, inst_fn, Val, vptr, vint, SProp, ent, sep, never, id⊢, Fml, Lft, GName, ftrue, fsep, fat, flft, fobs, fbor, Memory, Routine, Calls, Loops, WpFn, Logic, sem, Body as Borrowed, ◌⊑◌, Fun, fact, Item, ⋆, ‵, raw, ◌⊛◌, some, later, await, pick, at_ret, ◌$◌, ◌∵◌, !, qed, by, move, keep, drop, use1, use2, split, join, group, rewrite, fsplit, fsplit3, fjoin, fjoin3, fpack, feq_l, flt_i, flt_l, suffices, frame, done, whole, sub, stop, fld, bin, size_lit, of_opd, addr, first, blocks, exec, returns, enter, alloc_all, pass_all, free_all, look_at, take_at, give_at, get, get_in, through, sets, sets_last, env, owns, mem, cell_at, part_of, layout, Ptr, block_ptr, in_a_block, MutBor, MutRef, plain, types_at, usize, yes, no, follows, Part, lends_Part, nothing, heard, opens, says, Stays, stay_dropped, walk_of, ends_at, Goes-dropped, Goes-spent_ref, None, Some, proved_at, El, R, args, el_x, times_below, one_below, after, word, word-Good, place_owned, row_owned, places_owned, with_place}
+use mathlib.Core.Path.{sym, ◌∙◌}
 use native.Mathlib.Omega.{arith}
-use mathlib.Core.List.{List, [], ◌∷◌, ◌++◌}
-use lib.ListN.{length, get_or, length-set}
-use seplogic.Ra.Ura.{Ura}
-use base.Fraction.{full_share}
-use mir.Syntax.{Fn, named, w64}
-use mir.MapTy.{inst_fn}
-use mir.Val.{Val, vptr, vint}
-use base.Logic.{SProp, ent, sep, never, id⊢}
-use base.Fml.{Fml, Lft, GName, ftrue, fsep, fat, flft, fobs, fbor}
-use prog.Memory.{Memory}
-use prog.Routine.{Routine}
-use prog.Wp.{Calls, Loops, WpFn}
-use types.Logic.{Logic, sem}
-use types.SemTy.{Body as Borrowed}
-use contract.BorrowLft.{◌⊑◌}
-use contract.Monad.{Fun, fact}
-use types.Kit.{Item, ⋆, ‵, raw, ◌⊛◌, some, later, await, pick, at_ret, ◌$◌, ◌∵◌, !, qed, by, move, keep, drop, use1, use2, split, join, group, rewrite, fsplit, fsplit3, fjoin, fjoin3, fpack, feq_l, flt_i, flt_l, suffices, frame, done}
-use types.Part.{whole, sub}
-use types.Run.{stop, fld, bin, size_lit, of_opd, addr, first, blocks, exec, returns, enter}
-use types.ByLocal.{alloc_all, pass_all, free_all, look_at, take_at, give_at, get, get_in, through, sets, sets_last, env}
-use denote.RattleType.{owns}
-use denote.Memory.{mem, cell_at, part_of}
-use denote.Param.{layout}
-use denote.RawPtr.{Ptr, block_ptr, in_a_block}
-use denote.Ref.{MutBor, MutRef}
-use denote.Signature.{plain, types_at}
-use denote.Builtin.{usize}
-use denote.Exit.{yes, no}
-use denote.Follow.{follows, Part, lends_Part}
-use denote.Steps.{nothing, heard, opens}
-use denote.Triple.Walked.{says, Stays, stay_dropped, walk_of, ends_at, Goes-dropped, Goes-spent_ref}
-use Rattle.std.specs.Prelude.{None, Some}
-use Rattle.std.proofs.raw_atomic.Walks.{proved_at}
-use Rattle.core.proofs.mem.Param.{El, R, args, el_x}
-use Rattle.core.proofs.ptr.Rows.{times_below, one_below}
-use Rattle.std_alloc.proofs.VecSteps.Shapes.{after}
-use Rattle.std_alloc.proofs.RcSteps.{word, word-Good}
-use Rattle.segment_region.specs.Ownership.{place_owned, row_owned, places_owned}
-use Rattle.segment_region.specs.Lends.{with_place}
 use Rattle.segment_region.proofs.Memory.{Place, place_size, Others, filled-within, taken_out, put_back}
 use Rattle.segment_region.proofs.Owners.{BaseRow, CellsRow, Handed, IsFilledAt, MarkRow, base_had}
 use Rattle.segment_region.specs.contracts.cells.Cells.get_mut as its

@@ -1,45 +1,8 @@
 -- `write` goes to a place by its byte, forgets what lies there, and makes it the value's.
-use mathlib.Core.Path.{◌≡◌, refl, sym, subst, ◌∙◌}
-use Prim.Native.Nat.{ℕ, ◌+◌, ◌*◌, ◌<◌, ◌^◌}
+use Rattle.segment_region.proofs.Common.{◌≡◌, refl, subst, ℕ, ◌+◌, ◌*◌, ◌<◌, ◌^◌, List, [], ◌∷◌, ◌++◌, length, get_or, length-set, Ura, full_share, Fn, w64, inst_fn, Val, vptr, vint, vunit, SProp, ent, never, id⊢, Lft, ftrue, fat, flft, fobs, fbor, froom, Memory, Routine, Calls, Loops, WpFn, Logic, Body as Borrowed, ◌⊑◌, Fun, fact, Item, ⋆, ‵, raw, ◌⊛◌, at_ret, ◌$◌, ◌∵◌, !, qed, by, move, keep, drop, use1, use2, split, join, rewrite, fsplit, fsplit3, fjoin, fjoin3, feq_i, feq_l, flt_i, flt_l, suffices, frame, done, whole, sub, init, stop, fld, bin, size_lit, unit_lit, of_opd, assigns_last, first, blocks, exec, returns, enter, alloc_all, pass_all, free_all, look_at, take_at, give_at, get, get_in, through, sets, env, owns, mem, layout, Ptr, in_a_block, MutBor, plain, types_at, usize, yes, no, nothing, heard, opens, closes, says, Stays, stay_dropped, stay_ref, walk_of, ends_at, Goes-dropped, Goes-ref, part_in, None, Some, proved_at, El, R, args, elτ, times_below, one_below, after, Good, word, word-Good, place_owned, row_owned, places_owned}
+use mathlib.Core.Path.{sym, ◌∙◌}
 use native.Mathlib.Omega.{arith}
-use mathlib.Core.List.{List, [], ◌∷◌, ◌++◌}
-use lib.ListN.{length, set, get_or, length-set}
-use seplogic.Ra.Ura.{Ura}
-use base.Fraction.{full_share}
-use mir.Syntax.{Fn, w64}
-use mir.MapTy.{inst_fn}
-use mir.Val.{Val, vptr, vint, vunit}
-use base.Logic.{SProp, ent, never, id⊢}
-use base.Fml.{Lft, ftrue, fat, flft, fobs, fbor, froom}
-use prog.Memory.{Memory}
-use prog.Routine.{Routine}
-use prog.Wp.{Calls, Loops, WpFn}
-use types.Logic.{Logic}
-use types.SemTy.{Body as Borrowed}
-use contract.BorrowLft.{◌⊑◌}
-use contract.Monad.{Fun, fact}
-use types.Kit.{Item, ⋆, ‵, raw, ◌⊛◌, at_ret, ◌$◌, ◌∵◌, !, qed, by, move, keep, drop, use1, use2, split, join, rewrite, fsplit, fsplit3, fjoin, fjoin3, feq_i, feq_l, flt_i, flt_l, suffices, frame, done}
-use types.Part.{whole, sub}
-use types.Run.{init, stop, fld, bin, size_lit, unit_lit, of_opd, assigns_last, first, blocks, exec, returns, enter}
-use types.ByLocal.{alloc_all, pass_all, free_all, look_at, take_at, give_at, get, get_in, through, sets, env}
-use denote.RattleType.{owns}
-use denote.Memory.{mem}
-use denote.Param.{layout}
-use denote.RawPtr.{Ptr, in_a_block}
-use denote.Ref.{MutBor}
-use denote.Signature.{plain, types_at}
-use denote.Builtin.{usize}
-use denote.Exit.{yes, no}
-use denote.Steps.{nothing, heard, opens, closes}
-use denote.Triple.Walked.{says, Stays, stay_dropped, stay_ref, walk_of, ends_at, Goes-dropped, Goes-ref}
-use borrow.Table.OneValue.{part_in}
-use Rattle.std.specs.Prelude.{None, Some}
-use Rattle.std.proofs.raw_atomic.Walks.{proved_at}
-use Rattle.core.proofs.mem.Param.{El, R, args, elτ}
-use Rattle.core.proofs.ptr.Rows.{times_below, one_below}
-use Rattle.std_alloc.proofs.VecSteps.Shapes.{after}
-use Rattle.std_alloc.proofs.RcSteps.{Good, word, word-Good}
-use Rattle.segment_region.specs.Ownership.{place_owned, row_owned, places_owned}
+use lib.ListN.{set}
 use Rattle.segment_region.proofs.Memory.{place_size, Others, taken_out, forgotten, put_back}
 use Rattle.segment_region.proofs.Owners.{BaseRow, CellsRow, Handed, base_had, value_had}
 use Rattle.segment_region.specs.contracts.cells.Cells.write as its

@@ -1,6 +1,4 @@
-use denote.RattleType.{RattleType}
-use denote.Param.Send.{IsSend, Frees}
-use Rattle.core.specs.declared.alloc.Allocator.{Ghosts}
+use Rattle.segment_region.proofs.Common.{RattleType, IsSend, Frees, Ghosts}
 use Rattle.segment_region.proofs.Threads.{title-moves}
 use Rattle.segment_region.specs.contracts.cells.Title.{the_row}
 

@@ -1,4 +1,4 @@
-use Rattle.std.proofs.Common.{arith}
+use Rattle.segment_region.proofs.Common.{arith}
 use Rattle.segment_region.proofs.Entries.{length-segments_of_blocks}
 use Rattle.segment_region.proofs.region.Region.free_count.Goals as goal
 

@@ -1,4 +1,5 @@
-use Rattle.std.proofs.Common.{refl, sym, arith}
+use Rattle.segment_region.proofs.Common.{sym, arith}
+use Rattle.std.proofs.Common.{refl}
 use Rattle.segment_region.proofs.Entries.{filled_at}
 use Rattle.segment_region.proofs.Whole.{whole-give, whole-less, entries-free, entries-less}
 use Rattle.segment_region.proofs.region.Region.give.Goals as goal

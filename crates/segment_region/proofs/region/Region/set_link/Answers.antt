@@ -1,4 +1,4 @@
-use Rattle.std.proofs.Common.{sym}
+use Rattle.segment_region.proofs.Common.{sym}
 use Rattle.segment_region.proofs.Entries.{filled_at}
 use Rattle.segment_region.proofs.Whole.{whole-write, entries-link}
 use Rattle.segment_region.proofs.region.Region.set_link.Goals as goal

@@ -1,5 +1,5 @@
-use Rattle.std.proofs.Common.{None, refl, sym, ap, ◌∙◌, arith}
-use Rattle.segment_region.specs.Blocks.{place_link}
+use Rattle.segment_region.proofs.Common.{sym, ap, ◌∙◌, arith, place_link}
+use Rattle.std.proofs.Common.{None, refl}
 use Rattle.segment_region.proofs.Whole.{whole-take, whole-mark, listed_head, head_is_free, mark_is_free, entries-write, entries-mark, none_free, some_free}
 use Rattle.segment_region.proofs.region.Region.take.Goals as goal
 

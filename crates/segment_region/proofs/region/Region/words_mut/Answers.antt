@@ -1,4 +1,5 @@
-use Rattle.std.proofs.Common.{refl, sym, ◌∙◌, arith}
+use Rattle.segment_region.proofs.Common.{sym, ◌∙◌, arith}
+use Rattle.std.proofs.Common.{refl}
 use Rattle.segment_region.proofs.Entries.{taken_block, words_at_place}
 use Rattle.segment_region.proofs.Whole.{whole-words, entries-words}
 use Rattle.segment_region.proofs.region.Region.words_mut.Goals as goal

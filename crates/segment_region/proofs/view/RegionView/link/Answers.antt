@@ -1,4 +1,4 @@
-use Rattle.std.proofs.Common.{sym, ◌∙◌}
+use Rattle.segment_region.proofs.Common.{sym, ◌∙◌}
 use Rattle.segment_region.proofs.Entries.{filled_at, link_is}
 use Rattle.segment_region.proofs.view.RegionView.link.Goals as goal
 

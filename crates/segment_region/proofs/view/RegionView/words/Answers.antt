@@ -1,4 +1,4 @@
-use Rattle.std.proofs.Common.{sym, arith}
+use Rattle.segment_region.proofs.Common.{sym, arith}
 use Rattle.segment_region.proofs.Entries.{taken_block, words_at_place}
 use Rattle.segment_region.proofs.view.RegionView.words.Goals as goal
 

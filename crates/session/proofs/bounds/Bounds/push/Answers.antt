@@ -1,4 +1,4 @@
-use Rattle.std.proofs.Common.{◌<◌, length, subst, sym}
+use Rattle.session.proofs.Common.{◌<◌, length, subst, sym}
 use Rattle.session.proofs.PlaceLemmas.{one_more_held}
 use Rattle.session.proofs.bounds.Bounds.push.Goals as goal
 

@@ -1,4 +1,4 @@
-use Rattle.std.proofs.Common.{rules}
+use Rattle.session.proofs.Common.{rules}
 use Rattle.session.proofs.serving.ClerkEnds.is_last.Goals as goal
 
 pub returns-in-Whole : goal.returns-in-Whole

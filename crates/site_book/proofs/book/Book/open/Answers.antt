@@ -1,6 +1,4 @@
-use Rattle.std.proofs.Common.{length, ap, sym, subst, arith}
-use Rattle.std.proofs.lemmas.List.{length_push}
-use Rattle.site_book.specs.Keeping.{IsKept}
+use Rattle.site_book.proofs.Common.{length, ap, sym, subst, arith, length_push, IsKept}
 use Rattle.site_book.proofs.BookLemmas.{opened, pushed_is}
 use Rattle.site_book.proofs.Keepings.{kept-few}
 use Rattle.site_book.proofs.book.Book.open.Goals as goal
@@ -9,18 +7,16 @@ pub unwrap-requires : goal.unwrap-requires
 unwrap-requires c =
     let gs = c.self.inside.grants.items in
     let kept = opened c.self.inside.plan gs c.args.self.now c.args.who c.args.session c.args.ask c.self.view_is c.self.invariant.0 c.requires in
-    let few = kept-few c.self.inside.plan _ kept in
     let one = length_push gs (record { who = c.args.who; session = c.args.session; ask = c.args.ask }) in
-    c.push.ensures.succeeds (omega (arith, few, one, c.self.invariant.2, c.self.inside.grants.ok))
+    c.push.ensures.succeeds (omega (arith, kept-few c.self.inside.plan _ kept, one, c.self.invariant.2, c.self.inside.grants.ok))
 
 pub invariant_of-self : goal.invariant_of-self
 invariant_of-self c =
     let gs = c.self.inside.grants.items in
     let kept = opened c.self.inside.plan gs c.args.self.now c.args.who c.args.session c.args.ask c.self.view_is c.self.invariant.0 c.requires in
     let list = pushed_is _ _ _ _ _ c.unwrap.ensures c.push.ensures.items in
-    let few = kept-few c.self.inside.plan _ kept in
     let long = ap length list in (
       subst (IsKept c.self.inside.plan) (sym list) kept,
-      omega (arith, long, few),
+      omega (arith, long, kept-few c.self.inside.plan _ kept),
       omega (arith, c.push.ensures.capacity, c.self.invariant.2),
     )

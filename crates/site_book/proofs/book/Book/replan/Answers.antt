@@ -1,5 +1,4 @@
-use Rattle.std.proofs.Common.{sym, subst}
-use Rattle.site_book.specs.Keeping.{IsKept}
+use Rattle.site_book.proofs.Common.{sym, subst, IsKept}
 use Rattle.site_book.proofs.BookLemmas.{replanned}
 use Rattle.site_book.proofs.book.Book.replan.Goals as goal
 

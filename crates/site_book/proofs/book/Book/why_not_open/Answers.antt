@@ -1,4 +1,4 @@
-use Rattle.std.proofs.Common.{rules}
+use Rattle.site_book.proofs.Common.{rules}
 use Rattle.site_book.proofs.BookLemmas.{opens-room, few-seats}
 use Rattle.site_book.proofs.book.Book.why_not_open.Goals as goal
 

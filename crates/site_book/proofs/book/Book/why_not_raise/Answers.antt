@@ -1,4 +1,4 @@
-use Rattle.std.proofs.Common.{rules}
+use Rattle.site_book.proofs.Common.{rules}
 use Rattle.site_book.proofs.BookLemmas.{raises-room}
 use Rattle.site_book.proofs.book.Book.why_not_raise.Goals as goal
 

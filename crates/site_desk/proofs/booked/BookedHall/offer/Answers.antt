@@ -1,6 +1,4 @@
-use Rattle.std.proofs.Common.{subst}
-use Rattle.hall.specs.Halls.{IsDecided}
-use Rattle.site_desk.specs.Booked.{BookedOf}
+use Rattle.site_desk.proofs.Common.{subst, IsDecided, BookedOf}
 use Rattle.site_desk.proofs.Keepings.{booked-step}
 use Rattle.site_desk.proofs.HallSteps.{no-admission}
 use Rattle.site_desk.proofs.booked.BookedHall.offer.Goals as goal

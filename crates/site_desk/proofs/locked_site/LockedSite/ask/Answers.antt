@@ -1,6 +1,4 @@
-use Rattle.std.proofs.Common.{rules, Contains, IfErr}
-use Rattle.desk_rules.specs.Asked.{ask_refusals}
-use Rattle.desk_rules.proofs.Refused.{ask_refused}
+use Rattle.site_desk.proofs.Common.{rules, Contains, IfErr, ask_refusals, ask_refused}
 use Rattle.site_desk.proofs.locked_site.LockedSite.ask.Goals as goal
 
 pub returns-in_err-take-clause-refused : goal.returns-in_err-take-clause-refused

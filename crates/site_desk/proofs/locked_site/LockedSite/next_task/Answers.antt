@@ -1,4 +1,4 @@
-use Rattle.std.proofs.Common.{◌≡◌, false, rules}
+use Rattle.site_desk.proofs.Common.{◌≡◌, false, rules}
 use Rattle.site_desk.proofs.Tasks.{next_by}
 use Rattle.site_desk.proofs.locked_site.LockedSite.next_task.Goals as goal
 

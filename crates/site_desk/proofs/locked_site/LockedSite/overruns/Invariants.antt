@@ -1,5 +1,4 @@
-use Rattle.std.proofs.Common.{◌≡◌, ◌+◌, ◌≤◌, ◌++◌, length}
-use Rattle.site_desk.specs.Sites.{overruns_of}
+use Rattle.site_desk.proofs.Common.{◌≡◌, ◌+◌, ◌≤◌, ◌++◌, length, overruns_of}
 use Rattle.site_desk.proofs.locked_site.LockedSite.overruns.Given as goal
 
 -- those so far and the rest are all

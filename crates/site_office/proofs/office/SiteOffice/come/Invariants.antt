@@ -1,4 +1,4 @@
-use Rattle.std.proofs.Common.{◌≡◌}
+use Rattle.site_office.proofs.Common.{◌≡◌}
 use Rattle.site_office.proofs.office.SiteOffice.come.Given as goal
 
 abbrev pub invariant-loop : goal.invariant-loop

@@ -1,7 +1,4 @@
-use Rattle.std.proofs.Common.{inl, refl}
-use Rattle.session.specs.Calls.{Get}
-use Rattle.site_office.specs.Offices.{asks_of_seat}
-use Rattle.desk_office.proofs.SeatLemmas.{same_asks, told_to}
+use Rattle.site_office.proofs.Common.{inl, refl, Get, asks_of_seat, same_asks, told_to}
 use Rattle.site_office.proofs.SeatLemmas.{seat_shows}
 use Rattle.site_office.proofs.office.SiteOffice.got.Goals as goal
 

@@ -1,7 +1,4 @@
-use Rattle.std.proofs.Common.{inr, refl}
-use Rattle.session.specs.Calls.{Wait}
-use Rattle.site_office.specs.Offices.{asks_of_seat}
-use Rattle.desk_office.proofs.SeatLemmas.{same_asks, told_to}
+use Rattle.site_office.proofs.Common.{inr, refl, Wait, asks_of_seat, same_asks, told_to}
 use Rattle.site_office.proofs.SeatLemmas.{seat_shows}
 use Rattle.site_office.proofs.office.SiteOffice.waited.Goals as goal
 

@@ -1,8 +1,4 @@
-use Rattle.std.proofs.Common.{◌≡◌, List, Option, Some, None, IfSome, inr, subst}
-use Rattle.pool_rules.specs.declared.task.Task.{Task}
-use Rattle.task_deques.specs.declared.ends.DequeEnds.{DequeEnds}
-use Rattle.task_deques.specs.Seats.{DequeSeatIn, owner_seat}
-use Rattle.task_deques.specs.Deals.{thief_seats, worker_seats, IsStolen, IsTaken}
+use Rattle.task_deques.proofs.Common.{◌≡◌, List, Option, Some, None, IfSome, inr, subst, Task, DequeEnds, DequeSeatIn, owner_seat, thief_seats, worker_seats, IsStolen, IsTaken}
 use Rattle.task_deques.proofs.ends.DequeEnds.take.Goals as goal
 
 -- what is stolen last is taken, where the owner's seat and the thieves' have not changed before

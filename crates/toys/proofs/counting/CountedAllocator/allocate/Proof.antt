@@ -1,57 +1,10 @@
 -- It asks the inner allocator, and refuses where it is to. Assumes `Logic`.
-use Rattle.std.proofs.Common.{◌≡◌, refl, sym, subst, true, false, ℕ, ◌<◌, ◌^◌, List, [], ◌∷◌, Option, Some, None, Ok, Err, Bor}
-use seplogic.Ra.Ura.{Ura}
-use mir.Syntax.{Ty, Args, Fn, a_type, w64, dnil, dcons}
-use mir.Val.{Val, vint, vptr}
-use mir.MapTy.{inst_fn}
-use base.Logic.{SProp, ent}
-use base.Fml.{Lft, Share, ftrue, flft}
-use prog.Memory.{Memory, size, align, capped}
-use prog.Routine.{Routine}
-use prog.Wp.{WpFn, Tables}
-use types.Logic.{Logic}
-use contract.BorrowLft.{◌⊑◌, ⊑_trans}
-use contract.Monad.{Fun, fact}
-use contract.Running.{tables, tables_of}
-use sound.WpLaws.{fm_of, WpFn-mono}
-use types.Run.{stop, no_more, and_then, of_opd, returns, enter}
-use denote.Exit.{yes}
-use denote.RattleType.{owns}
-use denote.Ref.{shr_vals}
-use denote.Param.{bounded, param}
-use denote.Plain.{uint_vals, uint_Tells}
-use denote.Signature.{Slot, plain, types_at}
-use denote.Steps.{heard, nothing}
-use denote.Triple.Clauses.{Ended, Clauses}
-use denote.Triple.Spec.{triple_of}
-use denote.Triple.Statement.{Triple}
-use denote.Triple.Table.{entered}
-use denote.Triple.Walked.{Stays, stay_dropped, walk_of, ends_at, walked, Goes-dropped, walk_Meets}
-use types.Kit.{‵, raw, ◌⊛◌, later, ◌$◌, ◌∵◌, !, qed, move, keep, use0, use1, use2, split, split3, join, fsplit, fjoin, suffices, await, done}
-use types.ByLocal.{alloc_all, pass_all, free_all, look_at, get, sets, lands_as}
-use denote.RawPtr.{block_ptr}
-use denote.Builtin.{usize, RefOf}
-use denote.Triple.Call.{calls_at}
-use Rattle.std.proofs.alloc.Calls.{Al, Answer, answer_val, Answer-typed, Answer-Ok, Answer-err, takes_key, Takes, at_takes, Answered, Takes-goes, Takes-gives, answers, token}
+use Rattle.toys.proofs.Common.{◌≡◌, refl, sym, subst, true, false, ℕ, ◌<◌, ◌^◌, List, [], ◌∷◌, Option, Some, None, Ok, Err, Bor, Ura, Ty, Args, Fn, a_type, dnil, dcons, Val, vint, vptr, inst_fn, SProp, ent, Lft, Share, ftrue, flft, Memory, size, align, capped, Routine, WpFn, Tables, Logic, ◌⊑◌, ⊑_trans, Fun, fact, tables, tables_of, fm_of, WpFn-mono, stop, no_more, and_then, of_opd, returns, enter, yes, owns, shr_vals, bounded, param, uint_vals, uint_Tells, Slot, plain, types_at, heard, nothing, Ended, Clauses, triple_of, Triple, entered, Stays, stay_dropped, walk_of, ends_at, walked, Goes-dropped, walk_Meets, ‵, raw, ◌⊛◌, later, ◌$◌, ◌∵◌, !, qed, move, keep, use0, use1, use2, split, split3, join, fsplit, fjoin, suffices, await, done, alloc_all, pass_all, free_all, look_at, get, sets, lands_as, block_ptr, usize, RefOf, calls_at, Al, Answer, answer_val, Answer-typed, Answer-Ok, Answer-err, takes_key, Takes, at_takes, Answered, Takes-goes, Takes-gives, answers, token, T, place, has_ty, WT, layout, whole, agg, lit, holding, block_if_ok, by, Item, Seq, Go, ⋆, lands, at_ret, given, learn, some, pick, rewrite, any_q, Post as After, fld, first, exec, switches_on, vrt, in_variant, get_in, get_tag, lands_last, sets_last, env, Env, Wp, after_seq, at_return, calls_at_last, after, front, arm_body}
+use mir.Syntax.{w64}
 use Rattle.toys.specs.contracts.counting.CountedAllocator.allocate as F
 use Rattle.toys.specs.contracts.counting.CountedAllocator.allocate.Key as key
 use Rattle.toys.proofs.counting.CountedAllocator.allocate.Statement as stated
 use Rattle.toys.proofs.counting.CountedAllocator.allocate.Code as code
-use lib.Dec.{T}
-use mir.Syntax.{place}
-use mir.Val.{has_ty, WT}
-use denote.Param.{layout}
-use types.Part.{whole, agg}
-use types.Run.{lit}
-use types.ByLocal.{holding}
-use Rattle.core.specs.Allocator.{block_if_ok}
-use types.Kit.{by, Item, Seq, Go, ⋆, lands, at_ret, given, learn, some, pick, rewrite, use2, any_q, Post as After}
-use types.Run.{fld, first, exec, switches_on}
-use types.Match.{vrt, in_variant}
-use types.ByLocal.{get_in, get_tag, lands_as, lands_last, sets_last, env}
-use prog.Wp.{Env, Wp, after_seq, at_return}
-use denote.Triple.Call.{calls_at, calls_at_last}
-use Rattle.std_alloc.proofs.VecSteps.Shapes.{after, front, arm_body}
 use Rattle.toys.specs.contracts.counting.Counted as L
 use Rattle.toys.proofs.Asked.{asked_key, Asks, at_asked, Told, shown_val, seen_if, Shown-typed, asked_goes, asked_gives}
 use Rattle.toys.proofs.counting.Counted.asked.Met as asked_met
