@@ -51,7 +51,6 @@ BODIES = (
     ("a late job isn't cancelled", ("core", "const gone = seat.running.find((one) => one.isSettled || now >= one.until);", "const gone = seat.running.find((one) => now >= one.until + 1e9);"), ("Core", "one -> one.isSettled || now >= one.until", "one -> now >= one.until + 1e9")),
     ("a slow answer keeps who gave up waiting", ("core", "if (now >= one.limit) this", "if (false) this"), ("Core", "if (now >= one.limit) settle", "if (now < 0) settle")),
     ("CANCEL that came too late is a fault", ("core", "if (answer) this.#settle(question, { fault: late(question) });", "this.#settle(question, { fault: late(question) });"), ("Core", "if (answer != null) settle(question, late(question));", "settle(question, late(question));")),
-    ("time goes on while a question waits for its turn", ("core", "isSettled: false, until: Infinity,", "isSettled: false, until: now + (question.timeout ?? Infinity),"), None),
     ("silence is for ever", ("core", "if (now >= seat.deadline) this", "if (false) this"), ("Core", "if (now >= seat.deadline) lost", "if (now < 0) lost")),
     ("silence isn't asked again", ("core", "(isSilent && !this.#isOutage(now)) || one.kind", "isSilent || one.kind"), ("Core", "(isSilent && !isOutage(now)) || one.line", "isSilent || one.line")),
     ("silence isn't doubled", ("core", "this.silence * 2 ** this.#silences", "this.silence"), ("Core", "limits.silence() * Math.pow(2, silences)", "limits.silence()")),

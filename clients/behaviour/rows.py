@@ -195,10 +195,10 @@ class Conversation:
             answer = {"HELLO": f"WELCOME {' '.join(rest[:2])}", "RESERVE": f"RESERVED {' '.join(rest)}", "QUOTA": "QUOTA 1 8192 1", "LIVE": "LIVE 0 0", "INFO": "ERR 21",
                       "CANCEL": "ERR 17", "BYE": "BYE"}.get(word, "")  # fmt: skip
             if word == "ASK":
-                answer = "ERR 13"
-                if len(jobs) < 256:
-                    jobs.append(value_of(line.split(" ", 2)[2]))
-                    answer = f"JOB {len(jobs)}"
+                if len(jobs) == 256:
+                    raise ValueError("a 257th job was asked for in a session")
+                jobs.append(value_of(line.split(" ", 2)[2]))
+                answer = f"JOB {len(jobs)}"
             elif word in ("GET", "WAIT"):
                 answer = f"DONE {rest[0]} {jobs[int(rest[0]) - 1]} d3"
             elif word == "TABLE":
