@@ -116,8 +116,7 @@ class Site:
                 moved += [(f"  {line}\n", "") for line in ("user haproxy", "group haproxy", "chroot /var/lib/haproxy")]
             path.write_text(replaced((TOP / "deploy/haproxy.cfg").read_text(), moved))
             with self.log.open("a") as log:
-                first = ["nice", "-n", "-10"] if os.geteuid() == 0 else []  # as its unit's weight does
-                self.proxy = subprocess.Popen([*first, "haproxy", "-db", "-f", str(path)], stdout=log, stderr=log)
+                self.proxy = subprocess.Popen(["haproxy", "-db", "-f", str(path)], stdout=log, stderr=log)
             until(lambda: is_there(self.outer), 10, "HAProxy listens")
             time.sleep(1)  # until it has looked whether the site serves
         return self
