@@ -62,6 +62,10 @@ def test_it_is_its_own_user() -> None:
     assert os.stat("/run/othello-site-blue/control").st_mode & 0o777 == 0o660
 
 
+def test_handshakes_go_before_searches() -> None:
+    assert control("show", "-P", "CPUWeight", "haproxy").stdout == "1000\n"
+
+
 def test_a_reload_loses_no_session() -> None:
     right = FILE.read_text()
     with opened(1) as session:

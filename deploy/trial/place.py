@@ -1,6 +1,7 @@
 """What the trials of a site share: the program at free ports, alone or behind HAProxy, and clients from many addresses of this host."""
 from __future__ import annotations
 
+import contextlib
 import functools
 import http.client
 import os
@@ -64,6 +65,38 @@ def until(holds: Callable[[], object], seconds: float, what: str) -> None:
         time.sleep(0.02)
 
 
+def weight_of(unit: str) -> int:
+    """What a delivered unit says."""
+    found = re.search(r"^CPUWeight=(\d+)$", (TOP / "deploy" / unit).read_text(), re.M)
+    assert found, unit
+    return int(found[1])
+
+
+class Group:
+    """A control group as systemd makes one for each unit: processes in it have the processors by this weight against all others. None where this host's aren't ours to make."""
+
+    def __init__(self, name: str, weight: int = 100):
+        first = pathlib.Path("/sys/fs/cgroup")  # (the unified hierarchy, or the older one of this controller)
+        told, tree = ("cpu.weight", first) if (first / "cgroup.controllers").exists() else ("cpu.shares", first / "cpu")
+        self.folder: pathlib.Path | None = tree / f"othello-trial-{os.getpid()}-{name}"
+        try:
+            self.folder.mkdir()
+            (self.folder / told).write_text(str(weight if told == "cpu.weight" else weight * 1024 // 100))
+        except OSError:
+            self.close()
+
+    def add(self, pid: int) -> None:
+        if self.folder:
+            (self.folder / "cgroup.procs").write_text(str(pid))
+
+    def close(self) -> None:
+        """Once all its processes have ended."""
+        if self.folder:
+            with contextlib.suppress(OSError):
+                self.folder.rmdir()
+        self.folder = None
+
+
 class From(stage.From):  # type: ignore[misc]
     """A session from another address of this host."""
 
@@ -93,6 +126,8 @@ class Site:
         self.contexts: dict[str, ssl.SSLContext] = {}
         self.process: subprocess.Popen[Any] | None = None
         self.proxy: subprocess.Popen[Any] | None = None
+        units = {"site": "othello-site@.service", "proxy": "haproxy.service.conf"} if made else {}
+        self.groups = {each: Group(f"{each}-{self.inner}", weight_of(unit)) for each, unit in units.items()}
 
     @property
     def port(self) -> int:
@@ -117,6 +152,7 @@ class Site:
             path.write_text(replaced((TOP / "deploy/haproxy.cfg").read_text(), moved))
             with self.log.open("a") as log:
                 self.proxy = subprocess.Popen(["haproxy", "-db", "-f", str(path)], stdout=log, stderr=log)
+                self.groups["proxy"].add(self.proxy.pid)
             until(lambda: is_there(self.outer), 10, "HAProxy listens")
             time.sleep(1)  # until it has looked whether the site serves
         return self
@@ -125,6 +161,8 @@ class Site:
         """Starts the program, at first or after its end."""
         with self.log.open("a") as log:
             self.process = subprocess.Popen([program(self.name, "--ready-site"), *([] if self.bare else [self.file])], stdout=log, stderr=log)
+            if self.groups:
+                self.groups["site"].add(self.process.pid)
         until(lambda: self.process and self.process.poll() is not None or is_there(4711 if self.bare else self.plain) and os.path.exists(self.control), 60, "the site listens")
         assert self.process.poll() is None, self.log.read_text()
 
@@ -137,6 +175,8 @@ class Site:
                 except subprocess.TimeoutExpired:
                     process.kill()
                     process.wait()
+        for group in self.groups.values():
+            group.close()
         self.folder.cleanup()
 
     def context(self, certificate: str = "") -> ssl.SSLContext | None:

@@ -1,5 +1,5 @@
-"""Each attack of hostile.py, by 54 addresses at once over TLS, which are kept on one processor: everybody else is served beside it, and all comes back.
-With --length 60 ten minutes of all."""
+"""Each attack of hostile.py, by 54 addresses at once over TLS, in a control group of one processor: everybody else is served beside it, and all comes back.
+HAProxy and the site are in groups of the weights that their units have. With --length 60 ten minutes of all."""
 from __future__ import annotations
 
 import contextlib
@@ -12,7 +12,7 @@ import threading
 import time
 
 import pytest
-from place import LEFT, SCHOOL, SMALL, Answer, Site, until
+from place import LEFT, SCHOOL, SMALL, Answer, Group, Site, until
 from coluwen import Refused
 
 sys.path.insert(0, str(pathlib.Path(__file__).resolve().parents[1]))
@@ -73,7 +73,12 @@ def test_everybody_else_is_served(kind: str, made: dict[str, str], wanted: list[
     with Site(made, terms=terms, more=SCHOOL) as site, Beside(site, wanted) as beside:
         command = [sys.executable, str(pathlib.Path(hostile.__file__)), str(site.port), "54", str(seconds), *([kind] if kind else [])]
         one = ["taskset", "--cpu-list", str(max(os.sched_getaffinity(0)))]
-        said = subprocess.run([*one, *command], capture_output=True, text=True, check=True, env={**os.environ, "TLS": "yes"}).stdout
+        attackers = Group("attackers")
+        with subprocess.Popen([*one, *command], stdout=subprocess.PIPE, text=True, env={**os.environ, "TLS": "yes"}) as process:
+            attackers.add(process.pid)
+            said = process.communicate()[0]
+        attackers.close()
+        assert process.returncode == 0
         time.sleep(0.5)
         beside.stop.set()
         for each in beside.threads:

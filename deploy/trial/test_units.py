@@ -55,6 +55,8 @@ def furnish(root: pathlib.Path, made: dict[str, str], wanted: list[Answer]) -> N
     file.chmod(0o640)
     os.chown(file, 0, 101)
     shutil.copy(TOP / "deploy/haproxy.cfg", root / "etc/haproxy")
+    (root / "etc/systemd/system/haproxy.service.d").mkdir()
+    shutil.copy(TOP / "deploy/haproxy.service.conf", root / "etc/systemd/system/haproxy.service.d/othello.conf")
     (root / "etc/haproxy/named.lst").write_text("127.6.0.0/16\n")
     (root / "etc/haproxy/othello.pem").write_text(pathlib.Path(made["host"] + ".pem").read_text())
     shutil.copy(made["authority"], root / "authority")
