@@ -45,22 +45,33 @@ def opened(port, number, timeout=20):
     return place.From(place.address_of(number), "127.0.0.1", port, *RESERVE, timeout=timeout)
 
 
-def steps(begun, seconds, sessions):
-    """Steps a second of so many sessions."""
+def hogs_of(begun, sessions):
     lines = [f"12 {position}" for position in place.stage.positions(50, 5, 8, 24)]
-    hogs = [Hog(begun, number, lines) for number in range(sessions)]
+    return [Hog(begun, number, lines) for number in range(sessions)]
 
-    def all_until(end):
-        """Looks again and again, and returns when it last did, and the steps until then."""
-        while True:
-            begun = time.monotonic()
-            found = sum(hog.look() for hog in hogs)
-            if begun >= end:
-                return begun, found
-            time.sleep(max(0.0, begun + LOOK - time.monotonic()))
 
-    begun, before = all_until(time.monotonic() + 2)
-    ended, after = all_until(begun + seconds)
+def all_until(hogs, end):
+    """Looks again and again, and returns when it last did, and the steps until then."""
+    while True:
+        begun = time.monotonic()
+        found = sum(hog.look() for hog in hogs)
+        if begun >= end:
+            return begun, found
+        time.sleep(max(0.0, begun + LOOK - time.monotonic()))
+
+
+def taken(hogs, seconds):
+    """Steps a second from now on for so many seconds."""
+    begun, before = all_until(hogs, 0)
+    ended, after = all_until(hogs, time.monotonic() + seconds)
+    return (after - before) / (ended - begun)
+
+
+def steps(begun, seconds, sessions):
+    """Steps a second of so many sessions, once they have gone on for two seconds."""
+    hogs = hogs_of(begun, sessions)
+    all_until(hogs, time.monotonic() + 2)
+    found = taken(hogs, seconds)
     for hog in hogs:
         hog.session.close()
-    return (after - before) / (ended - begun)
+    return found

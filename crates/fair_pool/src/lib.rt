@@ -1,7 +1,7 @@
 //! The workers of a site's pool, by whom nobody waits for a neighbour.
 //!
 //! A worker of `steal_pool` begins a new job only when all deques are empty, so a short job may wait as long as its neighbours have
-//! work. Here each 64th task that a worker begins is a pick ([`Rhythm`]): the newest ready frame of a tenant of a customer that none with
+//! work. Here each 128th task that a worker begins is a pick ([`Rhythm`]): the newest ready frame of a tenant of a customer that none with
 //! a ready frame was served less than ([`fair_task`], by a [`FairShare`]). All others are as ever: the newest of the worker's own deque, else
 //! the oldest of another's; and where the deques give none, a pick, for which it waits at the site. A pick leaves its task behind in the
 //! deque where it lies; whoever comes to that later is refused its frame and goes on. So that such tasks don't pile up a deque has room

@@ -1,7 +1,7 @@
 ghost use Rattle.std.specs.Prelude.{◌≡◌, ◌≤◌};
 ghost use Rattle.fair_pool.specs.Rhythms.{is_due, since_after};
 
-/// How many tasks a worker has begun since its last pick, up to 63: each 64th is a pick.
+/// How many tasks a worker has begun since its last pick, up to 127: each 128th is a pick.
 #[derive(Clone, Copy, Debug)]
 pub struct Rhythm {
     /// How many.
@@ -9,7 +9,7 @@ pub struct Rhythm {
 }
 
 /// Each so many-th task of a worker is a pick.
-const PICK_EACH: u8 = 64;
+const PICK_EACH: u8 = 128;
 
 impl Rhythm {
     /// That of a worker that begins.

@@ -7,13 +7,13 @@ ghost use Rattle.fair_pool.specs.Waits.{is_ahead, Comes, Wakes, Rests, Serves, P
 ghost use Rattle.fair_pool.specs.Shares.{new_shares, tenant_entered, entered_place, customer_at, network_at, tenant_seen, left_all};
 ghost use Rattle.fair_pool.specs.Rows.{account, four, three, served};
 
-/// Sixty-three tasks of the deques are begun, and the 64th is a pick. Where it finds none it stays due.
+/// 127 tasks of the deques are begun, and the 128th is a pick. Where it finds none it stays due.
 pub fn many_tasks_and_a_pick()
     ensures first { is_due 0 ≡ false }
-    ensures last { is_due 62 ≡ false }
-    ensures pick { is_due 63 ≡ true }
-    ensures counts { since_after 62 ≡ 63 }
-    ensures stays { since_after 63 ≡ 63 }
+    ensures last { is_due 126 ≡ false }
+    ensures pick { is_due 127 ≡ true }
+    ensures counts { since_after 126 ≡ 127 }
+    ensures stays { since_after 127 ≡ 127 }
 {}
 
 /// Two were served as much: the one that has been active for longer comes before the other. One that was served less comes before
