@@ -6,10 +6,7 @@ import { Score } from "./score.mjs";
 
 /** What is known of a move: it is worth its score, one ply less deep than the position. */
 export class Entry {
-  constructor(move, score) {
-    [this.move, this.score] = [move, score];
-    Object.freeze(this);
-  }
+  constructor(move, score) { Object.freeze(Object.assign(this, { move, score })); }
   toString() { return `${this.move}${this.score.sign}${this.score.value}`; }
 }
 
@@ -28,29 +25,13 @@ export function checked(position, depth) {
   return position;
 }
 
-/** Signals for many questions, each with one of its own, that a caller's signal or their end aborts. */
-class Stops {
-  #all = new Set(); #signal; #leave = () => this.end(this.#signal.reason);
-  constructor(signal) {
-    signal?.throwIfAborted();
-    this.#signal = signal;
-    signal?.addEventListener("abort", this.#leave);
-  }
-
-  /** What a call with a signal of its own gives. */
-  async around(call) {
-    const stop = new AbortController();
-    this.#all.add(stop);
-    try {
-      return await call(stop.signal);
-    } finally {
-      this.#all.delete(stop);
-    }
-  }
-
-  end(reason) {
-    this.#signal?.removeEventListener("abort", this.#leave);
-    for (const stop of this.#all) stop.abort(reason);
+/** TypeError or RangeError where there is another option than these, or a number outside its limits (null where it is no number). */
+export function checkOptions(options, limits) {
+  for (const [name, value] of Object.entries(options)) {
+    if (!(name in limits)) throw new TypeError(`there is no option ${name}`);
+    const [least, most] = limits[name] ?? [];
+    const fits = typeof value === "number" && value >= least && value <= most && (most > 65536 || Number.isInteger(value));
+    if (limits[name] && value !== undefined && !fits) throw new RangeError(`${name} is a number from ${least} to ${most}, and not ${value}`);
   }
 }
 
@@ -63,19 +44,14 @@ export class Analyst extends EventTarget {
   async analyseAll(position, depth, how = {}) {
     const place = checked(position, depth);
     if (depth < 1) throw new RangeError("moves are looked at from depth 1 on");
-    const [ends, moves, stops] = [depth >= place.empties, place.legalMoves(), new Stops(how.signal)];
+    const [ends, moves, found] = [depth >= place.empties, place.legalMoves(), []];
     const left = moves[0] === PASS ? depth : depth - 1; // a pass uses no ply
-    const valued = async (move) => {
-      const { score } = await stops.around((signal) => this.analyse(place.play(move), left, { ...how, signal }));
-      return new Entry(move, new Score(0 - score.value, "=", ends, place.side));
-    };
-    try {
-      return (await Promise.all(moves.map(valued))).sort((one, other) => Score.compare(other.score, one.score));
-    } catch (fault) {
-      throw fault instanceof TooDeep ? new TooDeep(depth, fault.greatest && fault.greatest + depth - left) : fault;
-    } finally {
-      stops.end(new ColuwenError("another move's question failed"));
+    const places = moves.map((move) => place.play(move));
+    for await (const { index, result, fault } of this.analyseMany(places, left, { ...how, order: "known" })) {
+      if (fault) throw fault instanceof TooDeep ? new TooDeep(depth, fault.greatest && fault.greatest + depth - left) : fault;
+      found[index] = new Entry(moves[index], new Score(0 - result.score.value, "=", ends, place.side));
     }
+    return found.sort((one, other) => Score.compare(other.score, one.score));
   }
 
   /**
@@ -86,50 +62,53 @@ export class Analyst extends EventTarget {
   async* analyseMany(questions, depth, { order = "asked", window = this.window, onProgress = () => {}, signal, timeout } = {}) {
     if (depth !== undefined) checked(Position.opening(), depth);
     if (!["asked", "known"].includes(order) || !(window >= 1)) throw new RangeError(`answers come in the order "asked" or "known", by a window of 1 at least, and not ${order}, ${window}`);
+    signal?.throwIfAborted();
     const source = (questions[Symbol.asyncIterator] ?? questions[Symbol.iterator]).call(questions);
-    const [stops, taken, known] = [new Stops(signal), [], []]; // what isn't given yet, in order, and what of it is known
+    const [taken, known] = [new Map(), new Set()]; // what isn't given yet, in order, with what gives it up; and what of it is known
     const told = { done: 0, faults: 0, total: questions.length ?? questions.size };
-    let [wake, coming, isOver, fault, count] = [() => {}, null, false, null, 0];
+    let [wake, isComing, isOver, broken, count] = [() => {}, false, false, null, 0];
+    const leave = () => taken.forEach((stop) => stop.abort(signal.reason));
+    const ask = async (question, how) => this.analyse(...(Array.isArray(question) ? question : [question, depth]), how);
     const settled = (one, outcome) => {
-      known.push(Object.assign(one, outcome));
+      known.add(Object.assign(one, outcome));
       [told.done, told.faults] = [told.done + 1, told.faults + ("fault" in outcome ? 1 : 0)];
       onProgress({ ...told });
       wake();
     };
-    const came = ({ done, value }) => {
-      [coming, isOver] = [null, isOver || !!done];
-      if (!done) {
-        const one = { index: count, question: value };
+    const take = async () => {
+      isComing = true;
+      const { done, value: question } = await source.next();
+      [isComing, isOver] = [false, isOver || !!done];
+      if (!isOver) {
+        const [one, stop] = [{ index: count, question }, new AbortController()];
         count += 1;
-        taken.push(one);
-        stops.around((each) => this.#begin(one, depth, { timeout, signal: each })).then((result) => settled(one, { result }), (reason) => settled(one, { fault: reason }));
+        taken.set(one, stop);
+        ask(question, { timeout, signal: stop.signal }).then((result) => settled(one, { result }), (fault) => settled(one, { fault }));
       }
       wake();
     };
+    signal?.addEventListener("abort", leave);
     try {
       for (;;) {
         signal?.throwIfAborted();
-        if (fault) throw fault;
-        if (!coming && !isOver && taken.length < window) coming = Promise.resolve(source.next()).then(came, (reason) => { fault = reason; wake(); });
-        const next = order === "asked" ? known.find((one) => one === taken[0]) : known[0];
-        if (next) {
-          known.splice(known.indexOf(next), 1);
-          taken.splice(taken.indexOf(next), 1);
+        if (broken) throw broken.reason;
+        if (!isComing && !isOver && taken.size < window) take().catch((reason) => { broken = { reason }; wake(); });
+        const [next] = order === "asked" ? taken.keys() : known;
+        if (known.has(next)) {
+          [known, taken].forEach((each) => each.delete(next));
           yield next;
-        } else if (isOver && !taken.length) {
+        } else if (isOver && !taken.size) {
           return;
         } else {
           await new Promise((resolve) => { wake = resolve; });
         }
       }
     } finally {
-      stops.end(new ColuwenError("the answers aren't wanted any more"));
+      signal?.removeEventListener("abort", leave);
+      for (const stop of taken.values()) stop.abort(new ColuwenError("the answers aren't wanted any more"));
       if (!isOver) source.return?.();
+      isOver = true;
     }
-  }
-
-  async #begin({ question }, depth, how) {
-    return Array.isArray(question) ? this.analyse(...question, how) : this.analyse(question, depth, how);
   }
 
   [Symbol.asyncDispose ?? Symbol.for("Symbol.asyncDispose")]() { return this.close(); }

@@ -4,47 +4,42 @@ import { Broken, Refused } from "./faults.mjs";
 import { GREATEST } from "./score.mjs";
 
 export const LONGEST = 1115; // bytes of an answer, with its LF
-/** Of a line's first word what answers it: N is a number, V a value, P a square or a pass. */
+/** What answers a line, by its first word: N is a number, V a value, P a square or pass, A and B the line's next words, J the next job. */
 const FORMS = {
-  HELLO: "WELCOME N N",
-  RESERVE: "RESERVED N N",
-  ASK: "JOB N",
-  GET: "DONE N V (P|-)|(PENDING|SPENT|CANCELLED) N",
-  WAIT: "DONE N V (P|-)|(SPENT|CANCELLED) N",
-  TABLE: "TABLE N( P[=<>]V)*|(PENDING|SPENT|CANCELLED) N",
-  CANCEL: "CANCELLED N",
+  HELLO: "WELCOME A B",
+  RESERVE: "RESERVED A B",
+  ASK: "JOB J",
+  GET: "DONE A V (P|-)|(PENDING|SPENT|CANCELLED) A",
+  WAIT: "DONE A V (P|-)|(SPENT|CANCELLED) A",
+  TABLE: "TABLE A( P[=<>]V)*|(PENDING|SPENT|CANCELLED) A",
+  CANCEL: "CANCELLED A",
   QUOTA: "QUOTA N N N",
   LIVE: "LIVE N N",
   INFO: "INFO N( [!-~]+)*",
   BYE: "BYE",
 };
 const SIGNS = { N: "(0|[1-9][0-9]{0,7})", V: "(0|-?[1-9][0-9]{0,5})", P: "([a-h][1-8]|pass)" };
-for (const [word, form] of Object.entries(FORMS)) FORMS[word] = new RegExp(`^(${form.replace(/\b[NVP]\b/g, (sign) => SIGNS[sign])})$`);
 
-/** The words that must stand again in the answer to a line: of ASK the next job's number; null where none must. */
-function wantedOf(word, rest, jobs) {
-  if (word === "HELLO") return rest.slice(0, 2);
-  if (word === "ASK") return [String(jobs + 1)];
-  return ["QUOTA", "LIVE", "INFO", "BYE"].includes(word) ? null : rest;
+function formOf([word, A, B], jobs) {
+  const signs = { ...SIGNS, A, B, J: jobs + 1 };
+  return new RegExp(`^(${FORMS[word].replace(/\b[A-Z]\b/g, (sign) => signs[sign])})$`);
 }
 
 /**
- * The answer to a line (both without LF), where so many jobs were asked before: { state, job, value, move, entries, numbers, more }. Throws
- * Refused where it is an ERR, and Broken where it is none to that line.
+ * The answer to a line (both without LF), where so many jobs were asked before: { state, numbers (a job's first), value, move, entries,
+ * more }. Throws Refused where it is an ERR, and Broken where it is none to that line.
  */
 export function parse(line, text, jobs = 0) {
-  const [[word, ...rest], [state, ...told]] = [line.split(" "), text.split(" ")];
+  const [state, ...told] = text.split(" ");
   if (/^ERR [1-9][0-9]$/.test(text)) throw new Refused(Number(told[0]));
-  const misfit = () => new Broken(`${line} was answered by ${JSON.stringify(text.slice(0, 120))}`);
-  if (text.length >= LONGEST || !FORMS[word].test(text)) throw misfit();
-  const isOfJob = ["ASK", "GET", "WAIT", "TABLE", "CANCEL"].includes(word);
-  const given = told.slice(0, isOfJob || state === "INFO" ? 1 : 3), wanted = wantedOf(word, rest, jobs);
-  const entries = state === "TABLE" ? told.slice(1).map((entry) => entry.split(/([=<>])/)).map(([move, sign, value]) => [move, sign, Number(value)]) : [];
   const value = state === "DONE" ? Number(told[1]) : 0;
-  const again = wanted === null || wanted.join(" ") === given.join(" ");
-  const twice = new Set(entries.map(([move]) => move)).size !== entries.length;
-  const values = [value, ...entries.map((entry) => entry[2])];
-  if (!again || twice || values.some((each) => Math.abs(each) > GREATEST)) throw misfit();
-  const [numbers, more] = [given.map(Number), state === "INFO" ? text.slice(5 + given[0].length) : ""];
-  return { state, job: isOfJob ? numbers[0] : 0, value, move: state === "DONE" ? told[2] : "", entries, numbers: isOfJob ? [] : numbers, more };
+  const parts = state === "TABLE" ? told.slice(1).map((entry) => entry.split(/([=<>])/)) : [];
+  const entries = parts.map(([move, sign, worth]) => [move, sign, Number(worth)]);
+  const isTwice = new Set(entries.map(([move]) => move)).size !== entries.length;
+  const isTooGreat = [value, ...entries.map((entry) => entry[2])].some((each) => Math.abs(each) > GREATEST);
+  if (text.length >= LONGEST || !formOf(line.split(" "), jobs).test(text) || isTwice || isTooGreat) {
+    throw new Broken(`${line} was answered by ${JSON.stringify(text.slice(0, 120))}`);
+  }
+  const numbers = told.slice(0, ["DONE", "TABLE", "INFO"].includes(state) ? 1 : 3).map(Number);
+  return { state, numbers, value, move: state === "DONE" ? told[2] : "", entries, more: state === "INFO" ? text.slice(5 + told[0].length) : "" };
 }

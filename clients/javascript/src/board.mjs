@@ -9,16 +9,16 @@ const OTHER = { X: "O", O: "X" };
 const CELLS = { X: "X", x: "X", "*": "X", O: "O", o: "O", "-": "-", ".": "-" };
 const WAYS = [-1, 0, 1].flatMap((down) => [-1, 0, 1].map((right) => [down, right])).filter(([down, right]) => down || right);
 
-/** The squares (0 to 63) whose discs a move of the side flips. */
+/** Of each square those (0 to 63) that lie on its eight ways to the edge, the nearest first. */
+const RAYS = SQUARES.map((_, square) => WAYS.map(([down, right]) => [1, 2, 3, 4, 5, 6, 7]
+  .map((step) => [(square >> 3) + step * down, (square & 7) + step * right])
+  .filter((place) => place.every((at) => at >= 0 && at < 8)).map(([row, column]) => 8 * row + column)));
+
+/** The squares whose discs a move of the side flips. */
 function flipsOf(cells, side, square) {
-  return WAYS.flatMap(([down, right]) => {
-    const run = [];
-    let [row, column] = [(square >> 3) + down, (square & 7) + right];
-    while (row >= 0 && row < 8 && column >= 0 && column < 8 && cells[8 * row + column] === OTHER[side]) {
-      run.push(8 * row + column);
-      [row, column] = [row + down, column + right];
-    }
-    return row >= 0 && row < 8 && column >= 0 && column < 8 && cells[8 * row + column] === side ? run : [];
+  return RAYS[square].flatMap((ray) => {
+    const end = ray.findIndex((at) => cells[at] !== OTHER[side]);
+    return end > 0 && cells[ray[end]] === side ? ray.slice(0, end) : [];
   });
 }
 
@@ -28,9 +28,7 @@ const squaresOf = (cells, side) => SQUARES.filter((_, at) => cells[at] === "-" &
 export class Position {
   constructor(cells = START, side = "X") {
     if (!/^[XO-]{64}$/.test(cells) || !(side in OTHER)) throw new RangeError(`${cells} and ${side} are no position`);
-    this.cells = cells;
-    this.side = side;
-    Object.freeze(this);
+    Object.freeze(Object.assign(this, { cells, side }));
   }
 
   static opening() { return new Position(); }
@@ -67,7 +65,5 @@ export class Position {
   equals(other) { return other instanceof Position && other.text === this.text; }
 
   /** The same with the colours exchanged. */
-  flip() {
-    return new Position([...this.cells].map((cell) => OTHER[cell] ?? cell).join(""), OTHER[this.side]);
-  }
+  flip() { return new Position([...this.cells].map((cell) => OTHER[cell] ?? cell).join(""), OTHER[this.side]); }
 }

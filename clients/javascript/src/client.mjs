@@ -1,13 +1,13 @@
 // Values of positions from a server, by as many sessions as they need.
-import { Analyst, checked, resultOf } from "./analyst.mjs";
+import { Analyst, checkOptions, checked, resultOf } from "./analyst.mjs";
 import { Core } from "./core.mjs";
 import { Broken } from "./faults.mjs";
 import { dial, textIn } from "./socket.mjs";
 
 export const HOST = "127.0.0.1";
 export const PORT = 4711;
-const NUMBERS = { sessions: [1, 64], ahead: [1, 256], segments: [1, 4096], nodes: [1, 65536], port: [1, 65535], silence: [1, 1e9], patience: [0, 1e9], outage: [0, 1e9], timeout: [1, 1e9] };
-const OTHERS = ["host", "secure", "token", "dial"];
+const LIMITS = { sessions: [1, 64], ahead: [1, 256], segments: [1, 4096], nodes: [1, 65536], port: [1, 65535], silence: [1, 1e9],
+  patience: [0, 1e9], outage: [0, 1e9], timeout: [1, 1e9], host: null, secure: null, token: null, dial: null };
 
 /** Something that is told: `opened`, `full`, `silent` or `lost`. */
 export class ClientEvent extends Event {
@@ -15,18 +15,6 @@ export class ClientEvent extends Event {
     super(name);
     this.detail = detail;
   }
-}
-
-/** What options say, with what they leave out; RangeError or TypeError where they say what can't be. */
-function checkedOptions(options) {
-  for (const [name, value] of Object.entries(options)) {
-    const [least, most] = NUMBERS[name] ?? [];
-    if (least === undefined && !OTHERS.includes(name)) throw new TypeError(`there is no option ${name}`);
-    const fits = typeof value === "number" && value >= least && value <= most && (most > 65536 || Number.isInteger(value));
-    if (least !== undefined && value !== undefined && !fits) throw new RangeError(`${name} is a number from ${least} to ${most}, and not ${value}`);
-  }
-  if (options.token && !/^[!-~]{1,64}$/.test(options.token)) throw new RangeError("a token has 1 to 64 letters, digits and signs");
-  return { host: HOST, port: PORT, secure: false, dial, ...options };
 }
 
 /**
@@ -42,7 +30,9 @@ export class Client extends Analyst {
 
   constructor(options = {}) {
     super();
-    const { host, port, secure, dial: dialled, timeout, ...rest } = checkedOptions(options);
+    checkOptions(options, LIMITS);
+    if (options.token && !/^[!-~]{1,64}$/.test(options.token)) throw new RangeError("a token has 1 to 64 letters, digits and signs");
+    const { host, port, secure, dial: dialled, timeout, ...rest } = { host: HOST, port: PORT, secure: false, dial, ...options };
     this.#open = (heard) => dialled({ host, port, secure }, heard);
     [this.#timeout, this.#sessions] = [timeout, rest.sessions ?? 4];
     this.#core = new Core(rest);

@@ -1,5 +1,5 @@
 // How positions come to their values, without input and output: bytes and moments (in milliseconds of a clock that never goes back) go in,
-// and what is to be done comes out. `Wire` is one session's lines; `Core` is all that a client asks, by as many sessions as it needs.
+// and what is to be done comes out. `Seat` is one session; `Core` is all that a client asks, by as many sessions as it needs.
 import { LONGEST, parse } from "./answers.mjs";
 import { Broken, Closed, Late, Refused, Silent, TooDeep, Unreachable } from "./faults.mjs";
 
@@ -7,7 +7,8 @@ export const DEEPEST = 12; // plies that a server looks at most
 const MOST_JOBS = 256; // of a session
 const USED_UP = [10, 11, 13]; // ASK: this session takes no more jobs, and another one may
 const LATER = [14, 19, 31]; // HELLO: it may come again
-const [UNKNOWN, RATE] = [21, 31]; // INFO: this is no site; ASK: it may come again in its session
+const RATE = 31; // ASK: it may come again in its session
+const PROBED = { INFO: [21], ASK: USED_UP }; // what the lines of a probe may be refused for
 const RETRY = 100; // before a server is asked again
 const GRACE = 200; // for so long the answer to a line may still come where a job's time is over
 const LOSSES = 4; // a question isn't asked again once so many sessions were lost with it
@@ -18,58 +19,20 @@ const RAISED = [{ segments: 512, nodes: 16384 }, { segments: 1024, nodes: 32768 
 const PROBES = ["-O-------O-------OXOO---XOXXOO--OOXXOOO---OXO------OO----------- X", "-----X-------XX---OOOXO---OXX----OOOOXO---OO--X--OXO------X----- X"];
 const [FEW_NODES, LEAST_PROBE, LAST_PROBE] = [50, 2, 8];
 
-/** How long to wait before the next look at a job that was asked so long ago. */
-const pauseAfter = (taken) => Math.min(Math.max(taken / 4, 0.2), 20);
-
-/** The lines of one session, of which one at most isn't answered. */
-export class Wire {
-  line = null; // that isn't answered
-  jobs = 0; // that were asked
-  #rest = ""; // what came of its answer
-
-  /** The bytes of a line. A token is its last word, and stands in no fault. */
-  send(words, token = "") {
-    const line = words.join(" ");
-    if (!/^[ -~]*$/.test(line + token)) throw new RangeError(`${JSON.stringify(line)} is no line: it has other bytes than ASCII's signs`);
-    this.line = line;
-    return token ? `${line} ${token}\n` : `${line}\n`;
-  }
-
-  /** What the line got: { answer } or { refusal }; null while that has no end. Broken where it is no answer. */
-  receive(bytes) {
-    const [text, ...behind] = (this.#rest + bytes).split("\n");
-    const rest = behind.join(" ");
-    if (this.line === null || rest) throw new Broken(`the server said ${JSON.stringify((rest || text).slice(0, 60))}, which wasn't asked`);
-    if (text.length >= LONGEST) throw new Broken(`an answer has more than ${LONGEST} bytes`);
-    this.#rest = behind.length ? "" : text;
-    if (!behind.length) return null;
-    try {
-      const answer = parse(this.line, text, this.jobs);
-      if (answer.state === "JOB") this.jobs += 1;
-      return { answer };
-    } catch (refusal) {
-      if (!(refusal instanceof Refused)) throw refusal;
-      return { refusal };
-    } finally {
-      this.line = null;
-    }
-  }
-}
-
 /**
  * Finds out how deep a server looks: by INFO where it knows that, else by how many nodes two positions take from depth to depth. Yields lines and takes
  * their answers, null for one that is refused.
  */
 function* probe() {
-  const site = yield ["INFO"];
+  const site = yield "INFO";
   if (site) return [site.numbers[0], site.more.split(" ").at(-1) || null];
-  let [left, grain] = [(yield ["QUOTA"]).numbers[1], 6];
+  let [left, grain] = [(yield "QUOTA").numbers[1], 6];
   for (const place of PROBES) {
     for (let depth = LEAST_PROBE; depth <= LAST_PROBE; depth += 1) {
-      let job = yield ["ASK", depth, place];
-      while (job?.state === "JOB" || job?.state === "PENDING") job = yield ["GET", job.job];
+      let job = yield `ASK ${depth} ${place}`;
+      while (job?.state === "JOB" || job?.state === "PENDING") job = yield `GET ${job.numbers[0]}`;
       const before = left;
-      left = (yield ["QUOTA"]).numbers[1];
+      left = (yield "QUOTA").numbers[1];
       if (job?.state === "DONE" && before - left <= FEW_NODES) continue;
       grain = Math.min(grain, depth - 2);
       break;
@@ -78,16 +41,34 @@ function* probe() {
   return [grain, null];
 }
 
-/** A session, from its opening to its end. */
+/** A session, from its opening to its end, of whose lines one at most isn't answered. */
 class Seat {
-  wire = new Wire();
+  asked = null; // what isn't answered: { line, word, question }
+  #rest = ""; // what came of its answer
+  jobs = 0; // that were asked
+  running = new Set(); // the questions that it has, the oldest first
   isReady = false; // it has been welcomed
   isRetired = false; // it takes no more
-  running = []; // the questions whose jobs it has, the oldest first
-  asked = null; // what the line is for that isn't answered: { word, question }
   freeAt = 0; // before it asks nothing
-  constructor(level, reserved, silence, now, probe) { Object.assign(this, { level, reserved, silence, begun: now, deadline: now + silence, probe }); }
-  get questions() { return [...new Set([...this.running, this.asked?.question])].filter(Boolean); }
+  constructor(level, reserved, silence, now, probe) {
+    Object.assign(this, { level, reserved, silence, begun: now, deadline: now + silence, probe, line: probe?.next().value });
+  }
+  get isIdle() { return this.isReady && !this.asked && !this.running.size; }
+  /** When it is to be looked at. */
+  get times() { return [this.deadline, this.freeAt, ...[...this.running].flatMap(({ until, limit, pollAt }) => [until, limit, pollAt])]; }
+
+  /** The answer to its line; null while that has no end. Refused where it is an ERR, Broken where it is no answer. */
+  receive(bytes) {
+    const [text, ...behind] = (this.#rest + bytes).split("\n");
+    const rest = behind.join(" ");
+    if (!this.asked || rest) throw new Broken(`the server said ${JSON.stringify((rest || text).slice(0, 60))}, which wasn't asked`);
+    if (text.length >= LONGEST) throw new Broken(`an answer has more than ${LONGEST} bytes`);
+    this.#rest = behind.length ? "" : text;
+    if (!behind.length) return null;
+    const answer = parse(this.asked.line, text, this.jobs);
+    if (answer.state === "JOB") this.jobs += 1;
+    return answer;
+  }
 }
 
 /**
@@ -118,8 +99,8 @@ export class Core {
   get isEmpty() { return !this.#seats.size; }
 
   ask(question, now) {
-    Object.assign(question, { level: 0, isAlone: false, job: 0, losses: 0, isSettled: false, until: Infinity, limit: Infinity, pollAt: Infinity, refusedAt: null });
-    if (this.#isEnded) this.#settle(question, { fault: new Closed("client") });
+    Object.assign(question, { level: 0, isAlone: false, losses: 0, isSettled: false, pollAt: Infinity, refusedAt: null });
+    if (this.#isEnded) this.#settle(question, { fault: closed() });
     else if (question.kind === "info") this.#tooDeep(question);
     else this.#queue.push(question);
     this.#go(now);
@@ -134,32 +115,32 @@ export class Core {
   /** What isn't settled is so by Closed, and nothing more is asked. */
   end(now) {
     this.#isEnded = true;
-    for (const seat of this.#seats) for (const one of seat.questions) this.#settle(one, { fault: new Closed("client") });
-    this.#failWaiting(() => new Closed("client"));
-    for (const seat of [...this.#seats]) {
-      if (seat.isReady && !seat.asked && !seat.running.length) this.#send(seat, ["BYE"], null, now);
+    this.#fail(closed);
+    for (const seat of this.#seats) {
+      for (const one of seat.running) this.#settle(one, { fault: closed() });
+      if (seat.isIdle) this.#send(seat, "BYE", now);
       else if (seat.asked?.word !== "BYE") this.#close(seat);
     }
-    this.#plan(now);
+    this.#go(now);
   }
 
   opened(seat, now) {
-    if (this.#seats.has(seat)) this.#send(seat, ["HELLO", seat.reserved.segments, seat.reserved.nodes], null, now, this.token);
-    this.#plan(now);
+    if (this.#seats.has(seat)) this.#send(seat, `HELLO ${seat.reserved.segments} ${seat.reserved.nodes}`, now, null, this.token);
+    this.#go(now);
   }
 
   received(seat, bytes, now) {
     if (!this.#seats.has(seat)) return;
-    let found;
+    let [answer, refusal] = [null, null];
     try {
-      found = seat.wire.receive(bytes);
+      answer = seat.receive(bytes);
+      if (!answer) return;
     } catch (fault) {
-      return void this.lost(seat, fault, now);
+      if (!(fault instanceof Refused)) return void this.lost(seat, fault, now);
+      refusal = fault;
     }
-    if (!found) return;
-    [this.#heard, this.#trouble] = [now, null];
-    const [{ answer, refusal }, { word, question }] = [found, seat.asked];
-    [seat.asked, seat.deadline] = [null, Infinity];
+    const { word, question } = seat.asked;
+    [this.#heard, this.#trouble, seat.asked, seat.deadline] = [now, null, null, Infinity];
     if (seat.probe && word !== "HELLO" && word !== "BYE") this.#probed(seat, word, answer, refusal, now);
     else this[`_${word}`](seat, question, answer, refusal, now);
     this.#go(now);
@@ -169,26 +150,26 @@ export class Core {
   lost(seat, fault, now, isFinal = false) {
     if (!this.#seats.has(seat)) return;
     this.#close(seat);
-    if (seat.asked?.word === "BYE" && !seat.running.length) return void this.#go(now);
-    const isSilent = fault instanceof Silent;
-    const again = seat.questions.filter((one) => !one.isSettled);
+    if (seat.asked?.word === "BYE") return void this.#go(now);
+    const isSilent = fault instanceof Silent, isGivenUp = isSilent && !this.#isOutage(now);
+    const again = [...seat.running].filter((one) => !one.isSettled);
     if (seat.isReady && (seat.asked || again.length)) this.#tell(isSilent ? "silent" : "lost", fault);
     if (seat.isReady && isSilent) this.#silences += 1;
-    for (const one of [...this.#seats]) if (one.isReady && !one.asked && !one.running.length) this.#close(one); // they may be lost too
+    for (const one of this.#seats) if (one.isIdle) this.#close(one); // they may be lost too
     for (const one of again) {
-      Object.assign(one, { job: 0, until: Infinity, limit: Infinity, losses: one.losses + (isSilent ? 0 : 1) });
-      if (one.losses >= LOSSES || (isSilent && !this.#isOutage(now)) || one.kind === "ping") this.#settle(one, { fault: unreachable(fault) });
+      one.losses += isSilent ? 0 : 1;
+      if (one.losses >= LOSSES || isGivenUp || one.kind === "ping") this.#settle(one, { fault: unreachable(fault) });
     }
     this.#queue.unshift(...again.filter((one) => !one.isSettled));
     if (!seat.isReady) this.#notReached(seat, fault, now, isFinal);
-    else if (seat.probe && ((this.#probeLosses += 1) >= LOSSES || (isSilent && !this.#isOutage(now)))) this.#failDeep(unreachable(fault));
+    else if (seat.probe && ((this.#probeLosses += 1) >= LOSSES || isGivenUp)) this.#fail(() => unreachable(fault), this.#deep);
     this.#go(now);
   }
 
   /** Time goes on. */
   passed(now) {
-    for (const seat of [...this.#seats]) {
-      for (const one of seat.questions) if (now >= one.limit) this.#settle(one, { fault: late(one) });
+    for (const seat of this.#seats) {
+      for (const one of seat.running) if (now >= one.limit) this.#settle(one, { fault: late(one) });
       if (now >= seat.deadline) this.lost(seat, new Silent(`no ${seat.asked ? `answer to ${seat.asked.word}` : "connection"} in ${seat.silence} ms`), now);
     }
     this.#go(now);
@@ -199,18 +180,14 @@ export class Core {
   #settle(question, outcome) {
     if (question.isSettled) return;
     Object.assign(question, outcome, { isSettled: true });
-    this.#queue = this.#queue.filter((one) => one !== question);
+    [this.#queue, this.#deep] = [this.#queue, this.#deep].map((questions) => questions.filter((one) => one !== question));
     this.#out.push(["settled", question]);
   }
 
-  #failDeep(fault) {
+  /** What waits ends with a fault of its own each. */
+  #fail(faultOf, questions = [...this.#queue, ...this.#deep]) {
     this.#probeLosses = 0;
-    for (const one of this.#deep.splice(0)) this.#settle(one, { fault });
-  }
-
-  #failWaiting(faultOf) {
-    for (const one of [...this.#queue]) this.#settle(one, { fault: faultOf() });
-    this.#failDeep(faultOf());
+    for (const one of questions) this.#settle(one, { fault: faultOf() });
   }
 
   #close(seat) {
@@ -228,13 +205,14 @@ export class Core {
     this.#retryAt = now + RETRY;
     if (!isFinal && (now - this.#trouble < 0.8 * this.silence || this.#isOutage(now))) return;
     if ([...this.#seats].some(({ isReady }) => isReady)) this.#most = this.#seats.size;
-    else this.#failWaiting(() => unreachable(fault));
+    else this.#fail(() => unreachable(fault));
   }
 
-  #send(seat, words, question, now, token) {
-    seat.asked = { word: words[0], question };
+  /** Sends a line. A token is its last word, and stands in no fault. */
+  #send(seat, line, now, question = null, token = "") {
+    seat.asked = { line, word: line.split(" ")[0], question };
     seat.deadline = now + seat.silence;
-    this.#out.push(["send", seat, seat.wire.send(words, token)]);
+    this.#out.push(["send", seat, `${line}${token && ` ${token}`}\n`]);
   }
 
   // What each line's answer brings.
@@ -251,61 +229,57 @@ export class Core {
     if (isLater && [...this.#seats].some(({ isReady }) => isReady)) return void (this.#most = this.#seats.size);
     if (!isLater || now - this.#full > this.patience) {
       this.#full = null;
-      return this.#failWaiting(() => new Refused(refusal.number));
+      return this.#fail(() => new Refused(refusal.number));
     }
     if (!this.#wasTold && now - this.#full > 1000) [this.#wasTold] = [true, this.#tell("full", refusal)];
   }
 
   _ASK(seat, question, answer, refusal, now) {
-    if (answer) {
-      Object.assign(question, { job: answer.job, pollAt: now });
-      return void seat.running.push(question);
-    }
+    if (answer) return void Object.assign(question, { job: answer.numbers[0], pollAt: now });
+    seat.running.delete(question);
     const more = this.isFree && refusal.number !== 13 ? RAISED.find(({ nodes }) => nodes > seat.reserved.nodes) : null;
     question.refusedAt ??= now;
     if (refusal.number === RATE && now - question.refusedAt <= this.patience) seat.freeAt = now + RETRY;
-    else if (!USED_UP.includes(refusal.number) || !seat.wire.jobs) return this.#settle(question, { fault: refusal });
-    else if (more) this.#send(seat, ["RESERVE", Math.max(more.segments, seat.reserved.segments), more.nodes], null, now);
+    else if (!USED_UP.includes(refusal.number) || !seat.jobs) return this.#settle(question, { fault: refusal });
+    else if (more) this.#send(seat, `RESERVE ${Math.max(more.segments, seat.reserved.segments)} ${more.nodes}`, now);
     else seat.isRetired = true;
-    if (!question.isSettled) this.#queue.unshift(Object.assign(question, { until: Infinity, limit: Infinity }));
+    if (!question.isSettled) this.#queue.unshift(question);
   }
 
   _RESERVE(seat, _, answer) {
-    if (answer) [seat.reserved] = [{ segments: answer.numbers[0], nodes: answer.numbers[1] }];
+    if (answer) seat.reserved = { segments: answer.numbers[0], nodes: answer.numbers[1] };
     else seat.isRetired = true;
   }
 
   _GET(seat, question, answer, refusal, now) {
     if (refusal) return this.lost(seat, new Broken(refusal.message), now);
-    if (answer.state === "PENDING") return void (question.pollAt = now + pauseAfter(now - question.askedAt));
+    if (answer.state === "PENDING") return void (question.pollAt = now + Math.min(Math.max((now - question.askedAt) / 4, 0.2), 20));
     if (answer.state === "DONE" && !question.isSettled) {
       question.found = answer;
-      return this.#send(seat, ["TABLE", question.job], question, now);
+      return this.#send(seat, `TABLE ${question.job}`, now, question);
     }
-    seat.running = seat.running.filter((one) => one !== question);
+    seat.running.delete(question);
     if (answer.state === "SPENT") this.#spent(seat, question);
     else this.#settle(question, { fault: late(question) });
   }
 
   _TABLE(seat, question, answer, refusal, now) {
     if (answer?.state !== "TABLE") return this.lost(seat, new Broken(`job ${question.job} was DONE, and has no table`), now);
-    seat.running = seat.running.filter((one) => one !== question);
+    seat.running.delete(question);
     if (question.isAlone) this.#needs.set(question.depth, question.level);
     this.#silences = 0;
-    const { value, move } = question.found;
-    this.#settle(question, { found: { value, move, entries: answer.entries } });
+    this.#settle(question, { found: { ...question.found, entries: answer.entries } });
   }
 
   _CANCEL(seat, question, answer) {
-    if (question.isSettled || answer) seat.running = seat.running.filter((one) => one !== question);
+    if (question.isSettled || answer) seat.running.delete(question);
     if (answer) this.#settle(question, { fault: late(question) });
-    question.until = Infinity; // where it had ended, its result counts
-    question.pollAt = 0;
+    [question.until, question.pollAt] = [Infinity, 0]; // where it had ended, its result counts
   }
 
   _QUOTA(seat, question, answer, refusal, now) {
-    if (answer) this.#settle(question, { found: now - question.askedAt });
-    else this.#settle(question, { fault: refusal });
+    seat.running.delete(question);
+    this.#settle(question, answer ? { found: now - question.askedAt } : { fault: refusal });
   }
 
   _BYE(seat) { this.#close(seat); }
@@ -315,13 +289,12 @@ export class Core {
     const top = this.levels.length - 1;
     seat.isRetired = true;
     if (question.isSettled) return;
-    if (seat.wire.jobs > 1 || seat.level < top) {
-      Object.assign(question, { isAlone: true, job: 0, until: Infinity, limit: Infinity, level: Math.min(Math.max(question.level, seat.level) + 1, top) });
-      this.#queue.unshift(question);
-      return;
+    if (seat.jobs > 1 || seat.level < top) {
+      this.#queue.unshift(Object.assign(question, { isAlone: true, level: Math.min(Math.max(question.level, seat.level) + 1, top) }));
+    } else {
+      this.#needs.set(question.depth, top);
+      this.#tooDeep(question);
     }
-    this.#needs.set(question.depth, top);
-    this.#tooDeep(question);
   }
 
   /** What asks for the server's grain, or can't be answered at it. */
@@ -332,50 +305,49 @@ export class Core {
     this.#settle(question, isInfo ? { found: this.#info } : { fault: new TooDeep(question.depth, greatest) });
   }
 
-  /** A probe goes on, where its line isn't refused for another reason than what it asks for. */
+  /** A probe goes on, or ends. */
   #probed(seat, word, answer, refusal, now) {
-    seat.line = null;
-    if (refusal && !(word === "INFO" && refusal.number === UNKNOWN) && !(word === "ASK" && USED_UP.includes(refusal.number))) return this.#failDeep(refusal);
+    seat.line = "BYE";
+    if (refusal && !PROBED[word]?.includes(refusal.number)) return this.#fail(() => refusal, this.#deep);
     if (answer?.state === "PENDING") seat.freeAt = now + 1;
     const { done, value } = seat.probe.next(answer);
     if (!done) return void (seat.line = value);
     const [grain, version] = value;
-    if (this.#deep.length) this.#info = { grain, sure: Math.min(grain + 4, DEEPEST), mostly: Math.min(grain + 5, DEEPEST), version };
+    this.#info = { grain, sure: Math.min(grain + 4, DEEPEST), mostly: Math.min(grain + 5, DEEPEST), version };
     for (const one of this.#deep.splice(0)) this.#tooDeep(one);
   }
 
   // What is done next.
 
-  /** Sends what can be sent, and opens and ends sessions. */
+  /** Sends what can be sent, opens and ends sessions, and says when time matters next. */
   #go(now) {
     for (const seat of [...this.#seats]) this.#turn(seat, now);
     if (!this.#isEnded) this.#staff(now);
-    this.#plan(now);
+    const times = [this.#retryAt, ...[...this.#seats].flatMap((seat) => seat.times)];
+    this.next = Math.min(Infinity, ...times.filter((at) => at > now));
   }
 
   /** The next line of a session that waits for no answer. */
   #turn(seat, now) {
     if (!seat.isReady || seat.asked) return;
     if (seat.probe) {
-      if (seat.line && now >= seat.freeAt) this.#send(seat, seat.line, null, now);
-      else if (!seat.line) this.#send(seat, ["BYE"], null, now);
+      if (now >= seat.freeAt) this.#send(seat, seat.line, now);
       return;
     }
-    const gone = seat.running.find((one) => one.isSettled || now >= one.until);
-    if (gone) return this.#send(seat, ["CANCEL", gone.job], gone, now);
-    const next = this.#nextFor(seat, now);
-    if (next) return this.#begin(seat, next, now);
-    const [oldest] = seat.running;
-    if (oldest && now >= oldest.pollAt) return this.#send(seat, ["GET", oldest.job], oldest, now);
-    if (!oldest && seat.isRetired) this.#send(seat, ["BYE"], null, now);
-  }
-
-  #begin(seat, question, now) {
-    this.#queue = this.#queue.filter((one) => one !== question);
-    question.askedAt = now;
-    if (question.kind === "ping") return this.#send(seat, ["QUOTA"], question, now);
-    if (question.timeout) [question.until, question.limit] = [now + question.timeout, now + question.timeout + GRACE];
-    this.#send(seat, ["ASK", question.depth, question.position], question, now);
+    const gone = [...seat.running].find((one) => one.isSettled || now >= one.until);
+    if (gone) return this.#send(seat, `CANCEL ${gone.job}`, now, gone);
+    const [next, oldest] = [this.#nextFor(seat, now), ...seat.running];
+    if (next) {
+      this.#queue = this.#queue.filter((one) => one !== next);
+      seat.running.add(next);
+      const until = now + (next.timeout || Infinity);
+      Object.assign(next, { askedAt: now, until, limit: until + GRACE });
+      this.#send(seat, next.kind === "ping" ? "QUOTA" : `ASK ${next.depth} ${next.position}`, now, next);
+    } else if (oldest && now >= oldest.pollAt) {
+      this.#send(seat, `GET ${oldest.job}`, now, oldest);
+    } else if (!oldest && seat.isRetired) {
+      this.#send(seat, "BYE", now);
+    }
   }
 
   #levelOf(question) { return Math.max(question.level, this.#needs.get(question.depth) ?? 0); }
@@ -383,47 +355,38 @@ export class Core {
 
   /** What a session may be asked more. */
   #nextFor(seat, now) {
-    seat.isRetired ||= seat.wire.jobs >= MOST_JOBS;
-    if (seat.isRetired || now < seat.freeAt || seat.running.length >= this.ahead || seat.running.some(({ isAlone }) => isAlone)) return null;
-    const others = [...this.#seats].filter((one) => !one.probe && (!one.isReady || (one !== seat && !one.running.length && !one.asked))).length; // they have nothing yet
+    seat.isRetired ||= seat.jobs >= MOST_JOBS;
+    if (seat.isRetired || now < seat.freeAt || seat.running.size >= this.ahead || [...seat.running].some(({ isAlone }) => isAlone)) return null;
+    const others = [...this.#seats].filter((one) => one !== seat && !one.probe && (!one.isReady || one.isIdle)).length; // they have nothing yet
     const places = now >= this.#retryAt ? this.#most - this.#seats.size : 0;
-    if (seat.running.length && this.#queue.length <= others + places) return null;
-    return this.#queue.find((one) => (one.isAlone ? !seat.wire.jobs && !seat.running.length : true) && this.#hasEnough(seat, one)) ?? null;
+    if (seat.running.size && this.#queue.length <= others + places) return null;
+    return this.#queue.find((one) => (!one.isAlone || (!seat.jobs && !seat.running.size)) && this.#hasEnough(seat, one)) ?? null;
   }
 
   /** Opens the sessions that are wanted; where every place is taken, and no session can take the first that waits, one ends. */
   #staff(now) {
     const seats = [...this.#seats];
-    if (!this.#queue.length && seats.every(({ asked, running }) => !asked && !running.length)) this.#most = this.sessions;
+    if (!this.#queue.length && seats.every(({ asked, running }) => !asked && !running.size)) this.#most = this.sessions;
     if (now < this.#retryAt) return;
     const opening = seats.filter((one) => !one.isReady && !one.probe).length;
     if (this.#deep.length && !seats.some(({ probe }) => probe) && this.#seats.size < this.#most) this.#open(0, now, probe());
     for (const one of this.#queue.slice(opening)) if (this.#seats.size < this.#most) this.#open(this.#levelOf(one), now);
     const [first] = this.#queue;
-    if (this.#seats.size < this.#most || seats.length < this.#seats.size || seats.some((one) => !one.isReady || one.isRetired || one.probe || one.asked?.word === "BYE")) return;
-    if (!this.#deep.length && !(first && seats.every((one) => (first.isAlone && one.wire.jobs) || !this.#hasEnough(one, first)))) return;
-    const least = seats.reduce((found, one) => (one.running.length < found.running.length ? one : found));
+    if (this.#seats.size < this.#most || seats.length < this.#seats.size || seats.some((one) => !one.isReady || one.isRetired || one.probe)) return;
+    if (!this.#deep.length && !(first && seats.every((one) => (first.isAlone && one.jobs) || !this.#hasEnough(one, first)))) return;
+    const least = seats.reduce((found, one) => (one.running.size < found.running.size ? one : found));
     least.isRetired = true;
     this.#turn(least, now);
   }
 
   #open(level, now, probing = null) {
-    const reserved = probing ? LEVELS[0] : this.levels[level];
-    const seat = new Seat(level, { ...reserved }, Math.min(this.silence * 2 ** this.#silences, Math.max(this.outage, this.silence)), now, probing);
-    seat.line = probing?.next().value;
+    const silence = Math.min(this.silence * 2 ** this.#silences, Math.max(this.outage, this.silence));
+    const seat = new Seat(level, { ...(probing ? LEVELS[0] : this.levels[level]) }, silence, now, probing);
     this.#seats.add(seat);
     this.#out.push(["open", seat]);
   }
-
-  #plan(now) {
-    const times = [this.#retryAt];
-    for (const seat of this.#seats) {
-      times.push(seat.deadline, seat.freeAt);
-      for (const { until, limit, pollAt } of seat.questions) times.push(until, limit, pollAt);
-    }
-    this.next = Math.min(Infinity, ...times.filter((at) => at > now));
-  }
 }
 
+const closed = () => new Closed("this client is closed");
 const unreachable = (fault) => new Unreachable(fault.message, { cause: fault });
 const late = ({ depth, timeout }) => new Late(`a job of depth ${depth} was cancelled after ${timeout} ms`);

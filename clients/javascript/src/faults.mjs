@@ -34,9 +34,7 @@ export class Silent extends ColuwenError {}
 export class Late extends ColuwenError {}
 
 /** The client or the session was closed: nothing more is sent. */
-export class Closed extends ColuwenError {
-  constructor(what) { super(`this ${what} is closed`); }
-}
+export class Closed extends ColuwenError {}
 
 /** A position can't be searched so deep at the server's grain; `greatest` is a depth that can be had of each position. */
 export class TooDeep extends ColuwenError {

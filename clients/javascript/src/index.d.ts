@@ -64,11 +64,7 @@ export declare class Score {
   valueOf(): number;
 }
 
-export declare class Entry {
-  constructor(move: string, score: Score);
-  readonly move: string;
-  readonly score: Score;
-}
+export declare class Entry { constructor(move: string, score: Score); readonly move: string; readonly score: Score; }
 
 export interface Result {
   readonly position: Position;
@@ -119,23 +115,13 @@ export interface PlaceOptions {
   dial?: Dial;
 }
 
-export interface ClientOptions extends PlaceOptions {
-  sessions?: number;
-  ahead?: number;
-  silence?: number;
-  outage?: number;
-  patience?: number;
-  timeout?: number;
-  segments?: number;
-  nodes?: number;
-}
-
-export interface EngineOptions { workers?: number; timeout?: number; }
+type Numbers<Names extends string> = Partial<Record<Names, number>>;
+export interface ClientOptions
+  extends PlaceOptions, Numbers<"sessions" | "ahead" | "silence" | "outage" | "patience" | "timeout" | "segments" | "nodes"> {}
+export interface EngineOptions extends Numbers<"workers" | "timeout"> {}
 
 /** Values without a server: the proved search as WebAssembly, in workers of this process or page. No depth is beyond it. */
-export declare class Engine extends Analyst {
-  constructor(options?: EngineOptions);
-}
+export declare class Engine extends Analyst { constructor(options?: EngineOptions); }
 
 export interface ClientEvents {
   opened: ClientEvent<{ segments: number; nodes: number }>;

@@ -15,11 +15,7 @@ const OTHER = { X: "O", O: "X" };
 export class Score {
   constructor(value, sign = "=", ends = false, side = "X") {
     if (!Number.isInteger(value) || Math.abs(value) > GREATEST || !(sign in BOUNDS) || !(side in OTHER)) throw new RangeError(`${sign}${value} of ${side} is no score`);
-    this.value = value;
-    this.sign = sign;
-    this.ends = ends || Math.abs(value) > GREATEST_EVALUATION;
-    this.side = side;
-    Object.freeze(this);
+    Object.freeze(Object.assign(this, { value, sign, ends: ends || Math.abs(value) > GREATEST_EVALUATION, side }));
   }
 
   static compare(one, other) { return one.value - other.value; }

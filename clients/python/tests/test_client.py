@@ -12,7 +12,7 @@ import time
 import coluwen
 import pytest
 from coluwen import AsyncClient, Broken, Client, Closed, ColuwenError, Entry, Late, Position, Progress, Refused, Result, Score, Session, Silent, TooDeep, Unreachable
-from coluwen._place import url_of
+from coluwen.client import url_of
 from told import sound, told, value_of
 
 OPENING = Position.opening()

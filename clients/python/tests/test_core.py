@@ -2,6 +2,7 @@
 from __future__ import annotations
 
 import heapq
+import math
 import random
 from collections.abc import Callable
 from typing import Any
@@ -11,7 +12,7 @@ import hypothesis.strategies as st
 import pytest
 from coluwen import Broken, Closed, Late, Refused, TooDeep, Unreachable
 from coluwen._answers import parse
-from coluwen._core import PROBES, Core, Errand, Found, Info, Options, Question, Wire, Work, pause_after, ping
+from coluwen._core import PROBES, Core, Errand, Found, Info, Inquiry, Options, Question, Reservation, Wire, Work, pause_after, ping
 from told import value_of
 
 OPENING = "---------------------------OX------XO--------------------------- X"
@@ -86,6 +87,7 @@ class Stage:
         self.ended: list[tuple[float, Work]] = []
         self.told: list[str] = []
         self.most_open = self.number = 0
+        self.due = math.inf
 
     def later(self, seconds: float, call: Callable[[], None]) -> None:
         self.number += 1
@@ -93,7 +95,7 @@ class Stage:
 
     def ask(self, *works: Work) -> None:
         for work in works:
-            self.core.ask(work, self.now)
+            self.core.ask(work)
 
     def dial(self, key: int) -> None:
         self.open.add(key)
@@ -117,42 +119,44 @@ class Stage:
     def tell(self, text: str) -> None:
         self.told.append(text)
 
+    def wake(self, due: float) -> None:
+        self.due = due
+
     def connect(self, key: int) -> None:
         if key in self.open:
             if self.model.is_away(self.now):
-                self.core.failed(key, "nobody is there", self.now)
+                self.core.failed(key, "nobody is there")
             else:
                 self.peers[key] = Peer(self.model)
-                self.core.opened(key, self.now)
+                self.core.opened(key)
 
     def answer(self, key: int, line: str) -> None:
         if key not in self.peers:
             return
         if self.model.is_away(self.now):
             del self.peers[key]
-            self.core.received(key, b"", self.now)
+            self.core.received(key, b"")
             return
         told = self.peers[key].answer(line, self.now, sum(peer.is_in for peer in self.peers.values()))
         if any(begin <= self.now < end for begin, end in self.model.too_fast) and not line.startswith(("HELLO", "BYE")):
             told = "ERR 31"
         for part in (told[: len(told) // 2].encode(), told[len(told) // 2 :].encode() + b"\n"):  # in two pieces, as TCP may
             if key in self.open:
-                self.core.received(key, part, self.now)
+                self.core.received(key, part)
 
     def run(self, seconds: float) -> None:
         """So long, or until nothing more happens."""
         end = self.now + seconds
         for _ in range(100_000):
-            due = self.core.next_tick()
-            first = min([at for at in (due, self.queue[0][0] if self.queue else None) if at is not None], default=None)
-            if first is None or first > end:
+            first = min(self.due, self.queue[0][0] if self.queue else math.inf)
+            if first > end:
                 self.now = end
                 return
             self.now = max(self.now, first)
             if self.queue and self.queue[0][0] <= self.now:
                 heapq.heappop(self.queue)[2]()
             else:
-                self.core.tick(self.now)
+                self.core.tick()
         raise AssertionError("it turns without end")
 
     def lines(self, word: str) -> list[str]:
@@ -187,15 +191,16 @@ def test_ahead() -> None:
     assert most == 4
 
 
-def test_fewer_sessions_than_are_wanted() -> None:
-    """Those that are granted do it all; it is told once, and asked for more rarely."""
+@pytest.mark.parametrize("most", [1, 2])
+def test_fewer_sessions_than_are_wanted(most: int) -> None:
+    """Those that are granted do it all, however long that takes; it is told once, and asked for more rarely."""
     works = [Question(3, POSITIONS[at % 20]) for at in range(60)]
-    stage = Stage(Model(most=2, job=0.2), sessions=5)
+    stage = Stage(Model(most=most, job=0.2), sessions=5, patience=2)
     stage.ask(*works)
     stage.run(60)
     assert results(works) == [value_of(work.position) for work in works]
-    assert [text for text in stage.told if "granted" in text] == ["2 of 5 sessions were granted"]
-    assert len(stage.lines("HELLO")) < 30
+    assert [text for text in stage.told if "granted" in text] == [f"{most} of 5 sessions were granted"]
+    assert len(stage.lines("HELLO")) < 60 // most
 
 
 def test_an_outage_loses_nothing() -> None:
@@ -264,7 +269,7 @@ def test_patience() -> None:
 @pytest.mark.parametrize("grain, found", [(0, 0), (3, 3), (5, 5), (6, 6), (9, 6)])
 def test_the_grain_by_probes(grain: int, found: int) -> None:
     stage = Stage(Model(grain=grain, job=0.01), sessions=1)
-    stage.ask(errand := stage.core.learning())
+    stage.ask(errand := Inquiry())
     stage.run(30)
     assert errand.found.grain == found and stage.core.info == errand.found and stage.lines("BYE") == ["BYE"]
     asked = [int(line.split()[1]) for line in stage.lines("ASK")]
@@ -293,8 +298,8 @@ def test_late_and_given_up() -> None:
     assert results([next_one]) == [value_of(POSITIONS[3])]
     stage.ask(given := Question(6, OPENING), waits := Question(6, POSITIONS[4]))
     stage.run(0.5)
-    stage.core.give_up(given, Broken("not wanted"), stage.now)
-    stage.core.give_up(waits, Broken("not wanted"), stage.now)
+    stage.core.give_up(given, Broken("not wanted"))
+    stage.core.give_up(waits, Broken("not wanted"))
     assert given.ended and waits.ended
     stage.run(5)
     assert stage.lines("CANCEL") == ["CANCEL 1", "CANCEL 3"] and len(stage.lines("ASK")) == 3 and len(stage.lines("HELLO")) == 1
@@ -390,7 +395,7 @@ def test_whatever_happens_each_ends_as_it_should(seed: int, sessions: int, ahead
     stage.run(300)
     assert results(works) == ["TooDeep" if work.depth == 9 else value_of(work.position) for work in works]
     assert stage.most_open <= sessions
-    stage.core.close(stage.now)
+    stage.core.close()
     stage.run(5)
     assert stage.core.has_ended
 
@@ -420,6 +425,7 @@ class Hand:
 
     def __init__(self, **options: Any):
         self.core, self.now, self.ended, self.done = Core(Options("here", **options), self), 1000.0, list[Work](), list[str]()
+        self.due = math.inf
 
     def dial(self, key: int) -> None:
         self.done.append(f"open {key}")
@@ -436,33 +442,36 @@ class Hand:
     def tell(self, text: str) -> None:
         """(What is told, `Stage` keeps.)"""
 
+    def wake(self, due: float) -> None:
+        self.due = due
+
     def does(self) -> list[str]:
         """What was done since it was last asked."""
         found, self.done = self.done, []
         return found
 
     def ask(self, work: Work) -> list[str]:
-        self.core.ask(work, self.now)
+        self.core.ask(work)
         return self.does()
 
     def hear(self, key: int, *lines: str) -> list[str]:
         """Answers of a session one after another; what is done at last. A session that is opened is welcomed first."""
         for line in lines:
-            self.core.received(key, line.encode() + (b"\n" if line else b""), self.now)
+            self.core.received(key, line.encode() + (b"\n" if line else b""))
             last = self.does()
         return last
 
     def opens(self, key: int) -> list[str]:
-        self.core.opened(key, self.now)
+        self.core.opened(key)
         (hello,) = self.does()
         return self.hear(key, hello.replace(f"{key} HELLO", "WELCOME"))
 
     def waits(self, seconds: float) -> list[str]:
         """Until so much later; all that is done meanwhile."""
         end, found = self.now + seconds, list[str]()
-        while (due := self.core.next_tick()) is not None and due <= end:
-            self.now = max(self.now, due)
-            self.core.tick(self.now)
+        while self.due <= end:
+            self.now = max(self.now, self.due)
+            self.core.tick()
             found += self.does()
         self.now = end
         return found
@@ -470,7 +479,7 @@ class Hand:
 
 def test_a_core_that_is_closed_takes_nothing() -> None:
     hand = Hand()
-    hand.core.close(hand.now)
+    hand.core.close()
     with pytest.raises(Closed):
         hand.ask(Question(1, OPENING))
 
@@ -481,7 +490,7 @@ def test_a_session_that_ends_without_an_answer_is_over(how: str) -> None:
     assert hand.ask(Question(2, OPENING)) == ["open 1"] and hand.opens(1) == [f"1 ASK 2 {OPENING}"]
     assert hand.hear(1, "JOB 1") == ["1 GET 1"]
     hand.hear(1, "DONE 1 5 d3", "TABLE 1 d3=5")
-    hand.core.close(hand.now)
+    hand.core.close()
     assert hand.does() == ["1 BYE"] and not hand.core.has_ended
     assert (hand.hear(1, "") if how == "the other side ends" else hand.waits(2)) == ["shut 1"]
     assert hand.core.has_ended
@@ -540,7 +549,7 @@ def test_what_a_look_is_refused_for() -> None:
 
 
 def test_what_is_reserved_by_hand_knows_no_depth() -> None:
-    hand = Hand(sessions=1, segments=64, nodes=100)
+    hand = Hand(sessions=1, levels=(Reservation(64, 100),))
     hand.core.info = Info(4)
     hand.ask(question := Question(9, OPENING))
     hand.opens(1)
@@ -571,7 +580,7 @@ def test_what_lost_sessions_had_is_asked_again_in_its_order() -> None:
     asked(hand, Question(1, OPENING), Question(2, OPENING))
     hand.ask(Question(3, OPENING))
     for key in (1, 2):
-        hand.core.failed(key, "reset", hand.now)
+        hand.core.failed(key, "reset")
         assert hand.does() == [f"shut {key}", f"open {key + 2}"]
     assert hand.opens(3) == [f"3 ASK 1 {OPENING}"] and hand.opens(4) == [f"4 ASK 2 {OPENING}"]
 
@@ -587,9 +596,9 @@ def test_where_others_go_on_no_session_is_tried_for_a_while() -> None:
     hand = Hand(sessions=2)
     asked(hand, Question(2, OPENING))
     assert hand.ask(Question(2, OPENING)) == ["open 2"]
-    hand.core.failed(2, "nobody is there", hand.now)
+    hand.core.failed(2, "nobody is there")
     assert hand.does() == ["shut 2"]
-    hand.core.failed(2, "nobody is there", hand.now)  # (of one that is over nothing is heard)
+    hand.core.failed(2, "nobody is there")  # (of one that is over nothing is heard)
     assert hand.does() == [] and "open 3" not in hand.waits(0.95) and "open 3" in hand.waits(0.1)
 
 
@@ -618,15 +627,17 @@ def test_what_waits_goes_on_when_its_depth_is_known_to_need_more() -> None:
     assert hand.hear(2, "DONE 2 5 d3", "TABLE 2 d3=5") == [f"2 ASK 9 {POSITIONS[2]}"] and hand.ask(Question(3, OPENING)) == [f"3 ASK 3 {OPENING}"]
 
 
-def test_a_server_that_is_away_for_a_moment_is_no_loss_where_no_outage_is_endured() -> None:
+@pytest.mark.parametrize("outage, told", [(0, 0), (1, 1)])
+def test_a_server_that_is_away_for_a_moment_is_no_loss(outage: int, told: int) -> None:
+    """Also where no outage is endured; where one is, that is told."""
     model = Model(job=0.1)
     model.away = [(1.0, 1.5)]
-    stage = Stage(model, sessions=1, outage=0)
+    stage = Stage(model, sessions=1, outage=outage)
     stage.ask(Question(2, OPENING))
     stage.run(1.1)
     stage.ask(work := Question(2, POSITIONS[1]))
     stage.run(5)
-    assert results([work]) == [value_of(POSITIONS[1])]
+    assert results([work]) == [value_of(POSITIONS[1])] and sum("it is tried again for 1 s" in text for text in stage.told) == told
 
 
 def test_who_waits_for_what_the_server_is_is_told_that_it_can_t_be_found_out() -> None:
@@ -638,7 +649,7 @@ def test_who_waits_for_what_the_server_is_is_told_that_it_can_t_be_found_out() -
     hand.hear(1, "BYE")
     for key in range(2, 6):
         assert not question.ended and hand.opens(key) == [f"{key} INFO"]
-        hand.core.failed(key, "reset", hand.now)
+        hand.core.failed(key, "reset")
         hand.does()
     assert isinstance(question.fault, Unreachable) and "reset" in str(question.fault) and not hand.core.closed
 
@@ -646,7 +657,7 @@ def test_who_waits_for_what_the_server_is_is_told_that_it_can_t_be_found_out() -
 def test_who_answers_hello_by_something_else_is_tried_again_after_a_pause() -> None:
     hand = Hand(sessions=1)
     hand.ask(Question(2, OPENING))
-    hand.core.opened(1, hand.now)
+    hand.core.opened(1)
     assert hand.does() == ["1 HELLO 256 8192"] and hand.hear(1, "HTTP/1.1 400 Bad Request") == ["shut 1"]
     assert hand.waits(0.09) == [] and hand.waits(0.02) == ["open 2"]
 
@@ -656,14 +667,22 @@ def test_a_job_that_ends_while_it_is_given_up(answer: str, then: list[str]) -> N
     """A session is kept, but where a job was spent in it."""
     hand = Hand(sessions=1)
     asked(hand, given := Question(2, OPENING))
-    hand.core.give_up(given, Closed("not wanted"), hand.now)
+    hand.core.give_up(given, Closed("not wanted"))
     assert hand.ask(Question(3, OPENING)) == [] and hand.hear(1, answer) == then
+
+
+def test_for_what_is_given_up_nothing_is_found_out() -> None:
+    hand = Hand(sessions=1)
+    hand.core._needs[9] = 1
+    asked(hand, given := Question(9, OPENING))
+    hand.core.give_up(given, Closed("not wanted"))
+    assert hand.hear(1, "SPENT 1") == ["1 BYE"] and hand.hear(1, "BYE") == ["shut 1"] and hand.waits(5) == []
 
 
 def test_how_a_server_is_found_out() -> None:
     """Line by line; a probe that takes 50 nodes is within a ply of the grain, and one of 51 is not."""
     hand = Hand(sessions=1)
-    hand.ask(errand := hand.core.learning())
+    hand.ask(errand := Inquiry())
     assert hand.opens(1) == ["1 INFO"] and hand.hear(1, "ERR 21") == ["1 QUOTA"] and hand.hear(1, "QUOTA 1 8000 1") == [f"1 ASK 2 {PROBES[0]}"]
     assert hand.hear(1, "JOB 1") == ["1 GET 1"] and hand.hear(1, "PENDING 1") == [] and hand.waits(0.0003) == ["1 GET 1"]
     assert hand.hear(1, "DONE 1 0 d3") == ["1 QUOTA"] and hand.hear(1, "QUOTA 1 7950 1") == [f"1 ASK 3 {PROBES[0]}"]
@@ -679,14 +698,14 @@ def test_how_long_a_server_is_tried_that_was_never_there() -> None:
     hand = Hand(sessions=1, outage=0)
     hand.ask(question := Question(2, OPENING))
     hand.now += 1
-    hand.core.failed(1, "nobody is there", hand.now)
+    hand.core.failed(1, "nobody is there")
     assert hand.does() == ["shut 1"] and hand.waits(0.45) == ["open 2"] and hand.waits(0.06) == ["shut 2"]
     assert isinstance(question.fault, Unreachable) and "no connection in" in str(question.fault)
     hand = Hand(sessions=2)
     hand.ask(Question(2, OPENING))
     hand.ask(Question(3, OPENING))
-    hand.core.failed(1, "nobody is there", hand.now)
-    hand.core.failed(2, "there is no such host", hand.now, True)
+    hand.core.failed(1, "nobody is there")
+    hand.core.failed(2, "there is no such host", True)
     assert hand.does() == ["shut 1", "shut 2"] and len(hand.ended) == 2 and hand.ask(Question(2, OPENING)) == ["open 3"]
 
 
@@ -708,7 +727,7 @@ def test_what_is_given_up_while_its_session_is_raised() -> None:
     hand.opens(1)
     hand.hear(1, "JOB 1", "DONE 1 5 d3", "TABLE 1 d3=5")
     assert hand.hear(1, "ERR 10") == ["1 RESERVE 512 16384"]
-    hand.core.give_up(given, Closed("not wanted"), hand.now)
+    hand.core.give_up(given, Closed("not wanted"))
     assert hand.hear(1, "RESERVED 512 16384") == [] and hand.ask(Question(4, OPENING)) == [f"1 ASK 4 {OPENING}"]
 
 
@@ -730,6 +749,45 @@ def test_a_second_question_of_a_session_waits_while_others_come() -> None:
     asked(hand, Question(2, OPENING))
     assert hand.hear(1, "PENDING 1") == [] and hand.ask(Question(3, OPENING)) == ["open 2"]
     assert hand.ask(Question(4, OPENING)) == [f"1 ASK 3 {OPENING}"]  # one of the two is for the session that comes
+
+
+def test_how_long_an_answer_may_be() -> None:
+    """With its LF 1115 bytes: one that comes to an end is taken, and what has none by then isn't waited for."""
+    words = "INFO 4 " + "w" * 1107
+    assert parse("INFO", f"{words}\n".encode()).more == ("w" * 1107,)
+    with pytest.raises(Broken, match="was answered by"):
+        parse("INFO", f"{words}w\n".encode())
+    wire = Wire()
+    wire.send("INFO")
+    assert wire.receive(words.encode()) is None
+    with pytest.raises(Broken, match="more than 1115 bytes"):
+        wire.receive(b"w")
+
+
+def test_how_long_a_server_that_is_full_is_asked() -> None:
+    """Until patience is over, to the moment; one that was welcomed meanwhile begins anew."""
+    hand = Hand(sessions=1, patience=1)
+    hand.ask(question := Question(2, OPENING))
+    hand.core.opened(1)
+    hand.does()
+    for key, moment in ((1, 1000.0), (2, 1000.5)):
+        hand.now = moment
+        assert hand.hear(key, "ERR 14") == [f"shut {key}"] and hand.waits(0.11) == [f"open {key + 1}"]
+        hand.core.opened(key + 1)
+        hand.does()
+    hand.now = 1001.0
+    hand.hear(3, "ERR 14")
+    assert isinstance(question.fault, Refused) and question.fault.number == 14
+
+
+def test_nodes_are_counted_where_more_is_reserved() -> None:
+    hand = Hand(sessions=1, counts=True)
+    hand.ask(Question(2, OPENING))
+    hand.ask(Question(3, OPENING))
+    hand.opens(1)
+    hand.hear(1, "JOB 1", "DONE 1 5 d3", "TABLE 1 d3=5", "QUOTA 1 8000 1")
+    hand.hear(1, "ERR 11", "RESERVED 512 16384", "JOB 2", "DONE 2 5 d3", "TABLE 2 d3=5", "QUOTA 1 16000 1")
+    assert [work.found.nodes for work in hand.ended] == [192, 192]
 
 
 def test_what_no_answer_is_told_as() -> None:

@@ -5,7 +5,6 @@ import pathlib
 import random
 import re
 
-import coluwen
 import hypothesis
 import hypothesis.strategies as st
 import pytest
@@ -221,16 +220,22 @@ def test_wthor_of_many_files(tmp_path: pathlib.Path) -> None:
 
 def test_wthor_is_replayed_as_the_rules_say() -> None:
     """Its own replay and `Board` agree on games with passes, and on each code that isn't a move."""
+    head = wthor.Head((2020, 1, 1), 1, size=8).written()
+
+    def replayed(codes: bytes) -> formats.Game:
+        found = next(wthor.read(head + bytes([0, 0, 0, 0, 0, 0, 32, 32]) + codes.ljust(60, b"\0")))
+        assert isinstance(found, formats.Game)
+        return found
+
     for seed in range(60):
         game = random_game(seed)
         codes = bytes(10 * int(word[1]) + "abcdefgh".index(word[0]) + 1 for word in game.words())
-        moves, discs, fault = wthor.replayed(codes)
-        assert tuple(moves) == game.moves and not fault and discs == coluwen.board.discs_of(game.final().cells) and wthor.is_over(discs)
+        assert replayed(codes).moves == game.moves
         position = OPENING
         for played in game.moves[:9]:
             legal = {10 * int(word[1]) + "abcdefgh".index(word[0]) + 1 for word in position.squares()}
             before = codes[: game.words().index(played.move)]
-            assert {code for code in range(256) if not wthor.replayed(before + bytes([code]))[2]} == legal
+            assert {code for code in range(1, 256) if len(replayed(before + bytes([code])).moves) > len(before)} == legal
             position = position.play(played.move)
 
 
@@ -314,8 +319,7 @@ def test_fixtures(path: pathlib.Path) -> None:
 
 def test_small_things() -> None:
     assert transcript.narrow("\uff01\uff5e\u3000\u2212\u2010\u2013\u30fc\uff00\uff5f") == "!~ ----\uff00\uff5f"
-    both = coluwen.board.discs_of("X" * 20 + "O" * 20 + "-" * 24)
-    assert [wthor.black_discs(one) for one in (both, coluwen.board.discs_of("X" * 30 + "O" * 20 + "-" * 14), coluwen.board.discs_of("X" * 20 + "O" * 30 + "-" * 14))] == [32, 44, 20]
+    assert [wthor.black_discs(Position("X" * black + "O" * white + "-" * (64 - black - white))) for black, white in ((20, 20), (30, 20), (20, 30))] == [32, 44, 20]
     (fault,) = ggf.read("\n(;GM[Go]B[f5];)", "a")
     assert str(fault) == "a:2:6: this is a game of Go"
     for text, said in (("8/8/8/3OX3/3XO3/8/8 X", "1:20: the text ends in row 7 behind 8 cells"), ("8/8/8/3OX3/3XO3/8/8/8/8 X", "1:22: there are more than 8 rows"), ("7/8/8/3OX3/3XO3/8/8/8 X", "1:2: row 1 has 7 cells"),

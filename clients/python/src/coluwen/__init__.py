@@ -8,11 +8,10 @@ What is named here, in `coluwen.aio` (the same for asyncio) and in `coluwen.form
 part, and changes as CHANGELOG.md promises; any other module is its own matter.
 """
 from ._core import Info, Reservation
-from ._place import tls_context, token_in
 from .aio import AsyncClient
 from .analyst import Analyst, Outcome, Progress, Result
 from .board import BLACK, PASS, SQUARES, START, WHITE, Board, Position
-from .client import Client, connect
+from .client import Client, connect, tls_context, token_in
 from .engine import AsyncEngine, Engine, Fallback
 from .errors import FAULTS, Broken, Closed, ColuwenError, FormatError, IllegalMove, Late, Refused, Silent, TooDeep, Unreachable
 from .score import Entry, Score

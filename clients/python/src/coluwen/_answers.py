@@ -21,12 +21,13 @@ DONE alone, `-`. No move stands twice in a table.
 
 import dataclasses
 import re
+from typing import Any
 
 from .errors import Broken, Refused
-from .score import GREATEST
 
 LONGEST = 1115  # bytes of an answer, with its LF
-SIGNS = {"N": "(?:0|[1-9][0-9]{0,7})", "V": "(?:0|-?[1-9][0-9]{0,5})", "P": "(?:[a-h][1-8]|pass)"}  # a number, a value, a square or a pass
+SIGNS = {"N": "(?:0|[1-9][0-9]{0,7})", "P": "(?:[a-h][1-8]|pass)",  # a number, a square or a pass, a value
+         "V": "(?:0|-?(?:[1-9][0-9]{0,4}|1[01][0-9]{4}|12[0-7][0-9]{3}|128000))"}  # fmt: skip
 FORMS = {
     word: re.compile(re.sub(r"\b[NVP]\b", lambda sign: SIGNS[str(sign[0])], form))
     for word, form in {
@@ -63,30 +64,21 @@ class Answer:
 def parse(line: str, answer: bytes, jobs: int = 0) -> Answer:
     """The answer to a line (without its LF), where so many jobs were asked before. `Refused` where it is an `ERR`, and `Broken` where it
     is none to that line."""
-
-    def misfit() -> Broken:
-        told = answer[:120].decode("latin-1")
-        return Broken(f"{line!r} was answered by {told!r}{'..' if len(answer) > 120 else ''}" if answer.endswith(b"\n")
-                      else f"an answer to {line!r} has more than {LONGEST} bytes" if len(answer) >= LONGEST
-                      else "the server ended the session")  # fmt: skip
-
-    word, *rest = line.split(" ")
-    if not answer.endswith(b"\n") or len(answer) > LONGEST:
-        raise misfit()
-    text = answer[:-1].decode("latin-1")
-    state, *told = text.split(" ")
-    if re.fullmatch("ERR [1-9][0-9]", text):
+    text = answer.removesuffix(b"\n").decode("latin-1")
+    (word, *rest), (state, *told) = line.split(" "), text.split(" ")
+    is_line = answer.endswith(b"\n") and len(answer) <= LONGEST
+    if is_line and re.fullmatch("ERR [1-9][0-9]", text):
         raise Refused(int(told[0]))
-    if not FORMS[word].fullmatch(text):
-        raise misfit()
-    given = told[: 1 if word in OF_JOBS or word == "INFO" else 3]
-    value = int(told[1]) if state == "DONE" else 0
-    parts = [re.split("([=<>])", entry) for entry in told[1:]] if state == "TABLE" else []
-    entries = tuple((move, sign, int(worth)) for move, sign, worth in parts)
-    wanted = {"HELLO": rest, "RESERVE": rest, "ASK": [str(jobs + 1)], "QUOTA": None, "LIVE": None, "INFO": None, "BYE": None}.get(word, rest)
-    moves = [move for move, *_ in entries]
-    values = [value, *(each for *_, each in entries)]
-    if (wanted is not None and wanted != given) or len(set(moves)) != len(moves) or max(abs(each) for each in values) > GREATEST:
-        raise misfit()
-    numbers, move, more = tuple(map(int, given)), told[2] if state == "DONE" else "", tuple(told[1:]) if word == "INFO" else ()
-    return Answer(state, numbers[0], value, move, entries, (), more) if word in OF_JOBS else Answer(state, numbers=numbers, more=more)
+    wanted = [str(jobs + 1)] if word == "ASK" else rest
+    entries = re.findall(r"(\w+)([=<>])(\S+)", text) if state == "TABLE" else []
+    is_twice = len({move for move, *_ in entries}) < len(entries)
+    if not is_line or is_twice or not FORMS[word].fullmatch(text) or told[: len(wanted)] != wanted:
+        shown = answer[:120].decode("latin-1")
+        raise Broken(f"{line!r} was answered by {shown!r}{'..' if len(answer) > 120 else ''}" if answer.endswith(b"\n")
+                     else f"an answer to {line!r} has more than {LONGEST} bytes" if len(answer) >= LONGEST
+                     else "the server ended the session")  # fmt: skip
+    if word in OF_JOBS:
+        done: dict[str, Any] = {"value": int(told[1]), "move": told[2]} if state == "DONE" else {}
+        return Answer(state, int(told[0]), entries=tuple((move, sign, int(value)) for move, sign, value in entries), **done)
+    numbers, more = (told[:1], told[1:]) if word == "INFO" else (told, [])
+    return Answer(state, numbers=tuple(map(int, numbers)), more=tuple(more))

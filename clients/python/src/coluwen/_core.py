@@ -1,17 +1,16 @@
-"""What a client does, without input and output: bytes, moments and questions come in, and what is to be done is told to `Hands`.
+"""What a client does, without input and output: bytes and questions come in, and `Hands` do what is to be done, and have the clock.
 
 `Core` decides for all sessions of a client what is sent, when one is opened or ended, and how each question ends; a driver (`_driver.py`)
 has the connections and the clock. So it is the same algorithm for `Client`, `AsyncClient`, the commands and the page, and it is tried without any
 socket. clients/behaviour/README.md says the rules.
 
-    core.ask(question, now)           what callers do; also `give_up` and `close`
-    core.opened(key, now)             what happened to a connection that was asked for; also `failed`, `received`
-    core.tick(now)                    time has gone on; `next_tick()` says when it is to be called at the latest
+    core.ask(question)                what callers do; also `give_up` and `close`
+    core.opened(key)                  what happened to a connection that was asked for; also `failed`, `received`
+    core.tick()                       time has gone on, to when `Hands.wake` said at the latest
 """
 
-import bisect
+import contextlib
 import dataclasses
-import functools
 import itertools
 import math
 from collections.abc import Callable, Generator
@@ -59,19 +58,8 @@ class Options:
     patience: float = 30
     silence: float = 1.5
     outage: float = 120
-    segments: int | None = None
-    nodes: int | None = None
     counts: bool = False  # whether the nodes of each job are told, by QUOTA
-
-    @property
-    def is_free(self) -> bool:
-        return self.segments is None and self.nodes is None
-
-    @property
-    def levels(self) -> tuple[Reservation, ...]:
-        """The reservations of one session after another; one alone where the caller has said what to reserve."""
-        most = LEVELS[-1]
-        return LEVELS if self.is_free else (Reservation(self.segments or most.segments, self.nodes or most.nodes),)
+    levels: tuple[Reservation, ...] = LEVELS  # of one session after another; one alone where the caller has said what to reserve
 
 
 class Found(NamedTuple):
@@ -102,6 +90,9 @@ class Info:
         return min(self.grain + 5, DEEPEST)
 
 
+Script = Generator[Any, Any, Any]  # yields lines, or a line and the seconds before it, and takes the answers; `Refused` is raised at an ERR
+
+
 class Work:
     """What a caller waits for: it ends with `found` or `fault`. `owner` is the driver's."""
 
@@ -116,54 +107,47 @@ class Work:
     depth = -1
     level = 0
     alone = False  # it begins in a session of its own
+    begin: Callable[[], Script]  # of an errand
+    script: Script  # what a session says for it
+    line: str  # what that is next, and not before when
+    due: float
+    timeout: float | None = None  # how many seconds that may take
+    until = math.inf  # when they are over
+    cancels = False  # it isn't wanted any more: its job is to be cancelled
 
 
 class Question(Work):
-    """A position and a depth, how many seconds its job may take, and how that job stands."""
+    """A position and a depth, and how many seconds its job may take."""
 
-    job = 0
-    asked = look = 0.0  # when ASK was sent, and when the job is looked at next
-    cancels = False  # the job is to be cancelled
-    done: Answer | None = None  # it is done, and its table is wanted
-    entries: tuple[tuple[str, str, int], ...] = ()
-    seconds = 0.0
+    job: int  # its number, 0 before it has one
 
     def __init__(self, depth: int, position: str, timeout: float | None = None):
         self.depth, self.position, self.timeout = depth, position, timeout
         self.limited: float | None = None  # since when the server says that it is asked too fast
 
-    def begin(self, now: float) -> None:
-        self.asked = self.look = now
-        self.cancels, self.done = False, None
-
-    @property
-    def deadline(self) -> float:
-        return math.inf if self.timeout is None or self.cancels or self.done else self.asked + self.timeout
-
 
 class Errand(Work):
-    """Lines of which each follows from the answer before it: yields a line, or seconds to wait."""
+    """Lines of which each follows from the answer before it."""
 
-    def __init__(self, script: Callable[[], Generator[Any, Any, Any]], alone: bool = False):
-        self.script, self.alone = script, alone
+    def __init__(self, begin: Callable[[], Script], alone: bool = False):
+        self.begin, self.alone = begin, alone
+
+
+class Inquiry(Work):
+    """What the server is."""
 
 
 class Hands(Protocol):
-    """What does what the core decides; it calls the core later, and not from here."""
+    """What does what the core decides, and has the clock; it calls the core later, and not from here."""
 
-    def dial(self, key: int) -> None:
-        """Begins a connection; then `opened` or `failed` is called."""
-
+    @property
+    def now(self) -> float: ...
+    def dial(self, key: int) -> None: ...  # begins a connection; then `opened` or `failed` is called
     def send(self, key: int, data: bytes) -> None: ...
-
-    def hang_up(self, key: int) -> None:
-        """Ends a connection without a word; nothing more is told of it."""
-
-    def settle(self, work: Work) -> None:
-        """Tells who waits for it that it has ended."""
-
-    def tell(self, text: str) -> None:
-        """Tells something that who runs the client may want to know."""
+    def hang_up(self, key: int) -> None: ...  # ends a connection without a word; nothing more is told of it
+    def settle(self, work: Work) -> None: ...  # tells who waits for it that it has ended
+    def tell(self, text: str) -> None: ...  # tells something that who runs the client may want to know
+    def wake(self, due: float) -> None: ...  # has `tick` called then, and no more when it said earlier
 
 
 class Wire:
@@ -210,95 +194,79 @@ def pause_after(seconds: float) -> float:
     return min(max(seconds / 4, SHORTEST_PAUSE), LONGEST_PAUSE)
 
 
-def more(now: Reservation, most: Reservation) -> Reservation | None:
-    """What a session that has used up this raises it to; None where it has all that it may."""
-    return next((Reservation(min(max(step.segments, now.segments), most.segments), step.nodes) for step in RAISED if step.nodes > now.nodes), None)
-
-
+@dataclasses.dataclass(eq=False)
 class _Session:
-    """A session: a connection, what is reserved, its jobs and the line that is under way."""
+    """A session: a connection, what is reserved, what it works on and the line that is under way."""
 
-    def __init__(self, key: int, reserved: Reservation, silence: float, deadline: float):
-        self.key, self.reserved, self.silence = key, reserved, silence
-        self.wire = Wire()
-        self.is_ready = self.is_ending = self.takes_no_more = False
-        self.deadline = deadline  # by when it must have been opened, or have answered
-        self.running: list[Question] = []  # whose jobs it has, the oldest first
-        self.doing: Callable[[Answer | Refused, float], None] = lambda found, now: None
-        self.asking: Question | None = None
-        self.errand: Errand | None = None
-        self.script: Generator[Any, Any, Any] | None = None
-        self.not_before = 0.0  # nothing is sent before
-        self.left = reserved.nodes  # where nodes are counted
-
-    @property
-    def questions(self) -> list[Question]:
-        return [*self.running, *([self.asking] if self.asking else [])]
-
-    @property
-    def works(self) -> list[Work]:
-        """What it has to do."""
-        return [*self.questions, *([self.errand] if self.errand else [])]
+    key: int
+    reserved: Reservation
+    silence: float
+    deadline: float  # by when it must have been opened, or have answered
+    wire: Wire = dataclasses.field(default_factory=Wire)
+    works: list[Work] = dataclasses.field(default_factory=list)  # the oldest first
+    asking: Work = dataclasses.field(init=False)  # whose line was sent last
+    is_ready = False  # it was welcomed
+    takes_no_more = False
+    is_ending = False  # BYE was said
+    not_before = 0.0  # nothing is sent before
+    used = 0  # nodes, where they are counted
 
     @property
     def is_idle(self) -> bool:
-        return self.is_ready and not self.is_ending and not self.works and self.wire.line is None
+        return self.is_ready and not self.is_ending and not self.works
 
 
 class Core:
     """The algorithm; see above."""
 
     def __init__(self, options: Options, hands: Hands):
-        self.options, self.levels, self.hands = options, options.levels, hands
+        self.options, self.hands = options, hands
+        self.levels, self.is_free = options.levels, options.levels is LEVELS
         self.closed = False
         self.info: Info | None = None
         self._sessions: dict[int, _Session] = {}
-        self._waiting: list[Work] = []  # for whom there is no session yet, the oldest first
-        self._too_deep: list[Question] = []
-        self._learning: Errand | None = None
+        self._waiting: dict[int, Work] = {}  # for whom there is no session yet, in the order in which they were asked
+        self._wondering: list[Work] = []  # who waits for what the server is
+        self._learning: Errand | None = None  # what finds that out
         self._needs: dict[int, int] = {}  # of a depth the level that its last job needed
         self._keys, self._sequence = itertools.count(1), itertools.count(1)
         self._trouble: float | None = None  # since when it is tried to reach the server
         self._full: float | None = None  # since when it says that it is full
-        self._reached = False
+        self._endures = False  # a server that can't be reached any more is tried for longer than a moment
         self._pause = 0.0  # no connection is begun before
         self._granted = options.sessions  # how many sessions there were when no more were granted
         self._noted: set[str] = set()
 
     # What callers do.
 
-    def ask(self, work: Work, now: float) -> None:
-        """Begins a question or an errand. `Closed` where the client is closed."""
+    def ask(self, work: Work) -> None:
+        """Begins a question, an errand or an inquiry. `Closed` where the client is closed."""
         if self.closed:
             raise Closed("the client is closed")
-        work.sequence = next(self._sequence)
-        self._wait(work)
-        self._advance(now)
+        if isinstance(work, Inquiry):
+            self._wonder(work)
+        else:
+            self._wait(work)
+        self._advance()
 
-    def learning(self) -> Errand:
-        """The errand that finds out what the server is: a new one, or the one that is under way."""
-        self._learning = self._learning or Errand(_grain, alone=True)
-        return self._learning
-
-    def give_up(self, work: Work, fault: ColuwenError, now: float) -> None:
-        """Ends a question that its caller doesn't want any more; its job is cancelled as soon as that can be said."""
+    def give_up(self, work: Work, fault: ColuwenError) -> None:
+        """Ends what its caller doesn't want any more; its job is cancelled as soon as that can be said."""
         self._end(work, fault=fault)
-        if isinstance(work, Question):
-            work.cancels = True
-        self._advance(now)
+        work.cancels = True
+        self._advance()
 
-    def close(self, now: float) -> None:
+    def close(self) -> None:
         """Ends all: who waits gets `Closed`; sessions that have nothing to do say BYE, others are dropped."""
-        if self.closed:
-            return
         self.closed = True
-        for work in [*self._waiting, *self._too_deep, *(work for session in self._sessions.values() for work in session.works)]:
+        sessions = list(self._sessions.values())
+        for work in [*self._waiting.values(), *self._wondering, *(work for session in sessions for work in session.works)]:
             self._end(work, fault=Closed("the client was closed"))
-        for session in list(self._sessions.values()):
+        for session in sessions:
             if session.is_idle:
-                self._bye(session, now)
+                self._bye(session)
             elif not session.is_ending:
                 self._shut(session)
+        self._advance()
 
     @property
     def has_ended(self) -> bool:
@@ -306,23 +274,22 @@ class Core:
 
     # What connections do.
 
-    def opened(self, key: int, now: float) -> None:
+    def opened(self, key: int) -> None:
         """The connection is there: the session begins."""
         if session := self._sessions.get(key):
-            self._send(session, f"HELLO {session.reserved.segments} {session.reserved.nodes}", self._greeted, now)
+            self._send(session, f"HELLO {session.reserved.segments} {session.reserved.nodes}", self.options.token)
 
-    def failed(self, key: int, text: str, now: float, is_final: bool = False) -> None:
+    def failed(self, key: int, text: str, is_final: bool = False) -> None:
         """The connection couldn't be made, or was lost. Final: trying again can't mend it."""
-        if not (session := self._sessions.get(key)):
-            return
-        if is_final:
-            self._shut(session)
-            self._fail_waiting(lambda: Unreachable(f"{self.options.address}: {text}"))
-        else:
-            self._lose(session, Broken(text), now)
-        self._advance(now)
+        if session := self._sessions.get(key):
+            if is_final:
+                self._shut(session)
+                self._fail_waiting(lambda: Unreachable(f"{self.options.address}: {text}"))
+            else:
+                self._lose(session, Broken(text))
+            self._advance()
 
-    def received(self, key: int, data: bytes, now: float) -> None:
+    def received(self, key: int, data: bytes) -> None:
         """Bytes came; none are the connection's end."""
         if not (session := self._sessions.get(key)):
             return
@@ -332,53 +299,49 @@ class Core:
         except Refused as refusal:
             found = refusal
         except Broken as fault:
-            self._lose(session, fault, now)
+            self._lose(session, fault)
         if found:
-            self._trouble, self._reached, session.deadline = None, True, math.inf
-            if isinstance(found, Refused) and found.number == TOO_FAST and session.running and not session.asking:
-                session.not_before = now + AGAIN  # a job's line, that is sent again
-            else:
-                session.doing(found, now)
-        self._advance(now)
+            self._trouble, self._endures, session.deadline = None, self.options.outage > 0, math.inf
+            self._take(session, found)
+        self._advance()
 
-    def tick(self, now: float) -> None:
+    def tick(self) -> None:
         """What is due by time: silence, late jobs, looks and tries."""
+        now = self.hands.now
         for session in list(self._sessions.values()):
             if now >= session.deadline:
                 word = (session.wire.line or "").partition(" ")[0]
-                self._lose(session, Silent(f"no {f'answer to {word}' if word else 'connection'} in {session.silence:.3g} s"), now)
+                self._lose(session, Silent(f"no {f'answer to {word}' if word else 'connection'} in {session.silence:.3g} s"))
                 continue
-            for question in session.questions:
-                if now >= question.deadline:
-                    question.cancels = True
+            for work in session.works:
+                if now >= work.until:
+                    work.cancels, work.until = True, math.inf
                     if session.wire.line is not None:
-                        self._end(question, fault=Late(question.timeout or 0.0))
-        self._advance(now)
+                        self._end(work, fault=Late(work.timeout or 0.0))
+        self._advance()
 
-    def next_tick(self) -> float | None:
+    def _due(self) -> float:
         """When `tick` is to be called, if nothing else happens before."""
         times = [self._pause] if self._pause and self._waiting else []
         for session in self._sessions.values():
-            times += [session.deadline, *(question.deadline for question in session.questions)]
+            times += [session.deadline, *(work.until for work in session.works)]
             if session.is_ready and session.wire.line is None:
-                if session.errand or session.not_before and (session.running or self._waiting):
+                if session.not_before and (session.works or self._waiting):
                     times.append(session.not_before)
-                if session.running:
-                    times.append(max(session.running[0].look, session.not_before))
-        due = min(times, default=math.inf)
-        return None if due == math.inf else due
+                if session.works:
+                    times.append(max(session.works[0].due, session.not_before))
+        return min(times, default=math.inf)
 
     # Questions that wait.
 
     def _wait(self, work: Work) -> None:
         """Puts it among those that wait, behind those that came before it."""
-        bisect.insort(self._waiting, work, key=lambda one: one.sequence)
-
-    def _take(self, work: Work) -> None:
-        """Takes it out of those that wait, if it is one."""
-        at = bisect.bisect_left(self._waiting, work.sequence, key=lambda one: one.sequence)
-        if self._waiting[at : at + 1] == [work]:
-            del self._waiting[at]
+        if not work.ended:
+            work.sequence = work.sequence or next(self._sequence)
+            last = next(reversed(self._waiting), 0)
+            self._waiting[work.sequence] = work
+            if last > work.sequence:
+                self._waiting = dict(sorted(self._waiting.items()))
 
     def _level_of(self, work: Work) -> int:
         """What it needs, as far as that is known."""
@@ -390,15 +353,21 @@ class Core:
         return has_enough and not session.takes_no_more and not session.is_ending and not (work.alone and session.wire.jobs)
 
     def _end(self, work: Work, found: Any = None, fault: ColuwenError | None = None) -> None:
-        if not work.ended:
-            work.ended, work.found, work.fault = True, found, fault
-            self.hands.settle(work)
-            self._take(work)
-            if work is self._learning:
-                self._learned(work)
+        if work.ended:
+            return
+        work.ended, work.found, work.fault = True, found, fault
+        self.hands.settle(work)
+        self._waiting.pop(work.sequence, None)
+        if work is self._learning:
+            self.info, self._learning, wondering, self._wondering = found, None, self._wondering, []
+            for one in wondering:
+                if fault:
+                    self._end(one, fault=fault)
+                else:
+                    self._wonder(one)
 
     def _fail_waiting(self, fault: Callable[[], ColuwenError]) -> None:
-        for work in list(self._waiting):
+        for work in list(self._waiting.values()):
             self._end(work, fault=fault())
         self._trouble = self._full = None
         self._pause = 0.0
@@ -411,24 +380,24 @@ class Core:
 
     # Sessions.
 
-    def _advance(self, now: float) -> None:
-        """Has each session send what is next, and opens those that are wanted."""
+    def _advance(self) -> None:
+        """Has each session send what is next, opens those that are wanted, and says when to go on."""
+        now = self.hands.now
         self._pause = self._pause if now < self._pause else 0.0
         for session in list(self._sessions.values()):
             if session.is_ready and not session.is_ending and session.wire.line is None and now >= session.not_before:
-                self._turn(session, now)
-        self._open(now)
+                self._turn(session)
+        self._open()
+        self.hands.wake(self._due())
 
-    def _open(self, now: float) -> None:
+    def _open(self) -> None:
         """Opens sessions for those who wait and whom none of those that are being opened is for."""
-        if now < self._pause:
-            return
+        now = self.hands.now
         coming = [session for session in self._sessions.values() if not session.is_ready]
-        for work in self._waiting:
-            if self._is_full:
+        for work in self._waiting.values():
+            if len(self._sessions) >= self.options.sessions or now < self._pause:
                 return
-            one = next((session for session in coming if self._suits(session, work)), None)
-            if one:
+            if one := next((session for session in coming if self._suits(session, work)), None):
                 coming.remove(one)
                 continue
             silence = min(self.options.silence * 2**work.silences, max(LONGEST_SILENCE, self.options.silence))
@@ -439,74 +408,61 @@ class Core:
             self.hands.dial(session.key)
 
     @property
-    def _is_full(self) -> bool:
-        """Whether as many sessions are there as may be."""
-        return len(self._sessions) >= self.options.sessions
+    def _there(self) -> int:
+        """How many sessions have begun."""
+        return sum(session.is_ready for session in self._sessions.values())
 
-    @property
-    def _endures(self) -> bool:
-        """Whether a server that can't be reached any more is tried for longer than a moment."""
-        return self._reached and self.options.outage > 0
-
-    def _send(self, session: _Session, line: str, doing: Callable[[_Session, Answer | Refused, float], None], now: float) -> None:
-        session.doing = lambda found, at: doing(session, found, at)
-        data = session.wire.send(line, self.options.token if line.startswith("HELLO") else None)
+    def _send(self, session: _Session, line: str, token: str | None = None) -> None:
+        data = session.wire.send(line, token)
         if session.is_ready:  # else it has as long to be opened and welcomed
-            session.deadline = now + session.silence
+            session.deadline = self.hands.now + session.silence
         self.hands.send(session.key, data)
 
     def _shut(self, session: _Session) -> None:
         if self._sessions.pop(session.key, None):
             self.hands.hang_up(session.key)
 
-    def _bye(self, session: _Session, now: float) -> None:
+    def _bye(self, session: _Session) -> None:
         session.is_ending = True
-        self._send(session, "BYE", self._left, now)
+        self._send(session, "BYE")
 
-    def _left(self, session: _Session, found: Answer | Refused, now: float) -> None:
-        """A session has ended, and its place is free."""
-        self._pause = 0.0
-        self._shut(session)
-
-    def _greeted(self, session: _Session, found: Answer | Refused, now: float) -> None:
+    def _greeted(self, session: _Session, found: Answer | Refused) -> None:
         if not isinstance(found, Refused):
             session.is_ready = True
             self._full, self._pause = None, 0.0
-            self._granted = max(self._granted, sum(other.is_ready for other in self._sessions.values()))
+            self._granted = max(self._granted, self._there)
             self._noted -= {"full", "outage"}
             return
         self._shut(session)
-        number, there = found.number, sum(other.is_ready for other in self._sessions.values())
-        self._full = now if self._full is None else self._full
-        if number not in LATER or not there and now - self._full >= self.options.patience:
+        number, self._full = found.number, self.hands.now if self._full is None else self._full
+        if number not in LATER or not self._try_later(self._full, self.options.patience):
             self._fail_waiting(lambda: Refused(number))
-        elif there:
-            self._tell(f"{there} of {self.options.sessions} sessions were granted", "granted")
-            self._granted, self._pause = there, now + RARELY
-        else:
-            self._pause = now + AGAIN
-            if now - self._full > 1:
-                self._tell(f"{found}; it is asked again for {self.options.patience:g} s", "full")
+        elif self._there:
+            self._granted = self._there
+            self._tell(f"{self._there} of {self.options.sessions} sessions were granted", "granted")
+        elif self.hands.now - self._full > 1:
+            self._tell(f"{found}; it is asked again for {self.options.patience:g} s", "full")
 
-    def _unreached(self, text: str, now: float) -> None:
+    def _unreached(self, fault: ColuwenError) -> None:
         """A session couldn't be had."""
-        begun = now if self._trouble is None else self._trouble
-        if any(session.is_ready for session in self._sessions.values()):
-            self._pause = now + RARELY
-        elif now - begun > (self.options.outage if self._endures else 0.8 * self.options.silence):
-            self._fail_waiting(lambda: Unreachable(f"{self.options.address}: {text}"))
-        else:
-            self._pause = now + AGAIN
-            if self._endures:
-                self._tell(f"{self.options.address}: {text}; it is tried again for {self.options.outage:g} s", "outage")
+        begun = self.hands.now if self._trouble is None else self._trouble
+        if not self._try_later(begun, self.options.outage if self._endures else 0.8 * self.options.silence):
+            self._fail_waiting(lambda: Unreachable(f"{self.options.address}: {fault}"))
+        elif self._endures and not self._there:
+            self._tell(f"{self.options.address}: {fault}; it is tried again for {self.options.outage:g} s", "outage")
 
-    def _lose(self, session: _Session, fault: Broken | Silent, now: float) -> None:
+    def _try_later(self, begun: float, most: float) -> bool:
+        """Whether it makes sense to try a session again: rarely where others are there; else for so many seconds from when that began."""
+        self._pause = self.hands.now + (RARELY if self._there else AGAIN)
+        return bool(self._there) or self.hands.now - begun < most
+
+    def _lose(self, session: _Session, fault: Broken | Silent) -> None:
         """Drops a session; what it had to do is asked again in another one, or can't be had."""
-        works = [work for work in session.works if not work.ended]
         self._shut(session)
         if not session.is_ready:
-            return self._unreached(str(fault), now)
-        for work in sorted(works, key=lambda work: -work.sequence):
+            return self._unreached(fault)
+        works, now = [work for work in session.works if not work.ended], self.hands.now
+        for work in works:
             if isinstance(fault, Silent):
                 work.silent_since = work.silent_since if work.silences else now - session.silence
                 work.silences += 1
@@ -523,106 +479,144 @@ class Core:
 
     # One session's lines.
 
-    def _turn(self, session: _Session, now: float) -> None:
+    def _take(self, session: _Session, found: Answer | Refused) -> None:
+        """What the answer to a session's line brings."""
+        work = session.asking if session.works else None
+        if not session.is_ready:
+            self._greeted(session, found)
+        elif not work:  # it was BYE: the session has ended, and its place is free
+            self._pause = 0.0
+            self._shut(session)
+        elif isinstance(found, Refused) and found.number == TOO_FAST and (not isinstance(work, Question) or work.job):
+            session.not_before = self.hands.now + AGAIN  # its line is sent again
+        else:
+            self._go_on(session, work, found)
+
+    def _turn(self, session: _Session) -> None:
         """Sends what is next in a session that waits for no answer."""
         session.not_before = 0.0
-        if session.errand:
-            return self._go_on(session, None, now)
-        for question in session.running:
-            if question.cancels:
-                return self._send(session, f"CANCEL {question.job}", functools.partial(self._cancelled, question), now)
-            if question.done:
-                return self._send(session, f"TABLE {question.job}", functools.partial(self._tabled, question), now)
+        for work in list(session.works):
+            if work.cancels:
+                work.cancels = False
+                self._go_on(session, work, Late(work.timeout or 0.0))
+        next_one = next((work for work in session.works if not work.line.startswith("GET")), None)
         session.takes_no_more = session.takes_no_more or session.wire.jobs >= MOST_JOBS
-        work = None if session.takes_no_more else self._next_for(session)
-        if work:
-            self._take(work)
-        if isinstance(work, Errand):
-            session.errand, session.script = work, work.script()
-            self._go_on(session, None, now)
-        elif isinstance(work, Question):
-            work.begin(now)
-            self._ask_in(session, work, now)
-        elif session.running and now >= session.running[0].look:
-            self._look(session, session.running[0], now)
-        elif session.takes_no_more and not session.running:
-            self._bye(session, now)
+        if not next_one and not session.takes_no_more and (next_one := self._next_for(session)):
+            del self._waiting[next_one.sequence]
+            session.works.append(next_one)
+            session.takes_no_more = isinstance(next_one, Errand) and next_one.alone
+            next_one.script = self._asks(session, next_one) if isinstance(next_one, Question) else next_one.begin()
+            self._go_on(session, next_one)
+        if not next_one and session.works and self.hands.now >= session.works[0].due:
+            next_one = session.works[0]
+        if next_one:
+            session.asking = next_one
+            self._send(session, next_one.line)
+        elif session.takes_no_more and not session.works:
+            self._bye(session)
 
     def _next_for(self, session: _Session) -> Work | None:
         """What a session takes next: the oldest that waits, if it suits. It makes place for an older one that no session is for."""
-        if session.running:
+        if session.works:
             spare = sum(not other.is_ready or other.is_idle for other in self._sessions.values())
-            if len(session.running) >= self.options.ahead or session.running[0].alone:
+            if len(session.works) >= self.options.ahead or session.works[0].alone:
                 return None
-            if not self._is_full and not self._pause or spare and spare >= len(self._waiting):
+            if len(self._sessions) < self.options.sessions and not self._pause or spare and spare >= len(self._waiting):
                 return None
-        for work in self._waiting:
+        for work in self._waiting.values():
             if self._suits(session, work):
-                return work if not (session.running and (work.alone or isinstance(work, Errand))) else None
+                return None if session.works and (work.alone or isinstance(work, Errand)) else work
             others = any(other is not session and self._suits(other, work) for other in self._sessions.values())
             if not others and len(self._sessions) >= self._granted:
                 session.takes_no_more = True
                 return None
         return None
 
-    def _ask_in(self, session: _Session, question: Question, now: float) -> None:
-        session.asking = question
-        self._send(session, f"ASK {question.depth} {question.position}", functools.partial(self._asked, question), now)
+    def _go_on(self, session: _Session, work: Work, found: Answer | Refused | Late | None = None) -> None:
+        """Has a work take an answer, or that its time is over, up to its next line or its end."""
+        try:
+            line = work.script.throw(found) if isinstance(found, ColuwenError) else work.script.send(found)
+            work.line, pause = line if isinstance(line, tuple) else (line, 0.0)
+            work.due = self.hands.now + pause
+        except Broken as fault:  # this session can't be believed
+            self._lose(session, fault)
+        except (StopIteration, ColuwenError) as end:
+            session.works.remove(work)
+            if isinstance(end, ColuwenError):
+                self._end(work, fault=end)
+            elif end.value:
+                self._end(work, end.value)
 
-    def _asked(self, question: Question, session: _Session, found: Answer | Refused, now: float) -> None:
-        session.asking = None
-        if not isinstance(found, Refused):
-            question.job, question.cancels = found.job, question.ended
-            session.running.append(question)
-        elif question.ended:
-            pass
-        elif found.number == TOO_FAST:
-            question.limited = now if question.limited is None else question.limited
-            if now - question.limited >= self.options.patience:
-                return self._end(question, fault=found)
+    def _asks(self, session: _Session, question: Question) -> Script:
+        """What a session says for a question, up to what is found; without that it is asked again, or has ended otherwise."""
+        question.job, question.cancels, begun = 0, False, self.hands.now
+        question.until = math.inf if question.timeout is None else begun + question.timeout
+        while not question.job:
+            try:
+                question.job = (yield f"ASK {question.depth} {question.position}").job
+            except Refused as refusal:
+                if not (yield from self._has_room(session, question, refusal)):
+                    self._wait(question)
+                    return None
+        try:
+            answer = yield from self._ended(question, begun)
+            if answer.state == "SPENT":
+                self._spent(session, question)
+            elif answer.state == "CANCELLED":
+                self._end(question, fault=Broken(f"job {question.job} was cancelled by nobody here"))
+            if answer.state != "DONE" or question.ended:
+                return None
+            question.until, seconds, nodes = math.inf, self.hands.now - begun, None
+            if (table := (yield f"TABLE {question.job}")).state != "TABLE":
+                raise Broken(f"no table of job {question.job}")
+            if self.options.counts:
+                nodes = session.reserved.nodes - session.used - (yield "QUOTA").numbers[1]
+                session.used += nodes
+        except Refused as refusal:
+            raise Broken(str(refusal)) from None
+        if question.alone:
+            self._needs[question.depth] = question.level
+        return Found(answer.value, answer.move, table.entries, seconds, nodes)
+
+    def _has_room(self, session: _Session, question: Question, refusal: Refused) -> Script:
+        """Whether a session that has refused a question is to be asked again, as more is reserved now."""
+        if refusal.number == TOO_FAST:
+            now = self.hands.now
             session.not_before = now + AGAIN
-            self._wait(question)
-        elif found.number in USED_UP and session.wire.jobs:
-            wanted = more(session.reserved, self.levels[-1]) if self.options.is_free and found.number != 13 else None
-            if not wanted:
-                return self._used_up(session, question)
-            session.asking = question
-            self._send(session, f"RESERVE {wanted.segments} {wanted.nodes}", functools.partial(self._raised, question, wanted), now)
-        else:
-            self._end(question, fault=found)
-
-    def _raised(self, question: Question, wanted: Reservation, session: _Session, found: Answer | Refused, now: float) -> None:
-        session.asking = None
-        if isinstance(found, Refused):
-            return self._used_up(session, question)
-        session.left += wanted.nodes - session.reserved.nodes
-        session.reserved = wanted
-        if not question.ended:
-            self._ask_in(session, question, now)
-
-    def _used_up(self, session: _Session, question: Question) -> None:
+            question.limited = now if question.limited is None else question.limited
+            if now - question.limited < self.options.patience:
+                return False
+        if refusal.number not in USED_UP or not session.wire.jobs:
+            raise refusal
+        with contextlib.suppress(Refused):
+            for step in RAISED if self.is_free and refusal.number != 13 else ():
+                if step.nodes > session.reserved.nodes:
+                    yield f"RESERVE {step.segments} {step.nodes}"
+                    session.reserved = step
+                    return not question.ended
         session.takes_no_more = True
-        if not question.ended:
-            self._wait(question)
+        return False
 
-    def _look(self, session: _Session, question: Question, now: float) -> None:
-        self._send(session, f"GET {question.job}", functools.partial(self._looked, question), now)
+    def _looks(self, job: int, begun: float) -> Script:
+        """How a job ended: it is looked at at once, and then more and more rarely."""
+        pause = 0.0
+        while (answer := (yield f"GET {job}", pause)).state == "PENDING":
+            pause = pause_after(self.hands.now - begun)
+        return answer
 
-    def _looked(self, question: Question, session: _Session, found: Answer | Refused, now: float) -> None:
-        if isinstance(found, Refused):
-            self._lose(session, Broken(str(found)), now)
-        elif found.state == "PENDING":
-            question.look = now + pause_after(now - question.asked)
-        elif found.state == "DONE" and not question.ended:
-            question.done, question.seconds, question.cancels = found, now - question.asked, False
-        else:
-            session.running.remove(question)
-            if found.state == "SPENT":
-                self._spent(session, question, now)
-            else:
-                self._end(question, fault=Late(question.timeout or 0.0) if question.cancels else Broken(f"job {question.job} was cancelled by nobody here"))
+    def _ended(self, question: Question, begun: float) -> Script:
+        """How a question's job ended. `Late` where it was cancelled; one that has ended meanwhile is looked at once more."""
+        try:
+            return (yield from self._looks(question.job, begun))
+        except Late:
+            with contextlib.suppress(Refused):
+                yield f"CANCEL {question.job}"
+                raise
+            if question.ended or (answer := (yield from self._looks(question.job, begun))).state == "CANCELLED":
+                raise
+            return answer
 
-    def _spent(self, session: _Session, question: Question, now: float) -> None:
+    def _spent(self, session: _Session, question: Question) -> None:
         level = max([at for at, one in enumerate(self.levels) if one.nodes <= session.reserved.nodes], default=0)
         session.takes_no_more = True
         if question.ended:
@@ -631,98 +625,45 @@ class Core:
             question.level, question.alone = min(max(level, question.level) + 1, len(self.levels) - 1), True
             return self._wait(question)
         self._needs[question.depth] = level
-        if self.info or not self.options.is_free:
-            self._end(question, fault=self._beyond(question.depth))
+        if self.is_free:
+            self._wonder(question)
         else:
-            self._too_deep.append(question)
+            self._end(question, fault=TooDeep(question.depth))
+
+    # What a server is.
+
+    def _wonder(self, work: Work) -> None:
+        """Ends an inquiry, or a question that is too deep, once it is known what the server is."""
+        if not self.info:
+            self._wondering.append(work)
             if not self._learning:
-                self.ask(self.learning(), now)
-
-    def _beyond(self, depth: int) -> TooDeep:
-        """That a depth can't be had, and which surely can, if that is known."""
-        return TooDeep(depth, min(depth - 1, self.info.sure) if self.info and self.options.is_free else 0)
-
-    def _tabled(self, question: Question, session: _Session, found: Answer | Refused, now: float) -> None:
-        if isinstance(found, Refused) or found.state != "TABLE":
-            return self._lose(session, Broken(f"no table of job {question.job}"), now)
-        question.entries = found.entries
-        if self.options.counts:
-            self._send(session, "QUOTA", functools.partial(self._done, question), now)
+                self._learning = Errand(self._grain, alone=True)
+                self._wait(self._learning)
+        elif isinstance(work, Question):
+            self._end(work, fault=TooDeep(work.depth, min(work.depth - 1, self.info.sure)))
         else:
-            self._done(question, session, None, now)
+            self._end(work, self.info)
 
-    def _done(self, question: Question, session: _Session, quota: Answer | Refused | None, _: float) -> None:
-        done, nodes = question.done, None
-        assert done
-        session.running.remove(question)
-        if isinstance(quota, Answer):
-            nodes, session.left = session.left - quota.numbers[1], quota.numbers[1]
-        if question.alone:
-            self._needs[question.depth] = question.level
-        self._end(question, Found(done.value, done.move, question.entries, question.seconds, nodes))
-
-    def _cancelled(self, question: Question, session: _Session, found: Answer | Refused, now: float) -> None:
-        if isinstance(found, Refused) and not question.ended:  # it has ended meanwhile: it is looked at once more
-            self._look(session, question, now)
-        else:
-            session.running.remove(question)
-            self._end(question, fault=Late(question.timeout or 0.0))
-
-    # Errands.
-
-    def _go_on(self, session: _Session, found: Answer | Refused | None, now: float) -> None:
-        """Has an errand take an answer, and sends its next line."""
-        errand, script = session.errand, session.script
-        assert errand and script
+    def _grain(self) -> Script:
+        """Finds it out: a site says it, and of any other it is found by how many nodes two positions take, from depth to depth."""
         try:
-            wanted = script.throw(found) if isinstance(found, Refused) else script.send(found)
-        except StopIteration as end:
-            return self._errand_ended(session, end.value)
+            answer = yield "INFO"
+            return Info(answer.numbers[0], answer.more[-1] if answer.more else "", answer.more)
         except Refused as refusal:
-            if refusal.number != TOO_FAST or errand.ended:
-                return self._errand_ended(session, fault=refusal)
-            session.script, wanted = errand.script(), AGAIN
-        if isinstance(wanted, str):
-            self._send(session, wanted, self._go_on, now)
-        else:
-            session.not_before = now + wanted
-
-    def _errand_ended(self, session: _Session, found: Any = None, fault: ColuwenError | None = None) -> None:
-        errand, session.errand, session.script = session.errand, None, None
-        assert errand
-        session.takes_no_more = errand.alone
-        self._end(errand, found, fault)
-
-    def _learned(self, errand: Work) -> None:
-        """What the server is, is known, or can't be found out: who waits for it is told."""
-        self._learning, self.info = None, errand.found or self.info
-        waiting, self._too_deep = self._too_deep, []
-        for question in waiting:
-            self._end(question, fault=errand.fault if errand.fault and not self.info else self._beyond(question.depth))
+            if refusal.number != UNKNOWN:
+                raise
+        left, grain = (yield "QUOTA").numbers[1], 6
+        for probe in PROBES:
+            for depth in range(2, 9):
+                job = (yield f"ASK {depth} {probe}").job
+                ended = yield from self._looks(job, self.hands.now)
+                before, left = left, (yield "QUOTA").numbers[1]
+                if ended.state != "DONE" or before - left > FEW_NODES:
+                    grain = min(grain, depth - 2)
+                    break
+        return Info(grain)
 
 
-def _grain() -> Generator[Any, Any, Info]:
-    """Finds out what a server is: a site says it, and of any other it is found by how many nodes two positions take, from depth to depth."""
-    try:
-        answer = yield "INFO"
-        return Info(answer.numbers[0], answer.more[-1] if answer.more else "", answer.more)
-    except Refused as refusal:
-        if refusal.number != UNKNOWN:
-            raise
-    left, grain = (yield "QUOTA").numbers[1], 6
-    for probe in PROBES:
-        for depth in range(2, 9):
-            job, taken = (yield f"ASK {depth} {probe}").job, 0.0
-            while (state := (yield f"GET {job}").state) == "PENDING":
-                taken += pause_after(taken)
-                yield pause_after(taken)
-            before, left = left, (yield "QUOTA").numbers[1]
-            if state != "DONE" or before - left > FEW_NODES:
-                grain = min(grain, depth - 2)
-                break
-    return Info(grain)
-
-
-def ping() -> Generator[Any, Any, None]:
+def ping() -> Script:
     """A line that the server answers at once."""
-    yield "QUOTA"
+    return (yield "QUOTA")

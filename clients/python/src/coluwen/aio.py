@@ -14,11 +14,9 @@ from collections.abc import AsyncIterable, AsyncIterator, Callable, Iterable
 from typing import Any, Self
 
 from ._core import Info
-from ._driver import Driver
-from ._place import Served
 from .analyst import END, Asked, Many, Order, Outcome, Progress, Result, all_of, checked, moves_of, parts_of
 from .board import Position
-from .errors import Closed
+from .client import Served
 from .score import Entry
 
 
@@ -30,13 +28,6 @@ class AsyncClient(Served):
 
     async def __aexit__(self, *fault: object) -> None:
         await self.close()
-
-    def _driving(self) -> Driver:
-        if self._closed:
-            raise Closed("the client is closed")
-        if not self._driver:
-            self._driver = self._made(asyncio.get_running_loop())
-        return self._driver
 
     async def analyse(self, position: str | Position, depth: int, *, timeout: float | None = None) -> Result:
         """As `Client.analyse`."""
@@ -56,26 +47,20 @@ class AsyncClient(Served):
         many = Many(positions, depth, order, 64 * self.parallel if window is None else window, on_progress,
                     lambda position, wanted: asyncio.ensure_future(self.analyse(position, wanted, timeout=timeout)), ended.put_nowait)  # fmt: skip
         source = aiter(positions) if isinstance(positions, AsyncIterable) else _slowly(positions)
-        coming: asyncio.Task[Any] | None = None  # the next of the source
         with contextlib.closing(many):
-            try:
-                while True:
-                    for outcome in many.ready():
-                        yield outcome
-                    if many.has_room and not coming:
-                        coming = asyncio.ensure_future(anext(source, END))
-                        coming.add_done_callback(lambda one: ended.put_nowait((-1, None, one)))
-                    if not coming and not many.begun:
-                        return
-                    number, asked, future = await ended.get()
-                    if number >= 0:
-                        many.ended(number, asked, future)
-                    else:
-                        coming = None
-                        many.take(future.result())
-            finally:
-                if coming:
-                    coming.cancel()
+            while True:
+                for outcome in many.ready():
+                    yield outcome
+                if many.has_room and -1 not in many.begun:  # the next of the source
+                    many.begun[-1] = coming = asyncio.ensure_future(anext(source, END))
+                    coming.add_done_callback(lambda one: ended.put_nowait((-1, None, one)))
+                if not many.begun:
+                    return
+                number, asked, future = await ended.get()
+                if number >= 0:
+                    many.ended(number, asked, future)
+                else:
+                    many.take(many.begun.pop(number).result())
 
     async def info(self) -> Info:
         """As `Client.info`."""

@@ -74,12 +74,6 @@ def checked(position: str | Position, depth: int, least: int = 0) -> Position:
         raise Unfit(*fault.args) from None
 
 
-def parted(asked: Any, depth: int | None) -> tuple[Any, Any]:
-    """The position and depth of one of many: what names no depth has that of all."""
-    position, own = asked if isinstance(asked, tuple) and len(asked) == 2 else (asked, None)
-    return position, depth if own is None else own
-
-
 def settle(future: concurrent.futures.Future[Result], outcome: Result | BaseException) -> None:
     """Ends a future, where nobody has cancelled it."""
     if future.set_running_or_notify_cancel():
@@ -141,12 +135,13 @@ class Many:
         return not self.is_over and self.taken - self.given < self.window
 
     def take(self, asked: Any) -> None:
-        """Begins one more of the source; one that is at fault is known at once; END is the source's."""
+        """Begins one more of the source, at the depth of all where it names none; what is at fault is known at once. END ends it."""
         if asked is END:
             self.is_over = True
             return
         number, self.taken = self.taken, self.taken + 1
-        position, depth = parted(asked, self.depth)
+        position, own = asked if isinstance(asked, tuple) and len(asked) == 2 else (asked, None)
+        depth: Any = self.depth if own is None else own
         try:
             self.begun[number] = future = self.begin(checked(position, depth), depth)
         except Unfit as fault:

@@ -11,6 +11,7 @@ from __future__ import annotations
 
 import dataclasses
 import functools
+import itertools
 from collections.abc import Iterator
 
 from .errors import FormatError, IllegalMove
@@ -26,73 +27,50 @@ CELLS = {"X": BLACK, "x": BLACK, "*": BLACK, "O": WHITE, "o": WHITE, "-": EMPTY,
 LENGTH = 66  # letters of a position's text
 
 # The discs of a board as one number: bit n for a black disc on square n (0 to 63), bit 64 + n for a white one.
-BLACK_BIT, WHITE_BIT = [1 << at for at in range(64)], [1 << at + 64 for at in range(64)]
-ALL = (1 << 64) - 1
+BIT = {BLACK: [1 << at for at in range(64)], WHITE: [1 << at + 64 for at in range(64)]}
+EITHER = BIT[BLACK][0] | BIT[WHITE][0]
 
 
-class _Line(dict[int, int]):
-    """A line of the board through an empty square: of what stands on it (the other squares' bits of both colours) what changes if the side
-    puts a disc there: the bits of both colours of what is flipped; 0 where nothing is. It is worked out when it is first wanted."""
-
-    def __init__(self, side: str, rays: list[list[int]]):
-        super().__init__()
-        self.rays = rays
-        self.own, self.other = (BLACK_BIT, WHITE_BIT) if side == BLACK else (WHITE_BIT, BLACK_BIT)
-        self.mask = sum(BLACK_BIT[at] | WHITE_BIT[at] for ray in rays for at in ray)
-
-    def __missing__(self, discs: int) -> int:
-        changes = 0
-        for ray in self.rays:
-            flipped = 0
-            for at in ray:
-                if not discs & self.other[at]:
-                    if discs & self.own[at]:
-                        changes |= flipped
-                    break
-                flipped |= self.own[at] | self.other[at]
-        self[discs] = changes
-        return changes
+def _rays(square: int) -> list[list[int]]:
+    """The squares in each direction in which anything could be flipped, the nearest first."""
+    row, column = divmod(square, 8)
+    ways = [(down, right) for down in (-1, 0, 1) for right in (-1, 0, 1) if down or right]
+    places = [[(row + down * count, column + right * count) for count in range(1, 8)] for down, right in ways]
+    rays = [[8 * row + column for row, column in way if 0 <= row < 8 and 0 <= column < 8] for way in places]
+    return [ray for ray in rays if len(ray) > 1]
 
 
-def _lines(square: int, side: str) -> list[tuple[int, _Line]]:
-    """The lines through a square on which anything could be flipped, each with its mask."""
-    found = []
-    for down, right in ((0, 1), (1, 0), (1, 1), (1, -1)):
-        ways = [[(square // 8 + step * down, square % 8 + step * right) for step in steps] for steps in (range(1, 8), range(-1, -8, -1))]
-        rays = [[8 * row + column for row, column in way if 0 <= row < 8 and 0 <= column < 8] for way in ways]
-        line = _Line(side, [ray for ray in rays if len(ray) > 1])
-        if line.rays:
-            found.append((line.mask, line))
-    return found
+RAYS = [_rays(square) for square in range(64)]
 
 
-LINES = {side: [_lines(square, side) for square in range(64)] for side in (BLACK, WHITE)}
-BIT = {BLACK: BLACK_BIT, WHITE: WHITE_BIT}
-
-
-def changes(discs: int, side: str, square: int) -> int:
-    """What a move of the side on a square flips, in the bits of both colours; whether the square is empty isn't asked."""
-    found = 0
-    for mask, line in LINES[side][square]:
-        found |= line[discs & mask]
+def changes(discs: int, side: str, square: int | None) -> int:
+    """What a move of the side on a square flips, in the bits of both colours: nothing where it isn't legal."""
+    found, own, other = 0, BIT[side], BIT[OTHER[side]]
+    if square is None or discs >> square & EITHER:
+        return 0
+    for ray in RAYS[square]:
+        run = 0
+        for at in ray:
+            if not discs & other[at]:
+                found |= run if discs & own[at] else 0
+                break
+            run |= own[at] | other[at]
     return found
 
 
 def can_move(discs: int, side: str) -> bool:
     """Whether the side has a legal move."""
-    taken = discs | discs >> 64
-    return any(not taken >> at & 1 and changes(discs, side, at) for at in range(64))
+    return any(changes(discs, side, at) for at in range(64))
 
 
 def discs_of(cells: str) -> int:
     """64 cells as a number."""
-    backwards = cells[::-1]
-    return int(backwards.translate(_BLACKS), 2) | int(backwards.translate(_WHITES), 2) << 64
+    return int(cells[::-1].translate(_BLACKS), 2) | int(cells[::-1].translate(_WHITES), 2) << 64
 
 
 def cells_of(discs: int) -> str:
     """The number as 64 cells."""
-    return "".join(BLACK if discs & BLACK_BIT[at] else WHITE if discs & WHITE_BIT[at] else EMPTY for at in range(64))
+    return "".join(BLACK if discs & BIT[BLACK][at] else WHITE if discs & BIT[WHITE][at] else EMPTY for at in range(64))
 
 
 _BLACKS, _WHITES = str.maketrans("XO-", "100"), str.maketrans("XO-", "010")
@@ -118,20 +96,18 @@ class Position:
     def parse(cls, text: str) -> Position:
         """The position of a text of 66 letters: X, x or * is black, O or o white, - or . empty. Spaces and line ends may stand
         anywhere between them. `FormatError` says which column is at fault."""
-        found: list[str] = []
-        for column, letter in enumerate(text, 1):
-            if letter.isspace():
-                continue
+        found = ""
+        for column, letter in ((column, letter) for column, letter in enumerate(text, 1) if not letter.isspace()):
             if letter not in CELLS:
                 raise FormatError(f"{letter!r} spells no cell", column=column)
             if len(found) == 64 and CELLS[letter] == EMPTY:
                 raise FormatError("behind the 64 cells stands no side to move, X or O", column=column)
             if len(found) == 65:
                 raise FormatError("behind the side to move stands more", column=column)
-            found.append(CELLS[letter])
+            found += CELLS[letter]
         if len(found) != 65:
             raise FormatError(f"a position has 64 cells and the side to move, and here are {len(found)} signs", column=len(text) + 1)
-        return cls("".join(found[:64]), found[64])
+        return cls(found[:64], found[64])
 
     @property
     def text(self) -> str:
@@ -156,7 +132,7 @@ class Position:
 
     def squares(self) -> list[str]:
         """The squares on which the side to move may put a disc, from a1 to h8."""
-        return [SQUARES[at] for at in range(64) if self.cells[at] == EMPTY and changes(self._discs, self.side, at)]
+        return [SQUARES[at] for at in range(64) if changes(self._discs, self.side, at)]
 
     def legal_moves(self) -> list[str]:
         """The same; `pass` alone where only the opponent can move; none where the game is over."""
@@ -177,14 +153,10 @@ class Position:
         """Whether neither player can move."""
         return not can_move(self._discs, self.side) and not can_move(self._discs, OTHER[self.side])
 
-    def _flipped(self, square: str) -> int:
-        at = INDEX.get(square, -1)
-        return changes(self._discs, self.side, at) if at >= 0 and self.cells[at] == EMPTY else 0
-
     def flips(self, square: str) -> list[str]:
         """The squares whose discs a move there flips: none where it isn't legal."""
-        flipped = self._flipped(square.lower())
-        return [SQUARES[one] for one in range(64) if flipped >> one & 1]
+        flipped = changes(self._discs, self.side, INDEX.get(square.lower()))
+        return [one for at, one in enumerate(SQUARES) if flipped >> at & 1]
 
     def is_legal(self, move: str) -> bool:
         """Whether the player to move may make this move."""
@@ -197,8 +169,7 @@ class Position:
             if not self.must_pass:
                 raise IllegalMove(f"a pass, and {'the game is over' if self.is_over else NAMES[self.side] + ' can move'}")
             return Position(self.cells, OTHER[self.side])
-        flipped = self._flipped(word)
-        if not flipped:
+        if not (flipped := changes(self._discs, self.side, INDEX.get(word))):
             raise IllegalMove(f"{move}: {NAMES[self.side]} can't play there")
         return Position(cells_of(self._discs ^ flipped | BIT[self.side][INDEX[word]]), OTHER[self.side])
 
@@ -216,28 +187,24 @@ class Position:
         """The board for a terminal, with what stands in `marks` for the empty squares that it names; a pass stands below it."""
         marks = marks or {}
         width = max([1, *map(len, marks.values())]) + 1
-        lines = ["  " + "".join(column.rjust(width) for column in "abcdefgh")]
-        for row in range(8):
-            words = [cell.replace(EMPTY, ".") for cell in self.cells[8 * row : 8 * row + 8]]
-            words = [marks.get(SQUARES[8 * row + column], word) for column, word in enumerate(words)]
-            lines.append(f"{row + 1} " + "".join(word.rjust(width) for word in words))
-        return "\n".join([*lines, *(f"{PASS} {marks[PASS]}" for _ in [0] if PASS in marks)])
+        words = [marks.get(square, cell.replace(EMPTY, ".")).rjust(width) for square, cell in zip(SQUARES, self.cells)]
+        rows = [f"{row + 1} {''.join(words[8 * row : 8 * row + 8])}" for row in range(8)]
+        below = [f"{PASS} {marks[PASS]}"] if PASS in marks else []
+        return "\n".join(["  " + "".join(column.rjust(width) for column in "abcdefgh"), *rows, *below])
 
     def _repr_svg_(self) -> str:
         """The board as a notebook shows it; a dot on each legal square, in the colour of the player to move."""
-        colour = {BLACK: "#111", WHITE: "#fff"}
+        colour, legal = {BLACK: "#111", WHITE: "#fff"}, self.squares()
         text = ['<svg xmlns="http://www.w3.org/2000/svg" viewBox="0 0 340 340" width="340" height="340" font-family="sans-serif" font-size="12">',
                 '<rect x="20" y="20" width="320" height="320" fill="#2a7a4b"/>']  # fmt: skip
-        for at in range(8):
-            text.append(f'<text x="{40 + 40 * at}" y="14" text-anchor="middle">{"abcdefgh"[at]}</text><text x="10" y="{44 + 40 * at}" text-anchor="middle">{at + 1}</text>')
+        for at, column in enumerate("abcdefgh"):
+            text.append(f'<text x="{40 + 40 * at}" y="14" text-anchor="middle">{column}</text>')
+            text.append(f'<text x="10" y="{44 + 40 * at}" text-anchor="middle">{at + 1}</text>')
         text += [f'<path d="M{20 + 40 * at} 20V340M20 {20 + 40 * at}H340" stroke="#174"/>' for at in range(9)]
-        legal = self.squares()
-        for at, square in enumerate(SQUARES):
-            x, y = 40 + 40 * (at % 8), 40 + 40 * (at // 8)
-            if self.cells[at] != EMPTY:
-                text.append(f'<circle cx="{x}" cy="{y}" r="16" fill="{colour[self.cells[at]]}"/>')
-            elif square in legal:
-                text.append(f'<circle cx="{x}" cy="{y}" r="4" fill="{colour[self.side]}"/>')
+        for at, (square, cell) in enumerate(zip(SQUARES, self.cells)):
+            if cell != EMPTY or square in legal:
+                radius, fill = (4, self.side) if cell == EMPTY else (16, cell)
+                text.append(f'<circle cx="{40 + 40 * (at % 8)}" cy="{40 + 40 * (at // 8)}" r="{radius}" fill="{colour[fill]}"/>')
         return "".join([*text, "</svg>"])
 
 
@@ -253,10 +220,7 @@ class Board:
 
     def __post_init__(self) -> None:
         if not self._past:
-            past = [self.start]
-            for move in self.moves:
-                past.append(past[-1].play(move))
-            object.__setattr__(self, "_past", tuple(past))
+            object.__setattr__(self, "_past", (*itertools.accumulate(self.moves, Position.play, initial=self.start),))
 
     @classmethod
     def parse(cls, text: str) -> Board:
@@ -287,20 +251,16 @@ class Board:
 
     def push(self, move: str) -> Board:
         """The board after a move, with a pass before it where the player to move has none but that. `IllegalMove` where it isn't allowed."""
-        board = self
         if move.lower() != PASS and self.position.must_pass:
-            board = board._pushed(PASS)
-        return board._pushed(move.lower())
-
-    def _pushed(self, move: str) -> Board:
-        return Board(self.start, (*self.moves, move), (*self._past, self.position.play(move)))
+            return self.push(PASS).push(move)
+        return Board(self.start, (*self.moves, move.lower()), (*self._past, self.position.play(move)))
 
     def pop(self) -> Board:
         """The board before the last move, and before a pass that stands before it; itself at the start."""
-        count = len(self.moves) - 1
-        while count > 0 and self.moves[count - 1] == PASS:
+        count = max(len(self.moves) - 1, 0)
+        while count and self.moves[count - 1] == PASS:
             count -= 1
-        return Board(self.start, self.moves[: max(count, 0)], self._past[: max(count, 0) + 1])
+        return Board(self.start, self.moves[:count], self._past[: count + 1])
 
     def flip(self) -> Board:
         """The same game with the colours exchanged."""

@@ -8,6 +8,7 @@ It needs Debian's python3-distributed. What a worker searched that is lost anoth
 """
 
 import concurrent.futures
+import functools
 import importlib
 import threading
 from typing import Any
@@ -21,23 +22,20 @@ from .errors import Broken, Closed, ColuwenError, Unreachable
 TOGETHER = {4: 64, 6: 16, 8: 4}  # how many questions up to which depth are one task of the cluster, whose tasks take about a millisecond each
 MOMENT = 0.005  # seconds, for which a task waits for more questions
 Asked = tuple[str, int, float | None]
-_engine: Engine | None = None
 _lock = threading.Lock()
 
 
+@functools.cache
 def engine_here() -> Engine:
-    """A worker's engine, which is made once: as many processes as the worker has threads."""
-    global _engine
-    with _lock:
-        if not _engine:
-            distributed: Any = importlib.import_module("distributed")
-            _engine = Engine(distributed.get_worker().nthreads)
-        return _engine
+    """A worker's engine, which is made once, under the lock: as many processes as the worker has threads."""
+    distributed: Any = importlib.import_module("distributed")
+    return Engine(distributed.get_worker().nthreads)
 
 
 def answer_here(asked: list[Asked]) -> list[Result | BaseException]:
     """What a worker answers to the questions of a task: of each its result or fault."""
-    engine = engine_here()
+    with _lock:
+        engine = engine_here()
     futures = [engine.submit(position, depth, timeout=timeout) for position, depth, timeout in asked]
     return [future.exception() or future.result() for future in futures]
 
@@ -53,16 +51,6 @@ class Task:
     def fail(self, fault: ColuwenError) -> None:
         for future in self.futures:
             settle(future, fault)
-
-    def ended(self, sent: Any) -> None:
-        """Takes what the cluster says."""
-        try:
-            for future, answer in zip(self.futures, sent.result(), strict=True):
-                settle(future, answer)
-        except concurrent.futures.CancelledError:
-            self.fail(Broken("the cluster's scheduler was lost"))
-        except Exception as fault:
-            self.fail(Broken(f"the cluster failed: {fault}"))
 
 
 class Cluster(Analyst):
@@ -120,7 +108,14 @@ class Cluster(Analyst):
         self._give_up(task)
 
     def _take(self, task: Task, sent: Any) -> None:
-        task.ended(sent)
+        """Takes what the cluster says."""
+        try:
+            for future, answer in zip(task.futures, sent.result(), strict=True):
+                settle(future, answer)
+        except concurrent.futures.CancelledError:
+            task.fail(Broken("the cluster's scheduler was lost"))
+        except Exception as fault:
+            task.fail(Broken(f"the cluster failed: {fault}"))
         with self._lock:
             self._sent.discard(task)
 

@@ -6,6 +6,7 @@ that process; another is begun in its place.
 
 import asyncio
 import concurrent.futures
+import contextlib
 import functools
 import os
 import pathlib
@@ -58,22 +59,20 @@ def programs_here() -> list[str]:
 
 def runs_v3(about: str = "/proc/cpuinfo") -> bool:
     """Whether this computer's processor is an x86-64-v3."""
-    try:
+    with contextlib.suppress(OSError):
         flags = re.search("^flags.*", pathlib.Path(about).read_text(), re.MULTILINE)
-    except OSError:
-        return False
-    return flags is not None and {"avx2", "bmi1", "bmi2", "f16c", "fma", "abm", "movbe"} <= set(flags[0].split())
+        return flags is not None and {"avx2", "bmi1", "bmi2", "f16c", "fma", "abm", "movbe"} <= set(flags[0].split())
+    return False
 
 
 @functools.cache
 def version_of(path: str) -> str:
     """What version of the program this is; nothing where it is another."""
-    try:
+    with contextlib.suppress(OSError, subprocess.TimeoutExpired):
         told = subprocess.run([path, "--version"], stdin=subprocess.DEVNULL, stdout=subprocess.PIPE, stderr=subprocess.DEVNULL, timeout=10, check=False).stdout
-    except (OSError, subprocess.TimeoutExpired):
-        return ""
-    found = re.fullmatch(rb"othello ([0-9][!-~]{0,30})\n", told)
-    return found[1].decode() if found else ""
+        if found := re.fullmatch(rb"othello ([0-9][!-~]{0,30})\n", told):
+            return found[1].decode()
+    return ""
 
 
 class Question:
@@ -99,7 +98,7 @@ class Pool:
 
     def __init__(self, program: str, workers: int):
         self.program, self.workers = program, workers
-        self.lock = threading.Lock()  # of all below but what waits
+        self.lock = threading.RLock()  # of all below but what waits
         self.waiting = queue.SimpleQueue[Question | None]()  # None ends a thread
         self.threads: list[threading.Thread] = []
         self.running: set[Question] = set()
@@ -118,13 +117,12 @@ class Pool:
 
     def run(self) -> None:
         while question := self.waiting.get():
+            outcome: Result | ColuwenError
             try:
-                outcome: Result | ColuwenError = self.answer(question)
-            except ColuwenError as fault:
-                outcome = fault
-            except BaseException as fault:  # of this package's own: nobody is to wait for an answer that never comes
+                outcome = self.answer(question)
+            except BaseException as fault:  # of this package's own too: nobody is to wait for an answer that never comes
                 self.end(question)
-                outcome = Broken(f"the engine failed: {fault!r}")
+                outcome = fault if isinstance(fault, ColuwenError) else Broken(f"the engine failed: {fault!r}")
             with self.lock:
                 self.running.discard(question)
                 self.spare += [question.process] if question.process else []
@@ -151,43 +149,35 @@ class Pool:
         raise Broken(f"the program {self.program} ended without an answer {TRIES} times")
 
     def ask_process(self, question: Question, until: float | None) -> bytes:
-        """What a process says to it; less than a line where that has ended, or the time is over."""
-        process = self.process_of(question)
-        if not process:
-            return b""
-        assert process.stdin and process.stdout
-        try:
-            os.write(process.stdin.fileno(), f"{question.depth} {question.position.text}\n".encode())
-        except BrokenPipeError:
-            return b""
-        answer = b""
-        while not answer.endswith(b"\n") and len(answer) < LONGEST:
-            if until is not None and not select.select([process.stdout], [], [], max(until - time.monotonic(), 0))[0]:
-                return b""
-            if not (part := os.read(process.stdout.fileno(), LONGEST)):
-                return answer
-            answer += part
-        return answer
-
-    def process_of(self, question: Question) -> subprocess.Popen[bytes] | None:
-        """The process that searches it; none where it was given up before that began."""
+        """What a process says to it; less than a line where that has ended, the time is over, or it was given up before that began."""
         with self.lock:
             if self.closed or question.future.done():
-                return None
+                return b""
             try:  # in a process group of its own: Ctrl-C at the terminal is this program's matter
-                question.process = self.spare.pop() if self.spare else subprocess.Popen(
+                question.process = process = self.spare.pop() if self.spare else subprocess.Popen(
                     [self.program, *OPTIONS], bufsize=0, process_group=0, stdin=subprocess.PIPE, stdout=subprocess.PIPE, stderr=subprocess.DEVNULL)  # fmt: skip
             except OSError as fault:
                 raise Unreachable(f"{self.program}: {fault.strerror or fault}") from fault
             self.running.add(question)
-            return question.process
+        assert process.stdin and process.stdout
+        answer = b""
+        with contextlib.suppress(BrokenPipeError):
+            os.write(process.stdin.fileno(), f"{question.depth} {question.position.text}\n".encode())
+            while not answer.endswith(b"\n") and len(answer) < LONGEST:
+                if until is not None and not select.select([process.stdout], [], [], max(until - time.monotonic(), 0))[0]:
+                    break
+                if not (part := os.read(process.stdout.fileno(), LONGEST)):
+                    break
+                answer += part
+        return answer
 
     def end(self, question: Question) -> None:
         """Ends the process that searches it, and waits until it has."""
         with self.lock:
             process, question.process = question.process, None
         if process:
-            finish(process)
+            with process:
+                process.kill()
 
     def give_up(self, question: Question) -> None:
         """Kills the process that searches it, which its thread notices; one that waits is passed over."""
@@ -199,21 +189,14 @@ class Pool:
         with self.lock:
             self.closed = True
             for question in self.running:
-                if question.process:
-                    question.process.kill()
+                self.give_up(question)
         for _ in self.threads:
             self.waiting.put(None)
-        for thread in self.threads:
-            if thread is not threading.current_thread():
-                thread.join()
+        for thread in {*self.threads} - {threading.current_thread()}:
+            thread.join()
         for process in self.spare:
-            finish(process)
-
-
-def finish(process: subprocess.Popen[bytes]) -> None:
-    """Kills a process, and waits until it has ended."""
-    with process:
-        process.kill()
+            with process:
+                process.kill()
 
 
 class Engine(Analyst):

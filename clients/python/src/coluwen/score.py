@@ -75,16 +75,12 @@ class Score:
         """The same, as the opponent sees it."""
         return Score(-self.value, TURNED[self.sign], self.ends, OTHER[self.side])
 
-    def __neg__(self) -> Score:
-        return self.flip()
+    __neg__ = flip
 
     def __str__(self) -> str:
         """`-3`, `+12 discs`, `draw`, `at most -4`."""
-        if self.ends:
-            text = f"{self.mover:+d} disc{'s' * (abs(self.mover) != 1)}" if self.value else "draw"
-        else:
-            text = f"{self.value:+d}" if self.value else "0"
-        return SIGNS[self.sign] + text
+        unit = f" disc{'s' * (abs(self.mover) != 1)}" if self.ends else ""
+        return SIGNS[self.sign] + (f"{self.mover:+d}{unit}" if self.value else "draw" if self.ends else "0")
 
     def words(self) -> str:
         """The same as a sentence's end: `wins by 12 discs`, `a draw`, `-3`, `at most a draw`."""

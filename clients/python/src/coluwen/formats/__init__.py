@@ -24,6 +24,7 @@ fault is there with the moves before it (`is_whole` is false), and the fault beh
 made.
 """
 
+import contextlib
 import pathlib
 import re
 from collections.abc import Iterator
@@ -36,32 +37,25 @@ from .records import Expected, Game, Place, Played, Problem, strictly
 __all__ = ["KINDS", "Expected", "Game", "Place", "Played", "Problem", "games", "games_of", "ggf", "kind_of", "lines_of", "obf", "pgn", "position", "problems", "problems_of",
            "read_line", "sgf", "strictly", "text_of", "transcript", "wthor"]  # fmt: skip
 KINDS = ("lines", "obf", "ggf", "sgf", "pgn", "wtb")
-SUFFIXES = {".obf": "obf", ".ggf": "ggf", ".wtb": "wtb", ".sgf": "sgf", ".pgn": "pgn"}
-NAMES = (".jou", ".trn")
+SUFFIXES = {f".{kind}": kind for kind in KINDS[1:]}
+BEGINNINGS = {"sgf": rb"\(\s*;[^)]*?GM\s*\[\s*\d", "ggf": rb"(\d+\s+)?\(;", "pgn": rb"\[\s*\w+\s*\""}
+READERS = {"ggf": ggf.read, "sgf": sgf.read, "pgn": pgn.read}
 
 
 def kind_of(name: str, data: bytes) -> str:
     """The format of a file: by the end of its name, else by its beginning."""
-    suffix = SUFFIXES.get(pathlib.PurePath(name).suffix.lower())
-    if suffix:
-        return suffix
+    if kind := SUFFIXES.get(pathlib.PurePath(name).suffix.lower()):
+        return kind
     text = data[:4096].removeprefix(b"\xef\xbb\xbf").lstrip()
-    if re.match(rb"\(\s*;[^)]*?GM\s*\[\s*\d", text):
-        return "sgf"
-    if re.match(rb"(\d+\s+)?\(;", text):
-        return "ggf"
-    return "pgn" if re.match(rb"\[\s*\w+\s*\"", text) else "lines"
+    return next((kind for kind, begin in BEGINNINGS.items() if re.match(begin, text)), "lines")
 
 
 def text_of(data: bytes) -> str:
     """The text of a file: UTF-8 where it is that, else Japanese (CP932) where letters of full width stand in it, else Latin-1."""
-    try:
+    with contextlib.suppress(UnicodeDecodeError):
         return data.decode("utf-8-sig")
-    except UnicodeDecodeError:
-        pass
-    if re.search(rb"(?:\x82[\x4f-\x58\x60-\x79\x81-\x9a]){2}", data):
-        return data.decode("cp932", "replace")
-    return data.decode("latin-1")
+    is_wide = re.search(rb"(?:\x82[\x4f-\x58\x60-\x79\x81-\x9a]){2}", data)
+    return data.decode("cp932" if is_wide else "latin-1", "replace")
 
 
 def lines_of(data: bytes) -> list[str]:
@@ -89,9 +83,9 @@ def problems_of(data: bytes, name: str = "", kind: str | None = None) -> Iterato
             if board := position.read_board(lines, at, Place(name)):
                 problem, at = board
                 yield problem
-                continue
-            yield from read_line(lines[at], Place(name, at + 1))
-            at += 1
+            else:
+                at += 1
+                yield from read_line(lines[at - 1], Place(name, at))
 
 
 def _positions_of(games: Iterator[Game | FormatError]) -> Iterator[Problem | FormatError]:
@@ -113,8 +107,8 @@ def read_line(line: str, place: Place = Place()) -> Iterator[Problem | FormatErr
             for one in _positions_of(ggf.read(line, place.file)):
                 yield FormatError(one.text, place.file, place.line, one.column) if isinstance(one, FormatError) else one
         elif ";" in text and re.match(r"[-.*XxOo\s]{64}", text):
-            problem = obf.read_line(line, place)
-            yield from [problem] if problem else []
+            if problem := obf.read_line(line, place):
+                yield problem
         elif start := ggf.board_of(text.removeprefix("BO[").removesuffix("]")):
             yield Problem(start, place=place)
         elif re.match(r"[1-8XxOo*BbWw]+/", text):
@@ -130,16 +124,15 @@ def read_line(line: str, place: Place = Place()) -> Iterator[Problem | FormatErr
 def games(*paths: str, kind: str | None = None) -> Iterator[Game | FormatError]:
     """The games of files: GGF, SGF, PGN, .wtb, or a transcript a line. Among .wtb files those of .jou and .trn may be named; else the one of each
     that lies beside them is taken for the names."""
-    named = {pathlib.PurePath(path).suffix.lower(): wthor.read_names(str(path)) for path in paths if pathlib.PurePath(path).suffix.lower() in NAMES}
-    for path in paths:
-        if pathlib.PurePath(path).suffix.lower() in NAMES:
-            continue
+    suffixes = [(str(path), pathlib.PurePath(path).suffix.lower()) for path in paths]
+    named = {suffix: wthor.read_names(path) for path, suffix in suffixes if suffix in wthor.NAME_BYTES}
+    for path in (path for path, suffix in suffixes if suffix not in named):
         data = pathlib.Path(path).read_bytes()
-        if (kind or kind_of(str(path), data)) == "wtb":
-            players, tournaments = wthor.names_beside(str(path))
-            yield from wthor.read(data, str(path), named.get(".jou", players), named.get(".trn", tournaments))
+        if (kind or kind_of(path, data)) == "wtb":
+            players, tournaments = wthor.names_beside(path)
+            yield from wthor.read(data, path, named.get(".jou", players), named.get(".trn", tournaments))
         else:
-            yield from games_of(data, str(path), kind)
+            yield from games_of(data, path, kind)
 
 
 def games_of(data: bytes, name: str = "", kind: str | None = None) -> Iterator[Game | FormatError]:
@@ -147,8 +140,8 @@ def games_of(data: bytes, name: str = "", kind: str | None = None) -> Iterator[G
     kind = kind or kind_of(name, data)
     if kind == "wtb":
         yield from wthor.read(data, name)
-    elif kind in ("ggf", "sgf", "pgn"):
-        yield from {"ggf": ggf, "sgf": sgf, "pgn": pgn}[kind].read(text_of(data), name)
+    elif kind in READERS:
+        yield from READERS[kind](text_of(data), name)
     elif kind == "obf":
         yield Place(name).fault("an .obf has positions, and no games")
     else:

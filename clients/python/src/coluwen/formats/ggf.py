@@ -11,49 +11,32 @@ the archives of GGS are known to write; others are kept as they stand.
 import re
 from collections.abc import Iterable, Iterator
 
-from ..board import PASS, START, WHITE, Position
+from ..board import PASS, WHITE, Position
 from ..errors import FormatError
-from .records import Builder, Game, Place, strictly
+from .records import SIDES, Builder, Game, Place, Played, Tag, strictly, with_fault
 
-TAG = re.compile(r"\s*([A-Za-z]+)\s*\[([^\]]*)\]")
+BEGIN = re.compile(r"\s*(?P<other>.*?)\s*(?P<count>\d+\s+)?(?P<game>\(;|\Z)", re.DOTALL)
+TAG, END = re.compile(r"\s*([A-Za-z]+)\s*\[([^\]]*)\]"), re.compile(r"\s*;\s*\)")
 MOVE = re.compile(r"\s*(?P<move>[a-hA-H][1-8]|(?i:pass|pa)|--)\s*(?:/\s*(?P<eval>[^/]*?)\s*(?:/\s*(?P<time>[^/]*?)\s*)?)?")
 BOARD = re.compile(r"\s*8\s+((?:[-.*XxOo]\s*){64})([*XxOo])\s*")
-COUNT, END = re.compile(r"\s*(\d+\s+)?(?=\(;|\Z)|\s*"), re.compile(r"\s*;\s*\)")
-SIDES = {"B": "X", "W": "O"}
 FIELDS = {"PB": "black", "PW": "white", "PC": "event", "DT": "date"}
 
 
 def read(text: str, file: str = "") -> Iterator[Game | FormatError]:
     """The games of a text, and its faults. A game that has one, or is cut, is there with the moves before that, and its fault behind it; what can't
     be read as a game is passed over to the next `(;`."""
-    at, text = 0, text.removeprefix("\ufeff")
-    expected = 0  # games that a count before them announced
-    while True:
-        found = COUNT.match(text, at)
-        at = found.end() if found else at
-        if found and found[1] or at == len(text):
-            if expected:
-                yield place_of(text, found.start(1) if found and found[1] else at, file).fault(f"{expected} games are missing")
-            if at == len(text):
-                return
-            expected = int(found[1]) if found and found[1] else 0
-        if not text.startswith("(;", at):
-            yield place_of(text, at, file).fault("no game begins here: (;")
-            at = text.find("(;", at)
-            if at < 0:
-                return
-            continue
-        tags, end, fault = tags_of(text, at, file)
-        try:
-            yield from game_of(text, tags, place_of(text, at, file), fault)
-        except FormatError as other:
-            yield other
-        expected, at = max(expected - 1, 0), end
-
-
-def place_of(text: str, at: int, file: str) -> Place:
-    """The line and column of a letter."""
-    return Place(file, text.count("\n", 0, at) + 1, at - (text.rfind("\n", 0, at) + 1) + 1)
+    text, at, expected = text.removeprefix("\ufeff"), 0, 0  # `expected`: games that a count before them announced
+    while begun := BEGIN.match(text, at):
+        if begun["other"]:
+            yield Place(file).of(text, begun.start("other")).fault("no game begins here: (;")
+        if expected and (begun["count"] or not begun["game"]):
+            yield Place(file).of(text, begun.start("count" if begun["count"] else "game")).fault(f"{expected} games are missing")
+        if not begun["game"]:
+            return
+        place = Place(file).of(text, begun.start("game"))
+        tags, at, fault = tags_of(text, begun.start("game"), place)
+        yield from with_fault(game_of(tags, place, fault))
+        expected = max(int(begun["count"] or expected) - 1, 0)
 
 
 def read_game(text: str, file: str = "") -> Game:
@@ -64,43 +47,45 @@ def read_game(text: str, file: str = "") -> Game:
     return found[0]
 
 
-def tags_of(text: str, at: int, file: str) -> tuple[list[tuple[str, str, int]], int, FormatError | None]:
+def tags_of(text: str, begin: int, place: Place) -> tuple[list[Tag], int, FormatError | None]:
     """The tags of the game that begins at a letter, where the next may begin, and what is at fault."""
-    at += 2
-    tags: list[tuple[str, str, int]] = []
+    at, tags = begin + 2, list[Tag]()
     while found := TAG.match(text, at):
-        tags.append((found[1].upper(), found[2], found.start(2)))
+        tags.append((found[1].upper(), found[2], place.of(text, found.start(2), begin)))
         at = found.end()
+    here = place.of(text, at, begin)
     if end := END.match(text, at):
-        return tags, end.end(), None if tags else place_of(text, at, file).fault("this game has no tags")
+        return tags, end.end(), None if tags else here.fault("this game has no tags")
     after = text.find("(;", at)
-    return tags, len(text) if after < 0 else after, place_of(text, at, file).fault("here is no tag, NAME[value], and no end of the game, ;)")
+    return tags, len(text) if after < 0 else after, here.fault("here is no tag, NAME[value], and no end of the game, ;)")
 
 
-def game_of(text: str, tags: list[tuple[str, str, int]], place: Place, fault: FormatError | None) -> Iterator[Game | FormatError]:
+def game_of(tags: list[Tag], place: Place, fault: FormatError | None) -> Iterator[Game | FormatError]:
     """The game of tags, and what is at fault in them or behind them; the moves are those before that."""
-    named = {name: value for name, value, _ in tags if name not in SIDES}
-    places = {name: place_of(text, at, place.file) for name, _, at in tags}
+    named, places = {name: value for name, value, _ in tags}, {name: here for name, _, here in tags}
     if fault and not tags:
         raise fault
     if named.get("GM", "Othello").strip().lower() not in ("othello", "reversi"):
         raise places["GM"].fault(f"this is a game of {named['GM']}")
     if named.get("TY", "8").strip()[:1] not in ("8", "s") or "anti" in named.get("TY", ""):
         raise places["TY"].fault(f"its type is {named['TY']}")
-    start = board_of(named.get("BO", f"8 {START} *"))
+    start = board_of(named["BO"]) if "BO" in named else Position.opening()
     if not start:
         raise places["BO"].fault("its board isn't one of 8 lines: 8, 64 cells and the side to move")
     with Builder(start, fault) as builder:
-        for name, value, at in tags:
+        for name, value, here in tags:
             if name in SIDES:
-                found, here = MOVE.fullmatch(value), place_of(text, at, place.file)
-                if not found:
-                    raise here.fault(f"{value!r} is no move")
-                move = found["move"].lower()
-                builder.play(PASS if move in ("pass", "pa", "--") else move, here, SIDES[name], number_of(found["eval"]), number_of(found["time"]))
+                builder.play(move_of(value, here), here, SIDES[name])
     others = tuple((name, value) for name, value, _ in tags if name not in (*SIDES, *FIELDS, "BO", "GM", "RE", "TY"))
-    heads = {head: named.get(name, "") for name, head in FIELDS.items()}
+    heads = {FIELDS[name]: value for name, value in named.items() if name in FIELDS}
     yield from builder.game(result=number_of(named.get("RE", "").strip()), tags=others, place=place, **heads)
+
+
+def move_of(value: str, place: Place) -> Played:
+    if not (found := MOVE.fullmatch(value)):
+        raise place.fault(f"{value!r} is no move")
+    move = found["move"].lower()
+    return Played(move if move[1] in "12345678" else PASS, number_of(found["eval"]), number_of(found["time"]))
 
 
 def board_of(text: str) -> Position | None:
@@ -121,20 +106,13 @@ def write(games: Iterable[Game]) -> str:
 
 
 def write_game(game: Game) -> str:
-    fields = {"GM": "Othello", "PC": game.event, "DT": game.date, "PB": game.black, "PW": game.white}
-    tags = [f"{name}[{clean(value)}]" for name, value in fields.items() if value]
-    tags.append(f"RE[{'?' if game.result is None else f'{game.result:+.3f}'}]")
-    tags += [f"{name}[{clean(value)}]" for name, value in game.tags]
-    cells = game.start.cells.replace("X", "*")
-    rows = " ".join(cells[at : at + 8] for at in range(0, 64, 8))
-    tags.append(f"TY[8]BO[8 {rows} {game.start.side.replace('X', '*')}]")
+    cells = f"{game.start.cells}{game.start.side}".replace("X", "*")
+    tags = [("GM", "Othello"), ("PC", game.event), ("DT", game.date), ("PB", game.black), ("PW", game.white)]
+    tags += [("RE", "?" if game.result is None else f"{game.result:+.3f}"), *game.tags, ("TY", "8")]
+    tags.append(("BO", " ".join(["8", *(cells[at : at + 8] for at in range(0, 72, 8))])))
     for number, played in enumerate(game.moves):
         numbers = ["" if one is None else f"{one:.2f}" for one in (played.evaluation, played.seconds)]
         words = "/".join(["PA" if played.move == PASS else played.move.upper(), *numbers]).rstrip("/")
-        tags.append(f"{'BW'[(number + (game.start.side == WHITE)) % 2]}[{words}]")
-    return "(;" + "".join(tags) + ";)"
-
-
-def clean(text: str) -> str:
-    """A value without what would end it."""
-    return text.replace("]", ")").replace("\n", " ")
+        tags.append(("BW"[(number + (game.start.side == WHITE)) % 2], words))
+    written = (f"{name}[{value.replace(']', ')')}]".replace("\n", " ") for name, value in tags if value or name not in FIELDS)
+    return f"(;{''.join(written)};)"

@@ -21,11 +21,10 @@ def read(lines: Iterable[str], file: str = "") -> Iterator[Problem | FormatError
     """The problems of lines, and the faults of those that can't be read."""
     for number, line in enumerate(lines, 1):
         try:
-            found: Problem | FormatError | None = read_line(line.rstrip("\r\n"), Place(file, number))
+            if problem := read_line(line.rstrip("\r\n"), Place(file, number)):
+                yield problem
         except FormatError as fault:
-            found = fault
-        if found:
-            yield found
+            yield fault
 
 
 def read_line(line: str, place: Place = Place()) -> Problem | None:
@@ -40,25 +39,24 @@ def read_line(line: str, place: Place = Place()) -> Problem | None:
         raise place.fault(fault.text, fault.column) from None
     expected, at = [], len(head) + 1
     for field in fields:
-        found, here = FIELD.fullmatch(field), at + len(field) - len(field.lstrip()) + 1
-        if found:
+        here, at = at + len(field) - len(field.lstrip()) + 1, at + len(field) + 1
+        if found := FIELD.fullmatch(field):
             move = found["move"].lower() if found["move"][1] in "12345678" else PASS
+            score = int(found["score"]) if found["score"] else None
             if not position.is_legal(move):
                 raise place.fault(f"{found['move']} isn't legal here", here)
-            score = int(found["score"]) if found["score"] else None
-            if score is not None and abs(score) > 64:
+            if abs(score or 0) > 64:
                 raise place.fault(f"a score of {score} discs", here)
             expected.append(Expected(move, score))
         elif field.strip():
             raise place.fault(f"{field.strip()!r} is no move with a score", here)
-        at += len(field) + 1
     return Problem(position, None, tuple(expected), comment.strip(), place)
 
 
 def write(problems: Iterable[Problem]) -> str:
-    lines = []
+    text = ""
     for problem in problems:
-        fields = [f"{'PA' if one.move == PASS else one.move.upper()}" + (f":{one.discs:+d}" if one.discs is not None else "") for one in problem.expected]
-        line = "; ".join([problem.position.text, *fields]) + ";"
-        lines.append(f"{line} % {problem.comment}" if problem.comment else line)
-    return "".join(f"{line}\n" for line in lines)
+        scores = ["" if one.discs is None else f":{one.discs:+d}" for one in problem.expected]
+        fields = [("PA" if one.move == PASS else one.move.upper()) + score for one, score in zip(problem.expected, scores)]
+        text += "; ".join([problem.position.text, *fields]) + (f"; % {problem.comment}\n" if problem.comment else ";\n")
+    return text

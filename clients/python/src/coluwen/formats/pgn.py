@@ -19,8 +19,7 @@ from typing import Any
 
 from ..errors import FormatError
 from . import position, transcript
-from .ggf import place_of
-from .records import Game, Place
+from .records import Game, Place, with_fault
 
 HEADS = re.compile(r"(?:[ \t]*\[\s*\w+\s*\"(?:\\.|[^\"\\])*\"\s*\][ \t]*\r?\n?\s*)+")
 HEAD = re.compile(r"\[\s*(\w+)\s*\"((?:\\.|[^\"\\])*)\"\s*\]")
@@ -30,32 +29,24 @@ SCORE = re.compile(r"(\d{1,2})\s*[-:]\s*(\d{1,2})")
 
 def read(text: str, file: str = "") -> Iterator[Game | FormatError]:
     """The games of a text, and its faults."""
-    begins = [found for found in HEADS.finditer(text)]
-    before = text[: begins[0].start()] if begins else text
-    if before.strip("\ufeff \t\r\n"):
+    begins = [*HEADS.finditer(text)]
+    ends = [found.start() for found in begins] + [len(text)]
+    if text[: ends[0]].strip("\ufeff \t\r\n"):
         yield Place(file, 1, 1).fault('here is no head, [Event ".."]')
-    for number, found in enumerate(begins):
-        heads = {name.lower(): (re.sub(r"\\(.)", r"\1", value), found.start() + at.start(2)) for at in HEAD.finditer(found[0]) for name, value in [at.groups()]}
-        end = begins[number + 1].start() if number + 1 < len(begins) else len(text)
-        yield from game_of(text, heads, found, end, file)
+    for found, end in zip(begins, ends[1:]):
+        yield from with_fault(game_of(text, found, end, file))
 
 
-def game_of(text: str, heads: dict[str, tuple[str, int]], found: re.Match[str], end: int, file: str) -> Iterator[Game | FormatError]:
-    said = {name: value for name, (value, _) in heads.items()}
-    moves = re.sub(SAID, lambda one: re.sub(r"[^\n]", " ", one[0]), text[found.end() : end].rstrip() + " ")
-    begun = place_of(text, found.start(), file)
-    start = None
-    if "fen" in said:
-        head = place_of(text, heads["fen"][1], file)
-        try:
-            start = position.read_fen(said["fen"], head).position
-        except FormatError as fault:
-            yield head.fault(fault.text, head.column + fault.column - 1)
-            return
+def game_of(text: str, found: re.Match[str], end: int, file: str) -> Iterator[Game | FormatError]:
+    """The game of the heads that were found, and of what stands behind them."""
+    heads = {head[1].lower(): head for head in HEAD.finditer(text, found.start(), found.end())}
+    said = {name: re.sub(r"\\(.)", r"\1", head[2]) for name, head in heads.items()}
+    start = position.read_fen(said["fen"], Place(file).of(text, heads["fen"].start(2))).position if "fen" in said else None
     score = SCORE.fullmatch(said.get("result", "").strip())
-    result = float(int(score[1]) - int(score[2])) if score and said["result"].strip() not in ("1-0", "0-1") else None
-    tags = tuple((name, value) for name, value in said.items() if name not in ("event", "black", "white", "date", "result", "fen"))
-    place = place_of(text, found.end(), file)
-    others: dict[str, Any] = {"place": begun, "tags": tags, **{name: said.get(name, "") for name in ("black", "white", "event", "date")}}
-    for one in transcript.parts(moves.rstrip(), start, place):
+    result = float(int(score[1]) - int(score[2])) if score and score[0] not in ("1-0", "0-1") else None
+    others: dict[str, Any] = {name: said.pop(name, "") for name in ("black", "white", "event", "date")}
+    others["tags"] = tuple((name, value) for name, value in said.items() if name not in ("result", "fen"))
+    others["place"] = Place(file).of(text, found.start())
+    moves = SAID.sub(lambda one: re.sub(r"[^\n]", " ", one[0]), text[found.end() : end].rstrip() + " ")
+    for one in transcript.parts(moves.rstrip(), start, Place(file).of(text, found.end())):
         yield dataclasses.replace(one, result=result if one.result is None else one.result, **others) if isinstance(one, Game) else one

@@ -13,30 +13,30 @@ move`), and where it doesn't, it is who has the move after so many discs without
 top as Othello names them.
 """
 
+import itertools
 import re
 
-from ..board import CELLS, Position
+from ..board import CELLS, EMPTY, Position
 from ..errors import FormatError
 from .records import Place, Problem
 
 ROW = re.compile(r"\s*(?:[1-8][\s|]*)?((?:[-.*XxOo][\s|]*){8})(?:[1-8])?\s*")
 HEAD = re.compile(r"\s*(?:[aA]\s*[bB]\s*[cC]\s*[dD]\s*[eE]\s*[fF]\s*[gG]\s*[hH])?\s*")
 TO_MOVE = re.compile(r"\s*(?:side|turn|player)?\s*[:=]?\s*(?P<side>[Xx*]|[Oo]|(?i:black|white))\s*(?:(?:is )?to (?:move|play))?[\s.]*", re.IGNORECASE)
-FEN_CELLS = {**CELLS, "B": "X", "b": "X", "W": "O", "w": "O"}
+DISCS = {**{letter: cell for letter, cell in CELLS.items() if cell != EMPTY}, "B": "X", "b": "X", "W": "O", "w": "O"}
+FEN_CELLS = {**DISCS, **{str(count): count * EMPTY for count in range(1, 9)}}
 
 
 def read_line(text: str, place: Place = Place()) -> Problem:
     """A line of 66 letters, or of a depth and 66 letters."""
-    found = re.fullmatch(r"(?:(\d{1,8}) )?(.{64} .)", text)
-    if not found:
-        at = re.match(r"(\d{1,8} )?", text)
-        start = at.end() if at else 0
-        raise place.fault(f"a position has 64 cells, a space and the side to move, and here are {len(text) - start} letters", start + 1)
+    depth, space, rest = text.partition(" ") if re.match(r"\d{1,8} ", text) else ("", "", text)
+    begin = len(depth + space)
+    if not re.fullmatch(".{64} .", rest):
+        raise place.fault(f"a position has 64 cells, a space and the side to move, and here are {len(rest)} letters", begin + 1)
     try:
-        position = Position.parse(found[2])
+        return Problem(Position.parse(rest), int(depth) if depth else None, place=place)
     except FormatError as fault:
-        raise place.fault(fault.text, fault.column + found.start(2)) from None
-    return Problem(position, int(found[1]) if found[1] else None, place=place)
+        raise place.fault(fault.text, fault.column + begin) from None
 
 
 def read_fen(text: str, place: Place = Place()) -> Problem:
@@ -48,17 +48,15 @@ def read_fen(text: str, place: Place = Place()) -> Problem:
             if column != 8 or row == 8:
                 raise place.fault(f"row {row} has {column} cells" if column != 8 else "there are more than 8 rows", at)
             row, column = row + 1, 0
-        elif letter.isdecimal() and letter != "0" and column + int(letter) <= 8:
-            cells, column = cells + "-" * int(letter), column + int(letter)
-        elif letter in FEN_CELLS and FEN_CELLS[letter] != "-" and column < 8:
-            cells, column = cells + FEN_CELLS[letter], column + 1
+        elif letter in FEN_CELLS and column + len(FEN_CELLS[letter]) <= 8:
+            cells, column = cells + FEN_CELLS[letter], column + len(FEN_CELLS[letter])
         else:
             raise place.fault(f"{letter!r} doesn't fit in row {row}", at)
     if row != 8 or column != 8:
         raise place.fault(f"the text ends in row {row} behind {column} cells", len(board) + 1)
-    if FEN_CELLS.get(side.strip(), "-") == "-" or len(side.strip()) != 1:
+    if side.strip() not in DISCS:
         raise place.fault(f"{side.strip()!r} is no side to move: X or O", len(board) + 2)
-    return Problem(Position(cells, FEN_CELLS[side.strip()]), place=place)
+    return Problem(Position(cells, DISCS[side.strip()]), place=place)
 
 
 def fen(position: Position) -> str:
@@ -68,20 +66,16 @@ def fen(position: Position) -> str:
 
 def read_board(lines: list[str], at: int, place: Place = Place()) -> tuple[Problem, int] | None:
     """The board that begins at a line (from 0), and behind which line it ends; None where none begins there."""
-    rows, here, first = list[str](), at, at
-    while here < len(lines) and len(rows) < 8:
-        found = ROW.fullmatch(lines[here])
-        if found:
-            first = first if rows else here
-            rows.append("".join(CELLS[letter] for letter in found[1] if letter in CELLS))
-        elif rows or not HEAD.fullmatch(lines[here]):
-            return None
-        here += 1
+    first = at
+    while first < len(lines) and HEAD.fullmatch(lines[first]):
+        first += 1
+    rows = [row for row in itertools.takewhile(bool, map(ROW.fullmatch, lines[first : first + 8])) if row]
     if len(rows) < 8:
         return None
+    here = first + 8
     while here < len(lines) and HEAD.fullmatch(lines[here]) and here - at < 12:
         here += 1
-    cells = "".join(rows)
+    cells = "".join(CELLS[letter] for row in rows for letter in row[1] if letter in CELLS)
     told = TO_MOVE.fullmatch(lines[here]) if here < len(lines) else None
-    side = FEN_CELLS[told["side"][0]] if told else "XO"[(64 - cells.count("-")) % 2]
+    side = DISCS[told["side"][0]] if told else "XO"[(64 - cells.count("-")) % 2]
     return Problem(Position(cells, side), place=Place(place.file, first + 1, 1)), here + 1 if told else here

@@ -1,12 +1,15 @@
 """What files of Othello give: problems, games, and where each was read."""
 
+import contextlib
 import dataclasses
 from collections.abc import Iterable, Iterator
-from typing import Any, Self, TypeVar
+from typing import Any, TypeVar
 
-from ..board import PASS, SQUARES, Board, Position
-from ..errors import FormatError, IllegalMove
+from ..board import BIT, BLACK, INDEX, NAMES, OTHER, PASS, SQUARES, WHITE, Board, Position, can_move, cells_of, changes, discs_of
+from ..errors import FormatError
 
+Tag = tuple[str, str, "Place"]  # a name, what is written behind it in brackets, and where that stands
+SIDES = {"B": BLACK, "W": WHITE}  # the tags of moves
 Item = TypeVar("Item")
 
 
@@ -18,11 +21,18 @@ class Place:
     line: int = 0
     column: int = 0
 
-    def fault(self, text: str, column: int | None = None) -> FormatError:
-        return FormatError(text, self.file, self.line, self.column if column is None else column)
+    def fault(self, text: str, at: int | None = None) -> FormatError:
+        """A fault here, or of the letter or byte that is so many (from 1) of those that stand here."""
+        return FormatError(text, self.file, self.line, self.column if at is None else max(self.column, 1) + at - 1)
+
+    def of(self, text: str, at: int, begin: int = 0) -> "Place":
+        """The place of a letter of a text, of which the one at `begin` stands here."""
+        end = text.rfind("\n", begin, at)
+        column = at - end if end >= 0 else at - begin + max(self.column, 1)
+        return Place(self.file, max(self.line, 1) + text.count("\n", begin, at), column)
 
     def __str__(self) -> str:
-        return ":".join([self.file or "text", *(str(number) for number in (self.line, self.column) if number)])
+        return str(self.fault("")).removesuffix(": ")
 
 
 @dataclasses.dataclass(frozen=True)
@@ -45,8 +55,7 @@ class Problem:
 
     def best(self) -> tuple[str, ...]:
         """The moves that are expected as best: those of the greatest score, or all where none has one."""
-        scores = [one.discs for one in self.expected if one.discs is not None]
-        return tuple(one.move for one in self.expected if not scores or one.discs == max(scores))
+        return tuple(one.move for one in self.expected if one.discs == self.discs())
 
     def discs(self) -> int | None:
         """The score that is expected of the position."""
@@ -112,17 +121,27 @@ def strictly(found: Iterable[Item | FormatError]) -> Iterator[Item]:
         yield one
 
 
-class Builder:
+def with_fault(found: Iterator[Item | FormatError]) -> Iterator[Item | FormatError]:
+    """What a reader finds, and behind it the fault that ends it."""
+    try:
+        yield from found
+    except FormatError as fault:
+        yield fault
+
+
+class Builder(contextlib.AbstractContextManager["Builder"]):
     """Makes a game's moves one after another, and says where one can't be made. Passes that aren't written are put in. As a context it keeps the
     fault that ends what is made; `fault`: one that was there before."""
 
     def __init__(self, start: Position, fault: FormatError | None = None):
-        self.start = self.position = start
-        self.fault = fault
+        self.start, self.discs, self.side = start, discs_of(start.cells), start.side
+        self.fault, self.count = fault, 0  # the count is without passes
         self.moves: list[Played] = []
 
-    def __enter__(self) -> Self:
-        return self
+    @property
+    def position(self) -> Position:
+        """What the moves lead to."""
+        return Position(cells_of(self.discs), self.side)
 
     def __exit__(self, kind: object, fault: object, trace: object) -> bool:
         self.fault = fault if isinstance(fault, FormatError) else self.fault
@@ -134,29 +153,25 @@ class Builder:
         if self.fault:
             yield self.fault
 
-    @property
-    def count(self) -> int:
-        """How many moves were made, without passes."""
-        return sum(played.move != PASS for played in self.moves)
-
-    def play(self, move: str, place: Place, side: str | None = None, evaluation: float | None = None, seconds: float | None = None) -> None:
+    def play(self, played: Played, place: Place, side: str | None = None) -> None:
         """Makes a move; with a side it must be that one's."""
-        number, position = self.count + 1, self.position
-        if position.is_over:
-            raise place.fault(f"move {number}, {move}: the game is over")
-        if move == PASS and not position.must_pass:
-            raise place.fault(f"a pass before move {number}, and the player can move")
-        if side and side == position.side and move != PASS and position.must_pass:
-            raise place.fault(f"move {number}, {move}: that player can't move")
-        if move != PASS and position.must_pass:
-            self._made(PASS, PLAYED[PASS])
-        if side and side != self.position.side:
-            raise place.fault(f"move {number}, {move}: it is the other player's turn")
-        try:
-            self._made(move, PLAYED[move] if evaluation is None and seconds is None else Played(move, evaluation, seconds))
-        except IllegalMove as fault:
-            raise place.fault(f"move {number}, {fault}") from None
-
-    def _made(self, move: str, played: Played) -> None:
-        self.position = self.position.play(move)
+        at, said = INDEX.get(played.move), f"move {self.count + 1}, {played.move}"
+        flips = changes(self.discs, self.side, at)
+        if not flips and not can_move(self.discs, self.side):
+            if not can_move(self.discs, OTHER[self.side]):
+                raise place.fault(f"{said}: the game is over")
+            if at is not None:
+                if side == self.side:
+                    raise place.fault(f"{said}: that player can't move")
+                self.play(PLAYED[PASS], place)
+                flips = changes(self.discs, self.side, at)
+        elif at is None:
+            raise place.fault(f"a pass before move {self.count + 1}, and the player can move")
+        if side not in (None, self.side):
+            raise place.fault(f"{said}: it is the other player's turn")
+        if at is not None:
+            if not flips:
+                raise place.fault(f"{said}: {NAMES[self.side]} can't play there")
+            self.discs, self.count = self.discs ^ flips | BIT[self.side][at], self.count + 1
         self.moves.append(played)
+        self.side = OTHER[self.side]

@@ -8,105 +8,84 @@ SZ (8 alone), PB, PW, EV, DT and RE (`B+12`, `W+2`, `0`, `Draw`). Of a tree of v
 Arno Hollosi; other properties are kept as they stand.
 """
 
+import itertools
 import re
 from collections.abc import Iterator
 
 from ..board import BLACK, EMPTY, INDEX, PASS, WHITE, Position
 from ..errors import FormatError
-from .ggf import place_of
-from .records import Builder, Game, Place
+from .records import PLAYED, SIDES, Builder, Game, Place, Tag, with_fault
 
 PROPERTY = re.compile(r"\s*([A-Za-z]+)((?:\s*\[(?:\\.|[^\]\\])*\])+)", re.DOTALL)
 VALUE = re.compile(r"\[((?:\\.|[^\]\\])*)\]", re.DOTALL)
 SIGN = re.compile(r"\s*([;()])")
 RESULT = re.compile(r"(?i:([BW])\+(\d+(?:\.\d+)?))")
 SETUP = {"AB": BLACK, "AW": WHITE, "AE": EMPTY}
-SIDES = {"B": BLACK, "W": WHITE}
 FIELDS = {"PB": "black", "PW": "white", "EV": "event", "DT": "date"}
-Property = tuple[str, list[str], int]
 
 
 def read(text: str, file: str = "") -> Iterator[Game | FormatError]:
     """The games of a text, and its faults. A game that has one, or is cut, is there with the moves before that."""
     at, text = 0, text.removeprefix("\ufeff")
     while (begun := text.find("(", at)) >= 0:
-        properties, at, fault = properties_of(text, begun, file)
-        try:
-            yield from game_of(text, properties, place_of(text, begun, file), fault)
-        except FormatError as other:
-            yield other
+        place = Place(file).of(text, begun)
+        tags, at, fault = tags_of(text, begun, place)
+        yield from with_fault(game_of(tags, place, fault))
     if at == 0:
-        yield place_of(text, 0, file).fault("no game begins here: (;")
+        yield Place(file, 1, 1).fault("no game begins here: (;")
 
 
-def properties_of(text: str, at: int, file: str) -> tuple[list[Property], int, FormatError | None]:
-    """The properties of the tree that begins at a letter, of its first variation alone; where it ends, and what is at fault."""
-    found: list[Property] = []
-    depth, is_first = 0, True
-    while at < len(text):
-        sign = SIGN.match(text, at)
-        if sign:
-            depth += {"(": 1, ")": -1}.get(sign[1], 0)
-            is_first = is_first and sign[1] != ")"
-            at = sign.end()
+def tags_of(text: str, begin: int, place: Place) -> tuple[list[Tag], int, FormatError | None]:
+    """The values of the tree that begins at a letter, of its first variation alone; where it ends, and what is at fault."""
+    at, depth, is_first, tags = begin, 0, True, list[Tag]()
+    while found := SIGN.match(text, at) or PROPERTY.match(text, at):
+        at = found.end()
+        if found.re is SIGN:
+            depth += {"(": 1, ")": -1}.get(found[1], 0)
+            is_first = is_first and found[1] != ")"
             if depth == 0:
-                return found, at, None
-            continue
-        one = PROPERTY.match(text, at)
-        if not one:
-            break
-        if is_first:
-            found.append((one[1].upper(), [re.sub(r"\\(.)", r"\1", value, flags=re.DOTALL) for value in VALUE.findall(one[2])], one.start(2) + 1))
-        at = one.end()
+                return tags, at, None
+        elif is_first:
+            here = place.of(text, found.start(2) + 1, begin)
+            tags += [(found[1].upper(), re.sub(r"\\(.)", r"\1", value, flags=re.DOTALL), here) for value in VALUE.findall(found[2])]
+    fault = place.of(text, at, begin).fault("here is no property, NAME[value], and no end of the game, )")
     after = text.find("(;", at)
-    return found, len(text) if after < 0 else after, place_of(text, at, file).fault("here is no property, NAME[value], and no end of the game, )")
+    return tags, len(text) if after < 0 else after, fault
 
 
-def game_of(text: str, properties: list[Property], place: Place, fault: FormatError | None) -> Iterator[Game | FormatError]:
-    named = {name: values[0] for name, values, _ in reversed(properties) if name not in SIDES}
-    places = {name: place_of(text, at, place.file) for name, _, at in reversed(properties)}
+def game_of(tags: list[Tag], place: Place, fault: FormatError | None) -> Iterator[Game | FormatError]:
+    named, places = {name: value for name, value, _ in reversed(tags)}, {name: here for name, _, here in reversed(tags)}
     if named.get("GM", "").strip() != "2":
         raise places.get("GM", place).fault(f"this is no game of Othello, GM[2]: {named.get('GM', 'it says no GM')}")
     if named.get("SZ", "8").strip() not in ("8", "8:8"):
         raise places["SZ"].fault(f"its board has {named['SZ']} lines")
-    with Builder(Position.opening(), fault) as builder:
-        builder.start = builder.position = start_of(text, properties, place.file)
-        for name, values, at in properties:
+    with Builder(start_of(tags), fault) as builder:
+        for name, value, here in tags:
             if name in SIDES:
-                here = place_of(text, at, place.file)
-                builder.play(square_of(values[0], here, may_pass=True), here, SIDES[name])
-    others = tuple((name, values[0]) for name, values, _ in properties if name not in (*SIDES, *FIELDS, *SETUP, "GM", "RE", "SZ", "FF", "PL", "CA"))
-    heads = {head: named.get(name, "") for name, head in FIELDS.items()}
+                is_pass = value.strip().lower() in ("", "pass", "pa", "tt")
+                builder.play(PLAYED[PASS if is_pass else square_of(value, here)], here, SIDES[name])
+    others = tuple((name, value) for name, value, _ in tags if name not in (*SIDES, *FIELDS, *SETUP, "GM", "RE", "SZ", "FF", "PL", "CA"))
+    heads = {FIELDS[name]: value for name, value in named.items() if name in FIELDS}
     yield from builder.game(result=result_of(named.get("RE", "")), tags=others, place=place, **heads)
 
 
-def start_of(text: str, properties: list[Property], file: str) -> Position:
-    """The opening, or what is set up before the first move."""
+def start_of(tags: list[Tag]) -> Position:
+    """The opening, or what is set up before the first move: squares and rectangles, `c3:f6`."""
     cells, side = list(Position.opening().cells), BLACK
-    for name, values, at in properties:
-        if name in SIDES:
-            break
+    for name, value, here in itertools.takewhile(lambda tag: tag[0] not in SIDES, tags):
         if name in SETUP:
-            for value in values:
-                for square in squares_of(value, place_of(text, at, file)):
-                    cells[INDEX[square]] = SETUP[name]
+            ends = [square_of(word, here) for word in value.split(":", 1)]
+            columns, rows = ("".join(sorted(letters)) for letters in zip(ends[0], ends[-1]))
+            for square, at in INDEX.items():
+                if columns[0] <= square[0] <= columns[1] and rows[0] <= square[1] <= rows[1]:
+                    cells[at] = SETUP[name]
         elif name == "PL":
-            side = WHITE if values[0].strip().upper()[:1] == "W" else BLACK
+            side = WHITE if value.strip().upper()[:1] == "W" else BLACK
     return Position("".join(cells), side)
 
 
-def squares_of(value: str, place: Place) -> list[str]:
-    """A square, or those of a rectangle, `c3:f6`."""
-    first, colon, last = value.partition(":")
-    one = square_of(first, place)
-    other = square_of(last, place) if colon else one
-    return [column + row for row in "12345678" for column in "abcdefgh" if one[0] <= column <= other[0] and one[1] <= row <= other[1]]
-
-
-def square_of(value: str, place: Place, may_pass: bool = False) -> str:
+def square_of(value: str, place: Place) -> str:
     word = value.strip().lower()
-    if may_pass and word in ("", "pass", "pa", "tt"):
-        return PASS
     if re.fullmatch("[a-h][a-h]", word):
         return f"{word[0]}{'abcdefgh'.index(word[1]) + 1}"
     if not re.fullmatch("[a-h][1-8]", word):

@@ -11,7 +11,7 @@ from collections.abc import Iterator
 
 from ..board import BLACK, PASS, Position
 from ..errors import FormatError
-from .records import Builder, Game, Place
+from .records import PLAYED, Builder, Game, Place, strictly
 
 TOKEN = re.compile(r"(?P<space>[\s,;]+|-(?!-))|(?P<number>\d{1,3}\s*[.)]+)|(?P<move>[a-hA-H][1-8])|(?P<pass>(?i:pass|pa|ps)|--)")
 SCORE = re.compile(r"[\s,;:(\[]*(?:(?P<black>\d{1,2})\s*[-:]\s*(?P<white>\d{1,2})|(?P<side>[BbWw])?(?P<more>[+-]\d{1,2}|(?<![a-hA-H])0))(?:\.0+)?[\s,;.)\]]*")
@@ -25,37 +25,28 @@ def narrow(text: str) -> str:
 
 def read(text: str, start: Position | None = None, place: Place = Place()) -> Game:
     """The game of a text, from the opening with black to begin if no start is given. `FormatError` where anything is at fault."""
-    *games, last = parts(text, start, place)
-    if isinstance(last, FormatError):
-        raise last
-    return last
+    [game] = strictly(parts(text, start, place))
+    return game
 
 
 def parts(text: str, start: Position | None = None, place: Place = Place()) -> Iterator[Game | FormatError]:
     """The game of a text; where it has a fault, the game of what stands before that, if there are moves, and the fault. A line's end counts a
     line further."""
-    text = narrow(text)
-    at, line, begun = 0, place.line or 1, -max(place.column - 1, 0)
-    numbers: list[int] = []
-    result: float | None = None
+    text, at, numbers, result = narrow(text), 0, list[int](), None
     with Builder(start or Position.opening()) as builder:
         while at < len(text):
-            here = Place(place.file, line, at - begun + 1)
+            here = place.of(text, at)
             if builder.moves and (score := SCORE.fullmatch(text, at)):
                 result = result_of(score, builder.position, here)
                 break
-            found = TOKEN.match(text, at)
-            if not found:
-                word = re.match(r"\S+", text[at:])
-                raise here.fault(f"{word[0][:20] if word else text[at]!r} is no move")
+            if not (found := TOKEN.match(text, at)):
+                raise here.fault(f"{text[at:].split()[0][:20]!r} is no move")
             if found["move"] or found["pass"]:
-                builder.play(found["move"].lower() if found["move"] else PASS, here)
+                builder.play(PLAYED[found["move"].lower() if found["move"] else PASS], here)
             elif found["number"]:
                 numbers.append(int(re.sub(r"\D", "", found["number"])))
                 if numbers[-1] not in (builder.count + 1, (builder.count + 2) // 2) or numbers != sorted(set(numbers)):
                     raise here.fault(f"the number {numbers[-1]} stands before move {builder.count + 1}")
-            if found["space"] and (lines := found["space"].count("\n")):
-                line, begun = line + lines, at + found["space"].rindex("\n") + 1
             at = found.end()
     if builder.moves:
         yield from builder.game(result=result, place=place)
@@ -65,10 +56,8 @@ def parts(text: str, start: Position | None = None, place: Place = Place()) -> I
 
 def result_of(score: re.Match[str], final: Position, place: Place) -> float:
     """What a score behind the moves says; a fault where the game is over otherwise."""
-    if score["black"]:
-        result = int(score["black"]) - int(score["white"])
-    else:
-        result = int(score["more"]) * (-1 if (score["side"] or "").lower() == "w" else 1)
+    sign = -1 if score["side"] in ("W", "w") else 1
+    result = int(score["black"]) - int(score["white"]) if score["black"] else sign * int(score["more"])
     played = final.final_discs(BLACK)
     if final.is_over and result not in (played, final.discs(BLACK) - final.discs("O")):
         raise place.fault(f"the score is said to be {result:+d} for black, and is {played:+d}")
@@ -82,8 +71,7 @@ def write(game: Game, form: str = "plain") -> str:
     in capitals)."""
     words = game.words()
     if form == "capitals":
-        sides = [position.side for position, _ in game.positions()]
-        return "".join(word.upper() if side == BLACK else word for word, side in zip(words, sides))
+        return "".join(move.upper() if position.side == BLACK else move for position, move in game.positions())
     if form == "numbered":
         return " ".join(f"{number}. {word}" for number, word in enumerate(words, 1))
     return {"plain": "", "spaced": " ", "hyphens": "-"}[form].join(words)

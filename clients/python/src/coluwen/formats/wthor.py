@@ -13,34 +13,35 @@ This is the description of the French Othello federation ("Format de la base WTH
 at hand. The header's counts are compared with the file's length, and each move is played.
 """
 
-import dataclasses
 import pathlib
 import struct
 from collections.abc import Iterable, Iterator
+from typing import NamedTuple
 
-from ..board import ALL, BIT, BLACK, BLACK_BIT, NAMES, OTHER, PASS, SQUARES, WHITE, WHITE_BIT, Position, can_move, changes, discs_of
+from ..board import BLACK, SQUARES, Position
 from ..errors import FormatError
-from .records import PLAYED, Game, Place, Played
+from .records import PLAYED, Builder, Game, Place
 
 HEAD = struct.Struct("<BBBBIHHBBBB")
 RECORD = struct.Struct("<HHHBB60s")
 NAME_BYTES = {".jou": 20, ".trn": 26}
 OPENING = Position.opening()
-START_DISCS = discs_of(OPENING.cells)
-SQUARE_OF = [8 * (code // 10 - 1) + code % 10 - 1 if 1 <= code // 10 <= 8 and 1 <= code % 10 <= 8 else -1 for code in range(256)]
+CODES = {10 * int(square[1]) + "abcdefgh".index(square[0]) + 1: PLAYED[square] for square in SQUARES}
 
 
-@dataclasses.dataclass(frozen=True)
-class Head:
+class Head(NamedTuple):
     """What stands before the games: when the file was made (year, month, day), how many games and names it has, of which year the games are, the
     board's size, and to which depth the theoretical scores are."""
 
     made: tuple[int, int, int]
-    games: int
-    names: int
-    year: int
-    size: int
-    depth: int
+    games: int = 0
+    names: int = 0
+    year: int = 0
+    size: int = 0
+    depth: int = 0
+
+    def written(self) -> bytes:
+        return HEAD.pack(*divmod(self.made[0], 100), *self.made[1:], self.games, self.names, self.year, self.size, 0, self.depth, 0)
 
 
 def head_of(data: bytes, file: str = "") -> Head:
@@ -71,48 +72,25 @@ def read(data: bytes, file: str = "", players: list[str] | None = None, tourname
 
 def game_of(data: bytes, at: int, file: str, number: int, year: str, players: list[str] | None, tournaments: list[str] | None) -> Iterator[Game | FormatError]:
     tournament, black, white, discs, theoretical, codes = RECORD.unpack_from(data, at)
-    moves, final, fault = replayed(codes.rstrip(b"\0"))
-    if fault:
-        fault = FormatError(f"game {number}: {fault.text}", file, column=at + 8 + fault.column)
+    place = Place(file, 0, at + 1)
+    with Builder(OPENING) as builder:
+        for code in codes.rstrip(b"\0"):
+            if code not in CODES:
+                raise place.fault(f"{code} is no square")
+            builder.play(CODES[code], place)
+    if builder.fault:
+        builder.fault = place.fault(f"game {number}: {builder.fault.text}", 9 + builder.count)
     elif discs > 64 or theoretical > 64:
-        fault = FormatError(f"game {number}: {max(discs, theoretical)} discs", file, column=at + 7)
-    elif is_over(final) and discs != black_discs(final):
-        fault = FormatError(f"game {number}: black is said to have {discs} discs, and has {black_discs(final)}", file, column=at + 7)
-    yield Game(OPENING, tuple(moves), named(players, black, "player"), named(players, white, "player"), named(tournaments, tournament, "tournament"), year,
-               float(2 * discs - 64), theoretical, (), Place(file, 0, at + 1), not fault)  # fmt: skip
-    if fault:
-        yield fault
+        builder.fault = place.fault(f"game {number}: {max(discs, theoretical)} discs", 7)
+    elif (final := builder.position).is_over and discs != black_discs(final):
+        builder.fault = place.fault(f"game {number}: black is said to have {discs} discs, and has {black_discs(final)}", 7)
+    yield from builder.game(black=named(players, black, "player"), white=named(players, white, "player"), event=named(tournaments, tournament, "tournament"),
+                            date=year, result=float(2 * discs - 64), theoretical=theoretical, place=place)  # fmt: skip
 
 
-def replayed(codes: bytes) -> tuple[list[Played], int, FormatError | None]:
-    """The moves of codes, the discs after them, and which can't be made. Passes are put in."""
-    discs, side, moves = START_DISCS, BLACK, list[Played]()
-    for number, code in enumerate(codes):
-        at = SQUARE_OF[code]
-        if at < 0:
-            return moves, discs, FormatError(f"{code} is no square", column=number + 1)
-        is_empty = not discs & (BLACK_BIT[at] | WHITE_BIT[at])
-        changed = changes(discs, side, at) if is_empty else 0
-        if is_empty and not changed and changes(discs, OTHER[side], at) and not can_move(discs, side):
-            moves.append(PLAYED[PASS])
-            side = OTHER[side]
-            changed = changes(discs, side, at)
-        if not changed:
-            return moves, discs, FormatError(f"move {number + 1}, {SQUARES[at]}: {NAMES[side]} can't play there", column=number + 1)
-        discs, side = discs ^ changed | BIT[side][at], OTHER[side]
-        moves.append(PLAYED[SQUARES[at]])
-    return moves, discs, None
-
-
-def is_over(discs: int) -> bool:
-    return (discs | discs >> 64) & ALL == ALL or not can_move(discs, BLACK) and not can_move(discs, WHITE)
-
-
-def black_discs(discs: int) -> int:
+def black_discs(final: Position) -> int:
     """Black's discs at the end, with the empty squares the winner's, or half of them."""
-    black, white = (discs & ALL).bit_count(), (discs >> 64).bit_count()
-    empty = 64 - black - white
-    return black + (empty if black > white else empty // 2 if black == white else 0)
+    return 32 + final.final_discs(BLACK) // 2
 
 
 def named(names: list[str] | None, number: int, kind: str) -> str:
@@ -131,38 +109,33 @@ def read_names(path: str) -> list[str]:
     return [data[at : at + size].split(b"\0")[0].decode("latin-1") for at in range(HEAD.size, len(data), size)]
 
 
-def names_beside(path: str) -> tuple[list[str] | None, list[str] | None]:
+def names_beside(path: str) -> list[list[str] | None]:
     """The players and tournaments that the folder of a .wtb names, where it has one .jou and one .trn."""
-    found = []
-    for suffix in NAME_BYTES:
-        paths = [str(one) for one in pathlib.Path(path).parent.glob("*") if one.suffix.lower() == suffix]
-        found.append(read_names(paths[0]) if len(paths) == 1 else None)
-    return found[0], found[1]
+    paths = [[str(one) for one in pathlib.Path(path).parent.glob("*") if one.suffix.lower() == suffix] for suffix in NAME_BYTES]
+    return [read_names(found[0]) if len(found) == 1 else None for found in paths]
 
 
 def write(games: Iterable[Game], year: int, made: tuple[int, int, int] = (2000, 1, 1), depth: int = 0, players: list[str] | None = None,
           tournaments: list[str] | None = None) -> bytes:  # fmt: skip
     """A .wtb of finished games from the opening. Names are written by their numbers in these lists, which grow by those that they lack."""
     players, tournaments, records = [] if players is None else players, [] if tournaments is None else tournaments, list[bytes]()
+    codes = {played.move: code for code, played in CODES.items()}
     for game in games:
-        if game.start != OPENING or len(game.words()) > 60:
+        words, final = game.words(), game.final()
+        if game.start != OPENING or len(words) > 60:
             raise ValueError("a .wtb has games from the opening alone")
-        codes = bytes(10 * int(word[1]) + "abcdefgh".index(word[0]) + 1 for word in game.words())
-        discs = black_discs(discs_of(game.final().cells)) if game.final().is_over else (64 + int(game.result or 0)) // 2
-        numbers = [number_of(names, name) for names, name in ((tournaments, game.event), (players, game.black), (players, game.white))]
-        records.append(RECORD.pack(*numbers, discs, game.theoretical if game.theoretical is not None else discs, codes))
-    century, rest = divmod(made[0], 100)
-    return HEAD.pack(century, rest, made[1], made[2], len(records), 0, year, 8, 0, depth, 0) + b"".join(records)
-
-
-def number_of(names: list[str], name: str) -> int:
-    if name not in names:
-        names.append(name)
-    return names.index(name)
+        for names, name in ((tournaments, game.event), (players, game.black), (players, game.white)):
+            if name not in names:
+                names.append(name)
+        numbers = tournaments.index(game.event), players.index(game.black), players.index(game.white)
+        discs = black_discs(final) if final.is_over else (64 + int(game.result or 0)) // 2
+        theoretical = discs if game.theoretical is None else game.theoretical
+        records.append(RECORD.pack(*numbers, discs, theoretical, bytes(codes[word] for word in words)))
+    return Head(made, len(records), 0, year, 8, depth).written() + b"".join(records)
 
 
 def write_names(names: list[str], suffix: str, made: tuple[int, int, int] = (2000, 1, 1)) -> bytes:
     """A .jou or .trn."""
-    size, (century, rest) = NAME_BYTES[suffix], divmod(made[0], 100)
-    head = HEAD.pack(century, rest, made[1], made[2], 0, len(names), 0, 0, 0, 0, 0)
-    return head + b"".join(name.encode("latin-1", "replace")[: size - 1].ljust(size, b"\0") for name in names)
+    size = NAME_BYTES[suffix]
+    written = (name.encode("latin-1", "replace")[: size - 1].ljust(size, b"\0") for name in names)
+    return Head(made, names=len(names)).written() + b"".join(written)

@@ -17,9 +17,8 @@ from collections.abc import Callable, Sequence
 from typing import Any
 
 from .. import __version__
-from .._place import OUTAGE, PATIENCE, SILENCE, URL, tls_context, token_in, url_of
 from ..analyst import Analyst
-from ..client import Client
+from ..client import OUTAGE, PATIENCE, SILENCE, URL, Client, tls_context, token_in, url_of
 from ..engine import Engine, Fallback
 from ..errors import ColuwenError, Unreachable
 

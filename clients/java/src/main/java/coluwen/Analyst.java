@@ -34,16 +34,12 @@ public interface Analyst extends AutoCloseable {
   /** How many questions {@code analyseMany} takes before their answers were taken from it. */
   default int window() { return 64; }
 
-  default CompletableFuture<Result> analyseAsync(Position position, int depth) {
-    return analyseAsync(position, depth, timeout());
-  }
+  default CompletableFuture<Result> analyseAsync(Position position, int depth) { return analyseAsync(position, depth, timeout()); }
 
   default Result analyse(Position position, int depth) { return analyse(position, depth, timeout()); }
 
   /** The same by the thread that calls; an interrupt cancels the job, and {@code Stopped} is thrown. */
-  default Result analyse(Position position, int depth, Duration timeout) {
-    return Calls.joined(analyseAsync(position, depth, timeout));
-  }
+  default Result analyse(Position position, int depth, Duration timeout) { return Calls.joined(analyseAsync(position, depth, timeout)); }
 
   /** Each move's value exactly, the best first, of equals the one from a1 on: one question for each position that a move leads to. */
   default List<Entry> analyseAll(Position position, int depth) {
@@ -74,11 +70,8 @@ public interface Analyst extends AutoCloseable {
     }
 
     public Bulk asKnown() { return new Bulk(false, window, timeout, onProgress); }
-
     public Bulk window(int most) { return new Bulk(isOrdered, most, timeout, onProgress); }
-
     public Bulk timeout(Duration most) { return new Bulk(isOrdered, window, most, onProgress); }
-
     public Bulk onProgress(Consumer<Progress> heard) { return new Bulk(isOrdered, window, timeout, heard); }
   }
 

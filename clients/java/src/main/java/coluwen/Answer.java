@@ -1,16 +1,16 @@
 package coluwen;
 
-import coluwen.ColuwenException.Broken;
-import coluwen.ColuwenException.Refused;
+import coluwen.ColuwenException.*;
 import java.util.*;
-import java.util.regex.Pattern;
-import java.util.stream.Collectors;
+import java.util.regex.*;
+import java.util.stream.*;
 
 /**
  * An answer of the server that fits its line, by the one grammar of answers (_answers.py of the Python package states it in words;
- * clients/conformance.txt has the rows that the clients of all languages are tried by). {@code numbers}: of WELCOME, RESERVED, QUOTA, LIVE and INFO; {@code more}: what is behind the first of INFO.
+ * clients/conformance.txt has the rows that the clients of all languages are tried by). {@code numbers}: first a job's; {@code more}: what
+ * is behind the first of INFO.
  */
-record Answer(String state, int job, int value, String move, List<Entry> entries, List<Integer> numbers, String more) {
+record Answer(String state, List<Integer> numbers, int value, String move, List<Entry> entries, String more) {
   static final int LONGEST = 1115; // bytes of an answer, with its LF
 
   /** An entry of a table. */
@@ -19,62 +19,51 @@ record Answer(String state, int job, int value, String move, List<Entry> entries
     public String toString() { return move + sign + value; }
   }
 
-  /** Of a line's first word what answers it: N is a number, V a value, P a square or a pass. */
-  private static final Map<String, Pattern> FORMS = """
-      HELLO WELCOME N N
-      RESERVE RESERVED N N
-      ASK JOB N
-      GET DONE N V (P|-)|(PENDING|SPENT|CANCELLED) N
-      WAIT DONE N V (P|-)|(SPENT|CANCELLED) N
-      TABLE TABLE N( P[=<>]V)*|(PENDING|SPENT|CANCELLED) N
-      CANCEL CANCELLED N
+  /** What answers a line, by its first word: N is a number, V a value, P a square or pass; A, B the line's next words, J the next job. */
+  private static final Map<String, String> FORMS = """
+      HELLO WELCOME A B
+      RESERVE RESERVED A B
+      ASK JOB J
+      GET DONE A V (P|-)|(PENDING|SPENT|CANCELLED) A
+      WAIT DONE A V (P|-)|(SPENT|CANCELLED) A
+      TABLE TABLE A( P[=<>]V)*|(PENDING|SPENT|CANCELLED) A
+      CANCEL CANCELLED A
       QUOTA QUOTA N N N
       LIVE LIVE N N
       INFO INFO N( [!-~]+)*
       BYE BYE
-      """.lines().map(line -> line.split(" ", 2)).collect(Collectors.toMap(form -> form[0], form -> Pattern.compile(form[1]
-      .replaceAll("\\bN\\b", "(0|[1-9][0-9]{0,7})").replaceAll("\\bV\\b", "(0|-?[1-9][0-9]{0,5})").replaceAll("\\bP\\b", "([a-h][1-8]|pass)"))));
-  private static final List<String> OF_JOBS = List.of("ASK", "GET", "WAIT", "TABLE", "CANCEL");
+      """.lines().map(line -> line.split(" ", 2)).collect(Collectors.toMap(form -> form[0], form -> form[1]));
 
-  /**
-   * The answer to a line (both without LF), where so many jobs were asked before. {@code Refused} where it is an ERR, and {@code Broken}
-   * where it is none to that line.
-   */
+  private static final Pattern ENTRY = Pattern.compile("([a-z][a-z1-8]+)([=<>])([-0-9]+)");
+
+  private static String form(String line, int jobs) {
+    var words = (line + " - -").split(" ");
+    var signs = Map.of("N", "(0|[1-9][0-9]{0,7})", "V", "(0|-?[1-9][0-9]{0,5})", "P", "([a-h][1-8]|pass)",
+        "A", words[1], "B", words[2], "J", "" + (jobs + 1));
+    return Pattern.compile("\\b[A-Z]\\b").matcher(FORMS.get(words[0])).replaceAll(sign -> signs.get(sign.group()));
+  }
+
+  /** The answer to a line (both without LF), where so many jobs were asked before. {@code Broken} where it is none to that line. */
   static Answer parse(String line, String text, int jobs) {
-    var asked = List.of(line.split(" "));
-    var told = List.of(text.split(" "));
-    if (text.matches("ERR [1-9][0-9]")) throw new Refused(Integer.parseInt(told.get(1)));
-    if (text.length() >= LONGEST || !FORMS.get(asked.get(0)).matcher(text).matches()) throw misfit(line, text);
+    var told = List.of(text.split(" ", -1));
     var state = told.get(0);
-    var isOfJob = OF_JOBS.contains(asked.get(0));
-    var given = told.subList(1, isOfJob || state.equals("INFO") ? 2 : told.size());
-    var value = state.equals("DONE") ? Integer.parseInt(told.get(2)) : 0;
-    var entries = (state.equals("TABLE") ? told.subList(2, told.size()) : List.<String>of()).stream().map(Answer::entry).toList();
-    var moves = entries.stream().map(Entry::move).distinct().count();
-    var tooGreat = Math.abs(value) > Score.GREATEST || entries.stream().anyMatch(entry -> Math.abs(entry.value()) > Score.GREATEST);
-    var again = wanted(asked, jobs);
-    if ((again != null && !again.equals(given)) || moves != entries.size() || tooGreat) throw misfit(line, text);
-    var numbers = given.stream().map(Integer::valueOf).toList();
-    var more = state.equals("INFO") ? text.substring(5 + given.get(0).length()) : "";
-    return new Answer(state, isOfJob ? numbers.get(0) : 0, value, state.equals("DONE") ? told.get(3) : "", entries, isOfJob ? List.of() : numbers, more);
+    var isFit = text.length() < LONGEST && text.matches("ERR [1-9][0-9]|" + form(line, jobs));
+    var value = isFit && state.equals("DONE") ? Integer.parseInt(told.get(2)) : 0;
+    var parts = isFit && state.equals("TABLE") ? ENTRY.matcher(text).results() : Stream.<MatchResult>empty();
+    var entries = parts.map(part -> new Entry(part.group(1), part.group(2).charAt(0), Integer.parseInt(part.group(3)))).toList();
+    var isTwice = entries.stream().map(Entry::move).distinct().count() < entries.size();
+    var values = IntStream.concat(IntStream.of(value), entries.stream().mapToInt(Entry::value));
+    if (!isFit || isTwice || values.anyMatch(each -> Math.abs(each) > Score.GREATEST)) {
+      throw new Broken(line + " was answered by " + text.substring(0, Math.min(text.length(), 120)).replaceAll("[^ -~]", "?"));
+    }
+    var numbers = told.stream().skip(1).limit(List.of("DONE", "TABLE", "INFO").contains(state) ? 1 : 3).map(Integer::valueOf).toList();
+    var more = state.equals("INFO") ? text.substring(5 + told.get(1).length()) : "";
+    return new Answer(state, numbers, value, state.equals("DONE") ? told.get(3) : "", entries, more);
   }
 
-  private static Entry entry(String word) {
-    var parts = word.split("(?=[=<>])|(?<=[=<>])");
-    return new Entry(parts[0], parts[1].charAt(0), Integer.parseInt(parts[2]));
-  }
+  /** The number of a refusal; 0 of another answer. */
+  int refused() { return state.equals("ERR") ? numbers.get(0) : 0; }
 
-  /** The words that must stand again in the answer: of ASK the next job's number; null where none must. */
-  private static List<String> wanted(List<String> words, int jobs) {
-    return switch (words.get(0)) {
-      case "HELLO" -> words.subList(1, 3);
-      case "ASK" -> List.of(String.valueOf(jobs + 1));
-      case "QUOTA", "LIVE", "INFO", "BYE" -> null;
-      default -> words.subList(1, words.size());
-    };
-  }
-
-  private static Broken misfit(String line, String text) {
-    return new Broken(line + " was answered by " + text.substring(0, Math.min(text.length(), 120)).replaceAll("[^ -~]", "?"));
-  }
+  /** A refusal as a fault; null of another answer. */
+  Refused refusal() { return refused() == 0 ? null : new Refused(refused()); }
 }

@@ -1,14 +1,23 @@
 package coluwen;
 
+import java.time.Duration;
 import java.util.concurrent.*;
 
-/** What clients and engines do alike with depths, futures and threads. */
+/** What clients and engines do alike with arguments, futures and threads. */
 final class Calls {
   private Calls() {}
 
-  static void checked(int depth) {
-    if (depth < 0 || depth > Core.DEEPEST) throw new IllegalArgumentException("a depth is a number from 0 to " + Core.DEEPEST + ", and not " + depth);
+  static int within(String name, int least, int value, int most) {
+    if (value < least || value > most) throw new IllegalArgumentException(name + " is a number from " + least + " to " + most + ", and not " + value);
+    return value;
   }
+
+  static Duration positive(String name, Duration value) {
+    if (value.isNegative() || value.isZero()) throw new IllegalArgumentException(name + " is more than nothing, and not " + value);
+    return value;
+  }
+
+  static void checked(int depth) { within("a depth", 0, depth, Core.DEEPEST); }
 
   /** What a future gives, or its fault; an interrupt cancels it. */
   static <T> T joined(CompletableFuture<T> future) {

@@ -1,7 +1,7 @@
 package coluwen;
 
 import coluwen.ColuwenException.Broken;
-import java.io.IOException;
+import java.io.*;
 import java.net.*;
 import java.nio.charset.StandardCharsets;
 import java.nio.file.*;
@@ -41,42 +41,26 @@ public final class Client implements Analyst {
 
   private Client(Builder options) {
     this.options = options;
-    var isFree = options.segments == 0 && options.nodes == 0;
-    var most = Core.LEVELS.get(1);
-    var levels = isFree ? Core.LEVELS : List.of(new Core.Reservation(options.segments > 0 ? options.segments : most.segments(), options.nodes > 0 ? options.nodes : most.nodes()));
-    core = new Core(new Core.Limits(levels, isFree, options.token, options.sessions, options.ahead, options.patience.toMillis(), options.silence.toMillis(), options.outage.toMillis()));
+    var levels = options.isFree ? Core.LEVELS : List.of(new Core.Reservation(options.segments, options.nodes));
+    core = new Core(new Core.Limits(levels, options.isFree, options.token, options.sessions, options.ahead,
+        options.patience.toMillis(), options.silence.toMillis(), options.outage.toMillis()),
+        new Core.Hands(seat -> Calls.daemon(() -> serve(seat), "coluwen-session").start(), this::write, seat -> shut(sockets.remove(seat)),
+            (name, detail) -> events = events.thenRunAsync(() -> tell(new Event(name, detail)))));
   }
 
   /** How a server is spoken to; each has a default. */
   public static final class Builder {
-    private String host = "127.0.0.1";
-    private int port = 4711;
+    private String host = "127.0.0.1", token;
+    private int port = 4711, sessions = 4, ahead = 1, segments = 1024, nodes = 65536;
+    private boolean isFree = true; // to choose segments and nodes
     private SSLContext tls;
-    private String token;
-    private int sessions = 4;
-    private int ahead = 1;
-    private Duration silence = Duration.ofMillis(1500);
-    private Duration outage = Duration.ofMinutes(2);
-    private Duration patience = Duration.ofSeconds(30);
-    private Duration timeout;
-    private int segments;
-    private int nodes;
+    private Duration silence = Duration.ofMillis(1500), outage = Duration.ofMinutes(2), patience = Duration.ofSeconds(30), timeout;
     private Consumer<Event> onEvent = event -> {};
 
     private Builder() {}
 
-    private static int within(String name, int least, int value, int most) {
-      if (value < least || value > most) throw new IllegalArgumentException(name + " is a number from " + least + " to " + most + ", and not " + value);
-      return value;
-    }
-
-    private static Duration positive(String name, Duration value) {
-      if (value.isNegative() || value.isZero()) throw new IllegalArgumentException(name + " is more than nothing, and not " + value);
-      return value;
-    }
-
     public Builder host(String value) { host = value; return this; }
-    public Builder port(int value) { port = within("port", 1, value, 65535); return this; }
+    public Builder port(int value) { port = Calls.within("port", 1, value, 65535); return this; }
 
     /** TLS, by the authorities of this context; the certificate must be the host's. Null for none. */
     public Builder tls(SSLContext value) { tls = value; return this; }
@@ -89,13 +73,13 @@ public final class Client implements Analyst {
     }
 
     /** How many sessions are used at once (4). */
-    public Builder sessions(int value) { sessions = within("sessions", 1, value, 64); return this; }
+    public Builder sessions(int value) { sessions = Calls.within("sessions", 1, value, 64); return this; }
 
     /** How many questions a session has at once (1). */
-    public Builder ahead(int value) { ahead = within("ahead", 1, value, 256); return this; }
+    public Builder ahead(int value) { ahead = Calls.within("ahead", 1, value, 256); return this; }
 
     /** After what time a server that says nothing is given up (1.5 s). */
-    public Builder silence(Duration value) { silence = positive("silence", value); return this; }
+    public Builder silence(Duration value) { silence = Calls.positive("silence", value); return this; }
 
     /** For how long a server that was heard before is asked again then, by new sessions (2 min). */
     public Builder outage(Duration value) { outage = value; return this; }
@@ -104,12 +88,11 @@ public final class Client implements Analyst {
     public Builder patience(Duration value) { patience = value; return this; }
 
     /** How long a job may take (no limit). */
-    public Builder timeout(Duration value) { timeout = positive("timeout", value); return this; }
+    public Builder timeout(Duration value) { timeout = Calls.positive("timeout", value); return this; }
 
     /** What each session reserves, where the client isn't to choose it. */
-    public Builder segments(int value) { segments = within("segments", 1, value, 4096); return this; }
-
-    public Builder nodes(int value) { nodes = within("nodes", 1, value, 65536); return this; }
+    public Builder segments(int value) { segments = Calls.within("segments", 1, value, 4096); isFree = false; return this; }
+    public Builder nodes(int value) { nodes = Calls.within("nodes", 1, value, 65536); isFree = false; return this; }
 
     /** Who hears what there is to wait for. */
     public Builder onEvent(Consumer<Event> value) { onEvent = value; return this; }
@@ -188,31 +171,26 @@ public final class Client implements Analyst {
   public CompletableFuture<Result> analyseAsync(Position position, int depth, Duration timeout) {
     Calls.checked(depth);
     var begun = System.nanoTime();
-    var question = new Core.Question("ASK " + depth + " " + position.text(), depth, timeout == null ? 0 : Math.max(timeout.toNanos() / 1e6, 0.001));
-    return asked(question, () -> Result.of(position, depth, question.done.value(), question.done.move(), question.entries, begun));
+    var most = timeout == null ? 0 : Math.max(timeout.toNanos() / 1e6, 0.001);
+    return asked("ASK " + depth + " " + position.text(), depth, most,
+        one -> Result.of(position, depth, one.done.value(), one.done.move(), one.table.entries(), begun));
   }
 
   @Override
-  public Info info() {
-    var question = new Core.Question("INFO", 0, 0);
-    return Calls.joined(asked(question, () -> question.info));
-  }
+  public Info info() { return Calls.joined(asked("INFO", 0, 0, one -> one.info)); }
 
   @Override
-  public Duration ping() {
-    var question = new Core.Question("QUOTA", 0, 0);
-    return Calls.joined(asked(question, () -> Duration.ofNanos((long) (1e6 * question.milliseconds))));
-  }
+  public Duration ping() { return Calls.joined(asked("QUOTA", 0, 0, one -> Duration.ofNanos((long) (1e6 * one.milliseconds)))); }
 
-  private <T> CompletableFuture<T> asked(Core.Question question, Supplier<T> result) {
+  private <T> CompletableFuture<T> asked(String line, int depth, double timeout, Function<Core.Question, T> result) {
     var future = new CompletableFuture<T>();
-    question.heard = () -> {
-      if (question.fault != null) future.completeExceptionally(question.fault);
-      else future.complete(result.get());
-    };
-    act(now -> core.ask(question, now));
+    var question = new Core.Question(line, depth, timeout, one -> {
+      if (one.fault != null) future.completeExceptionally(one.fault);
+      else future.complete(result.apply(one));
+    });
+    act(() -> core.ask(question));
     future.whenComplete((found, fault) -> {
-      if (future.isCancelled()) act(now -> core.drop(question, new ColuwenException.Stopped(), now));
+      if (future.isCancelled()) act(() -> core.settle(question, new ColuwenException.Stopped()));
     });
     return future;
   }
@@ -231,35 +209,21 @@ public final class Client implements Analyst {
     }
   }
 
-  /** Tells the core something, and does what it says; what is told to others is so once the core is free. */
-  private void act(DoubleConsumer step) {
-    var later = new ArrayList<Runnable>();
+  /** Tells the core something, which says what is to be done; who asked hears it by other threads. */
+  private void act(Runnable step) {
     synchronized (core) {
-      step.accept(now());
-      for (var todo = core.take(); !todo.isEmpty(); todo = core.take()) todo.forEach(action -> perform(action, later));
+      core.at((System.nanoTime() - origin) / 1e6, step);
       if (alarm != null) alarm.cancel(false);
-      var wait = (long) (1e6 * (core.next() - now()));
+      var wait = (long) (1e6 * core.next()) - (System.nanoTime() - origin);
       if (core.next() < Double.POSITIVE_INFINITY && !clock.isShutdown()) alarm = clock.schedule(() -> act(core::passed), Math.max(wait, 0), TimeUnit.NANOSECONDS);
       core.notifyAll();
-    }
-    if (!later.isEmpty()) CompletableFuture.runAsync(() -> later.forEach(Runnable::run));
-  }
-
-  private double now() { return (System.nanoTime() - origin) / 1e6; }
-
-  private void perform(Core.Action action, List<Runnable> later) {
-    switch (action.what()) {
-      case OPEN -> Calls.daemon(() -> serve(action.seat()), "coluwen-session").start();
-      case SEND -> write(action.seat(), action.text());
-      case CLOSE -> shut(sockets.remove(action.seat()));
-      case TELL -> events = events.thenRunAsync(() -> tell(new Event(action.text(), action.detail())));
-      case SETTLED -> later.add(((Core.Question) action.detail()).heard);
     }
   }
 
   private void tell(Event event) {
-    LOGGER.log(event.name().equals("opened") ? System.Logger.Level.DEBUG : System.Logger.Level.INFO, () -> options.host + ":" + options.port + ": " + event.name() + ": "
-        + (event.detail() instanceof Throwable fault ? fault.getMessage() : event.detail()));
+    var level = event.name().equals("opened") ? System.Logger.Level.DEBUG : System.Logger.Level.INFO;
+    var said = event.detail() instanceof Throwable fault ? fault.getMessage() : event.detail();
+    LOGGER.log(level, () -> options.host + ":" + options.port + ": " + event.name() + ": " + said);
     try {
       options.onEvent.accept(event);
     } catch (RuntimeException fault) {
@@ -307,25 +271,21 @@ public final class Client implements Analyst {
   /** A session's thread: connects, and reads until the connection ends. */
   private void serve(Core.Seat seat) {
     try (var socket = connected(options.host, options.port, options.tls, (int) Math.min(seat.silence, Integer.MAX_VALUE))) {
-      act(now -> {
+      act(() -> {
         sockets.put(seat, socket);
-        core.opened(seat, now);
+        core.opened(seat);
         if (!core.isOpen(seat)) shut(sockets.remove(seat)); // it came too late
       });
       var block = new byte[2 * Answer.LONGEST];
       for (int count = socket.getInputStream().read(block); count >= 0; count = socket.getInputStream().read(block)) {
         var bytes = new String(block, 0, count, StandardCharsets.ISO_8859_1);
-        act(now -> core.received(seat, bytes, now));
+        act(() -> core.received(seat, bytes));
       }
-      lost(seat, "the server ended the session", false);
-    } catch (UnknownHostException fault) {
-      lost(seat, "there is no such host", true);
+      throw new EOFException("the server ended the session");
     } catch (IOException fault) {
-      lost(seat, fault.getMessage(), fault instanceof SSLException);
+      var isNowhere = fault instanceof UnknownHostException;
+      var why = options.host + ":" + options.port + ": " + (isNowhere ? "there is no such host" : fault.getMessage());
+      act(() -> core.lost(seat, new Broken(why), isNowhere || fault instanceof SSLException));
     }
-  }
-
-  private void lost(Core.Seat seat, String why, boolean isFinal) {
-    act(now -> core.lost(seat, new Broken(options.host + ":" + options.port + ": " + why), isFinal, now));
   }
 }

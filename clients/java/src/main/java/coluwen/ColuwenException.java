@@ -66,8 +66,7 @@ public class ColuwenException extends RuntimeException {
    * nothing is known of less.
    */
   public static final class TooDeep extends ColuwenException {
-    private final int depth;
-    private final int greatest;
+    private final int depth, greatest;
 
     TooDeep(int depth, int greatest) {
       super("depth " + depth + " can't be had at this server's grain; depth " + greatest + " can", null);
@@ -76,7 +75,6 @@ public class ColuwenException extends RuntimeException {
     }
 
     public int depth() { return depth; }
-
     public int greatest() { return greatest; }
   }
 

@@ -26,15 +26,16 @@ public final class Engine implements Analyst {
   private static final Pattern ANSWER = Pattern.compile("(0|-?[1-9][0-9]{0,5}) ([a-h][1-8]|pass|-) [1-9][0-9]*");
   private static final Pattern REFUSAL = Pattern.compile("ERR ([1-9][0-9])");
   private static final Pattern VERSION = Pattern.compile("othello [0-9][!-~]*\\R?");
+  private static Optional<String> copy; // of the packed program
 
   private final String program;
   private final int workers;
   private final Duration timeout;
   private final ExecutorService threads;
   private final ScheduledThreadPoolExecutor clock = Calls.clock();
-  private final Set<Running> processes = new HashSet<>(); // this and what follows is changed under its lock alone
+  private final Map<Future<Result>, Running> searching = new HashMap<>(); // this and what follows is used under its lock alone
   private final Deque<Running> spare = new ArrayDeque<>(); // those that search nothing
-  private volatile boolean isClosed;
+  private boolean isClosed;
 
   private Engine(String program, int workers, Duration timeout) {
     this.program = program;
@@ -50,8 +51,8 @@ public final class Engine implements Analyst {
 
   /** The same of a program that is named (or null), with the time that a question may take from when its search begins (null: no limit). */
   public static Engine start(String program, int workers, Duration timeout) {
-    if (workers < 1 || workers > 1024) throw new IllegalArgumentException("workers is a number from 1 to 1024, and not " + workers);
-    if (timeout != null && (timeout.isNegative() || timeout.isZero())) throw new IllegalArgumentException("timeout is more than nothing, and not " + timeout);
+    Calls.within("workers", 1, workers, 1024);
+    if (timeout != null) Calls.positive("timeout", timeout);
     return new Engine(found(program == null ? System.getenv("COLUWEN_OTHELLO") : program), workers, timeout);
   }
 
@@ -62,167 +63,117 @@ public final class Engine implements Analyst {
       throw new Unreachable(named + " isn't the program othello", null);
     }
     var onPath = Stream.of(Optional.ofNullable(System.getenv("PATH")).orElse("").split(File.pathSeparator)).map(folder -> Path.of(folder, "othello")).filter(Files::isExecutable).map(Path::toString);
-    return Stream.concat(onPath, Packed.program().stream()).filter(Engine::isProgram).findFirst()
+    return Stream.concat(onPath, packed().stream()).filter(Engine::isProgram).findFirst()
         .orElseThrow(() -> new Unreachable("the program othello isn't there: the variable COLUWEN_OTHELLO names it, or it stands on PATH", null));
   }
 
   private static boolean isProgram(String path) {
     try {
       var process = new ProcessBuilder(path, "--version").redirectError(ProcessBuilder.Redirect.DISCARD).start();
-      try {
-        return VERSION.matcher(new String(process.getInputStream().readNBytes(64), StandardCharsets.ISO_8859_1)).matches();
-      } finally {
-        process.destroyForcibly();
-      }
+      var said = new String(process.getInputStream().readNBytes(64), StandardCharsets.ISO_8859_1);
+      process.destroyForcibly();
+      return VERSION.matcher(said).matches();
     } catch (IOException fault) {
       return false;
     }
   }
 
   /** The program that this package has in itself, where it has one: a copy in a file, as a process needs it. */
-  private static final class Packed {
-    private static Optional<String> copy;
-
-    static synchronized Optional<String> program() {
-      if (copy == null) {
-        var isFast = Engine.class.getResource("program/othello-v3") != null && runsV3();
-        try (var packed = Engine.class.getResourceAsStream(isFast ? "program/othello-v3" : "program/othello")) {
-          if (packed == null) return copy = Optional.empty();
-          var folder = Files.createTempDirectory("coluwen-");
-          var file = folder.resolve("othello");
-          Files.copy(packed, file, StandardCopyOption.REPLACE_EXISTING);
-          folder.toFile().deleteOnExit();
-          file.toFile().deleteOnExit();
-          copy = file.toFile().setExecutable(true, true) ? Optional.of(file.toString()) : Optional.empty();
-        } catch (IOException fault) {
-          throw new UncheckedIOException(fault);
-        }
-      }
-      return copy;
-    }
-
-    /** Whether this computer's processor is an x86-64-v3, for which the package may have a program of its own. */
-    private static boolean runsV3() {
-      try (var lines = Files.lines(Path.of("/proc/cpuinfo"))) {
-        var flags = lines.filter(line -> line.startsWith("flags")).findFirst().orElse("").split("\\s+");
-        return List.of(flags).containsAll(List.of("avx2", "bmi1", "bmi2", "f16c", "fma", "abm", "movbe"));
-      } catch (IOException fault) {
-        return false;
-      }
+  private static synchronized Optional<String> packed() {
+    if (copy != null) return copy;
+    var isFast = Engine.class.getResource("program/othello-v3") != null && runsV3();
+    try (var packed = Engine.class.getResourceAsStream(isFast ? "program/othello-v3" : "program/othello")) {
+      if (packed == null) return copy = Optional.empty();
+      var folder = Files.createTempDirectory("coluwen-");
+      var file = folder.resolve("othello");
+      Files.copy(packed, file);
+      folder.toFile().deleteOnExit();
+      file.toFile().deleteOnExit();
+      return copy = file.toFile().setExecutable(true, true) ? Optional.of(file.toString()) : Optional.empty();
+    } catch (IOException fault) {
+      throw new UncheckedIOException(fault);
     }
   }
 
-  /** A process, and what it says. */
+  /** Whether this computer's processor is an x86-64-v3, for which the package may have a program of its own. */
+  private static boolean runsV3() {
+    try (var lines = Files.lines(Path.of("/proc/cpuinfo"))) {
+      var flags = lines.filter(line -> line.startsWith("flags")).findFirst().orElse("").split("\\s+");
+      return List.of(flags).containsAll(List.of("avx2", "bmi1", "bmi2", "f16c", "fma", "abm", "movbe"));
+    } catch (IOException fault) {
+      return false;
+    }
+  }
+
+  /** A process that searches once for each line, and what it says. */
   private record Running(Process process, BufferedReader answers) {
     static Running begun(String program) throws IOException {
-      var process = new ProcessBuilder(program, "solve", "--visited").redirectError(ProcessBuilder.Redirect.DISCARD).start(); // (one search for each line)
+      var process = new ProcessBuilder(program, "solve", "--visited").redirectError(ProcessBuilder.Redirect.DISCARD).start();
       return new Running(process, new BufferedReader(new InputStreamReader(process.getInputStream(), StandardCharsets.ISO_8859_1), 64));
     }
 
-    String asked(String line) throws IOException {
-      process.getOutputStream().write(line.getBytes(StandardCharsets.ISO_8859_1));
-      process.getOutputStream().flush();
-      return answers.readLine();
+    /** What it says to a line; nothing where it has ended. */
+    String asked(String line) {
+      try {
+        process.getOutputStream().write(line.getBytes(StandardCharsets.ISO_8859_1));
+        process.getOutputStream().flush();
+        return Objects.requireNonNullElse(answers.readLine(), "");
+      } catch (IOException fault) {
+        return "";
+      }
     }
 
-    void end() {
-      process.destroyForcibly();
-      process.onExit().join();
+    void end() { process.destroyForcibly().onExit().join(); }
+  }
+
+  /** Answers a question, by the thread that calls; others hear it. */
+  private void answer(CompletableFuture<Result> future, Position position, int depth, Duration timeout) {
+    try {
+      if (timeout != null) {
+        Runnable late = () -> future.completeExceptionally(new Late("a search took longer than " + timeout.toMillis() + " ms"));
+        var alarm = clock.schedule(() -> CompletableFuture.runAsync(late), timeout.toNanos(), TimeUnit.NANOSECONDS);
+        future.whenComplete((result, fault) -> alarm.cancel(false));
+      }
+      var result = searched(future, position, depth);
+      future.completeAsync(() -> result);
+    } catch (IOException fault) {
+      CompletableFuture.runAsync(() -> future.completeExceptionally(new Unreachable(program + ": " + fault.getMessage(), fault)));
+    } catch (RuntimeException fault) {
+      var told = fault instanceof ColuwenException ? fault : new Broken("the engine failed: " + fault);
+      CompletableFuture.runAsync(() -> future.completeExceptionally(told));
     }
   }
 
-  /** One that is asked; a thread runs it, by a process that is spare, or by one more. */
-  private final class Question implements Runnable {
-    final CompletableFuture<Result> future = new CompletableFuture<>();
-    private final Position position;
-    private final int depth;
-    private final Duration timeout;
-    private Running running;
-    private volatile boolean isLate;
-
-    Question(Position position, int depth, Duration timeout) {
-      this.position = position;
-      this.depth = depth;
-      this.timeout = timeout;
-    }
-
-    @Override
-    public void run() {
-      try {
-        var result = searched();
-        synchronized (processes) {
-          spare.push(running);
-          running = null;
-        }
-        CompletableFuture.runAsync(() -> future.complete(result));
-      } catch (RuntimeException fault) {
-        end();
-        CompletableFuture.runAsync(() -> future.completeExceptionally(fault instanceof ColuwenException ? fault : new Broken("the engine failed: " + fault)));
+  /** What is found by a process that is spare, or by one more; where it ends, by another. */
+  private Result searched(CompletableFuture<Result> future, Position position, int depth) throws IOException {
+    var begun = System.nanoTime();
+    for (int tries = 0;; tries++) {
+      Running running;
+      synchronized (searching) {
+        if (isClosed) throw new Closed("engine");
+        if (future.isDone()) throw new ColuwenException.Stopped();
+        if (tries == TRIES) throw new Broken(program + " ended without an answer " + TRIES + " times");
+        running = spare.isEmpty() ? Running.begun(program) : spare.pop();
+        searching.put(future, running);
       }
-    }
-
-    private Result searched() {
-      var begun = System.nanoTime();
-      Future<?> alarm = timeout == null ? null : clock.schedule(() -> {
-        isLate = true;
-        kill();
-      }, timeout.toNanos(), TimeUnit.NANOSECONDS);
-      try {
-        for (int tries = 0; tries < TRIES; tries++) {
-          var answer = Optional.ofNullable(said()).orElse("");
-          var found = ANSWER.matcher(answer);
-          if (found.matches()) return result(Integer.parseInt(found.group(1)), found.group(2), begun);
-          var refused = REFUSAL.matcher(answer);
-          if (refused.matches()) throw new Refused(Integer.parseInt(refused.group(1)));
-          end();
-          if (isClosed) throw new Closed("engine");
-          if (isLate) throw new Late("a search took longer than " + timeout.toMillis() + " ms");
-          if (future.isDone()) throw new ColuwenException.Stopped();
-        }
-        throw new Broken(program + " ended without an answer " + TRIES + " times");
-      } finally {
-        if (alarm != null) alarm.cancel(false);
+      var answer = running.asked(depth + " " + position.text() + "\n");
+      var found = ANSWER.matcher(answer);
+      var refused = REFUSAL.matcher(answer);
+      synchronized (searching) {
+        searching.remove(future);
+        if (found.matches() || refused.matches()) spare.push(running);
       }
+      if (found.matches()) return result(position, depth, Integer.parseInt(found.group(1)), found.group(2), begun);
+      if (refused.matches()) throw new Refused(Integer.parseInt(refused.group(1)));
+      running.end();
     }
+  }
 
-    /** What a process answers; null where it has ended, or the question was given up. */
-    private String said() {
-      try {
-        synchronized (processes) {
-          if (isClosed || isLate || future.isDone()) return null;
-          running = spare.isEmpty() ? Running.begun(program) : spare.pop();
-          processes.add(running);
-        }
-        return running.asked(depth + " " + position.text() + "\n");
-      } catch (IOException fault) {
-        if (running == null) throw new Unreachable(program + ": " + fault.getMessage(), fault);
-        return null;
-      }
-    }
-
-    /** A value and a best move as a result. What is known of the other moves is that none is worth more. */
-    private Result result(int value, String move, long begun) {
-      var moves = move.equals("-") ? List.<String>of() : position.legalMoves();
-      var ordered = Stream.concat(CORNERS.stream().filter(moves::contains), moves.stream().filter(each -> !CORNERS.contains(each)));
-      return Result.of(position, depth, value, move, ordered.map(each -> new Answer.Entry(each, each.equals(move) ? '=' : '<', value)).toList(), begun);
-    }
-
-    /** Ends the process that searches it, where one does; its thread notices. */
-    void kill() {
-      synchronized (processes) {
-        if (running != null) running.process().destroyForcibly();
-      }
-    }
-
-    private void end() {
-      Running ended;
-      synchronized (processes) {
-        ended = running;
-        running = null;
-        processes.remove(ended);
-      }
-      if (ended != null) ended.end();
-    }
+  /** A value and a best move as a result. What is known of the other moves is that none is worth more. */
+  private static Result result(Position position, int depth, int value, String best, long begun) {
+    var moves = best.equals("-") ? List.<String>of() : position.legalMoves();
+    var tried = moves.stream().sorted(Comparator.comparing(move -> !CORNERS.contains(move)));
+    return Result.of(position, depth, value, best, tried.map(move -> new Answer.Entry(move, move.equals(best) ? '=' : '<', value)).toList(), begun);
   }
 
   @Override
@@ -234,15 +185,17 @@ public final class Engine implements Analyst {
   @Override
   public CompletableFuture<Result> analyseAsync(Position position, int depth, Duration timeout) {
     Calls.checked(depth);
-    var question = new Question(position, depth, timeout);
-    synchronized (processes) {
+    var future = new CompletableFuture<Result>();
+    synchronized (searching) {
       if (isClosed) return CompletableFuture.failedFuture(new Closed("engine"));
-      threads.execute(question);
+      threads.execute(() -> answer(future, position, depth, timeout));
     }
-    question.future.whenComplete((result, fault) -> {
-      if (question.future.isCancelled()) question.kill();
+    future.whenComplete((result, fault) -> { // the process of one that is given up ends; its thread notices
+      synchronized (searching) {
+        Optional.ofNullable(searching.get(future)).ifPresent(running -> running.process().destroyForcibly());
+      }
     });
-    return question.future;
+    return future;
   }
 
   /** Every depth can be had. */
@@ -252,9 +205,9 @@ public final class Engine implements Analyst {
   /** Ends the processes, and waits until they have. Calls that wait, and later ones, are {@code Closed}. */
   @Override
   public void close() {
-    synchronized (processes) {
+    synchronized (searching) {
       isClosed = true;
-      processes.forEach(one -> one.process().destroyForcibly());
+      searching.values().forEach(running -> running.process().destroyForcibly());
     }
     threads.shutdown();
     try {

@@ -2,7 +2,7 @@ package coluwen;
 
 import java.util.*;
 import java.util.concurrent.*;
-import java.util.function.Function;
+import java.util.function.*;
 import java.util.stream.*;
 
 /** Many questions and their outcomes: {@code Analyst.analyseMany}. */
@@ -10,25 +10,21 @@ final class Many {
   private Many() {}
 
   static <T> Stream<Outcome<T>> of(Analyst analyst, Iterable<T> questions, Function<? super T, Position> positionOf, int depth, Analyst.Bulk how) {
-    class Outcomes implements Iterator<Outcome<T>> {
+    class Outcomes extends Spliterators.AbstractSpliterator<Outcome<T>> {
       private final Map<Integer, CompletableFuture<Result>> asked = new ConcurrentHashMap<>(); // what isn't known yet
-      private final Map<Integer, Outcome<T>> known = new LinkedHashMap<>(); // and isn't given
-      private Thread feeder;
-      private volatile RuntimeException broken; // a fault of the source
+      private final TreeMap<Integer, Outcome<T>> known = new TreeMap<>(); // and isn't given
+      private final Semaphore places = new Semaphore(how.window() - 1); // for what is taken beside the next
+      private final Thread feeder = Calls.daemon(this::feed, "coluwen-source");
       private volatile boolean isOver; // the source has no more, or nobody wants it
-      private int taken, given, done, faults; // (the feeder alone takes)
+      private RuntimeException broken; // a fault of the source
+      private int taken, given, faults; // (the feeder alone takes)
+
+      Outcomes() { super(Long.MAX_VALUE, ORDERED | NONNULL); }
 
       /** Takes the source, no further ahead than the window. */
       private void feed() {
         try {
-          for (var question : questions) {
-            if (isOver) return;
-            begin(taken++, question);
-            synchronized (this) {
-              while (!isOver && taken - given >= how.window()) wait();
-            }
-            if (isOver) return;
-          }
+          for (var source = questions.iterator(); !isOver && source.hasNext(); places.acquire()) begin(source.next());
         } catch (InterruptedException stopped) {
           Thread.currentThread().interrupt();
         } catch (RuntimeException fault) {
@@ -43,7 +39,9 @@ final class Many {
         notifyAll();
       }
 
-      private void begin(int index, T question) {
+      private void begin(T question) {
+        if (isOver) return;
+        var index = taken++;
         CompletableFuture<Result> future;
         try {
           future = analyst.analyseAsync(positionOf.apply(question), depth, how.timeout());
@@ -58,50 +56,43 @@ final class Many {
         Analyst.Progress progress;
         synchronized (this) {
           if (asked.remove(outcome.index()) == null) return; // nobody wants it any more
-          done++;
-          if (outcome.fault() != null) faults++;
-          progress = new Analyst.Progress(done, faults, questions instanceof Collection<?> all ? all.size() : -1);
           known.put(outcome.index(), outcome);
+          if (outcome.fault() != null) faults++;
+          progress = new Analyst.Progress(given + known.size(), faults, questions instanceof Collection<?> all ? all.size() : -1);
           notifyAll();
         }
         how.onProgress().accept(progress);
       }
 
-      /** The number of what may be given next; -1 where nothing may. */
-      private int first() {
-        if (how.isOrdered()) return known.containsKey(given) ? given : -1;
-        return known.isEmpty() ? -1 : known.keySet().iterator().next();
-      }
+      private boolean hasNext() { return !known.isEmpty() && (!how.isOrdered() || known.firstKey() == given); }
 
-      @Override
-      public synchronized boolean hasNext() {
-        if (feeder == null && !isOver) {
-          feeder = Calls.daemon(this::feed, "coluwen-source");
-          feeder.start();
-        }
+      /** What is given next; null where there is no more. */
+      private synchronized Outcome<T> next() {
+        if (feeder.getState() == Thread.State.NEW && !isOver) feeder.start();
         try {
-          while (first() < 0 && broken == null && !(isOver && given == taken)) wait();
+          while (!hasNext() && broken == null && !(isOver && given == taken)) wait();
         } catch (InterruptedException fault) {
           close();
           Thread.currentThread().interrupt();
           throw new ColuwenException.Stopped();
         }
-        if (first() < 0 && broken != null) throw broken;
-        return first() >= 0;
+        if (!hasNext() && broken != null) throw broken;
+        if (!hasNext()) return null;
+        given++;
+        places.release();
+        return known.pollFirstEntry().getValue();
       }
 
       @Override
-      public synchronized Outcome<T> next() {
-        if (!hasNext()) throw new NoSuchElementException();
-        var outcome = known.remove(first());
-        given++;
-        notifyAll();
-        return outcome;
+      public boolean tryAdvance(Consumer<? super Outcome<T>> action) {
+        var outcome = next();
+        if (outcome != null) action.accept(outcome);
+        return outcome != null;
       }
 
       private void close() {
         over();
-        if (feeder != null) feeder.interrupt();
+        feeder.interrupt();
         var left = List.copyOf(asked.values());
         asked.clear();
         left.forEach(future -> future.cancel(true));
@@ -109,6 +100,6 @@ final class Many {
     }
 
     var outcomes = new Outcomes();
-    return StreamSupport.stream(Spliterators.spliteratorUnknownSize(outcomes, Spliterator.ORDERED | Spliterator.NONNULL), false).onClose(outcomes::close);
+    return StreamSupport.stream(outcomes, false).onClose(outcomes::close);
   }
 }

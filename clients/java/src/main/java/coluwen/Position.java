@@ -1,8 +1,7 @@
 package coluwen;
 
 import coluwen.ColuwenException.IllegalMove;
-import java.util.ArrayList;
-import java.util.List;
+import java.util.*;
 import java.util.stream.IntStream;
 
 /**
@@ -38,14 +37,12 @@ public record Position(String cells, char side) {
   /** The squares (0 to 63) whose discs a move of the side flips. */
   private static List<Integer> flips(String cells, char side, int square) {
     var found = new ArrayList<Integer>();
-    for (int down = -1; down <= 1; down++) {
-      for (int right = -1; right <= 1; right++) {
-        var run = new ArrayList<Integer>();
-        int row = square / 8 + down;
-        int column = square % 8 + right;
-        for (; isCell(cells, row, column, other(side)); row += down, column += right) run.add(8 * row + column);
-        if (isCell(cells, row, column, side)) found.addAll(run);
-      }
+    for (int way = 0; way < 9; way++) {
+      var run = new ArrayList<Integer>();
+      int down = way / 3 - 1, right = way % 3 - 1;
+      int row = square / 8 + down, column = square % 8 + right;
+      for (; isCell(cells, row, column, other(side)); row += down, column += right) run.add(8 * row + column);
+      if (isCell(cells, row, column, side)) found.addAll(run);
     }
     return found;
   }
