@@ -14,7 +14,8 @@ pub use Rattle.std.proofs.lemmas.List.Sums.{sum_by-cons, sum_by-set}
 pub use Rattle.std.proofs.lemmas.Option.{slice_get-get_or}
 pub use Rattle.segment_region.proofs.Counts.{lt-of-IsTaken, taken_count-give, taken_count-replicate, taken_count-take, taken_count-write}
 pub use Rattle.segment_region.specs.Segments.{IsFree, IsTaken, Segment, Segments, blank, link_at, link_of, segment_at, taken_count, with_entry, with_link}
-pub use Rattle.segment_region.specs.Segments.{with_segment_words, words_at}
+pub use Rattle.segment_region.proofs.Lists.{get_or-blanks, set-holds, set-keeps}
+pub use Rattle.segment_region.specs.Segments.{with_segment_words, words_at, words_of_segment}
 pub use Rattle.cactus_stack.specs.Chains.{AgreesOn, AllBlocks, AllFree, AreApart, IsChain, IsFreshChain, IsGivenBack, IsGrownChain, IsOnce, Lacks, chain}
 pub use Rattle.cactus_stack.specs.Chains.{content, filled}
 pub use Rattle.cactus_stack.specs.Nodes.{HasAllChildren, HasNoChild, IsOpen, IsPath, IsSight, IsUnused, Node, Nodes, charge, charge_of, free_segments, node_at}

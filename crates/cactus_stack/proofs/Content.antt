@@ -1,29 +1,30 @@
 -- Chains and their words in regions that agree on them.
-use Rattle.cactus_stack.proofs.Common.{◌≡◌, ℕ, zero, suc, ◌≤◌, List, [], ◌∷◌, take, Option, None, Some, refl, ap, arith, get_or-set_other, ◌≢◌, ◌<◌, ◌++◌, length, get_or, sym, ◌+◌, ◌-◌, ◌*◌, ◌∙◌, get_or-set_same, zero-add, ◌/◌, ◌%◌, IsSome, slice_get, drop, min, subst, set, get_or-append, Segment, Segments, segment_at, link_at, IsTaken, words_at, with_segment_words, with_link, chain, content, Lacks, AreApart, AllBlocks, AllFree, AgreesOn, IsOnce, IsChain, length-append, append_assoc, set-append_left, set-append_right, get_or-append_right, get_or-take, length-take-le, length-take, length-drop, get_or-drop, ext_get_or, lt-of-IsTaken, slice_get-get_or, charge, charge_of, node_in, words_in_chain, segments_of, IsSoundList}
+use Rattle.cactus_stack.proofs.Common.{◌≡◌, ℕ, zero, suc, ◌≤◌, List, [], ◌∷◌, take, Option, None, Some, refl, ap, arith, get_or-set_other, ◌≢◌, ◌<◌, ◌++◌, length, get_or, sym, ◌+◌, ◌-◌, ◌*◌, ◌∙◌, get_or-set_same, zero-add, ◌/◌, ◌%◌, IsSome, slice_get, drop, min, subst, set, get_or-append, Segment, Segments, segment_at, link_at, link_of, words_of_segment, set-holds, set-keeps, IsTaken, words_at, with_segment_words, with_link, chain, content, Lacks, AreApart, AllBlocks, AllFree, AgreesOn, IsOnce, IsChain, length-append, append_assoc, set-append_left, set-append_right, get_or-append_right, get_or-take, length-take-le, length-take, length-drop, get_or-drop, ext_get_or, lt-of-IsTaken, slice_get-get_or, charge, charge_of, node_in, words_in_chain, segments_of, IsSoundList}
 
 pub chain-agrees : (count : ℕ) (old new : Segments) (head : Option ℕ) → AgreesOn old new (chain count old head) → chain count new head ≡ chain count old head
 chain-agrees zero old new head agrees = refl
 chain-agrees (suc count) old new None agrees = refl
 chain-agrees (suc count) old new (Some s) agrees = grind (arith, chain-agrees count old new (link_at old s) agrees.1)
 
-pub content-agrees : (old new : Segments) (segments : List ℕ) → AgreesOn old new segments → content new segments ≡ content old segments
-content-agrees old new [] agrees = refl
-content-agrees old new (s ∷ segments) agrees = grind (arith, content-agrees old new segments agrees.1)
+module _ (old new : Segments) where
+  pub content-agrees : (segments : List ℕ) → AgreesOn old new segments → content new segments ≡ content old segments
+  content-agrees [] agrees = refl
+  content-agrees (s ∷ segments) agrees = grind (arith, content-agrees segments agrees.1)
 
-pub blocks-agrees : (old new : Segments) (segments : List ℕ) → AgreesOn old new segments → AllBlocks old segments → AllBlocks new segments
-blocks-agrees old new [] agrees blocks = tt
-blocks-agrees old new (s ∷ segments) agrees blocks = grind (arith, blocks-agrees old new segments agrees.1 blocks.2)
+  pub blocks-agrees : (segments : List ℕ) → AgreesOn old new segments → AllBlocks old segments → AllBlocks new segments
+  blocks-agrees [] agrees blocks = tt
+  blocks-agrees (s ∷ segments) agrees blocks = grind (arith, blocks-agrees segments agrees.1 blocks.2)
 
--- what is kept where a list lacks it is the same on segments that the list shares none of
-pub agrees-apart : (old new : Segments) (changed segments : List ℕ) → ((s : ℕ) → IsTaken old s → Lacks changed s → segment_at new s ≡ segment_at old s) → AllBlocks old segments → AreApart segments changed → AgreesOn old new segments
-agrees-apart old new changed [] kept blocks apart = tt
-agrees-apart old new changed (s ∷ segments) kept blocks apart =
-    (kept s blocks.0 apart.0, agrees-apart old new changed segments kept blocks.2 apart.1)
+  -- what is kept where a list lacks it is the same on segments that the list shares none of
+  pub agrees-apart : (changed segments : List ℕ) → ((s : ℕ) → IsTaken old s → Lacks changed s → segment_at new s ≡ segment_at old s) → AllBlocks old segments → AreApart segments changed → AgreesOn old new segments
+  agrees-apart changed [] kept blocks apart = tt
+  agrees-apart changed (s ∷ segments) kept blocks apart =
+      (kept s blocks.0 apart.0, agrees-apart changed segments kept blocks.2 apart.1)
 
--- what is kept of all that was taken is the same on segments that were taken
-pub agrees-taken : (old new : Segments) (segments : List ℕ) → ((s : ℕ) → IsTaken old s → segment_at new s ≡ segment_at old s) → AllBlocks old segments → AgreesOn old new segments
-agrees-taken old new [] kept blocks = tt
-agrees-taken old new (s ∷ segments) kept blocks = (kept s blocks.0, agrees-taken old new segments kept blocks.2)
+  -- what is kept of all that was taken is the same on segments that were taken
+  pub agrees-taken : (segments : List ℕ) → ((s : ℕ) → IsTaken old s → segment_at new s ≡ segment_at old s) → AllBlocks old segments → AgreesOn old new segments
+  agrees-taken [] kept blocks = tt
+  agrees-taken (s ∷ segments) kept blocks = (kept s blocks.0, agrees-taken segments kept blocks.2)
 
 -- an entry that is put under one number leaves all that lack it
 pub agrees-set : (old : Segments) (n : ℕ) (entry : Option Segment) (segments : List ℕ) → Lacks segments n → AgreesOn old (set old n entry) segments
@@ -51,8 +52,7 @@ chain-take zero more region head h = refl
 chain-take (suc fewer) zero region head h = absurd (omega arith)
 chain-take (suc fewer) (suc more) region None h = refl
 chain-take (suc fewer) (suc more) region (Some s) h =
-    let less : fewer ≤ more = omega arith in
-    ap (λ (rest : List ℕ). s ∷ rest) (chain-take fewer more region (link_at region s) less)
+    ap (λ (rest : List ℕ). s ∷ rest) (chain-take fewer more region (link_at region s) (omega arith))
 
 -- Lists of numbers that share none, and lists in which none stands twice.
 
@@ -117,20 +117,18 @@ pub get_or-content : (region : Segments) (xs : List ℕ) (block offset : ℕ) �
 get_or-content region [] block offset blocks h k = absurd (omega arith)
 get_or-content region (x ∷ xs) zero offset blocks h k = grind (arith, get_or-append)
 get_or-content region (x ∷ xs) (suc block) offset blocks h k =
-    let below : block < length xs = omega arith in
     let at : 16 * suc block + offset - 16 ≡ 16 * block + offset = omega arith in
     get_or-append_right (words_at region x) (content region xs) 16 (16 * suc block + offset) 0 blocks.1 (omega arith)
-    ∙ rw at (get_or-content region xs block offset blocks.2 below k)
+    ∙ rw at (get_or-content region xs block offset blocks.2 (omega arith) k)
 
 -- a word that is written to a segment of the chain is written at its place, and nowhere else
 pub content-write : (region : Segments) (xs : List ℕ) (block offset word : ℕ) → AllBlocks region xs → IsOnce xs → block < length xs → offset < 16 → content (with_segment_words region (get_or xs block 0) (set (words_at region (get_or xs block 0)) offset word)) xs ≡ set (content region xs) (16 * block + offset) word
 content-write region [] block offset word blocks once h k = absurd (omega arith)
 content-write region (x ∷ xs) zero offset word blocks once h k =
-    let within : offset < length (words_at region x) = omega (arith, blocks.1) in
     let entry : Option Segment = Some (record { words = set (words_at region x) offset word; link = link_at region x }) in
     let here : segment_at (set region x entry) x ≡ entry = get_or-set_same region x entry None (lt-of-IsTaken region x blocks.0) in
     let rest : content (set region x entry) xs ≡ content region xs = content-agrees region (set region x entry) xs (agrees-set region x entry xs once.0) in
-    rw (here, rest, zero-add offset) (sym (set-append_left (words_at region x) (content region xs) offset word within))
+    rw (here, rest, zero-add offset) (sym (set-append_left (words_at region x) (content region xs) offset word (omega (arith, blocks.1))))
 content-write region (x ∷ xs) (suc block) offset word blocks once h k =
     let below : block < length xs = omega arith in
     let s = get_or xs block 0 in
@@ -142,11 +140,7 @@ content-write region (x ∷ xs) (suc block) offset word blocks once h k =
     (rw (← at) (sym (set-append_right (words_at region x) (content region xs) 16 (16 * suc block + offset) word blocks.1 (omega arith))))
 
 pub link_at-write : (region : Segments) (n m : ℕ) (words : List ℕ) → link_at (with_segment_words region n words) m ≡ link_at region m
-link_at-write [] n m words = refl
-link_at-write (e ∷ region) zero zero words = refl
-link_at-write (e ∷ region) zero (suc m) words = refl
-link_at-write (e ∷ region) (suc n) zero words = refl
-link_at-write (e ∷ region) (suc n) (suc m) words = link_at-write region n m words
+link_at-write region n m words = set-keeps link_of region n m (Some (record { words = words; link = link_at region n })) None refl
 
 pub chain-write : (count : ℕ) (region : Segments) (head : Option ℕ) (n : ℕ) (words : List ℕ) → chain count (with_segment_words region n words) head ≡ chain count region head
 chain-write zero region head n words = refl
@@ -154,18 +148,11 @@ chain-write (suc count) region None n words = refl
 chain-write (suc count) region (Some s) n words = grind (arith, chain-write count region (link_at region s) n words, link_at-write)
 
 taken-write : (region : Segments) (n m : ℕ) (segment : Segment) → IsTaken region m → IsTaken (set region n (Some segment)) m
-taken-write [] n m segment taken = taken
-taken-write (e ∷ region) zero zero segment taken = refl
-taken-write (e ∷ region) zero (suc m) segment taken = taken
-taken-write (e ∷ region) (suc n) zero segment taken = taken
-taken-write (e ∷ region) (suc n) (suc m) segment taken = taken-write region n m segment taken
+taken-write region n m segment taken = set-holds (λ (e : Option Segment). IsSome e) region n m (Some segment) None (λ e. refl) taken
 
 length-write : (region : Segments) (n m : ℕ) (words : List ℕ) → length words ≡ 16 → length (words_at region m) ≡ 16 → length (words_at (with_segment_words region n words) m) ≡ 16
-length-write [] n m words h k = k
-length-write (e ∷ region) zero zero words h k = h
-length-write (e ∷ region) zero (suc m) words h k = k
-length-write (e ∷ region) (suc n) zero words h k = k
-length-write (e ∷ region) (suc n) (suc m) words h k = length-write region n m words h k
+length-write region n m words h k =
+    set-holds (λ (e : Option Segment). length (words_of_segment e) ≡ 16) region n m (Some (record { words = words; link = link_at region n })) None (λ e. h) k
 
 pub blocks-write : (region : Segments) (xs : List ℕ) (n : ℕ) (words : List ℕ) → length words ≡ 16 → AllBlocks region xs → AllBlocks (with_segment_words region n words) xs
 blocks-write region [] n words h blocks = tt
@@ -173,11 +160,7 @@ blocks-write region (x ∷ xs) n words h blocks =
     (taken-write region n x _ blocks.0, length-write region n x words h blocks.1, blocks-write region xs n words h blocks.2)
 
 words_at-link : (region : Segments) (n m : ℕ) (link : Option ℕ) → words_at (with_link region n link) m ≡ words_at region m
-words_at-link [] n m link = refl
-words_at-link (e ∷ region) zero zero link = refl
-words_at-link (e ∷ region) zero (suc m) link = refl
-words_at-link (e ∷ region) (suc n) zero link = refl
-words_at-link (e ∷ region) (suc n) (suc m) link = words_at-link region n m link
+words_at-link region n m link = set-keeps words_of_segment region n m (Some (record { words = words_at region n; link = link })) None refl
 
 -- a link that is set leaves all words
 pub content-link : (region : Segments) (xs : List ℕ) (n : ℕ) (link : Option ℕ) → content (with_link region n link) xs ≡ content region xs
@@ -229,85 +212,77 @@ module _ (region : Segments) where
   chain-front-get_or head i fewer count h k =
       rw (chain-take fewer count region head k) (get_or-take fewer (chain count region head) i 0 h)
 
-  pub length-sound : (n len : ℕ) → IsSoundList region n len → length (content region (segments_of region n len)) ≡ 16 * charge len
-  length-sound n len sound = grind (arith, length-content)
+-- a node that is there has words
+pub len-of-node : (region : Segments) (n len : ℕ) (parent : Option ℕ) → IsSome (node_in region n len parent) → 0 < len
+len-of-node region n len parent h5 = grind arith
 
-  pub length-words_in : (n len : ℕ) → IsSoundList region n len → length (words_in_chain region n len) ≡ len
-  length-words_in n len sound = grind (arith, length-take-le, length-sound, charge-room)
+pub node_in-some : (region : Segments) (n len : ℕ) (parent : Option ℕ) → 0 < len → node_in region n len parent ≡ Some (record { parent = parent; words = words_in_chain region n len })
+node_in-some region n len parent h5 = grind arith
 
--- the segment that holds a place of a sound list
-module _ (region : Segments) (n len : ℕ) where
-  pub place_is_taken : (at : ℕ) → IsSoundList region n len → at < len →
-      IsTaken region (get_or (segments_of region n len) (at / 16) 0) × (length (words_at region (get_or (segments_of region n len) (at / 16) 0)) ≡ 16)
-  place_is_taken at sound below =
-      blocks-get_or region (segments_of region n len) (at / 16) sound.is_chain.blocks (omega (arith, sound.is_chain.whole, charge-below at len below))
+-- What a sound list has, and its segments.
+module _ {region : Segments} {n len : ℕ} (sound : IsSoundList region n len) where
+  pub length-sound : length (content region (segments_of region n len)) ≡ 16 * charge len
+  length-sound = grind (arith, length-content)
 
-  -- links lead to it
-  pub front_of_sound : (at : ℕ) → IsSoundList region n len → at < len → IsChain region (chain (suc (at / 16)) region (Some n)) (suc (at / 16))
-  front_of_sound at sound below =
-      chain-front region (Some n) (suc (at / 16)) (charge len) (omega (arith, charge-below at len below)) sound.is_chain
+  pub length-words_in : length (words_in_chain region n len) ≡ len
+  length-words_in = grind (arith, length-take-le, length-sound, charge-room)
 
-  pub place_of_sound : (at : ℕ) → at < len → get_or (chain (suc (at / 16)) region (Some n)) (at / 16) 0 ≡ get_or (segments_of region n len) (at / 16) 0
-  place_of_sound at below =
-      chain-front-get_or region (Some n) (at / 16) (suc (at / 16)) (charge len) (omega arith) (omega (arith, charge-below at len below))
+  -- the segment that holds a place
+  module _ (at : ℕ) (below : at < len) where
+    pub place_is_taken : IsTaken region (get_or (segments_of region n len) (at / 16) 0) × (length (words_at region (get_or (segments_of region n len) (at / 16) 0)) ≡ 16)
+    place_is_taken =
+        blocks-get_or region (segments_of region n len) (at / 16) sound.is_chain.blocks (omega (arith, sound.is_chain.whole, charge-below at len below))
 
-  -- the word at a place is in its segment
-  pub word_of_sound : (at : ℕ) → IsSoundList region n len → at < len →
-      slice_get (words_in_chain region n len) at ≡ Some (get_or (words_at region (get_or (segments_of region n len) (at / 16) 0)) (at % 16) 0)
-  word_of_sound at sound below =
-      let c : List ℕ = content region (segments_of region n len) in
-      let block : at / 16 < length (segments_of region n len) = omega (arith, sound.is_chain.whole, charge-below at len below) in
-      let split : 16 * (at / 16) + at % 16 ≡ at = omega arith in
-      slice_get-get_or (words_in_chain region n len) at 0 (omega (arith, length-words_in region n len sound))
-      ∙ ap (λ (w : ℕ). Some w) (get_or-take len c at 0 below ∙ rw split at (get_or-content region (segments_of region n len) (at / 16) (at % 16) sound.is_chain.blocks block (omega arith)))
+    -- links lead to it
+    pub front_of_sound : IsChain region (chain (suc (at / 16)) region (Some n)) (suc (at / 16))
+    front_of_sound = chain-front region (Some n) (suc (at / 16)) (charge len) (omega (arith, charge-below at len below)) sound.is_chain
 
-  -- a node that is there has words
-  pub len-of-node : (parent : Option ℕ) → IsSome (node_in region n len parent) → 0 < len
-  len-of-node parent h5 = grind arith
+    pub place_of_sound : get_or (chain (suc (at / 16)) region (Some n)) (at / 16) 0 ≡ get_or (segments_of region n len) (at / 16) 0
+    place_of_sound = chain-front-get_or region (Some n) (at / 16) (suc (at / 16)) (charge len) (omega arith) (omega (arith, charge-below at len below))
 
-  pub node_in-some : (parent : Option ℕ) → 0 < len → node_in region n len parent ≡ Some (record { parent = parent; words = words_in_chain region n len })
-  node_in-some parent h5 = grind arith
+    -- the word at a place is in its segment
+    pub word_of_sound : slice_get (words_in_chain region n len) at ≡ Some (get_or (words_at region (get_or (segments_of region n len) (at / 16) 0)) (at % 16) 0)
+    word_of_sound =
+        let c : List ℕ = content region (segments_of region n len) in
+        let block : at / 16 < length (segments_of region n len) = omega (arith, sound.is_chain.whole, charge-below at len below) in
+        let split : 16 * (at / 16) + at % 16 ≡ at = omega arith in
+        let word = get_or-content region (segments_of region n len) (at / 16) (at % 16) sound.is_chain.blocks block (omega arith) in
+        slice_get-get_or (words_in_chain region n len) at 0 (omega (arith, length-words_in)) ∙ ap (λ (w : ℕ). Some w) (get_or-take len c at 0 below ∙ rw split at word)
+
+  -- The words of one segment.
+  module _ (k : ℕ) (below : k < charge len) where
+    -- links lead to it
+    pub front_of_block : IsChain region (chain (suc k) region (Some n)) (suc k)
+    front_of_block = chain-front region (Some n) (suc k) (charge len) below sound.is_chain
+
+    pub place_of_block : get_or (chain (suc k) region (Some n)) k 0 ≡ get_or (segments_of region n len) k 0
+    place_of_block = chain-front-get_or region (Some n) k (suc k) (charge len) (omega arith) below
+
+    pub block_is_taken : (s : ℕ) → s ≡ get_or (segments_of region n len) k 0 → IsTaken region s × (length (words_at region s) ≡ 16)
+    block_is_taken s e = rw e (blocks-get_or region (segments_of region n len) k sound.is_chain.blocks (omega (arith, sound.is_chain.whole)))
+
+    -- its front holds what is left of the words from its first place on
+    block-words : (j : ℕ) (block : List ℕ) → j ≡ min (len - 16 * k) 16 → block ≡ words_at region (get_or (segments_of region n len) k 0) → length block ≡ 16 →
+        take j block ≡ take 16 (drop (16 * k) (words_in_chain region n len))
+    block-words j block e is sixteen =
+        let xs : List ℕ = segments_of region n len in
+        let words : List ℕ = words_in_chain region n len in
+        let whole : length words ≡ len = length-words_in in
+        let short : length (take j block) ≡ j = length-take-le j block (omega arith) in
+        ext_get_or 0 (take j block) (take 16 (drop (16 * k) words))
+        (omega (arith, short, whole, length-take 16 (drop (16 * k) words), length-drop (16 * k) words))
+        (λ i inside.
+        get_or-take j block i 0 (omega arith)
+        ∙ subst (λ (b : List ℕ). get_or b i 0 ≡ get_or (content region xs) (16 * k + i) 0) (sym is)
+        (sym (get_or-content region xs k i sound.is_chain.blocks (omega (arith, sound.is_chain.whole)) (omega arith)))
+        ∙ sym (get_or-take len (content region xs) (16 * k + i) 0 (omega arith))
+        ∙ sym (get_or-drop (16 * k) words i 0)
+        ∙ sym (get_or-take 16 (drop (16 * k) words) i 0 (omega arith)))
+
+    pub words_of_block : (s j : ℕ) (block : List ℕ) → j ≡ min (len - 16 * k) 16 → s ≡ get_or (segments_of region n len) k 0 → block ≡ words_at region s →
+        take j block ≡ take 16 (drop (16 * k) (words_in_chain region n len))
+    words_of_block s j block e there is = block-words j block e (rw there at is) (rw is (block_is_taken s there).1)
 
 pub charge_of-node_in : (region : Segments) (n len : ℕ) (parent : Option ℕ) → IsSoundList region n len → charge_of (node_in region n len parent) ≡ charge len
 charge_of-node_in region n zero parent sound = refl
-charge_of-node_in region n (suc len) parent sound = ap charge (length-words_in region n (suc len) sound)
-
--- The words of one segment of a sound list.
-
--- links lead to it
-module _ (region : Segments) (n len k : ℕ) where
-  pub front_of_block : IsSoundList region n len → k < charge len → IsChain region (chain (suc k) region (Some n)) (suc k)
-  front_of_block sound below = chain-front region (Some n) (suc k) (charge len) below sound.is_chain
-
-  pub place_of_block : k < charge len → get_or (chain (suc k) region (Some n)) k 0 ≡ get_or (segments_of region n len) k 0
-  place_of_block below = chain-front-get_or region (Some n) k (suc k) (charge len) (omega arith) below
-
-  pub block_is_taken : (s : ℕ) → IsSoundList region n len → k < charge len → s ≡ get_or (segments_of region n len) k 0 → IsTaken region s × (length (words_at region s) ≡ 16)
-  block_is_taken s sound below e =
-      subst (λ (x : ℕ). IsTaken region x × (length (words_at region x) ≡ 16)) (sym e)
-      (blocks-get_or region (segments_of region n len) k sound.is_chain.blocks (omega (arith, sound.is_chain.whole)))
-
-  -- its front holds what is left of the words from its first place on
-  block-words : (j : ℕ) (block : List ℕ) → IsSoundList region n len → k < charge len → j ≡ min (len - 16 * k) 16 →
-      block ≡ words_at region (get_or (segments_of region n len) k 0) → length block ≡ 16 → take j block ≡ take 16 (drop (16 * k) (words_in_chain region n len))
-  block-words j block sound below e is sixteen =
-      let xs : List ℕ = segments_of region n len in
-      let words : List ℕ = words_in_chain region n len in
-      let whole : length words ≡ len = length-words_in region n len sound in
-      let short : length (take j block) ≡ j = length-take-le j block (omega arith) in
-      ext_get_or 0 (take j block) (take 16 (drop (16 * k) words))
-      (omega (arith, short, whole, length-take 16 (drop (16 * k) words), length-drop (16 * k) words))
-      (λ i inside.
-      get_or-take j block i 0 (omega arith)
-      ∙ subst (λ (b : List ℕ). get_or b i 0 ≡ get_or (content region xs) (16 * k + i) 0) (sym is)
-      (sym (get_or-content region xs k i sound.is_chain.blocks (omega (arith, sound.is_chain.whole)) (omega arith)))
-      ∙ sym (get_or-take len (content region xs) (16 * k + i) 0 (omega arith))
-      ∙ sym (get_or-drop (16 * k) words i 0)
-      ∙ sym (get_or-take 16 (drop (16 * k) words) i 0 (omega arith)))
-
-  pub words_of_block : (s j : ℕ) (block : List ℕ) → IsSoundList region n len → k < charge len → j ≡ min (len - 16 * k) 16 →
-      s ≡ get_or (segments_of region n len) k 0 → block ≡ words_at region s → take j block ≡ take 16 (drop (16 * k) (words_in_chain region n len))
-  words_of_block s j block sound below e at is =
-      let same : block ≡ words_at region (get_or (segments_of region n len) k 0) = subst (λ (x : ℕ). block ≡ words_at region x) at is in
-      let sixteen : length block ≡ 16 = subst (λ (b : List ℕ). length b ≡ 16) (sym is) (block_is_taken s sound below at).1 in
-      block-words j block sound below e same sixteen
+charge_of-node_in region n (suc len) parent sound = ap charge (length-words_in sound)

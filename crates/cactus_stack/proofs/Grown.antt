@@ -3,59 +3,78 @@ use Rattle.cactus_stack.proofs.Common.{◌≡◌, ℕ, zero, suc, ◌-◌, ◌*�
 use Rattle.cactus_stack.proofs.Content.{chain-agrees, content-agrees, blocks-agrees, agrees-set, lacks-taken, lacks-get_or, apart-get_or, apart-sym, once-append, agrees-taken, apart-free, content-append, blocks-append, blocks-get_or, content-link, blocks-link}
 
 -- a segment is taken, filled and linked
-pub fresh_segment_is_filled : (old : Segments) (n : ℕ) (words : List ℕ) (link : Option ℕ) → IsFree old n → with_link (with_segment_words (with_entry old n (Some blank)) n (words ++ drop (length words) (words_at (with_entry old n (Some blank)) n))) n link ≡ with_entry old n (Some (filled words link))
-fresh_segment_is_filled old n words link free =
-    let first : segment_at (with_entry old n (Some blank)) n ≡ Some blank = get_or-set_same old n (Some blank) None free.0 in
-    let zeros : drop (length words) (words_at (with_entry old n (Some blank)) n) ≡ replicate (16 - length words) 0 = rw first (drop-replicate (length words) 16 0) in
-    let entry : Option Segment = Some (record { words = words ++ replicate (16 - length words) 0; link = None }) in
-    let second : segment_at (set old n entry) n ≡ entry = get_or-set_same old n entry None free.0 in
-    rw (zeros, first, set-set old n (Some blank) entry, second, set-set old n entry (Some (filled words link))) refl
+module _ (old : Segments) (n : ℕ) (words : List ℕ) (link : Option ℕ) (free : IsFree old n) where
+  abbrev taken : Segments
+  taken = with_entry old n (Some blank)
 
-padded-twice : (words : List ℕ) (cut count : ℕ) → cut ≡ min (length words) 16 → length words ≤ 16 * suc count → (take cut words ++ replicate (16 - length (take cut words)) 0) ++ (drop cut words ++ replicate (16 * count - length (drop cut words)) 0) ≡ words ++ replicate (16 * suc count - length words) 0
-padded-twice words cut count is room = grind (arith, take_all, drop_all, append_assoc, replicate-append-replicate, length-take-le, length-drop, append-nil, take-append-drop)
+  pub fresh_segment_is_filled : with_link (with_segment_words taken n (words ++ drop (length words) (words_at taken n))) n link ≡ with_entry old n (Some (filled words link))
+  fresh_segment_is_filled =
+      let first : segment_at taken n ≡ Some blank = get_or-set_same old n (Some blank) None free.0 in
+      let zeros : drop (length words) (words_at taken n) ≡ replicate (16 - length words) 0 = rw first (drop-replicate (length words) 16 0) in
+      let entry : Option Segment = Some (filled words None) in
+      let second : segment_at (set old n entry) n ≡ entry = get_or-set_same old n entry None free.0 in
+      rw (zeros, first, set-set old n (Some blank) entry, second, set-set old n entry (Some (filled words link))) refl
+
+-- words, then zeros up to this many
+abbrev up_to_zeros : List ℕ → ℕ → List ℕ
+up_to_zeros words count = words ++ replicate (count - length words) 0
+
+padded-twice : (words : List ℕ) (cut count : ℕ) → cut ≡ min (length words) 16 → length words ≤ 16 * suc count →
+    up_to_zeros (take cut words) 16 ++ up_to_zeros (drop cut words) (16 * count) ≡ up_to_zeros words (16 * suc count)
+padded-twice words cut count is room =
+    grind (arith, take_all, drop_all, append_assoc, replicate-append-replicate, length-take-le, length-drop, append-nil, take-append-drop)
 
 still_free : (old mid : Option Segment) → (IsSome old → mid ≡ old) → mid ≡ None → old ≡ None
 still_free old mid h3 h4 = grind arith
 
--- a chain that was made goes on at its front with a segment more
-pub fresh_chain_is_longer : (old mid : Segments) (rest : Option ℕ) (n : ℕ) (words : List ℕ) (cut count : ℕ) → cut ≡ min (length words) 16 → length words ≤ 16 * suc count → IsFreshChain old mid (chain count mid rest) (drop cut words) count → IsFree mid n →
-    IsFreshChain old (set mid n (Some (filled (take cut words) rest))) (chain (suc count) (set mid n (Some (filled (take cut words) rest))) (Some n)) words (suc count)
-fresh_chain_is_longer old mid rest n words cut count is room fresh free =
-    let entry : Option Segment = Some (filled (take cut words) rest) in
-    let new : Segments = set mid n entry in
-    let xs : List ℕ = chain count mid rest in
-    let here : segment_at new n ≡ entry = get_or-set_same mid n entry None free.0 in
-    let link : link_at new n ≡ rest = ap link_of here in
-    let lacks : Lacks xs n = lacks-taken mid n xs free.1 fresh.is_chain.blocks in
-    let agrees : AgreesOn mid new xs = agrees-set mid n entry xs lacks in
-    let segments : chain (suc count) new (Some n) ≡ n ∷ xs = ap (λ (tail : List ℕ). n ∷ tail) (rw link (chain-agrees count mid new rest agrees)) in
-    let cut_length : length (take cut words) ≤ 16 = omega (arith, length-take-le cut words (omega (arith, is)), is) in
-    let sixteen : length (take cut words ++ replicate (16 - length (take cut words)) 0) ≡ 16 = omega (arith, cut_length, length-append (take cut words) (replicate (16 - length (take cut words)) 0), length-replicate {A = ℕ} (16 - length (take cut words)) 0) in
-    rw segments (record {
-      same_count = length-set mid n entry ∙ fresh.same_count;
-      counted = omega (arith, taken_count-take mid n (filled (take cut words) rest) free.0 free.1, fresh.counted);
-      kept = λ s taken. get_or-set_other mid n s entry None (λ e. (let was_taken : IsTaken mid s = rw (fresh.kept s taken) taken in let was_free : segment_at mid s ≡ None = rw e free.1 in absurd (cc (was_taken, was_free)))) ∙ fresh.kept s taken;
-      is_chain = grind (arith, blocks-agrees);
-      were_free = ((rw (← fresh.same_count) free.0, still_free (segment_at old n) (segment_at mid n) (fresh.kept n) free.1), fresh.were_free);
-      holds = rw (here, content-agrees mid new xs agrees, fresh.holds) (padded-twice words cut count is room);
-    })
+other_than_free : (region : Segments) (s n : ℕ) → IsTaken region s → segment_at region n ≡ None → s ≢ n
+other_than_free region s n taken free = λ e. (let none : segment_at region s ≡ None = rw e free in absurd (cc (taken, none)))
 
--- the same, where the count is given as one number
-pub fresh_chain_grows : (old mid new : Segments) (rest : Option ℕ) (n : ℕ) (words : List ℕ) (cut count : ℕ) → 0 < count → cut ≡ min (length words) 16 → length words ≤ 16 * count → IsFreshChain old mid (chain (count - 1) mid rest) (drop cut words) (count - 1) → IsFree mid n → new ≡ set mid n (Some (filled (take cut words) rest)) →
-    IsFreshChain old new (chain count new (Some n)) words count
-fresh_chain_grows old mid new rest n words cut zero some is room fresh free after = absurd (omega arith)
-fresh_chain_grows old mid new rest n words cut (suc count) some is room fresh free after =
-    let less : suc count - 1 ≡ count = omega arith in
-    let before : IsFreshChain old mid (chain count mid rest) (drop cut words) count = rw less at fresh in
-    rw after (fresh_chain_is_longer old mid rest n words cut count is room before free)
+module _ (old mid : Segments) (rest : Option ℕ) (n : ℕ) (words : List ℕ) (cut : ℕ) (is : cut ≡ min (length words) 16) (free : IsFree mid n) where
+  abbrev entry : Option Segment
+  entry = Some (filled (take cut words) rest)
+
+  abbrev linked : Segments
+  linked = set mid n entry
+
+  -- a chain that was made goes on at its front with a segment more
+  fresh_chain_is_longer : (count : ℕ) → length words ≤ 16 * suc count → IsFreshChain old mid (chain count mid rest) (drop cut words) count →
+      IsFreshChain old linked (chain (suc count) linked (Some n)) words (suc count)
+  fresh_chain_is_longer count room fresh =
+      let new : Segments = linked in
+      let xs : List ℕ = chain count mid rest in
+      let here : segment_at new n ≡ entry = get_or-set_same mid n entry None free.0 in
+      let link : link_at new n ≡ rest = ap link_of here in
+      let lacks : Lacks xs n = lacks-taken mid n xs free.1 fresh.is_chain.blocks in
+      let agrees : AgreesOn mid new xs = agrees-set mid n entry xs lacks in
+      let segments : chain (suc count) new (Some n) ≡ n ∷ xs = ap (λ (tail : List ℕ). n ∷ tail) (rw link (chain-agrees count mid new rest agrees)) in
+      let cut_length : length (take cut words) ≤ 16 = omega (arith, length-take-le cut words (omega (arith, is)), is) in
+      let sixteen : length (up_to_zeros (take cut words) 16) ≡ 16 = omega (arith, cut_length, length-append {A = ℕ}, length-replicate {A = ℕ}) in
+      rw segments (record {
+        same_count = length-set mid n entry ∙ fresh.same_count;
+        counted = omega (arith, taken_count-take mid n (filled (take cut words) rest) free.0 free.1, fresh.counted);
+        kept = λ s taken. get_or-set_other mid n s entry None (other_than_free mid s n (rw (fresh.kept s taken) taken) free.1) ∙ fresh.kept s taken;
+        is_chain = grind (arith, blocks-agrees);
+        were_free = ((rw (← fresh.same_count) free.0, still_free (segment_at old n) (segment_at mid n) (fresh.kept n) free.1), fresh.were_free);
+        holds = rw (here, content-agrees mid new xs agrees, fresh.holds) (padded-twice words cut count is room);
+      })
+
+  -- the same, where the count is given as one number
+  pub fresh_chain_grows : (new : Segments) (count : ℕ) → 0 < count → length words ≤ 16 * count → IsFreshChain old mid (chain (count - 1) mid rest) (drop cut words) (count - 1) →
+      new ≡ linked → IsFreshChain old new (chain count new (Some n)) words count
+  fresh_chain_grows new zero some room fresh after = absurd (omega arith)
+  fresh_chain_grows new (suc count) some room fresh after =
+      let less : suc count - 1 ≡ count = omega arith in
+      rw after (fresh_chain_is_longer count room (rw less at fresh))
 
 -- a chain of one segment
-pub fresh_chain_of_one : (old new : Segments) (n : ℕ) (words : List ℕ) → length words ≤ 16 → IsFree old n → new ≡ set old n (Some (filled words None)) → IsFreshChain old new (chain 1 new (Some n)) words 1
+pub fresh_chain_of_one : (old new : Segments) (n : ℕ) (words : List ℕ) → length words ≤ 16 → IsFree old n → new ≡ set old n (Some (filled words None)) →
+    IsFreshChain old new (chain 1 new (Some n)) words 1
 fresh_chain_of_one old new n words short free after =
     let front : take (length words) words ≡ words = take_all (length words) words (omega arith) in
     let back : drop (length words) words ≡ [] = drop_all (length words) words (omega arith) in
     let nothing : IsFreshChain old old [] [] 0 = grind arith in
-    fresh_chain_grows old old new None n words (length words) 1 (omega arith) (omega (arith, short)) (omega (arith, short)) (rw back nothing) free (rw front after)
+    fresh_chain_grows old old None n words (length words) (omega (arith, short)) free new 1 (omega arith) (omega (arith, short)) (rw back nothing) (rw front after)
 
 -- A chain that is made longer, and one that is given back.
 
@@ -91,54 +110,67 @@ chain-link zero more region first next is =
 chain-link (suc count) more region first next is =
     chain-link-behind count more region first (link_at region first) next refl is (λ t. chain-link count more region t next)
 
--- a chain goes on with a new one at its last segment
-pub chain_is_grown : (old mid : Segments) (first count more : ℕ) (fresh : Option ℕ) → IsChain old (chain (suc count) old (Some first)) (suc count) → IsFreshChain old mid (chain more mid fresh) [] more →
-    IsGrownChain old (with_link mid (get_or (chain (suc count) old (Some first)) count 0) fresh) (chain (suc count) old (Some first)) (chain (suc count + more) (with_link mid (get_or (chain (suc count) old (Some first)) count 0) fresh) (Some first)) more
-chain_is_grown old mid first count more fresh is made =
-    let xs : List ℕ = chain (suc count) old (Some first) in
-    let ys : List ℕ = chain more mid fresh in
-    let last : ℕ = get_or xs count 0 in
-    let new : Segments = with_link mid last fresh in
-    let entry : Option Segment = Some (record { words = words_at mid last; link = fresh }) in
-    let agrees : AgreesOn old mid xs = agrees-taken old mid xs made.kept is.blocks in
-    let same : chain (suc count) mid (Some first) ≡ xs = chain-agrees (suc count) old mid (Some first) agrees in
-    let blocks : AllBlocks mid xs = blocks-agrees old mid xs agrees is.blocks in
-    let mid_chain : IsChain mid (chain (suc count) mid (Some first)) (suc count) = rw same (record { blocks = blocks; whole = is.whole; once = is.once }) in
-    let within : count < length xs = omega (arith, is.whole) in
-    let apart : AreApart xs ys = apart-free old xs ys is.blocks made.were_free in
-    let lacks : Lacks ys last = apart-get_or ys xs count (apart-sym xs ys apart) within in
-    let tail : chain more new fresh ≡ ys = chain-agrees more mid new fresh (agrees-set mid last entry ys lacks) in
-    let at : List ℕ → Type 0 = λ zs. chain (suc count + more) (with_link mid (get_or zs count 0) fresh) (Some first) ≡ zs ++ chain more (with_link mid (get_or zs count 0) fresh) fresh in
-    let goes_on : at xs = subst at same (chain-link count more mid first fresh mid_chain) in
-    let joined : chain (suc count + more) new (Some first) ≡ xs ++ ys = goes_on ∙ ap (λ (zs : List ℕ). xs ++ zs) tail in
-    rw joined (record {
-      same_count = length-set mid last entry ∙ made.same_count;
-      counted = taken_count-write mid last _ (blocks-get_or mid xs count blocks within).0 ∙ made.counted;
-      kept = λ s taken lacking. get_or-set_other mid last s entry None (λ e. lacks-get_or xs s count lacking within (sym e)) ∙ made.kept s taken;
-      added = ys;
-      joined = refl;
-      were_free = made.were_free;
-      is_chain = record {
-        blocks = blocks-append new xs ys (blocks-link mid xs last fresh blocks) (blocks-link mid ys last fresh made.is_chain.blocks);
-        whole = omega (arith, length-append xs ys, is.whole, made.is_chain.whole);
-        once = once-append xs ys is.once made.is_chain.once apart;
-      };
-      holds = rw (content-append new xs ys, content-link mid xs last fresh, content-link mid ys last fresh, content-agrees old mid xs agrees, made.holds) (ap (λ (n : ℕ). content old xs ++ replicate n 0) (omega arith));
-    })
+module _ (old mid : Segments) (first more : ℕ) (fresh : Option ℕ) (made : IsFreshChain old mid (chain more mid fresh) [] more) where
+  -- the chain before, and its last segment
+  abbrev front : ℕ → List ℕ
+  front count = chain count old (Some first)
 
--- the same, where the count is given as one number
-pub chain_grows : (old mid new : Segments) (first last count more : ℕ) (fresh : Option ℕ) → 0 < count → IsChain old (chain count old (Some first)) count → last ≡ get_or (chain (suc (count - 1)) old (Some first)) (count - 1) 0 → IsFreshChain old mid (chain more mid fresh) [] more → new ≡ with_link mid last fresh →
-    IsGrownChain old new (chain count old (Some first)) (chain (count + more) new (Some first)) more
-chain_grows old mid new first last zero more fresh some is at made after = absurd (omega arith)
-chain_grows old mid new first last (suc count) more fresh some is at made after =
-    let less : suc count - 1 ≡ count = omega arith in
-    let place : last ≡ get_or (chain (suc count) old (Some first)) count 0 = rw less at at in
-    rw (after, place) (chain_is_grown old mid first count more fresh is made)
+  abbrev last_of : ℕ → ℕ
+  last_of count = get_or (front (suc count)) count 0
 
--- its last segment is still taken when the new ones are there
-pub last_is_taken : (old mid : Segments) (first last count more : ℕ) (fresh : Option ℕ) → 0 < count → IsChain old (chain count old (Some first)) count → last ≡ get_or (chain (suc (count - 1)) old (Some first)) (count - 1) 0 → IsFreshChain old mid (chain more mid fresh) [] more → IsTaken mid last
-last_is_taken old mid first last zero more fresh some is at made = absurd (omega arith)
-last_is_taken old mid first last (suc count) more fresh some is at made = grind (arith, blocks-get_or)
+  abbrev longer : ℕ → Segments → List ℕ
+  longer count new = chain (count + more) new (Some first)
+
+  -- a chain goes on with a new one at its last segment
+  chain_is_grown : (count : ℕ) → IsChain old (front (suc count)) (suc count) →
+      IsGrownChain old (with_link mid (last_of count) fresh) (front (suc count)) (longer (suc count) (with_link mid (last_of count) fresh)) more
+  chain_is_grown count is =
+      let xs : List ℕ = front (suc count) in
+      let ys : List ℕ = chain more mid fresh in
+      let last : ℕ = last_of count in
+      let new : Segments = with_link mid last fresh in
+      let entry : Option Segment = Some (record { words = words_at mid last; link = fresh }) in
+      let agrees : AgreesOn old mid xs = agrees-taken old mid xs made.kept is.blocks in
+      let same : chain (suc count) mid (Some first) ≡ xs = chain-agrees (suc count) old mid (Some first) agrees in
+      let blocks : AllBlocks mid xs = blocks-agrees old mid xs agrees is.blocks in
+      let mid_chain : IsChain mid (chain (suc count) mid (Some first)) (suc count) = rw same (record { blocks = blocks; whole = is.whole; once = is.once }) in
+      let within : count < length xs = omega (arith, is.whole) in
+      let apart : AreApart xs ys = apart-free old xs ys is.blocks made.were_free in
+      let lacks : Lacks ys last = apart-get_or ys xs count (apart-sym xs ys apart) within in
+      let tail : chain more new fresh ≡ ys = chain-agrees more mid new fresh (agrees-set mid last entry ys lacks) in
+      let at : List ℕ → Type 0 = λ zs. longer (suc count) (with_link mid (get_or zs count 0) fresh) ≡ zs ++ chain more (with_link mid (get_or zs count 0) fresh) fresh in
+      let goes_on : at xs = subst at same (chain-link count more mid first fresh mid_chain) in
+      let joined : longer (suc count) new ≡ xs ++ ys = goes_on ∙ ap (λ (zs : List ℕ). xs ++ zs) tail in
+      let zeros : replicate (16 * more - 0) 0 ≡ replicate (16 * more) 0 = ap (λ (n : ℕ). replicate n 0) (omega arith) in
+      rw joined (record {
+        same_count = length-set mid last entry ∙ made.same_count;
+        counted = taken_count-write mid last _ (blocks-get_or mid xs count blocks within).0 ∙ made.counted;
+        kept = λ s taken lacking. get_or-set_other mid last s entry None (λ e. lacks-get_or xs s count lacking within (sym e)) ∙ made.kept s taken;
+        added = ys;
+        joined = refl;
+        were_free = made.were_free;
+        is_chain = record {
+          blocks = blocks-append new xs ys (blocks-link mid xs last fresh blocks) (blocks-link mid ys last fresh made.is_chain.blocks);
+          whole = omega (arith, length-append xs ys, is.whole, made.is_chain.whole);
+          once = once-append xs ys is.once made.is_chain.once apart;
+        };
+        holds = rw (content-append new xs ys, content-link mid xs last fresh, content-link mid ys last fresh, content-agrees old mid xs agrees, made.holds)
+            (ap (λ (zs : List ℕ). content old xs ++ zs) zeros);
+      })
+
+  -- the same, where the count is given as one number
+  pub chain_grows : (new : Segments) (last count : ℕ) → 0 < count → IsChain old (front count) count → last ≡ last_of (count - 1) → new ≡ with_link mid last fresh →
+      IsGrownChain old new (front count) (longer count new) more
+  chain_grows new last zero some is at after = absurd (omega arith)
+  chain_grows new last (suc count) some is at after =
+      let less : suc count - 1 ≡ count = omega arith in
+      let place : last ≡ last_of count = rw less at at in
+      rw (after, place) (chain_is_grown count is)
+
+  -- its last segment is still taken when the new ones are there
+  pub last_is_taken : (last count : ℕ) → 0 < count → IsChain old (front count) count → last ≡ last_of (count - 1) → IsTaken mid last
+  last_is_taken last zero some is at = absurd (omega arith)
+  last_is_taken last (suc count) some is at = grind (arith, blocks-get_or)
 
 -- a chain is given back from its front
 pub give-rest : (old : Segments) (n count : ℕ) → IsChain old (n ∷ chain count old (link_at old n)) (suc count) →
@@ -149,13 +181,14 @@ pub given-back : (old new : Segments) (n : ℕ) (xs : List ℕ) → IsTaken old 
 given-back old new n xs taken given = grind (arith, length-set, taken_count-give, get_or-set_other)
 
 -- both, where the count is given as one number
-pub give-rest-of : (old mid : Segments) (first next : Option ℕ) (n count : ℕ) → 0 < count → first ≡ Some n → IsChain old (chain count old first) count → next ≡ link_at old n → mid ≡ set old n None → IsChain mid (chain (count - 1) mid next) (count - 1)
-give-rest-of old mid first next n count h7 h8 h9 h10 h11 = grind (arith, give-rest)
+module _ (old : Segments) (n : ℕ) {mid : Segments} {first next : Option ℕ} (is_first : first ≡ Some n) (link : next ≡ link_at old n) (after : mid ≡ set old n None) where
+  pub give-rest-of : (count : ℕ) → 0 < count → IsChain old (chain count old first) count → IsChain mid (chain (count - 1) mid next) (count - 1)
+  give-rest-of count some is = grind (arith, give-rest)
 
-pub given-back-of : (old mid new : Segments) (first next : Option ℕ) (n count : ℕ) → 0 < count → first ≡ Some n → IsChain old (chain count old first) count → next ≡ link_at old n → mid ≡ set old n None → IsGivenBack mid new (chain (count - 1) mid next) → IsGivenBack old new (chain count old first)
-given-back-of old mid new first next n zero some is_first is link after given = absurd (omega arith)
-given-back-of old mid new first next n (suc count) some is_first is link after given =
-    let less : suc count - 1 ≡ count = omega arith in
-    let whole : IsChain old (n ∷ chain count old (link_at old n)) (suc count) = rw is_first at is in
-    let rest : IsGivenBack (set old n None) new (chain count old (link_at old n)) = rw (less, link, after, (give-rest old n count whole).0) at given in
-    rw is_first (given-back old new n (chain count old (link_at old n)) whole.blocks.0 rest)
+  pub given-back-of : (new : Segments) (count : ℕ) → 0 < count → IsChain old (chain count old first) count → IsGivenBack mid new (chain (count - 1) mid next) → IsGivenBack old new (chain count old first)
+  given-back-of new zero some is given = absurd (omega arith)
+  given-back-of new (suc count) some is given =
+      let less : suc count - 1 ≡ count = omega arith in
+      let whole : IsChain old (n ∷ chain count old (link_at old n)) (suc count) = rw is_first at is in
+      let rest : IsGivenBack (set old n None) new (chain count old (link_at old n)) = rw (less, link, after, (give-rest old n count whole).0) at given in
+      rw is_first (given-back old new n (chain count old (link_at old n)) whole.blocks.0 rest)

@@ -1,5 +1,5 @@
 -- What the laws say, by induction.
-use Rattle.cactus_stack.proofs.Common.{◌≡◌, ◌≢◌, ℕ, zero, suc, ◌+◌, ◌<◌, List, [], ◌∷◌, length, map, sum_by, AllPairs, Option, None, Some, Contains, get_or, refl, sym, ap, ◌∙◌, arith, get_or-set_other, IsSome, ◌-◌, ◌≤◌, min, take, drop, inl, inr, get_or-set_same, set, sum_by-cons, Node, Nodes, charge_of, total_charge, node_at, node_words, node_parent, IsSight, IsPath, with_node, without, parent_of_node, IsOpen, HasNoChild, HasAllChildren, with_node_words, get_or-take, length-take-le, cases_eq, place_at, IsUnder, IsForest, sight_within, IsWholeSight, Place}
+use Rattle.cactus_stack.proofs.Common.{◌≡◌, ◌≢◌, ℕ, zero, suc, ◌+◌, ◌<◌, List, [], ◌∷◌, length, map, sum_by, AllPairs, Option, None, Some, Contains, get_or, refl, sym, ap, ◌∙◌, arith, get_or-set_other, IsSome, ◌-◌, ◌≤◌, min, take, drop, inl, inr, get_or-set_same, set, sum_by-cons, Node, Nodes, charge_of, total_charge, node_at, node_words, node_parent, IsSight, IsPath, with_node, without, parent_of_node, IsOpen, HasNoChild, HasAllChildren, with_node_words, get_or-take, length-take-le, cases_eq, place_at, IsUnder, IsForest, sight_within, IsWholeSight, Place, set-holds}
 
 none-at : (nodes : Nodes) (n : ℕ) → node_at (set nodes n None) n ≡ None
 none-at [] n = refl
@@ -7,11 +7,7 @@ none-at (e ∷ nodes) zero = refl
 none-at (e ∷ nodes) (suc n) = none-at nodes n
 
 none-stays : (nodes : Nodes) (n m : ℕ) → node_at nodes m ≡ None → node_at (set nodes n None) m ≡ None
-none-stays [] n m none = none
-none-stays (e ∷ nodes) zero zero none = refl
-none-stays (e ∷ nodes) zero (suc m) none = none
-none-stays (e ∷ nodes) (suc n) zero none = none
-none-stays (e ∷ nodes) (suc n) (suc m) none = none-stays nodes n m none
+none-stays nodes n m none = set-holds (λ (e : Option Node). e ≡ None) nodes n m None None (λ e. refl) none
 
 pub still-none : (nodes : Nodes) (numbers : List ℕ) (m : ℕ) → node_at nodes m ≡ None → node_at (without nodes numbers) m ≡ None
 still-none nodes [] m none = none
@@ -96,39 +92,41 @@ lt-of-some (x ∷ xs) (suc n) there = let rest = lt-of-some xs n there in omega 
 abbrev depth_at : List Place → ℕ → ℕ
 depth_at places n = (place_at places n).depth
 
-under-kept : (nodes new : Nodes) (places others : List Place) (parent : Option ℕ) (depth : ℕ) → ((p : ℕ) → parent ≡ Some p → IsOpen new p × (depth_at others p ≡ depth_at places p)) → IsUnder nodes places parent depth → IsUnder new others parent depth
-under-kept nodes new places others parent depth h7 h8 = grind arith
-
 -- a parent is open
 parent-open : (nodes : Nodes) (places : List Place) (parent : Option ℕ) (depth p : ℕ) → IsUnder nodes places parent depth → parent ≡ Some p → IsOpen nodes p
 parent-open nodes places parent depth p h6 h7 = grind arith
 
--- where each open node is as it was, but for its words, and so is its parent, the tree is one still
-tree-kept : (nodes new : Nodes) (places others : List Place) → IsForest nodes places → ((m : ℕ) → IsOpen new m → IsOpen nodes m × (node_parent new m ≡ node_parent nodes m) × (depth_at others m ≡ depth_at places m)) →
-    ((m p : ℕ) → IsOpen new m → node_parent nodes m ≡ Some p → IsOpen nodes p → IsOpen new p) → IsForest new others
-tree-kept nodes new places others tree same parents m is_open = grind (arith, under-kept, parent-open)
+module _ (nodes new : Nodes) (places others : List Place) where
+  under-kept : (parent : Option ℕ) (depth : ℕ) → ((p : ℕ) → parent ≡ Some p → IsOpen new p × (depth_at others p ≡ depth_at places p)) → IsUnder nodes places parent depth → IsUnder new others parent depth
+  under-kept parent depth h7 h8 = grind arith
 
--- words that change
-pub tree-write : (nodes : Nodes) (places others : List Place) (n : ℕ) (words : List ℕ) → ((m : ℕ) → depth_at others m ≡ depth_at places m) → IsForest nodes places → IsOpen nodes n → IsForest (with_node_words nodes n words) others
-tree-write nodes places others n words depths tree is_open =
-    let entry : Option Node = Some (record { parent = node_parent nodes n; words = words }) in
-    let here : node_at (set nodes n entry) n ≡ entry = get_or-set_same nodes n entry None (lt-of-some nodes n is_open) in
-    let there : (m : ℕ) → m ≢ n → node_at (set nodes n entry) m ≡ node_at nodes m = λ m other. get_or-set_other nodes n m entry None other in
-    tree-kept nodes (with_node_words nodes n words) places others tree
-    (λ m is. elim (cases_eq m n) [
-      | inl e ↦ (rw e is_open, rw (e, here) refl, depths m)
-      | inr other ↦ (rw (there m other) at is, ap parent_of_node (there m other), depths m)
-    ])
-    (λ m p is e was. elim (cases_eq p n) [ inl f ↦ rw (f, here) refl | inr other ↦ rw (there p other) was ])
+  -- where each open node is as it was, but for its words, and so is its parent, the tree is one still
+  tree-kept : IsForest nodes places → ((m : ℕ) → IsOpen new m → IsOpen nodes m × (node_parent new m ≡ node_parent nodes m) × (depth_at others m ≡ depth_at places m)) →
+      ((m p : ℕ) → IsOpen new m → node_parent nodes m ≡ Some p → IsOpen nodes p → IsOpen new p) → IsForest new others
+  tree-kept tree same parents m is_open = grind (arith, under-kept, parent-open)
 
--- nodes that go with all their children
-pub tree-without : (nodes : Nodes) (places others : List Place) (numbers : List ℕ) → ((m : ℕ) → depth_at others m ≡ depth_at places m) → IsForest nodes places → HasAllChildren nodes numbers → IsForest (without nodes numbers) others
-tree-without nodes places others numbers depths tree children =
-    let stays : (m : ℕ) → IsOpen (without nodes numbers) m → Contains numbers m → ⊥ = λ m is among. (let none : node_at (without nodes numbers) m ≡ None = gone nodes numbers m among in absurd (cc (is, none))) in
-    let same : (m : ℕ) → IsOpen (without nodes numbers) m → node_at (without nodes numbers) m ≡ node_at nodes m = λ m is. kept nodes numbers m (stays m is) in
-    tree-kept nodes (without nodes numbers) places others tree
-    (λ m is. (rw (same m is) at is, ap parent_of_node (same m is), depths m))
-    (λ m p is e was. rw (kept nodes numbers p (λ among. stays m is (children m p e among))) was)
+module _ (nodes : Nodes) (places others : List Place) (depths : (m : ℕ) → depth_at others m ≡ depth_at places m) (tree : IsForest nodes places) where
+  -- words that change
+  pub tree-write : (n : ℕ) (words : List ℕ) → IsOpen nodes n → IsForest (with_node_words nodes n words) others
+  tree-write n words is_open =
+      let entry : Option Node = Some (record { parent = node_parent nodes n; words = words }) in
+      let here : node_at (set nodes n entry) n ≡ entry = get_or-set_same nodes n entry None (lt-of-some nodes n is_open) in
+      let there : (m : ℕ) → m ≢ n → node_at (set nodes n entry) m ≡ node_at nodes m = λ m other. get_or-set_other nodes n m entry None other in
+      tree-kept nodes (with_node_words nodes n words) places others tree
+      (λ m is. elim (cases_eq m n) [
+        | inl e ↦ (rw e is_open, rw (e, here) refl, depths m)
+        | inr other ↦ (rw (there m other) at is, ap parent_of_node (there m other), depths m)
+      ])
+      (λ m p is e was. elim (cases_eq p n) [ inl f ↦ rw (f, here) refl | inr other ↦ rw (there p other) was ])
+
+  -- nodes that go with all their children
+  pub tree-without : (numbers : List ℕ) → HasAllChildren nodes numbers → IsForest (without nodes numbers) others
+  tree-without numbers children =
+      let stays : (m : ℕ) → IsOpen (without nodes numbers) m → Contains numbers m → ⊥ = λ m is among. (let none : node_at (without nodes numbers) m ≡ None = gone nodes numbers m among in absurd (cc (is, none))) in
+      let same : (m : ℕ) → IsOpen (without nodes numbers) m → node_at (without nodes numbers) m ≡ node_at nodes m = λ m is. kept nodes numbers m (stays m is) in
+      tree-kept nodes (without nodes numbers) places others tree
+      (λ m is. (rw (same m is) at is, ap parent_of_node (same m is), depths m))
+      (λ m p is e was. rw (kept nodes numbers p (λ among. stays m is (children m p e among))) was)
 
 -- one more node goes
 pub without-more : (nodes : Nodes) (numbers : List ℕ) (i n : ℕ) → i < length numbers → n ≡ get_or numbers i n → without nodes (take (suc i) numbers) ≡ set (without nodes (take i numbers)) n None
@@ -191,42 +189,51 @@ module _ (nodes : Nodes) (places : List Place) where
         all_levels = ap suc rest.1;
       }
 
--- one level of a sight
-pub sight-level : (nodes : Nodes) (node : ℕ) (levels : List (List ℕ)) (i : ℕ) → i < length levels → IsSight nodes (Some node) (drop i levels) →
-    IsOpen nodes node × (node_words nodes node ≡ get_or levels i []) × IsSight nodes (node_parent nodes node) (drop (suc i) levels)
-sight-level nodes node [] i h sight = absurd (omega arith)
-sight-level nodes node (words ∷ levels) zero h sight = sight
-sight-level nodes node (words ∷ levels) (suc i) h sight =
-    let below : i < length levels = omega arith in sight-level nodes node levels i below sight
+module _ (nodes : Nodes) where
+  -- one level of a sight
+  pub sight-level : (node : ℕ) (levels : List (List ℕ)) (i : ℕ) → i < length levels → IsSight nodes (Some node) (drop i levels) →
+      IsOpen nodes node × (node_words nodes node ≡ get_or levels i []) × IsSight nodes (node_parent nodes node) (drop (suc i) levels)
+  sight-level node [] i h sight = absurd (omega arith)
+  sight-level node (words ∷ levels) zero h sight = sight
+  sight-level node (words ∷ levels) (suc i) h sight =
+      let below : i < length levels = omega arith in sight-level node levels i below sight
 
-pub no-sight : (nodes : Nodes) (levels : List (List ℕ)) (i : ℕ) → i < length levels → IsSight nodes None (drop i levels) → ⊥
-no-sight nodes [] i h sight = absurd (omega arith)
-no-sight nodes (words ∷ levels) zero h sight = sight
-no-sight nodes (words ∷ levels) (suc i) h sight =
-    let below : i < length levels = omega arith in no-sight nodes levels i below sight
+  pub no-sight : (levels : List (List ℕ)) (i : ℕ) → i < length levels → IsSight nodes None (drop i levels) → ⊥
+  no-sight [] i h sight = absurd (omega arith)
+  no-sight (words ∷ levels) zero h sight = sight
+  no-sight (words ∷ levels) (suc i) h sight =
+      let below : i < length levels = omega arith in no-sight levels i below sight
+
+-- the same of a whole sight, which has so many levels
+pub sight-step : {nodes : Nodes} {first count level i : ℕ} {levels : List (List ℕ)} (node : ℕ) → IsWholeSight nodes first count → sight_within count nodes (Some first) ≡ levels → level < count → i ≤ level →
+    IsSight nodes (Some node) (drop i levels) → IsOpen nodes node × (node_words nodes node ≡ get_or levels i []) × IsSight nodes (node_parent nodes node) (drop (suc i) levels) × (length levels ≡ count)
+sight-step {nodes = nodes} {i = i} {levels = levels} node whole view inside up sight =
+    let long = sym (ap length view) ∙ whole.all_levels in
+    let step = sight-level nodes node levels i (omega (arith, long, inside, up)) sight in
+    (step.0, step.1, step.2, long)
 
 -- no node is deeper than there are places: how many places are at most so deep
 up_to : ℕ → List Place → ℕ
 up_to depth [] = 0
 up_to depth (place ∷ places) = min 1 (suc depth - place.depth) + up_to depth places
 
-up_to-le-length : (depth : ℕ) (places : List Place) → up_to depth places ≤ length places
-unfolding up_to
-up_to-le-length depth [] = omega arith
-up_to-le-length depth (place ∷ places) = omega (arith, up_to-le-length depth places)
+module _ (depth : ℕ) where
+  up_to-le-length : (places : List Place) → up_to depth places ≤ length places
+  unfolding up_to
+  up_to-le-length [] = omega arith
+  up_to-le-length (place ∷ places) = omega (arith, up_to-le-length places)
 
-up_to-rises : (depth : ℕ) (places : List Place) → up_to depth places ≤ up_to (suc depth) places
-unfolding up_to
-up_to-rises depth [] = omega arith
-up_to-rises depth (place ∷ places) = omega (arith, up_to-rises depth places)
+  up_to-rises : (places : List Place) → up_to depth places ≤ up_to (suc depth) places
+  unfolding up_to
+  up_to-rises [] = omega arith
+  up_to-rises (place ∷ places) = omega (arith, up_to-rises places)
 
-up_to-more : (depth : ℕ) (places : List Place) (n : ℕ) → n < length places → depth_at places n ≡ suc depth → up_to depth places + 1 ≤ up_to (suc depth) places
-unfolding up_to
-up_to-more depth [] n h is = absurd (omega arith)
-up_to-more depth (place ∷ places) zero h is = omega (arith, up_to-rises depth places)
-up_to-more depth (place ∷ places) (suc n) h is =
-    let below : n < length places = omega arith in
-    omega (arith, up_to-more depth places n below is)
+  up_to-more : (places : List Place) (n : ℕ) → n < length places → depth_at places n ≡ suc depth → up_to depth places + 1 ≤ up_to (suc depth) places
+  unfolding up_to
+  up_to-more [] n h is = absurd (omega arith)
+  up_to-more (place ∷ places) zero h is = omega (arith, up_to-rises places)
+  up_to-more (place ∷ places) (suc n) h is =
+      omega (arith, up_to-more places n (omega arith) is)
 
 -- the parent, if there is one, is one less deep
 module _ (nodes : Nodes) (places : List Place) where

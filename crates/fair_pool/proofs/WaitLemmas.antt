@@ -36,7 +36,8 @@ pub other-at : (xs : List Account) (place other : ℕ) (y : Account) → other �
 other-at xs place other y differs = get_or-set_other xs other place y free_account (λ same. differs (sym same))
 
 -- the account at any place after one has changed is one of before, or the changed one
-pub any-at : (P : Account → Type 0) (xs : List Account) (place : ℕ) (y : Account) → ((other : ℕ) → P (account_at xs other)) → P y → (other : ℕ) → P (account_at (set xs place y) other)
+pub any-at : (P : Account → Type 0) (xs : List Account) (place : ℕ) (y : Account) → ((other : ℕ) → P (account_at xs other)) → P y →
+    (other : ℕ) → P (account_at (set xs place y) other)
 any-at P [] place y all new other = all other
 any-at P (x ∷ xs) zero y all new zero = new
 any-at P (x ∷ xs) zero y all new (suc other) = all (suc other)
@@ -52,37 +53,39 @@ lesser-least : (low count : ℕ) (least : Option ℕ) → low ≤ count → HasA
 lesser-least low count None less has = less
 lesser-least low count (Some n) less has = grind arith
 
-least-floor : (group low : ℕ) (xs : List Account) (least : Option ℕ) → HasAtLeast low least → ((other : ℕ) → is_rival group (account_at xs other) ≡ true → low ≤ (account_at xs other).served)
-    → HasAtLeast low (least_from least group xs)
-least-floor group low [] least has all = has
-least-floor group low (x ∷ xs) least has all =
-    elim (is_rival group x) as (λ b. is_rival group x ≡ b → HasAtLeast low (least_from (cond b (Some (lesser x.served least)) least) group xs)) [
-      | true ↦ λ is. least-floor group low xs (Some (lesser x.served least)) (lesser-least low x.served least (all 0 is) has) (λ other. all (suc other))
-      | false ↦ λ is. least-floor group low xs least has (λ other. all (suc other))
-    ] refl
+module _ (group low : ℕ) where
+  least-floor : (xs : List Account) (least : Option ℕ) → HasAtLeast low least →
+      ((other : ℕ) → is_rival group (account_at xs other) ≡ true → low ≤ (account_at xs other).served) → HasAtLeast low (least_from least group xs)
+  least-floor [] least has all = has
+  least-floor (x ∷ xs) least has all =
+      elim (is_rival group x) as (λ b. is_rival group x ≡ b → HasAtLeast low (least_from (cond b (Some (lesser x.served least)) least) group xs)) [
+        | true ↦ λ is. least-floor xs (Some (lesser x.served least)) (lesser-least low x.served least (all 0 is) has) (λ other. all (suc other))
+        | false ↦ λ is. least-floor xs least has (λ other. all (suc other))
+      ] refl
 
 -- where somebody is active there is a least
 abbrev IsThere : Option ℕ → Type 0
 IsThere None = ⊥
 IsThere (Some n) = Unit {0}
 
-least-stays : (group : ℕ) (xs : List Account) (n : ℕ) → IsThere (least_from (Some n) group xs)
-least-stays group [] n = tt
-least-stays group (x ∷ xs) n =
-    elim (is_rival group x) as (λ b. IsThere (least_from (cond b (Some (lesser x.served (Some n))) (Some n)) group xs)) [
-      | true ↦ least-stays group xs (lesser x.served (Some n))
-      | false ↦ least-stays group xs n
-    ]
+module _ (group : ℕ) where
+  least-stays : (xs : List Account) (n : ℕ) → IsThere (least_from (Some n) group xs)
+  least-stays [] n = tt
+  least-stays (x ∷ xs) n =
+      elim (is_rival group x) as (λ b. IsThere (least_from (cond b (Some (lesser x.served (Some n))) (Some n)) group xs)) [
+        | true ↦ least-stays xs (lesser x.served (Some n))
+        | false ↦ least-stays xs n
+      ]
 
-least-there : (group : ℕ) (xs : List Account) (least : Option ℕ) (place : ℕ) → is_rival group (account_at xs place) ≡ true → IsThere (least_from least group xs)
-least-there group [] least place is = absurd (never place is) where
-  never : (place : ℕ) → is_rival group (account_at [] place) ≡ true → ⊥
-  never place h = grind arith
-least-there group (x ∷ xs) least zero is = rw is (least-stays group xs (lesser x.served least))
-least-there group (x ∷ xs) least (suc place) is = least-there group xs (cond (is_rival group x) (Some (lesser x.served least)) least) place is
+  least-there : (xs : List Account) (least : Option ℕ) (place : ℕ) → is_rival group (account_at xs place) ≡ true → IsThere (least_from least group xs)
+  least-there [] least place is = absurd (never place is) where
+    never : (place : ℕ) → is_rival group (account_at [] place) ≡ true → ⊥
+    never place h = grind arith
+  least-there (x ∷ xs) least zero is = rw is (least-stays xs (lesser x.served least))
+  least-there (x ∷ xs) least (suc place) is = least-there xs (cond (is_rival group x) (Some (lesser x.served least)) least) place is
 
-pub floor-least : (group low : ℕ) (xs : List Account) (place : ℕ) → is_rival group (account_at xs place) ≡ true → ((other : ℕ) → is_rival group (account_at xs other) ≡ true → low ≤ (account_at xs other).served)
-    → low ≤ floor_of group xs
+pub floor-least : (group low : ℕ) (xs : List Account) (place : ℕ) → is_rival group (account_at xs place) ≡ true →
+    ((other : ℕ) → is_rival group (account_at xs other) ≡ true → low ≤ (account_at xs other).served) → low ≤ floor_of group xs
 floor-least group low xs place is all = of (least_from None group xs) (least-there group xs None place is) (least-floor group low xs None tt all) where
   of : (least : Option ℕ) → IsThere least → HasAtLeast low least → low ≤ unwrap_or least 0
   of None there has = absurd there
@@ -107,102 +110,102 @@ sum-one w [] place none = let zero-there : w (account_at [] place) ≡ 0 = ap w 
 sum-one w (x ∷ xs) zero none = omega (arith, sum_by-cons w x xs)
 sum-one w (x ∷ xs) (suc place) none = omega (arith, sum_by-cons w x xs, sum-one w xs place none)
 
--- after a task of somebody served at least as much: it isn't ahead where it wasn't
-task-ahead : (group : ℕ) (account y : Account) (amount : ℕ) → account.served < 18446744073709551615 → (is_rival group y ≡ true → account.served ≤ y.served) → one (is_ahead group account (account_charged amount y)) ≤ one (is_ahead group account y)
-task-ahead group account y amount few least = grind arith
-
--- after a pick: it isn't ahead any more
-pick-ahead : (group : ℕ) (account y : Account) (amount : ℕ) → account.served < 18446744073709551615 → 0 < amount → is_rival group y ≡ true → account.served ≤ y.served → is_before account y ≡ false →
-    one (is_ahead group account (account_charged amount y)) + 1 ≤ one (is_ahead group account y)
-pick-ahead group account y amount few some active least before = grind (arith, charged-behind account y amount some few least)
-
--- one that becomes active isn't ahead
-woken-ahead : (group floor turn : ℕ) (account y : Account) → account.since < turn → (y.group ≡ group → account.served ≤ floor) → is_ahead group account (woken_from floor turn y) ≡ false
-woken-ahead group floor turn account y since least = grind arith
-
 abbrev ahead_one : ℕ → Account → Account → ℕ
 ahead_one group account y = one (is_ahead group account y)
-
--- the least stays the least after somebody else's account has changed to one that isn't active in the group or was served as much
-least-set : (group place other : ℕ) (line : LineOf) (account y : Account) (turn : ℕ) → IsLeast group place line account → other ≢ place → (is_rival group y ≡ true → account.served ≤ y.served) →
-    line.turn ≤ turn → turn ≤ 18446744073709551615 → IsLeast group place (record { accounts = set line.accounts other y; turn = turn }) account
-least-set group place other line account y turn is differs less later most = record {
-  here = other-at line.accounts place other y differs ∙ is.here;
-  active = is.active;
-  least = any-at (λ (a : Account). is_rival group a ≡ true → account.served ≤ a.served) line.accounts other y is.least less;
-  since = omega (arith, is.since, later);
-  turns = most;
-  served = is.served;
-}
-
-capped-turn : (turn : ℕ) → turn ≤ 18446744073709551615 → (turn ≤ capped_sum turn 1) × (capped_sum turn 1 ≤ 18446744073709551615)
-capped-turn turn most = grind arith
-
--- the rests of an account
-rests-no : (group : ℕ) (account y : Account) → is_rival group (rested y) ≡ true → account.served ≤ (rested y).served
-rests-no group account y active = grind arith
-
-more-least : (group : ℕ) (account y : Account) (amount : ℕ) → account.served < 18446744073709551615 → (is_rival group y ≡ true → account.served ≤ y.served) → is_rival group (account_charged amount y) ≡ true →
-    account.served ≤ (account_charged amount y).served
-more-least group account y amount few least active = grind arith
-
-woken-least : (group floor turn : ℕ) (account y : Account) → (y.group ≡ group → account.served ≤ floor) → is_rival group (woken_from floor turn y) ≡ true → account.served ≤ (woken_from floor turn y).served
-woken-least group floor turn account y least active = grind arith
-
--- the floor of its own group isn't lower
-own-floor : (group place : ℕ) (line : LineOf) (account y : Account) → IsLeast group place line account → y.group ≡ group → account.served ≤ floor_of y.group line.accounts
-own-floor group place line account y is same =
-    rw same (floor-least group account.served line.accounts place (ap (is_rival group) is.here ∙ is.active) is.least)
 
 none-ahead : (group : ℕ) (account : Account) → ahead_one group account free_account ≡ 0
 none-ahead group account = refl
 
--- what happens to others leaves the least the least
-least-after : (group place : ℕ) (line : LineOf) (account : Account) (event : LineEvent) → IsLeast group place line account → place_in event ≢ place → IsLeast group place (line_after line event) account
-least-after group place line account (Comes other y) is differs =
-    least-set group place other line account (rested y) line.turn is differs (rests-no group account y) (omega arith) is.turns
-least-after group place line account (Wakes other) is differs =
-    elim (is_active (account_at line.accounts other)) as (λ b. IsLeast group place
-    (cond b line (record { accounts = set line.accounts other (woken_from (floor_of (account_at line.accounts other).group line.accounts) line.turn (account_at line.accounts other)); turn = capped_sum line.turn 1 })) account) [
-      | true ↦ is
-      | false ↦ least-set group place other line account _ (capped_sum line.turn 1) is differs
-          (woken-least group (floor_of (account_at line.accounts other).group line.accounts) line.turn account (account_at line.accounts other) (own-floor group place line account (account_at line.accounts other) is))
-          (capped-turn line.turn is.turns).0 (capped-turn line.turn is.turns).1
-    ]
-least-after group place line account (Rests other) is differs =
-    least-set group place other line account (rested (account_at line.accounts other)) line.turn is differs (rests-no group account (account_at line.accounts other)) (omega arith) is.turns
-least-after group place line account (Serves other amount) is differs =
-    least-set group place other line account (account_charged amount (account_at line.accounts other)) line.turn is differs
-    (more-least group account (account_at line.accounts other) amount is.served (is.least other)) (omega arith) is.turns
-least-after group place line account (Picks other amount) is differs =
-    least-set group place other line account (account_charged amount (account_at line.accounts other)) line.turn is differs
-    (more-least group account (account_at line.accounts other) amount is.served (is.least other)) (omega arith) is.turns
+module _ (group : ℕ) (account y : Account) where
+  -- after a task of somebody served at least as much: it isn't ahead where it wasn't
+  task-ahead : (amount : ℕ) → account.served < 18446744073709551615 → (is_rival group y ≡ true → account.served ≤ y.served) → ahead_one group account (account_charged amount y) ≤ ahead_one group account y
+  task-ahead amount few least = grind arith
 
--- so many are ahead, and a pick is one less
-ahead-after : (group place : ℕ) (line : LineOf) (account : Account) (event : LineEvent) → IsLeast group place line account → IsFair group line event →
-    sum_by (ahead_one group account) (line_after line event).accounts + picks_in (event ∷ []) ≤ sum_by (ahead_one group account) line.accounts + 0
-ahead-after group place line account (Comes other y) is fair =
-    sum-set (ahead_one group account) line.accounts other (rested y) 0 0 (none-ahead group account) (omega (arith, ap one (out-of group account (rested y) refl)))
-ahead-after group place line account (Wakes other) is fair =
-    elim (is_active (account_at line.accounts other)) as (λ b. sum_by (ahead_one group account)
-    (cond b line (record { accounts = set line.accounts other (woken_from (floor_of (account_at line.accounts other).group line.accounts) line.turn (account_at line.accounts other)); turn = capped_sum line.turn 1 })).accounts + 0
-    ≤ sum_by (ahead_one group account) line.accounts + 0) [
-      | true ↦ omega arith
-      | false ↦ sum-set (ahead_one group account) line.accounts other _ 0 0 (none-ahead group account)
-          (omega (arith, ap one (woken-ahead group (floor_of (account_at line.accounts other).group line.accounts) line.turn account (account_at line.accounts other) is.since (own-floor group place line account (account_at line.accounts other) is))))
-    ]
-ahead-after group place line account (Rests other) is fair =
-    sum-set (ahead_one group account) line.accounts other (rested (account_at line.accounts other)) 0 0 (none-ahead group account) (omega (arith, ap one (out-of group account (rested (account_at line.accounts other)) refl)))
-ahead-after group place line account (Serves other amount) is fair =
-    sum-set (ahead_one group account) line.accounts other (account_charged amount (account_at line.accounts other)) 0 0 (none-ahead group account)
-    (omega (arith, task-ahead group account (account_at line.accounts other) amount is.served (is.least other)))
-ahead-after group place line account (Picks other amount) is fair =
-    sum-set (ahead_one group account) line.accounts other (account_charged amount (account_at line.accounts other)) 1 0 (none-ahead group account)
-    (omega (
-      arith,
-      pick-ahead group account (account_at line.accounts other) amount is.served fair.1 fair.0.is_one (is.least other fair.0.is_one)
-          (subst (λ (a : Account). is_before a (account_at line.accounts other) ≡ false) is.here (fair.0.none_before place (ap (is_rival group) is.here ∙ is.active))),
-    ))
+  -- after a pick: it isn't ahead any more
+  pick-ahead : (amount : ℕ) → account.served < 18446744073709551615 → 0 < amount → is_rival group y ≡ true → account.served ≤ y.served →
+      is_before account y ≡ false → ahead_one group account (account_charged amount y) + 1 ≤ ahead_one group account y
+  pick-ahead amount few some active least before = grind (arith, charged-behind account y amount some few least)
+
+  -- one that becomes active isn't ahead
+  woken-ahead : (floor turn : ℕ) → account.since < turn → (y.group ≡ group → account.served ≤ floor) → is_ahead group account (woken_from floor turn y) ≡ false
+  woken-ahead floor turn since least = grind arith
+
+  -- the rests of an account
+  rests-no : is_rival group (rested y) ≡ true → account.served ≤ (rested y).served
+  rests-no active = grind arith
+
+  more-least : (amount : ℕ) → account.served < 18446744073709551615 → (is_rival group y ≡ true → account.served ≤ y.served) →
+      is_rival group (account_charged amount y) ≡ true → account.served ≤ (account_charged amount y).served
+  more-least amount few least active = grind arith
+
+  woken-least : (floor turn : ℕ) → (y.group ≡ group → account.served ≤ floor) → is_rival group (woken_from floor turn y) ≡ true → account.served ≤ (woken_from floor turn y).served
+  woken-least floor turn least active = grind arith
+
+capped-turn : (turn : ℕ) → turn ≤ 18446744073709551615 → (turn ≤ capped_sum turn 1) × (capped_sum turn 1 ≤ 18446744073709551615)
+capped-turn turn most = grind arith
+
+-- a line after somebody has woken, who was active, or wasn't
+abbrev pub line_woken : LineOf → ℕ → Bool → LineOf
+line_woken line other active =
+    let y = account_at line.accounts other in
+    cond active line (record { accounts = set line.accounts other (woken_from (floor_of y.group line.accounts) line.turn y); turn = capped_sum line.turn 1 })
+
+module _ (group place : ℕ) (line : LineOf) (account : Account) (is : IsLeast group place line account) where
+  -- the least stays the least after somebody else's account has changed to one that isn't active in the group or was served as much
+  least-set : (other : ℕ) (y : Account) (turn : ℕ) → other ≢ place → (is_rival group y ≡ true → account.served ≤ y.served) → line.turn ≤ turn →
+      turn ≤ 18446744073709551615 → IsLeast group place (record { accounts = set line.accounts other y; turn = turn }) account
+  least-set other y turn differs less later most = record {
+    here = other-at line.accounts place other y differs ∙ is.here;
+    active = is.active;
+    least = any-at (λ (a : Account). is_rival group a ≡ true → account.served ≤ a.served) line.accounts other y is.least less;
+    since = omega (arith, is.since, later);
+    turns = most;
+    served = is.served;
+  }
+
+  -- the floor of its own group isn't lower
+  own-floor : (y : Account) → y.group ≡ group → account.served ≤ floor_of y.group line.accounts
+  own-floor y same = rw same (floor-least group account.served line.accounts place (ap (is_rival group) is.here ∙ is.active) is.least)
+
+  -- what happens to others leaves the least the least
+  least-after : (event : LineEvent) → place_in event ≢ place → IsLeast group place (line_after line event) account
+  least-after (Comes other y) differs = least-set other (rested y) line.turn differs (rests-no group account y) (omega arith) is.turns
+  least-after (Wakes other) differs =
+      let y = account_at line.accounts other in
+      let later = capped-turn line.turn is.turns in
+      elim (is_active y) as (λ b. IsLeast group place (line_woken line other b) account) [
+        | true ↦ is
+        | false ↦ least-set other _ (capped_sum line.turn 1) differs (woken-least group account y (floor_of y.group line.accounts) line.turn (own-floor y)) later.0 later.1
+      ]
+  least-after (Rests other) differs =
+      let y = account_at line.accounts other in least-set other (rested y) line.turn differs (rests-no group account y) (omega arith) is.turns
+  least-after (Serves other amount) differs =
+      let y = account_at line.accounts other in
+      least-set other (account_charged amount y) line.turn differs (more-least group account y amount is.served (is.least other)) (omega arith) is.turns
+  least-after (Picks other amount) differs =
+      let y = account_at line.accounts other in
+      least-set other (account_charged amount y) line.turn differs (more-least group account y amount is.served (is.least other)) (omega arith) is.turns
+
+  -- so many are ahead, and a pick is one less
+  ahead-after : (event : LineEvent) → IsFair group line event →
+      sum_by (ahead_one group account) (line_after line event).accounts + picks_in (event ∷ []) ≤ sum_by (ahead_one group account) line.accounts + 0
+  ahead-after (Comes other y) fair = sum-set (ahead_one group account) line.accounts other (rested y) 0 0 refl (omega (arith, ap one (out-of group account (rested y) refl)))
+  ahead-after (Wakes other) fair =
+      let y = account_at line.accounts other in
+      elim (is_active y) as (λ b. sum_by (ahead_one group account) (line_woken line other b).accounts + 0 ≤ sum_by (ahead_one group account) line.accounts + 0) [
+        | true ↦ omega arith
+        | false ↦ sum-set (ahead_one group account) line.accounts other _ 0 0 refl (omega (arith, ap one (woken-ahead group account y (floor_of y.group line.accounts) line.turn is.since (own-floor y))))
+      ]
+  ahead-after (Rests other) fair =
+      let y = account_at line.accounts other in sum-set (ahead_one group account) line.accounts other (rested y) 0 0 refl (omega (arith, ap one (out-of group account (rested y) refl)))
+  ahead-after (Serves other amount) fair =
+      let y = account_at line.accounts other in
+      sum-set (ahead_one group account) line.accounts other (account_charged amount y) 0 0 refl (omega (arith, task-ahead group account y amount is.served (is.least other)))
+  ahead-after (Picks other amount) fair =
+      let y = account_at line.accounts other in
+      let before = subst (λ (a : Account). is_before a y ≡ false) is.here (fair.0.none_before place (ap (is_rival group) is.here ∙ is.active)) in
+      sum-set (ahead_one group account) line.accounts other (account_charged amount y) 1 0 refl
+      (omega (arith, pick-ahead group account y amount is.served fair.1 fair.0.is_one (is.least other fair.0.is_one) before))
 
 pub picks-cons : (event : LineEvent) (events : List LineEvent) → picks_in (event ∷ events) ≡ picks_in (event ∷ []) + picks_in events
 picks-cons (Comes place account) events = omega arith
@@ -212,9 +215,10 @@ picks-cons (Serves place amount) events = omega arith
 picks-cons (Picks place amount) events = omega arith
 
 -- so the picks are fewer than those ahead, itself among them
-pub few-picks : (group place : ℕ) (line : LineOf) (account : Account) (events : List LineEvent) → IsLeast group place line account → Waits group place line events →
-    picks_in events < sum_by (ahead_one group account) line.accounts
+pub few-picks : (group place : ℕ) (line : LineOf) (account : Account) (events : List LineEvent) → IsLeast group place line account →
+    Waits group place line events → picks_in events < sum_by (ahead_one group account) line.accounts
 few-picks group place line account [] is waits =
     omega (arith, sum-one (ahead_one group account) line.accounts place (none-ahead group account), ap (ahead_one group account) is.here, ap one (itself-ahead group account is.active))
 few-picks group place line account (event ∷ events) is waits =
-    omega (arith, picks-cons event events, ahead-after group place line account event is waits.1, few-picks group place (line_after line event) account events (least-after group place line account event is waits.0) waits.2)
+    let rest = few-picks group place (line_after line event) account events (least-after group place line account is event waits.0) waits.2 in
+    omega (arith, picks-cons event events, ahead-after group place line account is event waits.1, rest)

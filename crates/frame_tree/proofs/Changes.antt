@@ -1,25 +1,38 @@
 -- What each change of the slots does to the frames, and that the slots stay sound.
-use Rattle.std.proofs.Common.{◌≡◌, ℕ, zero, suc, ◌+◌, ◌<◌, Bool, true, false, not, ◌||◌, eqb, List, [], ◌∷◌, ◌++◌, Option, Some, None, length, get_or, set, slice_index, cond, refl, ap, sym, ◌∙◌, inl, inr, arith, subst, ◌≤◌, IsTrue, nat_lt, length-set}
-use Rattle.frame_tree.proofs.Common.{Slot, State, Ready, filter, remove, cases_eq, cases_Bool, false≢true, eq-eqb, ne_eqb}
-use Rattle.frame_tree.specs.Frames.{Frame, has_frame, path_in, path_under, root_of, AllBelow, is_ready, with_state, frames_without, has_parent, children_of, aborted, frames_under, values_of, new_frame}
-use Rattle.frame_tree.specs.Slots.{frame_of_slot, frames_from, has_parent_slot, CountsAtParent, children_at, IsNextSlot, IsLinked, has_slot, serials_of, AllAbove, Rises, is_serial, child_slots, ready_slots, CountsAre, AreSoundSlots, with_slot, with_child, without_child, kept_slots, is_kept, root_under, AllCountsBelow, gone_values}
-use Rattle.frame_tree.proofs.Forest.{AllBelow-append, AllBelow-left, AllBelow-right, has_frame-append, path_in-left, path_in-right, frames_from-append, IsLinked-append, linked_rises, above_at, with_slot-set, IsClosed, Keeps-none, frames_from-kept, IsLinked-kept, kept_slots-linked, kept_follows, has_slot-filter, serial_read, kept_slots-frames, gone_values-frames}
+use Rattle.std.proofs.Common.{◌≡◌, ℕ, zero, suc, ◌+◌, ◌<◌, Bool, true, false, not, ◌||◌, eqb, List, [], ◌∷◌, ◌++◌, Option, Some, None, length, get_or, set}
+use Rattle.std.proofs.Common.{slice_index, cond, refl, ap, sym, ◌∙◌, inl, inr, arith, subst, ◌≤◌, IsTrue, nat_lt, length-set}
+use Rattle.frame_tree.proofs.Common.{Slot, State, filter, remove, cases_eq, cases_Bool, false≢true, eq-eqb, ne_eqb}
+use Rattle.frame_tree.specs.Frames.{Frame, has_frame, path_in, path_under, AllBelow, is_ready, with_state, frames_without, has_parent, children_of, aborted}
+use Rattle.frame_tree.specs.Frames.{frames_under, values_of, new_frame}
+use Rattle.frame_tree.specs.Slots.{frame_of_slot, frames_from, has_parent_slot, CountsAtParent, children_at, IsNextSlot, IsLinked, has_slot, serials_of}
+use Rattle.frame_tree.specs.Slots.{AllAbove, Rises, is_serial, child_slots, ready_slots, CountsAre, AreSoundSlots, with_slot, with_child, without_child}
+use Rattle.frame_tree.specs.Slots.{kept_slots, AllCountsBelow, gone_values}
+use Rattle.frame_tree.proofs.Forest.{next_to, stays_in, AllBelow-append, AllBelow-left, AllBelow-right, has_frame-append, path_in-left, path_in-right}
+use Rattle.frame_tree.proofs.Forest.{frames_from-append, IsLinked-append, linked_rises, above_at, with_slot-set, IsClosed, Keeps-none, frames_from-kept}
+use Rattle.frame_tree.proofs.Forest.{IsLinked-kept, kept_slots-linked, kept_follows, has_slot-filter, serial_read, kept_slots-frames, gone_values-frames}
 use Rattle.frame_tree.proofs.Places.{filter_not-above, length-filter_push, length-filter-le}
-use Rattle.frame_tree.proofs.Finds.{count_in, CountsAre-same, CountsAre-append, CountsAre-with_slot, CountsAre-filter, length-filter_with_slot, length-filter_set, length-filter_remove, CountsAre-with_child, CountsAre-without_child, no_child_of_new, no_child_stays, children_stay, counts_below, counted_at, root_under-path, children_of-length, frames_from-length, no_children, none_of_length}
+use Rattle.frame_tree.proofs.Finds.{count_in, CountsAre-same, CountsAre-append, CountsAre-with_slot, CountsAre-filter, length-filter_with_slot}
+use Rattle.frame_tree.proofs.Finds.{length-filter_set, length-filter_remove, CountsAre-with_child, CountsAre-without_child, no_child_of_new, no_child_stays}
+use Rattle.frame_tree.proofs.Finds.{children_stay, counts_below, counted_at, root_under-path, children_of-length, frames_from-length, no_children}
+use Rattle.frame_tree.proofs.Finds.{none_of_length}
+use Rattle.frame_tree.specs.SlotStores.{IsSeenAt, new_slot}
 
 -- a change that no frame shows
-pub frames_from-with_slot : {T : Type 0} (p : ℕ) (change : Slot T → Slot T) (frames : List (Frame T)) (xs : List (Slot T)) → ((fs : List (Frame T)) (x : Slot T) → frame_of_slot fs (change x) ≡ frame_of_slot fs x) → frames_from frames (with_slot p change xs) ≡ frames_from frames xs
+pub frames_from-with_slot : {T : Type 0} (p : ℕ) (change : Slot T → Slot T) (frames : List (Frame T)) (xs : List (Slot T)) →
+    ((fs : List (Frame T)) (x : Slot T) → frame_of_slot fs (change x) ≡ frame_of_slot fs x) → frames_from frames (with_slot p change xs) ≡ frames_from frames xs
 frames_from-with_slot p change frames [] e = refl
-frames_from-with_slot p change frames (x ∷ xs) e = grind (arith, frames_from-with_slot p change (frames ++ frame_of_slot frames x ∷ []) xs e)
+frames_from-with_slot p change frames (x ∷ xs) e = grind (arith, frames_from-with_slot p change (next_to frames x) xs e)
 
 pub IsNextSlot-with : {T : Type 0} (frames : List (Frame T)) (x y : Slot T) → y.serial ≡ x.serial → y.parent ≡ x.parent → y.root ≡ x.root → IsNextSlot frames x → IsNextSlot frames y
 IsNextSlot-with frames x y serial parent root n = grind arith
 
 -- slots are linked as before
-pub IsLinked-with_slot : {T : Type 0} (p : ℕ) (change : Slot T → Slot T) (frames : List (Frame T)) (xs : List (Slot T)) → ((fs : List (Frame T)) (x : Slot T) → frame_of_slot fs (change x) ≡ frame_of_slot fs x) → ((x : Slot T) → (change x).parent ≡ x.parent) → ((x : Slot T) → (change x).root ≡ x.root) → IsLinked frames xs → IsLinked frames (with_slot p change xs)
+pub IsLinked-with_slot : {T : Type 0} (p : ℕ) (change : Slot T → Slot T) (frames : List (Frame T)) (xs : List (Slot T)) →
+    ((fs : List (Frame T)) (x : Slot T) → frame_of_slot fs (change x) ≡ frame_of_slot fs x) → ((x : Slot T) → (change x).parent ≡ x.parent) →
+    ((x : Slot T) → (change x).root ≡ x.root) → IsLinked frames xs → IsLinked frames (with_slot p change xs)
 IsLinked-with_slot p change frames [] e parent root l = tt
 IsLinked-with_slot {T} p change frames (x ∷ xs) e parent root l =
-    let rest = IsLinked-with_slot p change (frames ++ frame_of_slot frames x ∷ []) xs e parent root l.1 in
+    let rest = IsLinked-with_slot p change (next_to frames x) xs e parent root l.1 in
     let P : Frame T → Type 0 = λ f. IsLinked (frames ++ f ∷ []) (with_slot p change xs) in
     elim (cases_Bool (eqb x.serial p)) [
       | inl same ↦ rw same (IsNextSlot-with frames x (change x) (ap (λ f. f.serial) (e frames x)) (parent x) (root x) l.0, subst P (sym (e frames x)) rest)
@@ -55,7 +68,8 @@ module _ {T : Type 0} (parent : Option ℕ) (xs : List (Slot T)) where
   ready-without_child = grind (arith, length-filter_with_slot)
 
 -- a new slot at the end
-pub sound_add : {T : Type 0} (xs : List (Slot T)) (ready : ℕ) (slot : Slot T) → AreSoundSlots xs ready → IsNextSlot (frames_from [] xs) slot → slot.children ≡ 0 → is_ready slot.state ≡ true → AreSoundSlots (with_child slot.parent xs ++ slot ∷ []) (ready + 1)
+pub sound_add : {T : Type 0} (xs : List (Slot T)) (ready : ℕ) (slot : Slot T) → AreSoundSlots xs ready → IsNextSlot (frames_from [] xs) slot →
+    slot.children ≡ 0 → is_ready slot.state ≡ true → AreSoundSlots (with_child slot.parent xs ++ slot ∷ []) (ready + 1)
 sound_add {T} xs ready slot s next none is =
     let ys = with_child slot.parent xs in
     let frames : frames_from [] ys ≡ frames_from [] xs = frames_from-with_child slot.parent xs in
@@ -97,46 +111,40 @@ module _ {T : Type 0} (n : ℕ) (state : State) where
   pub frames_from-state : (frames others : List (Frame T)) (xs : List (Slot T)) → Same frames others → frames_from others (with_slot n (in_state state) xs) ≡ with_state n state (frames_from frames xs)
   frames_from-state frames others [] s = refl
   frames_from-state frames others (x ∷ xs) s =
-      let path = path_under-same frames others x.parent x.serial s in
-      elim (cases_Bool (eqb x.serial n)) [
-        | inl same ↦ rw (same, path) (ap (λ fs. record (frame_of_slot frames x) { state = state } ∷ fs) (
-            let y : Frame T = record { serial = x.serial; path = path_under frames x.parent x.serial; state = state; value = x.value } in
-            frames_from-state (frames ++ frame_of_slot frames x ∷ []) (others ++ y ∷ []) xs (Same-next frames others (frame_of_slot frames x) y refl refl s)))
-        | inr differs ↦ rw (differs, path) (ap (λ fs. frame_of_slot frames x ∷ fs) (frames_from-state (frames ++ frame_of_slot frames x ∷ []) (others ++ frame_of_slot frames x ∷ []) xs (Same-next frames others (frame_of_slot frames x) (frame_of_slot frames x) refl refl s)))
-      ]
+      let rest = λ (y : Slot T). frames_from-state (next_to frames x) (others ++ frame_of_slot others y ∷ []) xs in
+      grind (arith, rest x, rest (in_state state x), path_under-same, Same-next)
 
   pub IsLinked-state : (frames others : List (Frame T)) (xs : List (Slot T)) → Same frames others → IsLinked frames xs → IsLinked others (with_slot n (in_state state) xs)
   IsLinked-state frames others [] s l = tt
   IsLinked-state frames others (x ∷ xs) s l =
-      let path = path_under-same frames others x.parent x.serial s in
-      let next : IsNextSlot others x = record { above = s.below x.serial l.0.above; parent = has_parent-same frames others x.parent s ∙ l.0.parent; root = l.0.root ∙ ap root_of (sym path) } in
-      elim (cases_Bool (eqb x.serial n)) [
-        | inl same ↦ rw same (IsNextSlot-with others x (in_state state x) refl refl refl next, IsLinked-state (frames ++ frame_of_slot frames x ∷ []) (others ++ frame_of_slot others (in_state state x) ∷ []) xs (Same-next frames others (frame_of_slot frames x) (frame_of_slot others (in_state state x)) refl (sym path) s) l.1)
-        | inr differs ↦ rw differs (next, IsLinked-state (frames ++ frame_of_slot frames x ∷ []) (others ++ frame_of_slot others x ∷ []) xs (Same-next frames others (frame_of_slot frames x) (frame_of_slot others x) refl (sym path) s) l.1)
-      ]
+      let rest = λ (y : Slot T). IsLinked-state (next_to frames x) (others ++ frame_of_slot others y ∷ []) xs in
+      grind (arith, rest x, rest (in_state state x), path_under-same, has_parent-same, Same-next)
 
--- the counts of ready slots before and after
-pub ready_state : {T : Type 0} (xs : List (Slot T)) (i : ℕ) (slot : Slot T) (state : State) → i < length xs → slot ≡ get_or xs i slot → length (ready_slots (set xs i (in_state state slot))) + cond (is_ready slot.state) 1 0 ≡ length (ready_slots xs) + cond (is_ready state) 1 0
-ready_state xs i slot state lt is = length-filter_set (λ x. is_ready x.state) xs i slot (in_state state slot) lt is
+-- the slot that was read, in another state
+module _ {T : Type 0} {xs : List (Slot T)} {ready i n : ℕ} {slot : Slot T} (s : AreSoundSlots xs ready) (seen : IsSeenAt xs n i slot) where
+  seen_set : (change : Slot T → Slot T) → set xs i (change slot) ≡ with_slot n change xs
+  seen_set change = with_slot-set xs i n change slot (linked_rises [] xs s.linked) seen.within seen.named seen.read
 
-pub sound_state : {T : Type 0} (xs : List (Slot T)) (ready now i n : ℕ) (slot : Slot T) (state : State) → AreSoundSlots xs ready → i < length xs → slice_index (serials_of xs) i ≡ n → slot ≡ get_or xs i slot → now + cond (is_ready slot.state) 1 0 ≡ ready + cond (is_ready state) 1 0 → AreSoundSlots (set xs i (in_state state slot)) now
-sound_state {T} xs ready now i n slot state s lt at is count =
-    let changed : set xs i (in_state state slot) ≡ with_slot n (in_state state) xs = with_slot-set xs i n (in_state state) slot (linked_rises [] xs s.linked) lt at is in
-    let P : List (Slot T) → Type 0 = λ ys. IsLinked [] ys in
-    let Q : List (Slot T) → Type 0 = λ ys. CountsAre (λ m. count_in ys m) ys in
-    record {
-      linked = subst P (sym changed) (IsLinked-state n state [] [] xs Same-none s.linked);
-      counted = subst Q (sym changed) (CountsAre-with_slot (λ m. count_in xs m) (λ m. count_in (with_slot n (in_state state) xs) m) n (in_state state) xs (λ x. refl)
-          (λ x e has. has ∙ sym (same_count n n state xs)) (λ m ne. sym (same_count m n state xs)) s.counted);
-      ready_count = omega (arith, ready_state xs i slot state lt is, count, s.ready_count);
-    }
-  where
-    same_count : {T : Type 0} (m n : ℕ) (state : State) (xs : List (Slot T)) → count_in (with_slot n (in_state state) xs) m ≡ count_in xs m
-    same_count m n state xs = length-filter_with_slot (λ x. is_serial m x.parent) n (in_state state) xs (λ x. refl)
+  -- the counts of ready slots before and after
+  pub ready_state : (state : State) → length (ready_slots (set xs i (in_state state slot))) + cond (is_ready slot.state) 1 0 ≡ length (ready_slots xs) + cond (is_ready state) 1 0
+  ready_state state = length-filter_set (λ x. is_ready x.state) xs i slot (in_state state slot) seen.within seen.read
 
-pub frames_state : {T : Type 0} (xs : List (Slot T)) (i n : ℕ) (slot : Slot T) (state : State) → IsLinked [] xs → i < length xs → slice_index (serials_of xs) i ≡ n → slot ≡ get_or xs i slot → frames_from [] (set xs i (in_state state slot)) ≡ with_state n state (frames_from [] xs)
-frames_state xs i n slot state l lt at is =
-    rw (with_slot-set xs i n (in_state state) slot (linked_rises [] xs l) lt at is) (frames_from-state n state [] [] xs Same-none)
+  pub sound_state : (state : State) (now : ℕ) → now + cond (is_ready slot.state) 1 0 ≡ ready + cond (is_ready state) 1 0 → AreSoundSlots (set xs i (in_state state slot)) now
+  sound_state state now count =
+      let P : List (Slot T) → Type 0 = λ ys. IsLinked [] ys in
+      let Q : List (Slot T) → Type 0 = λ ys. CountsAre (λ m. count_in ys m) ys in
+      record {
+        linked = subst P (sym (seen_set (in_state state))) (IsLinked-state n state [] [] xs Same-none s.linked);
+        counted = subst Q (sym (seen_set (in_state state))) (CountsAre-with_slot (λ m. count_in xs m) (λ m. count_in (with_slot n (in_state state) xs) m) n (in_state state) xs
+            (λ x. refl) (λ x e has. has ∙ sym (same_count n)) (λ m ne. sym (same_count m)) s.counted);
+        ready_count = omega (arith, ready_state state, count, s.ready_count);
+      }
+    where
+      same_count : (m : ℕ) → count_in (with_slot n (in_state state) xs) m ≡ count_in xs m
+      same_count m = length-filter_with_slot (λ x. is_serial m x.parent) n (in_state state) xs (λ x. refl)
+
+  pub frames_state : (state : State) → frames_from [] (set xs i (in_state state slot)) ≡ with_state n state (frames_from [] xs)
+  frames_state state = rw (seen_set (in_state state)) (frames_from-state n state [] [] xs Same-none)
 
 -- an abort: the aborted frame's count is cleared, and then the others go
 abbrev pub childless : {T : Type 0} → Slot T → Slot T
@@ -164,10 +172,10 @@ module _ {T : Type 0} (n : ℕ) (xs : List (Slot T)) where
       let follows = kept_follows n (frames_from [] ys) [] ys refl linked tt in
       record {
         linked = kept_slots-linked n ys linked;
-        counted = CountsAre-filter (λ m. cond (eqb m n) 0 (count_in ys m)) (λ m. count_in (kept_slots n ys) m) (is_kept n (frames_from [] ys)) ys
+        counted = CountsAre-filter (λ m. cond (eqb m n) 0 (count_in ys m)) (λ m. count_in (kept_slots n ys) m) (stays_in n ys) ys
             (λ m kept. elim (cases_eq m n) [
-              | inl e ↦ rw (eq-eqb m n e, e) (sym (no_child_stays (is_kept n (frames_from [] ys)) n ys follows))
-              | inr ne ↦ rw (ne_eqb m n ne) (sym (children_stay (is_kept n (frames_from [] ys)) n m ys follows ne kept))
+              | inl e ↦ rw (eq-eqb m n e, e) (sym (no_child_stays (stays_in n ys) n ys follows))
+              | inr ne ↦ rw (ne_eqb m n ne) (sym (children_stay (stays_in n ys) n m ys follows ne kept))
             ]) counts;
         ready_count = count;
       }
@@ -177,8 +185,7 @@ pub remove-filter : {T : Type 0} (xs : List (Slot T)) (i n : ℕ) → Rises xs �
 remove-filter [] i n r lt at = absurd (omega arith)
 remove-filter (x ∷ xs) zero n r lt at =
     rw (eq-eqb x.serial n at) (sym (filter_not-above (λ s. s.serial) n xs (let P : ℕ → Type 0 = λ s. AllAbove s xs in subst P at r.0)))
-remove-filter (x ∷ xs) (suc i) n r lt at =
-    rw (ne_eqb x.serial n (λ e. omega (arith, above_at xs x.serial i r.0 (omega arith), at, e))) (ap (λ ys. x ∷ ys) (remove-filter xs i n r.1 (omega arith) at))
+remove-filter (x ∷ xs) (suc i) n r lt at = grind (arith, remove-filter xs i n, above_at, ne_eqb)
 
 -- a leaf lets all others stay
 pub leaf-closed : {T : Type 0} (n : ℕ) (xs : List (Slot T)) → child_slots n xs ≡ [] → IsClosed (λ s. not (eqb s n)) xs
@@ -200,38 +207,11 @@ below_bound [] m p b h = absurd (false≢true h)
 below_bound (f ∷ fs) m p b h = grind (arith, below_bound fs m p)
 
 -- the parent of a slot that was read has a lower serial, and a slot
-pub parent_below : {T : Type 0} (frames : List (Frame T)) (xs : List (Slot T)) (i : ℕ) (slot : Slot T) (p : ℕ) → IsLinked frames xs → i < length xs → slot ≡ get_or xs i slot → slot.parent ≡ Some p → (p < slot.serial) × ((has_frame frames p || has_slot xs p) ≡ true)
+pub parent_below : {T : Type 0} (frames : List (Frame T)) (xs : List (Slot T)) (i : ℕ) (slot : Slot T) (p : ℕ) → IsLinked frames xs → i < length xs →
+    slot ≡ get_or xs i slot → slot.parent ≡ Some p → (p < slot.serial) × ((has_frame frames p || has_slot xs p) ≡ true)
 parent_below frames [] i slot p l lt is parent = absurd (omega arith)
 parent_below frames (x ∷ xs) zero slot p l lt is parent = grind (arith, below_bound)
-parent_below frames (x ∷ xs) (suc i) slot p l lt is parent =
-    let rest = parent_below (frames ++ frame_of_slot frames x ∷ []) xs i slot p l.1 (omega arith) is parent in
-    (rest.0, regroup frames (frame_of_slot frames x) p (has_slot xs p) (sym (ap (λ b. b || has_slot xs p) (has_frame-append frames (frame_of_slot frames x ∷ []) p)) ∙ rest.1))
-  where
-    regroup : {T : Type 0} (frames : List (Frame T)) (f : Frame T) (p : ℕ) (b : Bool) → ((has_frame frames p || has_frame (f ∷ []) p) || b) ≡ true → (has_frame frames p || (eqb f.serial p || b)) ≡ true
-    regroup frames f p b h = grind arith
-
-pub has_lost : {T : Type 0} (xs : List (Slot T)) (ready i : ℕ) (slot : Slot T) → AreSoundSlots xs ready → i < length xs → slot ≡ get_or xs i slot → slice_index (serials_of xs) i ≡ slot.serial → child_slots slot.serial xs ≡ [] → HasLost xs (remove xs i) slot
-has_lost {T} xs ready i slot s lt is at none =
-    let n = slot.serial in
-    let keep : ℕ → Bool = λ m. not (eqb m n) in
-    let closed = leaf-closed n xs none in
-    let gone : remove xs i ≡ filter (λ x. keep x.serial) xs = remove-filter xs i n (linked_rises [] xs s.linked) lt at in
-    let P : List (Slot T) → Type 0 = λ zs. IsLinked [] zs in
-    let Q : List (Slot T) → Type 0 = λ zs. CountsAre (λ m. count_in xs m) zs in
-    record {
-      frames = ap (λ zs. frames_from [] zs) gone ∙ frames_from-kept keep [] [] xs (Keeps-none keep) closed;
-      linked = subst P (sym gone) (IsLinked-kept keep [] [] xs (Keeps-none keep) closed s.linked);
-      counted = subst Q (sym gone) (CountsAre-filter (λ m. count_in xs m) (λ m. count_in xs m) keep xs (λ m kept. refl) s.counted);
-      counts = λ m. length-filter_remove (λ x. is_serial m x.parent) xs i slot lt is;
-      ready = length-filter_remove (λ x. is_ready x.state) xs i slot lt is;
-      parent = rw gone (parent_stays xs i slot s.linked lt is slot.parent refl);
-    }
-  where
-    parent_stays : {T : Type 0} (xs : List (Slot T)) (i : ℕ) (slot : Slot T) → IsLinked [] xs → i < length xs → slot ≡ get_or xs i slot → (parent : Option ℕ) → slot.parent ≡ parent → has_parent_slot (filter (λ x. not (eqb x.serial slot.serial)) xs) parent ≡ true
-    parent_stays xs i slot l lt is None e = refl
-    parent_stays xs i slot l lt is (Some p) e =
-        let h = parent_below [] xs i slot p l lt is e in
-        has_slot-filter (λ m. not (eqb m slot.serial)) xs p h.1 ∙ (rw (ne_eqb p slot.serial (λ q. omega (arith, h.0, q))) refl)
+parent_below frames (x ∷ xs) (suc i) slot p l lt is parent = grind (arith, parent_below (next_to frames x) xs i slot p, has_frame-append)
 
 -- the count of children in a slot that is there
 pub children_at-counts : {T : Type 0} (count : ℕ → ℕ) (xs : List (Slot T)) (p : ℕ) → CountsAre count xs → has_slot xs p ≡ true → children_at xs p ≡ count p
@@ -245,36 +225,43 @@ lost_counted xs ys slot h = grind (arith, children_at-counts)
 -- What the methods of a tenant's frames need, over plain lists.
 
 -- whether there is a child, by the count that is kept
-pub counted_children : {T : Type 0} (xs : List (Slot T)) (ready i serial : ℕ) (slot : Slot T) → AreSoundSlots xs ready → i < length xs → slice_index (serials_of xs) i ≡ serial → slot ≡ get_or xs i slot → (IsTrue (nat_lt 0 slot.children) → 0 < length (children_of (frames_from [] xs) serial)) × (0 < length (children_of (frames_from [] xs) serial) → IsTrue (nat_lt 0 slot.children))
-counted_children xs ready i serial slot s lt at is = grind (arith, counted_at, children_of-length)
+module _ {T : Type 0} {xs : List (Slot T)} {ready i n : ℕ} {slot : Slot T} (s : AreSoundSlots xs ready) (seen : IsSeenAt xs n i slot) where
+  pub counted_children : (IsTrue (nat_lt 0 slot.children) → 0 < length (children_of (frames_from [] xs) n)) × (0 < length (children_of (frames_from [] xs) n) → IsTrue (nat_lt 0 slot.children))
+  counted_children = grind (arith, counted_at, children_of-length)
 
-pub no_counted_children : {T : Type 0} (xs : List (Slot T)) (ready serial : ℕ) → AreSoundSlots xs ready → has_slot xs serial ≡ false → (IsTrue false → 0 < length (children_of (frames_from [] xs) serial)) × (0 < length (children_of (frames_from [] xs) serial) → IsTrue false)
-no_counted_children xs ready serial s none =
-    let gone = ap length (no_children [] xs serial refl none s.linked) in
-    (λ t. absurd (false≢true t), λ h. absurd (omega (arith, children_of-length xs serial s.linked, gone)))
+  pub counted_leaf : nat_lt 0 slot.children ≡ false → children_of (frames_from [] xs) n ≡ []
+  counted_leaf none = grind (arith, counted_at, children_of-length, none_of_length)
 
--- no count reaches the places that there can be
-pub few_counts : {T : Type 0} (xs : List (Slot T)) (ready limit : ℕ) → AreSoundSlots xs ready → length (frames_from [] xs) < limit → AllCountsBelow limit xs
-few_counts xs ready limit s few = grind (arith, frames_from-length, counts_below, length-filter-le)
+-- where there is no slot, there is none
+module _ {T : Type 0} {xs : List (Slot T)} {ready : ℕ} (serial : ℕ) (s : AreSoundSlots xs ready) (none : has_slot xs serial ≡ false) where
+  pub no_counted_leaf : children_of (frames_from [] xs) serial ≡ []
+  no_counted_leaf = none_of_length (children_of (frames_from [] xs) serial) (children_of-length xs serial s.linked ∙ ap length (no_children [] xs serial refl none s.linked))
 
--- a frame that was added
-pub added_sound : {T : Type 0} (xs zs : List (Slot T)) (ready serial root home : ℕ) (parent : Option ℕ) (value : T) → AreSoundSlots xs ready → AllBelow serial (frames_from [] xs) → has_parent (frames_from [] xs) parent ≡ true → root ≡ root_under xs parent serial → zs ≡ with_child parent xs ++ record { serial = serial; parent = parent; root = root; state = Ready home; children = 0; value = value } ∷ [] → AreSoundSlots zs (ready + 1)
-added_sound {T} xs zs ready serial root home parent value s above there is_root is =
-    let slot : Slot T = record { serial = serial; parent = parent; root = root; state = Ready home; children = 0; value = value } in
-    let P : List (Slot T) → Type 0 = λ ys. AreSoundSlots ys (ready + 1) in
-    subst P (sym is) (sound_add xs ready slot s (record { above = above; parent = there; root = is_root ∙ root_under-path xs parent serial s.linked there }) refl refl)
+  pub no_counted_children : (IsTrue false → 0 < length (children_of (frames_from [] xs) serial)) × (0 < length (children_of (frames_from [] xs) serial) → IsTrue false)
+  no_counted_children = (λ t. absurd (false≢true t), λ h. absurd (omega (arith, h, ap length no_counted_leaf)))
 
-pub added_frames : {T : Type 0} (xs zs : List (Slot T)) (serial root home : ℕ) (parent : Option ℕ) (value : T) → zs ≡ with_child parent xs ++ record { serial = serial; parent = parent; root = root; state = Ready home; children = 0; value = value } ∷ [] → frames_from [] zs ≡ frames_from [] xs ++ new_frame (frames_from [] xs) serial parent home value ∷ []
-added_frames xs zs serial root home parent value is = grind (arith, frames_from-with_child, frames_from-append)
+-- no count reaches the places that there can be, and what a frame that was added leaves
+module _ {T : Type 0} {xs : List (Slot T)} {ready : ℕ} (s : AreSoundSlots xs ready) where
+  pub few_counts : (limit : ℕ) → length (frames_from [] xs) < limit → AllCountsBelow limit xs
+  few_counts limit few = grind (arith, frames_from-length, counts_below, length-filter-le)
 
--- a leaf has no child slot
-pub leaf_slots : {T : Type 0} (xs : List (Slot T)) (serial : ℕ) → IsLinked [] xs → children_of (frames_from [] xs) serial ≡ [] → child_slots serial xs ≡ []
-leaf_slots xs serial l none = none_of_length (child_slots serial xs) (sym (children_of-length xs serial l) ∙ ap length none)
+  pub added_sound : (serial home : ℕ) (parent : Option ℕ) (value : T) → AllBelow serial (frames_from [] xs) → has_parent (frames_from [] xs) parent ≡ true →
+      AreSoundSlots (with_child parent xs ++ new_slot xs serial parent home value ∷ []) (ready + 1)
+  added_sound serial home parent value above there =
+      sound_add xs ready (new_slot xs serial parent home value) s (record { above = above; parent = there; root = root_under-path xs parent serial s.linked there }) refl refl
+
+module _ {T : Type 0} (xs : List (Slot T)) (serial : ℕ) where
+  pub added_frames : (home : ℕ) (parent : Option ℕ) (value : T) → frames_from [] (with_child parent xs ++ new_slot xs serial parent home value ∷ []) ≡ frames_from [] xs ++ new_frame (frames_from [] xs) serial parent home value ∷ []
+  added_frames home parent value = grind (arith, frames_from-with_child, frames_from-append)
+
+  -- a leaf has no child slot
+  pub leaf_slots : IsLinked [] xs → children_of (frames_from [] xs) serial ≡ [] → child_slots serial xs ≡ []
+  leaf_slots l none = none_of_length (child_slots serial xs) (sym (children_of-length xs serial l) ∙ ap length none)
 
 -- an abort at the slot that was read
-module _ {T : Type 0} (xs : List (Slot T)) (ready i n : ℕ) (slot : Slot T) (s : AreSoundSlots xs ready) (lt : i < length xs) (at : slice_index (serials_of xs) i ≡ n) (is : slot ≡ get_or xs i slot) where
+module _ {T : Type 0} {xs : List (Slot T)} {ready i n : ℕ} {slot : Slot T} (s : AreSoundSlots xs ready) (seen : IsSeenAt xs n i slot) where
   changed : set xs i (childless slot) ≡ with_slot n childless xs
-  changed = with_slot-set xs i n childless slot (linked_rises [] xs s.linked) lt at is
+  changed = seen_set s seen childless
 
   pub cut_linked : IsLinked [] (set xs i (childless slot))
   cut_linked = let P : List (Slot T) → Type 0 = λ ys. IsLinked [] ys in subst P (sym changed) (cleared-linked n xs s.linked)
@@ -290,16 +277,39 @@ module _ {T : Type 0} (xs : List (Slot T)) (ready i n : ℕ) (slot : Slot T) (s 
   pub cut_values : gone_values n (set xs i (childless slot)) ≡ values_of (frames_under n (frames_from [] xs))
   cut_values = rw changed (gone_values-frames n (with_slot n childless xs) (cleared-linked n xs s.linked) ∙ ap (λ fs. values_of (frames_under n fs)) (cleared-frames n xs))
 
-pub cut_length : {T : Type 0} (n : ℕ) (xs : List (Slot T)) (i : ℕ) (slot : Slot T) (zs : List (Slot T)) → zs ≡ kept_slots n (set xs i (childless slot)) → length zs ≤ length xs
-cut_length n xs i slot zs kept = grind (arith, length-filter-le, length-set)
+  pub cut_length : (zs : List (Slot T)) → zs ≡ kept_slots n (set xs i (childless slot)) → length zs ≤ length xs
+  cut_length zs kept = grind (arith, length-filter-le, length-set)
 
 -- a leaf that was removed, and what it leaves
-module _ {T : Type 0} (xs : List (Slot T)) (ready i n : ℕ) (slot : Slot T) (s : AreSoundSlots xs ready) (lt : i < length xs) (at : slice_index (serials_of xs) i ≡ n) (is : slot ≡ get_or xs i slot) (leaf : children_of (frames_from [] xs) n ≡ []) where
+module _ {T : Type 0} {xs : List (Slot T)} {ready i n : ℕ} {slot : Slot T} (s : AreSoundSlots xs ready) (seen : IsSeenAt xs n i slot)
+    (leaf : children_of (frames_from [] xs) n ≡ []) where
+  named : slice_index (serials_of xs) i ≡ slot.serial
+  named = serial_read xs i slot seen.within seen.read
+
   own : slot.serial ≡ n
-  own = sym (serial_read xs i slot lt is) ∙ at
+  own = sym named ∙ seen.named
 
   pub lost : HasLost xs (remove xs i) slot
-  lost = has_lost xs ready i slot s lt is (serial_read xs i slot lt is) (rw own (leaf_slots xs n s.linked leaf))
+  lost =
+      let keep : ℕ → Bool = λ m. not (eqb m slot.serial) in
+      let closed = leaf-closed slot.serial xs (rw own (leaf_slots xs n s.linked leaf)) in
+      let gone : remove xs i ≡ filter (λ x. keep x.serial) xs = remove-filter xs i slot.serial (linked_rises [] xs s.linked) seen.within named in
+      let P : List (Slot T) → Type 0 = λ zs. IsLinked [] zs in
+      let Q : List (Slot T) → Type 0 = λ zs. CountsAre (λ m. count_in xs m) zs in
+      record {
+        frames = ap (λ zs. frames_from [] zs) gone ∙ frames_from-kept keep [] [] xs (Keeps-none keep) closed;
+        linked = subst P (sym gone) (IsLinked-kept keep [] [] xs (Keeps-none keep) closed s.linked);
+        counted = subst Q (sym gone) (CountsAre-filter (λ m. count_in xs m) (λ m. count_in xs m) keep xs (λ m kept. refl) s.counted);
+        counts = λ m. length-filter_remove (λ x. is_serial m x.parent) xs i slot seen.within seen.read;
+        ready = length-filter_remove (λ x. is_ready x.state) xs i slot seen.within seen.read;
+        parent = rw gone (parent_stays slot.parent refl);
+      }
+    where
+      parent_stays : (parent : Option ℕ) → slot.parent ≡ parent → has_parent_slot (filter (λ x. not (eqb x.serial slot.serial)) xs) parent ≡ true
+      parent_stays None e = refl
+      parent_stays (Some p) e =
+          let h = parent_below [] xs i slot p s.linked seen.within seen.read e in
+          has_slot-filter (λ m. not (eqb m slot.serial)) xs p h.1 ∙ (rw (ne_eqb p slot.serial (λ q. omega (arith, h.0, q))) refl)
 
   pub lost_sound : AreSoundSlots (without_child slot.parent (remove xs i)) (length (ready_slots (remove xs i)))
   lost_sound =
@@ -314,14 +324,6 @@ module _ {T : Type 0} (xs : List (Slot T)) (ready i n : ℕ) (slot : Slot T) (s 
   pub lost_frames : frames_from [] (without_child slot.parent (remove xs i)) ≡ frames_without n (frames_from [] xs)
   lost_frames = frames_from-without_child slot.parent (remove xs i) ∙ lost.frames ∙ ap (λ m. frames_without m (frames_from [] xs)) own
 
--- no child, by the count that is kept
-pub counted_leaf : {T : Type 0} (xs : List (Slot T)) (ready i serial : ℕ) (slot : Slot T) → AreSoundSlots xs ready → i < length xs → slice_index (serials_of xs) i ≡ serial → slot ≡ get_or xs i slot → nat_lt 0 slot.children ≡ false → children_of (frames_from [] xs) serial ≡ []
-counted_leaf xs ready i serial slot s lt at is none = grind (arith, counted_at, children_of-length, none_of_length)
-
-pub no_counted_leaf : {T : Type 0} (xs : List (Slot T)) (ready serial : ℕ) → AreSoundSlots xs ready → has_slot xs serial ≡ false → children_of (frames_from [] xs) serial ≡ []
-no_counted_leaf xs ready serial s none =
-    none_of_length (children_of (frames_from [] xs) serial) (children_of-length xs serial s.linked ∙ ap length (no_children [] xs serial refl none s.linked))
-
 -- a serial above the last slot's is above all
 pub last_below : {T : Type 0} (frames : List (Frame T)) (xs : List (Slot T)) (i n : ℕ) (slot : Slot T) → IsLinked frames xs → length xs ≡ i + 1 → slot ≡ get_or xs i slot → slot.serial < n → AllBelow n (frames_from frames xs)
 last_below frames [] i n slot l long is lt = absurd (omega (arith, long))
@@ -333,9 +335,9 @@ last_below frames (x ∷ y ∷ xs) (suc i) n slot l long is lt =
     let within : i < length (y ∷ xs) = omega (arith, long) in
     let above = above_at (y ∷ xs) x.serial i rise.0 within in
     let e = serial_read (y ∷ xs) i slot within is in
-    (omega (arith, above, e, lt), last_below (frames ++ frame_of_slot frames x ∷ []) (y ∷ xs) i n slot l.1 (omega (arith, long)) is lt)
+    (omega (arith, above, e, lt), last_below (next_to frames x) (y ∷ xs) i n slot l.1 (omega (arith, long)) is lt)
 
 pub below_at : {T : Type 0} (frames : List (Frame T)) (xs : List (Slot T)) (i n : ℕ) (slot : Slot T) → i < length xs → slot ≡ get_or xs i slot → AllBelow n (frames_from frames xs) → slot.serial < n
 below_at frames [] i n slot lt is below = absurd (omega arith)
 below_at frames (x ∷ xs) zero n slot lt is below = let e = ap (λ s. s.serial) is in omega (arith, e, below.0)
-below_at frames (x ∷ xs) (suc i) n slot lt is below = below_at (frames ++ frame_of_slot frames x ∷ []) xs i n slot (omega arith) is below.1
+below_at frames (x ∷ xs) (suc i) n slot lt is below = below_at (next_to frames x) xs i n slot (omega arith) is below.1

@@ -1,8 +1,12 @@
 -- A slot store of which some slots went.
-use Rattle.std.proofs.Common.{◌≡◌, ◌≢◌, ℕ, zero, suc, ◌+◌, ◌<◌, ◌≤◌, Bool, true, false, not, ◌||◌, eqb, List, [], ◌∷◌, ◌++◌, Option, Some, None, IsSome, get_or, slice_index, take, length, append-nil, map, refl, ap, sym, ◌∙◌, inl, inr, arith, subst}
-use Rattle.frame_tree.proofs.Common.{StoredSlot, has_number, filter-append, filter, remove, Slot as TenantSlot, Slab, get, slab_len, cases_eq, cases_Bool, false≢true, eq-eqb, ne_eqb, not-true, or_right, frames_from, is_kept, IsLinked, kept_slots, gone_values, child_slots, AllAbove, Rises, serials_of, with_found, slots_in, AreApartKeys, HasSerial, KnowsParent, IsHere, AllHere, IsSlotStore, AreThere, is_marked, marked_in, swept_in, values_in, Marks, AreKeys, IsKeyAt}
-use Rattle.frame_tree.proofs.Forest.{IsClosed, IsClosed-from_follows, kept_follows, serial_read}
-use Rattle.frame_tree.proofs.Places.{length-filter-le}
+use Rattle.std.proofs.Common.{◌≡◌, ◌≢◌, ℕ, zero, suc, ◌+◌, ◌<◌, ◌≤◌, Bool, true, false, not, ◌||◌, eqb, List, [], ◌∷◌, ◌++◌, Option, Some, None, IsSome}
+use Rattle.std.proofs.Common.{get_or, slice_index, take, length, append-nil, map, refl, ap, sym, ◌∙◌, inl, inr, arith, subst}
+use Rattle.frame_tree.proofs.Common.{StoredSlot, has_number, filter-append, filter, remove, Slot as TenantSlot, Slab, get, slab_len, cases_eq, cases_Bool}
+use Rattle.frame_tree.proofs.Common.{false≢true, eq-eqb, ne_eqb, not-true, or_right, eqb-true, frames_from, IsLinked, kept_slots, gone_values, child_slots}
+use Rattle.frame_tree.proofs.Common.{AllAbove, Rises, serials_of, with_found, slots_in, AreApartKeys, HasSerial, KnowsParent, IsHere, AllHere, IsSlotStore}
+use Rattle.frame_tree.proofs.Common.{AreThere, is_marked, marked_in, swept_in, values_in, Marks, AreKeys, IsKeyAt}
+use Rattle.frame_tree.proofs.Forest.{stays_in, IsClosed, IsClosed-from_follows, kept_follows, serial_read}
+use Rattle.frame_tree.proofs.Places.{length-filter-le, rises_by-filter}
 use Rattle.frame_tree.proofs.SlotStores.{has_number-append, has_number-at, here_read, slots_in-length, slot_read, here_found, here_contains}
 use Rattle.frame_tree.proofs.Keys.{key_found, knows_key}
 use Rattle.frame_tree.proofs.Changes.{parent_below, remove-filter, leaf-closed}
@@ -16,120 +20,144 @@ pub all_there : {T : Type 0} (slab : Slab (StoredSlot T)) (before keys : List �
 all_there slab before [] h = tt
 all_there slab before (k ∷ keys) h = (here_contains slab before k h.0, all_there slab (before ++ k ∷ []) keys h.1)
 
-has_number-filter : (keep : ℕ → Bool) (keys : List ℕ) (a : ℕ) → has_number keys a ≡ true → keep a ≡ true → has_number (filter keep keys) a ≡ true
-has_number-filter keep [] a has kept = absurd (false≢true has)
-has_number-filter keep (k ∷ keys) a has kept = grind (arith, has_number-filter keep keys a)
+module _ (keep : ℕ → Bool) where
+  has_number-filter : (keys : List ℕ) (a : ℕ) → has_number keys a ≡ true → keep a ≡ true → has_number (filter keep keys) a ≡ true
+  has_number-filter [] a has kept = absurd (false≢true has)
+  has_number-filter (k ∷ keys) a has kept = grind (arith, has_number-filter keys a)
 
-no_key-filter : (keep : ℕ → Bool) (keys : List ℕ) (a : ℕ) → has_number keys a ≡ false → has_number (filter keep keys) a ≡ false
-no_key-filter keep [] a none = refl
-no_key-filter keep (k ∷ keys) a none = grind (arith, no_key-filter keep keys a)
+  no_key-filter : (keys : List ℕ) (a : ℕ) → has_number keys a ≡ false → has_number (filter keep keys) a ≡ false
+  no_key-filter [] a none = refl
+  no_key-filter (k ∷ keys) a none = grind (arith, no_key-filter keys a)
 
-pub apart-filter : (keep : ℕ → Bool) (keys : List ℕ) → AreApartKeys keys → AreApartKeys (filter keep keys)
-apart-filter keep [] a = tt
-apart-filter keep (k ∷ keys) a = grind (arith, apart-filter keep keys, no_key-filter)
+  pub apart-filter : (keys : List ℕ) → AreApartKeys keys → AreApartKeys (filter keep keys)
+  apart-filter [] a = tt
+  apart-filter (k ∷ keys) a = grind (arith, apart-filter keys, no_key-filter)
 
-head_key : (k : ℕ) (keys : List ℕ) → has_number (k ∷ keys) k ≡ true
-head_key k keys = rw (eq-eqb k k refl) refl
+module _ (k : ℕ) where
+  pub head_key : (keys : List ℕ) → has_number (k ∷ keys) k ≡ true
+  head_key keys = rw (eq-eqb k k refl) refl
 
-pub tail_key : (k j : ℕ) (keys : List ℕ) → has_number keys j ≡ true → has_number (k ∷ keys) j ≡ true
-tail_key k j keys h = or_right (eqb k j) (has_number keys j) h
+  pub tail_key : (j : ℕ) (keys : List ℕ) → has_number keys j ≡ true → has_number (k ∷ keys) j ≡ true
+  tail_key j keys h = or_right (eqb k j) (has_number keys j) h
+
+-- all of these keys are among those
+abbrev pub AreAmong : List ℕ → List ℕ → Type 0
+AreAmong some all = (k : ℕ) → has_number some k ≡ true → has_number all k ≡ true
+
+-- a choice of keys is that of the serials of the slots under them
+abbrev pub Agree : {T : Type 0} → Slab (StoredSlot T) → (ℕ → Bool) → (ℕ → Bool) → List ℕ → Type 0
+Agree slab by_key by_serial keys = (k : ℕ) (x : StoredSlot _) → has_number keys k ≡ true → get slab k ≡ Some x → by_key k ≡ by_serial x.slot.serial
+
+-- which keys a sweep passes, and which it leaves
+abbrev pub is_gone : {T : Type 0} → Slab (StoredSlot T) → ℕ → Bool
+is_gone slab key = is_marked (get slab key)
+
+abbrev pub is_left : {T : Type 0} → Slab (StoredSlot T) → ℕ → Bool
+is_left slab key = not (is_gone slab key)
+
+-- another number than this
+abbrev pub is_not : ℕ → ℕ → Bool
+is_not n k = not (eqb k n)
 
 -- which slots stay, by key and by serial, and how those are kept
 pub record Stays {T : Type 0} (old new : Slab (StoredSlot T)) (by_key by_serial : ℕ → Bool) (keys : List ℕ) : Type 0 where
-  pub agree : (k : ℕ) (x : StoredSlot T) → has_number keys k ≡ true → get old k ≡ Some x → by_key k ≡ by_serial x.slot.serial
+  pub agree : Agree old by_key by_serial keys
   pub renew : (k : ℕ) (x : StoredSlot T) → has_number keys k ≡ true → get old k ≡ Some x → by_key k ≡ true → get new k ≡ Some (record x { marked = false })
 
 -- those that stay are here as before
-pub here-filter : {T : Type 0} (old new : Slab (StoredSlot T)) (by_key by_serial : ℕ → Bool) (all before keys : List ℕ) → Stays old new by_key by_serial all → ((k : ℕ) → has_number before k ≡ true → has_number all k ≡ true) → ((k : ℕ) → has_number keys k ≡ true → has_number all k ≡ true) → IsClosed by_serial (slots_in old keys) → AllHere old before keys → AllHere new (filter by_key before) (filter by_key keys)
-here-filter old new by_key by_serial all before [] s b w c h = tt
-here-filter {T} old new by_key by_serial all before (k ∷ keys) s b w c h =
-    let found = here_found old before (get old k) h.0 in
-    let x = found.0 in
-    let closed : IsClosed by_serial (x.slot ∷ slots_in old keys) = subst (λ o. IsClosed by_serial (with_found o (slots_in old keys))) found.1 c in
-    let here : IsHere old before (Some x) = subst (λ o. IsHere old before o) found.1 h.0 in
-    let there = w k (head_key k keys) in
-    let agree = s.agree k x there found.1 in
-    let rest = here-filter old new by_key by_serial all (before ++ k ∷ []) keys s (λ j has. in_either before k j all b there (sym (has_number-append before (k ∷ []) j) ∙ has)) (λ j has. w j (tail_key k j keys has)) closed.1 h.1 in
-    elim (cases_Bool (by_key k)) [
-      | inl stays ↦ (let more : filter by_key (before ++ k ∷ []) ≡ filter by_key before ++ k ∷ [] = filter-append by_key before (k ∷ []) ∙ (rw stays refl) in
-          let last : IsHere new (filter by_key before) (get new k) = rw (s.renew k x there found.1 stays) (refl, parent old new by_key by_serial all before x.slot.parent x.above s b (λ p is. closed.0 p is (sym agree ∙ stays)) here.1) in
-          rw stays (last, subst (λ bs. AllHere new bs (filter by_key keys)) more rest))
-      | inr goes ↦ (let more : filter by_key (before ++ k ∷ []) ≡ filter by_key before = filter-append by_key before (k ∷ []) ∙ (rw goes (append-nil (filter by_key before))) in
-          rw goes (subst (λ bs. AllHere new bs (filter by_key keys)) more rest))
-    ]
-  where
-    in_either : (before : List ℕ) (k j : ℕ) (all : List ℕ) → ((k : ℕ) → has_number before k ≡ true → has_number all k ≡ true) → has_number all k ≡ true → (has_number before j || (eqb k j || false)) ≡ true → has_number all j ≡ true
-    in_either before k j all b there h =
-        elim (cases_Bool (has_number before j)) [
-          | inl has ↦ b j has
-          | inr none ↦ grind (arith, false≢true, ne_eqb)
-        ]
+module _ {T : Type 0} (old new : Slab (StoredSlot T)) (by_key by_serial : ℕ → Bool) (all : List ℕ) where
+  pub here-filter : (before keys : List ℕ) → Stays old new by_key by_serial all → AreAmong before all → AreAmong keys all →
+      IsClosed by_serial (slots_in old keys) → AllHere old before keys → AllHere new (filter by_key before) (filter by_key keys)
+  here-filter before [] s b w c h = tt
+  here-filter before (k ∷ keys) s b w c h =
+      let found = here_found old before (get old k) h.0 in
+      let x = found.0 in
+      let closed : IsClosed by_serial (x.slot ∷ slots_in old keys) = subst (λ o. IsClosed by_serial (with_found o (slots_in old keys))) found.1 c in
+      let here : IsHere old before (Some x) = subst (λ o. IsHere old before o) found.1 h.0 in
+      let there = w k (head_key k keys) in
+      let agree = s.agree k x there found.1 in
+      let rest = here-filter (before ++ k ∷ []) keys s (λ j has. in_either j b there (sym (has_number-append before (k ∷ []) j) ∙ has)) (λ j has. w j (tail_key k j keys has)) closed.1 h.1 in
+      elim (cases_Bool (by_key k)) [
+        | inl stays ↦ (let more : filter by_key (before ++ k ∷ []) ≡ filter by_key before ++ k ∷ [] = filter-append by_key before (k ∷ []) ∙ (rw stays refl) in
+            let last : IsHere new (filter by_key before) (get new k) = rw (s.renew k x there found.1 stays) (refl, parent x.slot.parent x.above s b (λ p is. closed.0 p is (sym agree ∙ stays)) here.1) in
+            rw stays (last, subst (λ bs. AllHere new bs (filter by_key keys)) more rest))
+        | inr goes ↦ (let more : filter by_key (before ++ k ∷ []) ≡ filter by_key before = filter-append by_key before (k ∷ []) ∙ (rw goes (append-nil (filter by_key before))) in
+            rw goes (subst (λ bs. AllHere new bs (filter by_key keys)) more rest))
+      ]
+    where
+      in_either : (j : ℕ) → AreAmong before all → has_number all k ≡ true → (has_number before j || (eqb k j || false)) ≡ true → has_number all j ≡ true
+      in_either j b there h = grind (arith, eqb-true)
 
-    parent : {T : Type 0} (old new : Slab (StoredSlot T)) (by_key by_serial : ℕ → Bool) (all before : List ℕ) (parent above : Option ℕ) → Stays old new by_key by_serial all → ((k : ℕ) → has_number before k ≡ true → has_number all k ≡ true) → ((p : ℕ) → parent ≡ Some p → by_serial p ≡ true) → KnowsParent old before parent above → KnowsParent new (filter by_key before) parent above
-    parent old new by_key by_serial all before None None s b up k = tt
-    parent old new by_key by_serial all before None (Some a) s b up k = absurd k
-    parent old new by_key by_serial all before (Some p) None s b up k = absurd k
-    parent old new by_key by_serial all before (Some p) (Some a) s b up k =
-        let y = named_slot p (get old a) k.1 in
-        let stays : by_key a ≡ true = s.agree a y.0 (b a k.0) y.1 ∙ (ap by_serial y.2 ∙ up p refl) in
-        (has_number-filter by_key before a k.0 stays, rw (s.renew a y.0 (b a k.0) y.1 stays) y.2)
+      parent : (parent above : Option ℕ) → Stays old new by_key by_serial all → AreAmong before all → ((p : ℕ) → parent ≡ Some p → by_serial p ≡ true) →
+          KnowsParent old before parent above → KnowsParent new (filter by_key before) parent above
+      parent None None s b up k = tt
+      parent None (Some a) s b up k = absurd k
+      parent (Some p) None s b up k = absurd k
+      parent (Some p) (Some a) s b up k =
+          let y = named_slot p (get old a) k.1 in
+          let stays : by_key a ≡ true = s.agree a y.0 (b a k.0) y.1 ∙ (ap by_serial y.2 ∙ up p refl) in
+          (has_number-filter by_key before a k.0 stays, rw (s.renew a y.0 (b a k.0) y.1 stays) y.2)
 
--- and stand for the same slots
-pub slots-filter : {T : Type 0} (old new : Slab (StoredSlot T)) (by_key by_serial : ℕ → Bool) (all before keys : List ℕ) → ((k : ℕ) (x : StoredSlot T) → has_number all k ≡ true → get old k ≡ Some x → by_key k ≡ by_serial x.slot.serial) → ((k : ℕ) (x : StoredSlot T) → has_number all k ≡ true → get old k ≡ Some x → by_key k ≡ true → with_found (get new k) [] ≡ x.slot ∷ []) → ((k : ℕ) → has_number keys k ≡ true → has_number all k ≡ true) → AllHere old before keys → slots_in new (filter by_key keys) ≡ filter (λ slot. by_serial slot.serial) (slots_in old keys)
-slots-filter old new by_key by_serial all before [] agree same w h = refl
-slots-filter {T} old new by_key by_serial all before (k ∷ keys) agree same w h =
-    let found = here_found old before (get old k) h.0 in
-    let x = found.0 in
-    let there = w k (head_key k keys) in
-    let rest = slots-filter old new by_key by_serial all (before ++ k ∷ []) keys agree same (λ j has. w j (tail_key k j keys has)) h.1 in
-    let at = agree k x there found.1 in
-    rw found.1 (elim (cases_Bool (by_key k)) [
-      | inl stays ↦ rw (stays, sym at ∙ stays) (one (get new k) x.slot (slots_in new (filter by_key keys)) (same k x there found.1 stays) ∙ ap (λ xs. x.slot ∷ xs) rest)
-      | inr goes ↦ rw (goes, sym at ∙ goes) rest
-    ])
-  where
-    one : {T : Type 0} (o : Option (StoredSlot T)) (s : TenantSlot T) (xs : List (TenantSlot T)) → with_found o [] ≡ s ∷ [] → with_found o xs ≡ s ∷ xs
-    one None s xs e = absurd (cc)
-    one (Some y) s xs e = ap (λ ys. ys ++ xs) e
+  -- and stand for the same slots
+  pub slots-filter : (before keys : List ℕ) → Agree old by_key by_serial all →
+      ((k : ℕ) (x : StoredSlot T) → has_number all k ≡ true → get old k ≡ Some x → by_key k ≡ true → with_found (get new k) [] ≡ x.slot ∷ []) →
+      AreAmong keys all → AllHere old before keys → slots_in new (filter by_key keys) ≡ filter (λ slot. by_serial slot.serial) (slots_in old keys)
+  slots-filter before [] agree same w h = refl
+  slots-filter before (k ∷ keys) agree same w h =
+      let found = here_found old before (get old k) h.0 in
+      let x = found.0 in
+      let there = w k (head_key k keys) in
+      let rest = slots-filter (before ++ k ∷ []) keys agree same (λ j has. w j (tail_key k j keys has)) h.1 in
+      let at = agree k x there found.1 in
+      rw found.1 (elim (cases_Bool (by_key k)) [
+        | inl stays ↦ rw (stays, sym at ∙ stays) (one (get new k) x.slot (slots_in new (filter by_key keys)) (same k x there found.1 stays) ∙ ap (λ xs. x.slot ∷ xs) rest)
+        | inr goes ↦ rw (goes, sym at ∙ goes) rest
+      ])
+    where
+      one : (o : Option (StoredSlot T)) (s : TenantSlot T) (xs : List (TenantSlot T)) → with_found o [] ≡ s ∷ [] → with_found o xs ≡ s ∷ xs
+      one None s xs e = absurd (cc)
+      one (Some y) s xs e = ap (λ ys. ys ++ xs) e
 
 -- what an abort leaves of a slot store
 pub record HasCut {T : Type 0} (under : ℕ) (old marked new : Slab (StoredSlot T)) (order left : List ℕ) : Type 0 where
   pub marks : Marks under (slots_in old order) order old marked
-  pub kept : left ≡ filter (λ key. not (is_marked (get marked key))) order
+  pub kept : left ≡ filter (is_left marked) order
   pub swept : (key : ℕ) → get new key ≡ swept_in marked order key
-
-pub cut_marks : {T : Type 0} (under : ℕ) (old marked new : Slab (StoredSlot T)) (order left : List ℕ) → HasCut under old marked new order left → (k : ℕ) (x : StoredSlot T) → has_number order k ≡ true → get old k ≡ Some x → get marked k ≡ Some (record x { marked = not (is_kept under (frames_from [] (slots_in old order)) x.slot.serial) })
-cut_marks under old marked new order left c k x has is = c.marks k ∙ (rw (is, has) refl)
 
 not_not : (b : Bool) → not (not b) ≡ b
 not_not b = grind arith
 
-module _ {T : Type 0} (under : ℕ) (old marked new : Slab (StoredSlot T)) (order left : List ℕ) where
-  pub cut_stays : HasCut under old marked new order left → Stays old new (λ key. not (is_marked (get marked key))) (is_kept under (frames_from [] (slots_in old order))) order
-  cut_stays c = grind (arith, cut_marks, not_not, not-true)
+module _ {T : Type 0} {under : ℕ} {old marked new : Slab (StoredSlot T)} {order left : List ℕ} (c : HasCut under old marked new order left) where
+  pub cut_marks : (k : ℕ) (x : StoredSlot T) → has_number order k ≡ true → get old k ≡ Some x → get marked k ≡ Some (record x { marked = not (stays_in under (slots_in old order) x.slot.serial) })
+  cut_marks k x has is = c.marks k ∙ (rw (is, has) refl)
+
+  pub cut_stays : Stays old new (is_left marked) (stays_in under (slots_in old order)) order
+  cut_stays = grind (arith, cut_marks, not_not, not-true)
 
   -- the slots that stay
-  pub cut_slots : HasCut under old marked new order left → AllHere old [] order → slots_in new left ≡ kept_slots under (slots_in old order)
-  cut_slots c h =
-      let s = cut_stays c in
-      ap (slots_in new) c.kept ∙ slots-filter old new (λ key. not (is_marked (get marked key))) (is_kept under (frames_from [] (slots_in old order))) order [] order s.agree (λ k x has is stays. rw (s.renew k x has is stays) refl) (λ k has. has) h
+  pub cut_slots : AllHere old [] order → slots_in new left ≡ kept_slots under (slots_in old order)
+  cut_slots h =
+      ap (slots_in new) c.kept
+      ∙ slots-filter old new (is_left marked) (stays_in under (slots_in old order)) order [] order cut_stays.agree (λ k x has is stays. rw (cut_stays.renew k x has is stays) refl) (λ k has. has) h
 
   -- the values of those that went
-  pub cut_values : HasCut under old marked new order left → AllHere old [] order → values_in marked (filter (λ key. is_marked (get marked key)) order) ≡ gone_values under (slots_in old order)
-  cut_values c h =
-      ap (map (λ slot. slot.value)) (slots-filter old marked (λ key. is_marked (get marked key)) (λ serial. not (is_kept under (frames_from [] (slots_in old order)) serial)) order [] order
-      (λ k x has is. rw (cut_marks under old marked new order left c k x has is) refl)
-      (λ k x has is goes. rw (cut_marks under old marked new order left c k x has is) refl) (λ k has. has) h)
+  pub cut_values : AllHere old [] order → values_in marked (filter (is_gone marked) order) ≡ gone_values under (slots_in old order)
+  cut_values h =
+      let goes : ℕ → Bool = λ serial. not (stays_in under (slots_in old order) serial) in
+      ap (map (λ slot. slot.value)) (slots-filter old marked (is_gone marked) goes order [] order
+      (λ k x has is. rw (cut_marks k x has is) refl) (λ k x has is goes. rw (cut_marks k x has is) refl) (λ k has. has) h)
 
   -- the slot store
-  pub cut_store : (room places : ℕ) → HasCut under old marked new order left → IsSlotStore old order room places → IsLinked [] (slots_in old order) → slab_len new + length order ≡ slab_len old + length left → new.capacity ≡ old.capacity → IsSlotStore new left room places
-  cut_store room places c s l len capacity =
-      let closed = IsClosed-from_follows (is_kept under (frames_from [] (slots_in old order))) under (slots_in old order) (kept_follows under (frames_from [] (slots_in old order)) [] (slots_in old order) refl l tt) in
-      let here = here-filter old new (λ key. not (is_marked (get marked key))) (is_kept under (frames_from [] (slots_in old order))) order [] order (cut_stays c) (λ k has. absurd (false≢true has)) (λ k has. has) closed s.here in
-      let fewer : length left ≤ length order = omega (arith, ap length c.kept, length-filter-le (λ key. not (is_marked (get marked key))) order) in
+  pub cut_store : {room places : ℕ} → IsSlotStore old order room places → IsLinked [] (slots_in old order) → slab_len new + length order ≡ slab_len old + length left → new.capacity ≡ old.capacity →
+      IsSlotStore new left room places
+  cut_store s l len capacity =
+      let xs = slots_in old order in
+      let closed = IsClosed-from_follows (stays_in under xs) under xs (kept_follows under (frames_from [] xs) [] xs refl l tt) in
+      let here = here-filter old new (is_left marked) (stays_in under xs) order [] order cut_stays (λ k has. absurd (false≢true has)) (λ k has. has) closed s.here in
+      let fewer : length left ≤ length order = omega (arith, ap length c.kept, length-filter-le (is_left marked) order) in
       record {
         here = rw c.kept here;
-        apart = rw c.kept (apart-filter (λ key. not (is_marked (get marked key))) order s.apart);
+        apart = rw c.kept (apart-filter (is_left marked) order s.apart);
         counted = omega (arith, len, s.counted);
         within = omega (arith, fewer, s.within);
         slab_room = omega (arith, s.slab_room, capacity);
@@ -139,11 +167,11 @@ module _ {T : Type 0} (under : ℕ) (old marked new : Slab (StoredSlot T)) (orde
 -- each key has a slot, marked or not
 pub marked_there : {T : Type 0} (under : ℕ) (slots : List (TenantSlot T)) (all : List ℕ) (old marked : Slab (StoredSlot T)) (keys : List ℕ) → Marks under slots all old marked → AreThere old keys → AreThere marked keys
 marked_there under slots all old marked [] m t = tt
-marked_there under slots all old marked (k ∷ keys) m t = (subst (λ o. IsSome o) (sym (m k)) (some under slots all k (get old k) t.0), marked_there under slots all old marked keys m t.1)
+marked_there under slots all old marked (k ∷ keys) m t = (subst (λ o. IsSome o) (sym (m k)) (some slots (get old k) t.0), marked_there under slots all old marked keys m t.1)
   where
-    some : {T : Type 0} (under : ℕ) (slots : List (TenantSlot T)) (all : List ℕ) (k : ℕ) (o : Option (StoredSlot T)) → IsSome o → IsSome (marked_in under slots all k o)
-    some under slots all k None t = t
-    some under slots all k (Some x) t = refl
+    some : {T : Type 0} (slots : List (TenantSlot T)) (o : Option (StoredSlot T)) → IsSome o → IsSome (marked_in under slots all k o)
+    some slots None t = t
+    some slots (Some x) t = refl
 
 -- what is there is one slot
 by_one : {T : Type 0} (o : Option (StoredSlot T)) (x y : StoredSlot T) → o ≡ Some x → o ≡ Some y → x.slot.serial ≡ y.slot.serial
@@ -157,108 +185,116 @@ pub record HasTaken {T : Type 0} (old new : Slab (StoredSlot T)) (order : List �
   pub others : (k : ℕ) → k ≢ key → get new k ≡ get old k
 
 -- no slot's parent has this serial
-abbrev pub NoParent : {T : Type 0} → ℕ → List (TenantSlot T) → Type 0
-NoParent n [] = Unit {0}
-NoParent n (x ∷ xs) = (x.parent ≢ Some n) × NoParent n xs
+module _ {T : Type 0} (n : ℕ) where
+  abbrev pub NoParent : List (TenantSlot T) → Type 0
+  NoParent [] = Unit {0}
+  NoParent (x ∷ xs) = (x.parent ≢ Some n) × NoParent xs
 
-pub no_parent : {T : Type 0} (n : ℕ) (xs : List (TenantSlot T)) → child_slots n xs ≡ [] → NoParent n xs
-no_parent n [] none = tt
-no_parent n (x ∷ xs) none = grind (arith, no_parent n xs)
+  pub no_parent : (xs : List (TenantSlot T)) → child_slots n xs ≡ [] → NoParent xs
+  no_parent [] none = tt
+  no_parent (x ∷ xs) none = grind (arith, no_parent xs)
 
 -- the list without the key at a place
 pub remove_key : (keys : List ℕ) (i d : ℕ) → AreApartKeys keys → i < length keys → remove keys i ≡ filter (λ k. not (eqb k (get_or keys i d))) keys
 remove_key [] i d a lt = absurd (omega arith)
-remove_key (k ∷ keys) zero d a lt = rw (eq-eqb k k refl) (sym (all_stay k keys a.0))
+remove_key (k ∷ keys) zero d a lt = rw (eq-eqb k k refl) (sym (all_stay keys a.0))
   where
-    all_stay : (k : ℕ) (keys : List ℕ) → has_number keys k ≡ false → filter (λ j. not (eqb j k)) keys ≡ keys
-    all_stay k [] none = refl
-    all_stay k (j ∷ keys) none = grind (arith, all_stay k keys)
+    all_stay : (keys : List ℕ) → has_number keys k ≡ false → filter (λ j. not (eqb j k)) keys ≡ keys
+    all_stay [] none = refl
+    all_stay (j ∷ keys) none = grind (arith, all_stay keys)
 remove_key (k ∷ keys) (suc i) d a lt =
     let other : k ≢ get_or keys i d = λ e. false≢true (sym a.0 ∙ (ap (has_number keys) e ∙ has_number-at keys i d (omega arith))) in
     rw (ne_eqb k (get_or keys i d) other) (ap (λ ks. k ∷ ks) (remove_key keys i d a.1 (omega arith)))
 
 -- no slot is marked
-pub unmarked : {T : Type 0} (slab : Slab (StoredSlot T)) (before keys : List ℕ) (k : ℕ) (x : StoredSlot T) → AllHere slab before keys → has_number keys k ≡ true → get slab k ≡ Some x → x.marked ≡ false
-unmarked slab before [] k x h has is = absurd (false≢true has)
-unmarked slab before (j ∷ keys) k x h has is = grind (arith, unmarked slab (before ++ j ∷ []) keys k x)
+module _ {T : Type 0} (slab : Slab (StoredSlot T)) where
+  pub unmarked : (before keys : List ℕ) (k : ℕ) (x : StoredSlot T) → AllHere slab before keys → has_number keys k ≡ true → get slab k ≡ Some x → x.marked ≡ false
+  unmarked before [] k x h has is = absurd (false≢true has)
+  unmarked before (j ∷ keys) k x h has is = grind (arith, unmarked (before ++ j ∷ []) keys k x)
 
--- a serial above another, by its key
-above_key : {T : Type 0} (slab : Slab (StoredSlot T)) (before keys : List ℕ) (n k : ℕ) (x : StoredSlot T) → AllHere slab before keys → AllAbove n (slots_in slab keys) → has_number keys k ≡ true → get slab k ≡ Some x → n < x.slot.serial
-above_key slab before [] n k x h above has is = absurd (false≢true has)
-above_key {T} slab before (j ∷ keys) n k x h above has is = grind (arith, above_key slab (before ++ j ∷ []) keys n k x, here_found)
+  -- a serial above another, by its key
+  above_key : (before keys : List ℕ) (n k : ℕ) (x : StoredSlot T) → AllHere slab before keys → AllAbove n (slots_in slab keys) → has_number keys k ≡ true → get slab k ≡ Some x → n < x.slot.serial
+  above_key before [] n k x h above has is = absurd (false≢true has)
+  above_key before (j ∷ keys) n k x h above has is = grind (arith, above_key (before ++ j ∷ []) keys n k x, here_found)
 
--- slots of one serial stand under one key
-pub same_key : {T : Type 0} (slab : Slab (StoredSlot T)) (before keys : List ℕ) (k j : ℕ) (x y : StoredSlot T) → AllHere slab before keys → Rises (slots_in slab keys) → has_number keys k ≡ true → has_number keys j ≡ true → get slab k ≡ Some x → get slab j ≡ Some y → x.slot.serial ≡ y.slot.serial → k ≡ j
-same_key slab before [] k j x y h rise has_k has_j is_k is_j same = absurd (false≢true has_k)
-same_key {T} slab before (i ∷ keys) k j x y h rise has_k has_j is_k is_j same =
-    let found = here_found slab before (get slab i) h.0 in
-    let both : Rises (found.0.slot ∷ slots_in slab keys) = subst (λ o. Rises (with_found o (slots_in slab keys))) found.1 rise in
-    elim (cases_eq i k) [
-      | inl at_k ↦ elim (cases_eq i j) [
-        | inl at_j ↦ sym at_k ∙ at_j
-        | inr not_j ↦ (let e = serial_at slab i k found.0 x found.1 at_k is_k in
-            absurd (omega (arith, above_key slab (before ++ i ∷ []) keys found.0.slot.serial j y h.1 both.0 (rw (ne_eqb i j not_j) at has_j) is_j, e, same)))
+  -- slots of one serial stand under one key
+  pub same_key : (before keys : List ℕ) (k j : ℕ) (x y : StoredSlot T) → AllHere slab before keys → Rises (slots_in slab keys) → has_number keys k ≡ true →
+      has_number keys j ≡ true → get slab k ≡ Some x → get slab j ≡ Some y → x.slot.serial ≡ y.slot.serial → k ≡ j
+  same_key before [] k j x y h rise has_k has_j is_k is_j same = absurd (false≢true has_k)
+  same_key before (i ∷ keys) k j x y h rise has_k has_j is_k is_j same =
+      let found = here_found slab before (get slab i) h.0 in
+      let both : Rises (found.0.slot ∷ slots_in slab keys) = subst (λ o. Rises (with_found o (slots_in slab keys))) found.1 rise in
+      elim (cases_eq i k) [
+        | inl at_k ↦ elim (cases_eq i j) [
+          | inl at_j ↦ sym at_k ∙ at_j
+          | inr not_j ↦ (let e = serial_at k found.0 x found.1 at_k is_k in
+              absurd (omega (arith, above_key (before ++ i ∷ []) keys found.0.slot.serial j y h.1 both.0 (rw (ne_eqb i j not_j) at has_j) is_j, e, same)))
+        ]
+        | inr not_k ↦ elim (cases_eq i j) [
+          | inl at_j ↦ (let e = serial_at j found.0 y found.1 at_j is_j in
+              absurd (omega (arith, above_key (before ++ i ∷ []) keys found.0.slot.serial k x h.1 both.0 (rw (ne_eqb i k not_k) at has_k) is_k, e, same)))
+          | inr not_j ↦ same_key (before ++ i ∷ []) keys k j x y h.1 both.1 (rw (ne_eqb i k not_k) at has_k) (rw (ne_eqb i j not_j) at has_j) is_k is_j same
+        ]
       ]
-      | inr not_k ↦ elim (cases_eq i j) [
-        | inl at_j ↦ (let e = serial_at slab i j found.0 y found.1 at_j is_j in
-            absurd (omega (arith, above_key slab (before ++ i ∷ []) keys found.0.slot.serial k x h.1 both.0 (rw (ne_eqb i k not_k) at has_k) is_k, e, same)))
-        | inr not_j ↦ same_key slab (before ++ i ∷ []) keys k j x y h.1 both.1 (rw (ne_eqb i k not_k) at has_k) (rw (ne_eqb i j not_j) at has_j) is_k is_j same
-      ]
-    ]
-  where
-    serial_at : {T : Type 0} (slab : Slab (StoredSlot T)) (i k : ℕ) (a x : StoredSlot T) → get slab i ≡ Some a → i ≡ k → get slab k ≡ Some x → a.slot.serial ≡ x.slot.serial
-    serial_at slab i k a x is_i same is_k = by_one (get slab i) a x is_i (ap (get slab) same ∙ is_k)
+    where
+      serial_at : (k : ℕ) (a x : StoredSlot T) → get slab i ≡ Some a → i ≡ k → get slab k ≡ Some x → a.slot.serial ≡ x.slot.serial
+      serial_at k a x is_i same is_k = by_one (get slab i) a x is_i (ap (get slab) same ∙ is_k)
 
--- those that stay when a leaf is taken away
-module _ {T : Type 0} (old new : Slab (StoredSlot T)) (order : List ℕ) (at key : ℕ) (kept : StoredSlot T) (t : HasTaken old new order at key kept)
-    (h : AllHere old [] order) where
-  pub taken_stays : Rises (slots_in old order) → Stays old new (λ k. not (eqb k key)) (λ serial. not (eqb serial kept.slot.serial)) order
+-- what is left when a leaf is taken away
+module _ {T : Type 0} {old new : Slab (StoredSlot T)} {order : List ℕ} {at key : ℕ} {kept : StoredSlot T} (t : HasTaken old new order at key kept) (h : AllHere old [] order) where
+  pub taken_stays : Rises (slots_in old order) → Stays old new (is_not key) (is_not kept.slot.serial) order
   taken_stays rise = grind (arith, has_number-at, by_one, eq-eqb, ne_eqb, same_key, false≢true, unmarked)
+
+  within : at < length (slots_in old order)
+  within = rw (slots_in-length old [] order h) t.within
+
+  read : kept.slot ≡ get_or (slots_in old order) at kept.slot
+  read = sym (slot_read old order at key kept kept.slot h t.within t.read t.was)
+
+  named : slice_index (serials_of (slots_in old order)) at ≡ kept.slot.serial
+  named = serial_read (slots_in old order) at kept.slot within read
+
+  left_keys : AreApartKeys order → remove order at ≡ filter (is_not key) order
+  left_keys a = remove_key order at key a t.within ∙ ap (λ j. filter (λ k. not (eqb k j)) order) (sym t.read)
 
   pub taken_slots : AreApartKeys order → Rises (slots_in old order) → slots_in new (remove order at) ≡ remove (slots_in old order) at
   taken_slots a rise =
       let s = taken_stays rise in
-      let within : at < length (slots_in old order) = rw (slots_in-length old [] order h) t.within in
-      let here = serial_read (slots_in old order) at kept.slot within (sym (slot_read old order at key kept kept.slot h t.within t.read t.was)) in
-      ap (slots_in new) (remove_key order at key a t.within ∙ ap (λ j. filter (λ k. not (eqb k j)) order) (sym t.read))
-      ∙ (slots-filter old new (λ k. not (eqb k key)) (λ serial. not (eqb serial kept.slot.serial)) order [] order s.agree (λ k x has is stays. rw (s.renew k x has is stays) refl) (λ k has. has) h
-      ∙ sym (remove-filter (slots_in old order) at kept.slot.serial rise within here))
+      ap (slots_in new) (left_keys a)
+      ∙ (slots-filter old new (is_not key) (is_not kept.slot.serial) order [] order s.agree (λ k x has is stays. rw (s.renew k x has is stays) refl) (λ k has. has) h
+      ∙ sym (remove-filter (slots_in old order) at kept.slot.serial rise within named))
 
-pub taken_store : {T : Type 0} (old new : Slab (StoredSlot T)) (order left : List ℕ) (room places at key : ℕ) (kept : StoredSlot T) → HasTaken old new order at key kept → IsSlotStore old order room places → Rises (slots_in old order) → child_slots (slice_index (serials_of (slots_in old order)) at) (slots_in old order) ≡ [] → left ≡ remove order at → length left + 1 ≡ length order → slab_len new + 1 ≡ slab_len old → new.capacity ≡ old.capacity → IsSlotStore new left room places
-taken_store old new order left room places at key kept t s rise leaf is long len capacity =
-    let within : at < length (slots_in old order) = rw (slots_in-length old [] order s.here) t.within in
-    let here_is = serial_read (slots_in old order) at kept.slot within (sym (slot_read old order at key kept kept.slot s.here t.within t.read t.was)) in
-    let none : child_slots kept.slot.serial (slots_in old order) ≡ [] = ap (λ n. child_slots n (slots_in old order)) (sym here_is) ∙ leaf in
-    let closed = leaf-closed kept.slot.serial (slots_in old order) none in
-    let here = here-filter old new (λ k. not (eqb k key)) (λ serial. not (eqb serial kept.slot.serial)) order [] order (taken_stays old new order at key kept t s.here rise) (λ k has. absurd (false≢true has)) (λ k has. has) closed s.here in
-    let kept_is : left ≡ filter (λ k. not (eqb k key)) order = is ∙ (remove_key order at key s.apart t.within ∙ ap (λ j. filter (λ k. not (eqb k j)) order) (sym t.read)) in
-    record {
-      here = rw kept_is here;
-      apart = rw kept_is (apart-filter (λ k. not (eqb k key)) order s.apart);
-      counted = omega (arith, len, s.counted, long);
-      within = omega (arith, long, s.within);
-      slab_room = omega (arith, s.slab_room, capacity);
-      order_room = s.order_room;
-    }
+  pub taken_store : {room places : ℕ} → IsSlotStore old order room places → Rises (slots_in old order) → child_slots (slice_index (serials_of (slots_in old order)) at) (slots_in old order) ≡ [] →
+      length (remove order at) + 1 ≡ length order → slab_len new + 1 ≡ slab_len old → new.capacity ≡ old.capacity → IsSlotStore new (remove order at) room places
+  taken_store s rise leaf long len capacity =
+      let none : child_slots kept.slot.serial (slots_in old order) ≡ [] = ap (λ n. child_slots n (slots_in old order)) (sym named) ∙ leaf in
+      let closed = leaf-closed kept.slot.serial (slots_in old order) none in
+      let here = here-filter old new (is_not key) (is_not kept.slot.serial) order [] order (taken_stays rise) (λ k has. absurd (false≢true has)) (λ k has. has) closed h in
+      record {
+        here = rw (left_keys s.apart) here;
+        apart = rw (left_keys s.apart) (apart-filter (is_not key) order s.apart);
+        counted = omega (arith, len, s.counted, long);
+        within = omega (arith, long, s.within);
+        slab_room = omega (arith, s.slab_room, capacity);
+        order_room = s.order_room;
+      }
 
--- the parent of a slot that was taken away is known as before
-pub taken_knows : {T : Type 0} (old new : Slab (StoredSlot T)) (order : List ℕ) (at key : ℕ) (kept : StoredSlot T) → HasTaken old new order at key kept → AllHere old [] order → IsLinked [] (slots_in old order) → AreKeys new (remove order at) → KnowsParent new (remove order at) kept.slot.parent kept.above
-taken_knows {T} old new order at key kept t h linked are =
-    let here : IsHere old (take at order) (Some kept) = subst (λ o. IsHere old (take at order) o) t.was (here_read old order at key h t.within t.read) in
-    let within : at < length (slots_in old order) = rw (slots_in-length old [] order h) t.within in
-    let read = sym (slot_read old order at key kept kept.slot h t.within t.read t.was) in
-    still old new (take at order) (remove order at) key kept kept.slot.parent kept.above t.was t.others (λ p is. (parent_below [] (slots_in old order) at kept.slot p linked within read is).0) are here.1
-  where
-    still : {T : Type 0} (old new : Slab (StoredSlot T)) (before keys : List ℕ) (key : ℕ) (kept : StoredSlot T) (parent above : Option ℕ) → get old key ≡ Some kept → ((k : ℕ) → k ≢ key → get new k ≡ get old k) → ((p : ℕ) → parent ≡ Some p → p < kept.slot.serial) → AreKeys new keys → KnowsParent old before parent above → KnowsParent new keys parent above
-    still old new before keys key kept None None was others below are k = tt
-    still old new before keys key kept None (Some a) was others below are k = absurd k
-    still old new before keys key kept (Some p) None was others below are k = absurd k
-    still {T} old new before keys key kept (Some p) (Some a) was others below are k =
-        let y = named_slot p (get old a) k.1 in
-        let other : a ≢ key = λ e. omega (arith, below p refl, y.2, by_one (get old a) y.0 kept y.1 (ap (get old) e ∙ was)) in
-        let found : get new a ≡ Some y.0 = others a other ∙ y.1 in
-        let place = key_found new keys p a y.0 are found y.2 in
-        knows_key new keys (Some p) p place.0 a refl are place.1
+  -- the parent of a slot that was taken away is known as before
+  pub taken_knows : IsLinked [] (slots_in old order) → AreKeys new (remove order at) → KnowsParent new (remove order at) kept.slot.parent kept.above
+  taken_knows linked are =
+      let here : IsHere old (take at order) (Some kept) = subst (λ o. IsHere old (take at order) o) t.was (here_read old order at key h t.within t.read) in
+      still (take at order) kept.slot.parent kept.above (λ p is. (parent_below [] (slots_in old order) at kept.slot p linked within read is).0) here.1
+    where
+      still : (before : List ℕ) (parent above : Option ℕ) → ((p : ℕ) → parent ≡ Some p → p < kept.slot.serial) → KnowsParent old before parent above → KnowsParent new (remove order at) parent above
+      still before None None below k = tt
+      still before None (Some a) below k = absurd k
+      still before (Some p) None below k = absurd k
+      still before (Some p) (Some a) below k =
+          let y = named_slot p (get old a) k.1 in
+          let other : a ≢ key = λ e. omega (arith, below p refl, y.2, by_one (get old a) y.0 kept y.1 (ap (get old) e ∙ t.was)) in
+          let found : get new a ≡ Some y.0 = t.others a other ∙ y.1 in
+          let place = key_found new (remove order at) p a y.0 are found y.2 in
+          knows_key new (remove order at) (Some p) p place.0 a refl are place.1
 
 -- what stands under a parent's key
 pub record IsParentKey {T : Type 0} (slab : Slab (StoredSlot T)) (keys : List ℕ) (parent : Option ℕ) (key : ℕ) : Type 0 where
@@ -271,11 +307,11 @@ pub record IsParentKey {T : Type 0} (slab : Slab (StoredSlot T)) (keys : List �
 
 module _ {T : Type 0} (slab : Slab (StoredSlot T)) (keys : List ℕ) (parent above : Option ℕ) where
   pub parent_key : (key : ℕ) → above ≡ Some key → AreKeys slab keys → KnowsParent slab keys parent above → IsParentKey slab keys parent key
-  parent_key key is are k = of slab keys parent key are (rw is at k)
+  parent_key key is are k = of parent are (rw is at k)
     where
-      of : {T : Type 0} (slab : Slab (StoredSlot T)) (keys : List ℕ) (parent : Option ℕ) (key : ℕ) → AreKeys slab keys → KnowsParent slab keys parent (Some key) → IsParentKey slab keys parent key
-      of slab keys None key are k = absurd k
-      of slab keys (Some p) key are k =
+      of : (parent : Option ℕ) → AreKeys slab keys → KnowsParent slab keys parent (Some key) → IsParentKey slab keys parent key
+      of None are k = absurd k
+      of (Some p) are k =
           let y = named_slot p (get slab key) k.1 in
           let place = key_found slab keys p key y.0 are y.1 y.2 in
           record { name = p; at = place.0; kept = y.0; is = refl; key_at = place.1; found = y.1 }
@@ -285,14 +321,5 @@ module _ {T : Type 0} (slab : Slab (StoredSlot T)) (keys : List ℕ) (parent abo
   no_parent_key h5 h6 = grind arith
 
 -- slots rise without the one at a place
-pub rises_remove : {T : Type 0} (xs : List (TenantSlot T)) (i : ℕ) → Rises xs → Rises (remove xs i)
-rises_remove [] zero rise = tt
-rises_remove [] (suc i) rise = tt
-rises_remove (x ∷ xs) zero rise = rise.1
-rises_remove (x ∷ xs) (suc i) rise = (above x.serial xs i rise.0, rises_remove xs i rise.1)
-  where
-    above : {T : Type 0} (n : ℕ) (xs : List (TenantSlot T)) (i : ℕ) → AllAbove n xs → AllAbove n (remove xs i)
-    above n [] zero a = tt
-    above n [] (suc i) a = tt
-    above n (x ∷ xs) zero a = a.1
-    above n (x ∷ xs) (suc i) a = (a.0, above n xs i a.1)
+pub rises_remove : {T : Type 0} (xs : List (TenantSlot T)) (i : ℕ) → Rises xs → i < length xs → Rises (remove xs i)
+rises_remove xs i rise lt = rw (remove-filter xs i (slice_index (serials_of xs) i) rise lt refl) (rises_by-filter (λ x. x.serial) (λ x. not (eqb x.serial (slice_index (serials_of xs) i))) xs rise)

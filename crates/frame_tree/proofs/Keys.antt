@@ -1,12 +1,14 @@
 -- The serials of slots as their index, and the keys of an order: a key that is found stands in the order.
-use Rattle.std.proofs.Common.{◌≡◌, ℕ, zero, suc, ◌<◌, true, false, ◌||◌, eqb, List, [], ◌∷◌, ◌++◌, length, take, drop, set, get_or, slice_index, cond, Option, is_some, IfSome, IfNone, refl, ap, sym, ◌∙◌, arith, ◌≢◌, ◌≤◌, Some, None, count_by, subst, inl, inr}
+use Rattle.std.proofs.Common.{◌≡◌, ℕ, zero, suc, ◌<◌, true, false, ◌||◌, eqb, List, [], ◌∷◌, ◌++◌, length, take, take-append-drop, drop, set, get_or}
+use Rattle.std.proofs.Common.{slice_index, cond, Option, is_some, IfSome, IfNone, refl, ap, sym, ◌∙◌, arith, ◌≢◌, ◌≤◌, Some, None, count_by, subst, inl, inr}
 use Rattle.frame_tree.proofs.Common.{State, remove, has_number, StoredSlot, common_steps, AreAbove, AreRising, Slot, Slot as TenantSlot, get_or-set_other}
 use Rattle.frame_tree.proofs.Common.{length-map, map-append, Slab, get, slab_len, ContainsKey, Updates, cases_eq, false≢true, eq-eqb, ne_eqb, or_right}
 use Rattle.frame_tree.proofs.Common.{AllAbove, Rises, serials_of, has_slot, IsLinked, with_slot, with_child, without_child, slots_in, AllHere, AreApartKeys}
 use Rattle.frame_tree.proofs.Common.{KnowsParent, IsSlotStore, AreKeys, IsKeyAt, IsSeenAt, ChangesSlot}
-use Rattle.frame_tree.proofs.Forest.{linked_rises, serial_read, has_slot-found}
+use Rattle.frame_tree.proofs.Forest.{has_frame-frames_from, linked_rises, serial_read, has_slot-found}
 use Rattle.std.proofs.lemmas.List.Sums.{sum_by-set}
 use Rattle.std.proofs.Math.Seq.{map-set_same}
+use Rattle.std.proofs.lemmas.List.{take-map, drop-map}
 use Rattle.frame_tree.proofs.SlotStores.{here_contains, AreLike, updated_like, all_here_like, slots_in-put, slots_in-length, slot_read, knows_read, kept_read}
 
 pub has_number-serials_of : {T : Type 0} (xs : List (Slot T)) (n : ℕ) → has_number (serials_of xs) n ≡ has_slot xs n
@@ -26,61 +28,51 @@ pub record IsFoundAt {T : Type 0} (xs : List (Slot T)) (at n : ℕ) : Type 0 whe
   pub within : at < length xs
   pub found : slice_index (serials_of xs) at ≡ n
 
-module _ {T : Type 0} (xs : List (Slot T)) (serials : List ℕ) where
-  pub found_at : (at n : ℕ) → serials ≡ serials_of xs → at < length serials → slice_index serials at ≡ n → IsFoundAt xs at n
-  found_at at n is within found = record { within = omega (arith, within, ap length is, length-map xs (λ s. s.serial)); found = rw is at found }
-
-  pub none_at : (n : ℕ) → serials ≡ serials_of xs → has_number serials n ≡ false → has_slot xs n ≡ false
-  none_at n is none = sym (has_number-serials_of xs n) ∙ (rw is at none)
-
-  pub there_at : (n : ℕ) → serials ≡ serials_of xs → has_slot xs n ≡ true → has_number serials n ≡ true
-  there_at n is there = rw is (has_number-serials_of xs n ∙ there)
-
-  pub index_rises : serials ≡ serials_of xs → IsLinked [] xs → AreRising (λ n. n) serials
-  index_rises is l = rw is (serials_of-rises xs (linked_rises [] xs l))
-
-  -- whether a search has found a slot
-  pub found_there : (n : ℕ) (place : Option ℕ) → serials ≡ serials_of xs → IfSome place (λ at. (at < length serials) × (slice_index serials at ≡ n)) → IfNone place (has_number serials n ≡ false) → is_some place ≡ has_slot xs n
-  found_there n place h5 h6 h7 = grind (arith, none_at, found_at, has_slot-found)
-
 -- the serials through each change
-pub serials_of-with_slot : {T : Type 0} (p : ℕ) (change : Slot T → Slot T) (xs : List (Slot T)) → ((x : Slot T) → (change x).serial ≡ x.serial) → serials_of (with_slot p change xs) ≡ serials_of xs
-serials_of-with_slot p change [] same = refl
-serials_of-with_slot p change (x ∷ xs) same = grind (arith, serials_of-with_slot p change xs same)
-
 module _ {T : Type 0} where
+  pub serials_of-with_slot : (p : ℕ) (change : Slot T → Slot T) (xs : List (Slot T)) → ((x : Slot T) → (change x).serial ≡ x.serial) → serials_of (with_slot p change xs) ≡ serials_of xs
+  serials_of-with_slot p change [] same = refl
+  serials_of-with_slot p change (x ∷ xs) same = grind (arith, serials_of-with_slot p change xs same)
+
   pub serials_of-without_child : (parent : Option ℕ) (xs : List (Slot T)) → serials_of (without_child parent xs) ≡ serials_of xs
   serials_of-without_child parent xs = grind (arith, serials_of-with_slot)
 
   pub serials_of-remove : (xs : List (Slot T)) (i : ℕ) → serials_of (remove xs i) ≡ remove (serials_of xs) i
-  serials_of-remove [] zero = refl
-  serials_of-remove [] (suc i) = refl
-  serials_of-remove (x ∷ xs) zero = refl
-  serials_of-remove (x ∷ xs) (suc i) = ap (λ ns. x.serial ∷ ns) (serials_of-remove xs i)
+  serials_of-remove xs i = simp (map-append, take-map, drop-map)
 
-  pub serials_of-take : (xs : List (Slot T)) (i : ℕ) → serials_of (take i xs) ≡ take i (serials_of xs)
-  serials_of-take [] zero = refl
-  serials_of-take [] (suc i) = refl
-  serials_of-take (x ∷ xs) zero = refl
-  serials_of-take (x ∷ xs) (suc i) = ap (λ ns. x.serial ∷ ns) (serials_of-take xs i)
+-- the index: what a search of it says of the slots, and what each change leaves of it
+module _ {T : Type 0} (xs : List (Slot T)) (serials : List ℕ) (is : serials ≡ serials_of xs) where
+  pub found_at : (at n : ℕ) → at < length serials → slice_index serials at ≡ n → IsFoundAt xs at n
+  found_at at n within found = record { within = omega (arith, within, ap length is, length-map xs (λ s. s.serial)); found = rw is at found }
 
-  pub serials_of-split : (xs : List (Slot T)) (i : ℕ) → serials_of xs ≡ take i (serials_of xs) ++ serials_of (drop i xs)
-  serials_of-split [] zero = refl
-  serials_of-split [] (suc i) = refl
-  serials_of-split (x ∷ xs) zero = refl
-  serials_of-split (x ∷ xs) (suc i) = ap (λ ns. x.serial ∷ ns) (serials_of-split xs i)
+  -- the slot at the place of a serial that is known to be there
+  pub seen_by : {at n : ℕ} {slot : Slot T} → at < length serials → slice_index serials at ≡ n → slot ≡ get_or xs at slot → IsSeenAt xs n at slot
+  seen_by {at} {n} within found read = let place = found_at at n within found in record { within = place.within; named = place.found; read = read }
 
-  pub added_index : (xs : List (Slot T)) (parent : Option ℕ) (slot : Slot T) (serials : List ℕ) → serials ≡ serials_of xs → serials ++ slot.serial ∷ [] ≡ serials_of (with_child parent xs ++ slot ∷ [])
-  added_index xs parent slot serials is = grind (arith, map-append, serials_of-with_slot)
+  pub none_at : (n : ℕ) → has_number serials n ≡ false → has_slot xs n ≡ false
+  none_at n none = sym (has_number-serials_of xs n) ∙ (rw is at none)
 
-  pub index_set : (xs : List (Slot T)) (serials : List ℕ) (i n : ℕ) (slot new : Slot T) → serials ≡ serials_of xs → IsFoundAt xs i n → slot ≡ get_or xs i slot → new.serial ≡ slot.serial → serials ≡ serials_of (set xs i new)
-  index_set xs serials i n slot new is place read same = is ∙ sym (map-set_same (λ s. s.serial) xs i new slot (same ∙ ap (λ s. s.serial) read))
+  pub there_at : (n : ℕ) → has_slot xs n ≡ true → has_number serials n ≡ true
+  there_at n there = rw is (has_number-serials_of xs n ∙ there)
 
-  pub removed_index : (xs : List (Slot T)) (serials : List ℕ) (i : ℕ) → serials ≡ serials_of xs → remove serials i ≡ serials_of (remove xs i)
-  removed_index xs serials i is = ap (λ ns. remove ns i) is ∙ sym (serials_of-remove xs i)
+  pub index_rises : IsLinked [] xs → AreRising (λ n. n) serials
+  index_rises l = rw is (serials_of-rises xs (linked_rises [] xs l))
 
-  pub cut_index : (xs zs : List (Slot T)) (serials : List ℕ) (i : ℕ) → serials ≡ serials_of xs → take i (serials_of zs) ≡ take i (serials_of xs) → take i serials ++ serials_of (drop i zs) ≡ serials_of zs
-  cut_index xs zs serials i is front = rw (is, ← front) (sym (serials_of-split zs i))
+  -- whether a search has found a slot
+  pub found_there : (n : ℕ) (place : Option ℕ) → IfSome place (λ at. (at < length serials) × (slice_index serials at ≡ n)) → IfNone place (has_number serials n ≡ false) → is_some place ≡ has_slot xs n
+  found_there n place h6 h7 = grind (arith, none_at, found_at, has_slot-found)
+
+  pub added_index : (parent : Option ℕ) (slot : Slot T) → serials ++ slot.serial ∷ [] ≡ serials_of (with_child parent xs ++ slot ∷ [])
+  added_index parent slot = grind (arith, map-append, serials_of-with_slot)
+
+  pub index_set : (i : ℕ) (slot new : Slot T) → slot ≡ get_or xs i slot → new.serial ≡ slot.serial → serials ≡ serials_of (set xs i new)
+  index_set i slot new read same = is ∙ sym (map-set_same (λ s. s.serial) xs i new slot (same ∙ ap (λ s. s.serial) read))
+
+  pub removed_index : (i : ℕ) → remove serials i ≡ serials_of (remove xs i)
+  removed_index i = ap (λ ns. remove ns i) is ∙ sym (serials_of-remove xs i)
+
+  pub cut_index : (zs : List (Slot T)) (i : ℕ) → take i (serials_of zs) ≡ take i (serials_of xs) → take i serials ++ serials_of (drop i zs) ≡ serials_of zs
+  cut_index zs i front = rw (is, ← front) (rw (← drop-map (λ s. s.serial) i zs) (take-append-drop i (serials_of zs)))
 
 -- a slot that is filled is within, and counted
 module _ {X : Type 0} (slots : List (Option X)) (key : ℕ) (h1 : is_some (get_or slots key None) ≡ true) where
@@ -91,7 +83,9 @@ module _ {X : Type 0} (slots : List (Option X)) (key : ℕ) (h1 : is_some (get_o
   filled_counts = grind (arith, common_steps)
 
 -- keys that are apart, each of a filled slot, and as many as the filled slots: each filled slot's is among them
-all_among : {X : Type 0} (slots : List (Option X)) (keys : List ℕ) (key : ℕ) → AreApartKeys keys → ((k : ℕ) → has_number keys k ≡ true → is_some (get_or slots k None) ≡ true) → count_by is_some slots ≡ length keys → is_some (get_or slots key None) ≡ true → has_number keys key ≡ true
+all_among : {X : Type 0} (slots : List (Option X)) (keys : List ℕ) (key : ℕ) → AreApartKeys keys →
+    ((k : ℕ) → has_number keys k ≡ true → is_some (get_or slots k None) ≡ true) → count_by is_some slots ≡ length keys →
+    is_some (get_or slots key None) ≡ true → has_number keys key ≡ true
 all_among slots [] key apart filled counted some = absurd (let one = filled_counts slots key some in omega (arith, one, counted))
 all_among {X} slots (k ∷ keys) key apart filled counted some =
     let here : is_some (get_or slots k None) ≡ true = filled k (rw (eq-eqb k k refl) refl) in
@@ -159,42 +153,49 @@ abbrev pub Puts : {T : Type 0} → Slab (StoredSlot T) → Slab (StoredSlot T) �
 Puts {T} old new key change = (kept : StoredSlot T) → get old key ≡ Some kept → Updates old new key (Some (record kept { slot = change kept.slot }))
 
 -- keys, slots and a slot store after such a change
-module _ {T : Type 0} (old new : Slab (StoredSlot T)) where
-  pub changed_like : (key : ℕ) (change : TenantSlot T → TenantSlot T) (kept : StoredSlot T) → get old key ≡ Some kept → Keeps change → Puts old new key change → AreLike old new
-  changed_like key change kept found keeps puts =
-      updated_like old new key kept (record kept { slot = change kept.slot }) found (puts kept found) (keeps.serial kept.slot, keeps.parent kept.slot, refl, refl)
+module _ {T : Type 0} (old new : Slab (StoredSlot T)) (key : ℕ) (change : TenantSlot T → TenantSlot T) (kept : StoredSlot T) (found : get old key ≡ Some kept)
+    (puts : Puts old new key change) where
+  pub changed_like : Keeps change → AreLike old new
+  changed_like keeps = updated_like old new key kept (record kept { slot = change kept.slot }) found (puts kept found) (keeps.serial kept.slot, keeps.parent kept.slot, refl, refl)
 
-  pub changed_keys : (keys : List ℕ) (key : ℕ) (change : TenantSlot T → TenantSlot T) (kept : StoredSlot T) → AreKeys old keys → get old key ≡ Some kept → Keeps change → Puts old new key change → slab_len new ≡ slab_len old → AreKeys new keys
-  changed_keys keys key change kept are found keeps puts len = grind (arith, all_here_like, changed_like)
+  pub changed_keys : (keys : List ℕ) → AreKeys old keys → Keeps change → slab_len new ≡ slab_len old → AreKeys new keys
+  changed_keys keys are keeps len = grind (arith, all_here_like, changed_like)
 
-  pub changed_slots : (keys : List ℕ) (serial at key : ℕ) (change : TenantSlot T → TenantSlot T) (kept : StoredSlot T) → AreKeys old keys → IsKeyAt old keys serial at key → get old key ≡ Some kept → Puts old new key change → slots_in new keys ≡ set (slots_in old keys) at (change kept.slot)
-  changed_slots keys serial at key change kept are k found puts =
-      slots_in-put old new [] keys at key (record kept { slot = change kept.slot }) are.here are.apart k.within (subst (λ n. Updates old new n (Some (record kept { slot = change kept.slot }))) k.read (puts kept found))
+  pub changed_slots : (keys : List ℕ) (serial at : ℕ) → AreKeys old keys → IsKeyAt old keys serial at key → slots_in new keys ≡ set (slots_in old keys) at (change kept.slot)
+  changed_slots keys serial at are k =
+      let after = record kept { slot = change kept.slot } in
+      slots_in-put old new [] keys at key after are.here are.apart k.within (subst (λ n. Updates old new n (Some after)) k.read (puts kept found))
 
-  pub changed_store : (keys : List ℕ) (room places key : ℕ) (change : TenantSlot T → TenantSlot T) (kept : StoredSlot T) → IsSlotStore old keys room places → get old key ≡ Some kept → Keeps change → Puts old new key change → slab_len new ≡ slab_len old → new.capacity ≡ old.capacity → IsSlotStore new keys room places
-  changed_store keys room places key change kept s found keeps puts len capacity = grind (arith, changed_keys, are_keys)
+  pub changed_store : (keys : List ℕ) (room places : ℕ) → IsSlotStore old keys room places → Keeps change → slab_len new ≡ slab_len old → new.capacity ≡ old.capacity → IsSlotStore new keys room places
+  changed_store keys room places s keeps len capacity = grind (arith, changed_keys, are_keys)
 
 -- a parent's key
 pub knows_key : {T : Type 0} (slab : Slab (StoredSlot T)) (keys : List ℕ) (parent : Option ℕ) (name at key : ℕ) → parent ≡ Some name → AreKeys slab keys → IsKeyAt slab keys name at key → KnowsParent slab keys parent (Some key)
 knows_key slab keys parent name at key is are k = grind (arith, slots_in-length, knows_read)
 
 -- the slot with a serial in another state, told the one that it was in
-pub record HasState {T : Type 0} (old new : Slab (StoredSlot T)) (key : ℕ) (was state : State) : Type 0 where
-  pub put : Puts old new key (λ slot. record slot { state = state })
-  pub told : (kept : StoredSlot T) → get old key ≡ Some kept → was ≡ kept.slot.state
-  pub len : slab_len new ≡ slab_len old
-  pub capacity : new.capacity ≡ old.capacity
-
-module _ {T : Type 0} (old new : Slab (StoredSlot T)) (keys : List ℕ) (room places serial at key : ℕ) (was state : State)
-    (s : IsSlotStore old keys room places) (k : IsKeyAt old keys serial at key) (h : HasState old new key was state) where
-  pub state_store : IsSlotStore new keys room places
-  state_store =
+module _ {T : Type 0} (old new : Slab (StoredSlot T)) {keys : List ℕ} {room places serial at : ℕ} (key : ℕ) (was state : State) (s : IsSlotStore old keys room places)
+    (k : IsKeyAt old keys serial at key) (put : Puts old new key (λ slot. record slot { state = state })) (len : slab_len new ≡ slab_len old) where
+  pub state_store : new.capacity ≡ old.capacity → IsSlotStore new keys room places
+  state_store capacity =
       let kept = kept_read old keys at key s.here k.within k.read in
-      changed_store old new keys room places key (λ slot. record slot { state = state }) kept.0 s kept.1 (record { serial = λ slot. refl; parent = λ slot. refl }) h.put h.len h.capacity
+      changed_store old new key (λ slot. record slot { state = state }) kept.0 kept.1 put keys room places s (record { serial = λ slot. refl; parent = λ slot. refl }) len capacity
 
-  pub state_changes : ChangesSlot (record { places = places; slots = slots_in old keys }) (record { places = places; slots = slots_in new keys }) serial (λ slot. record slot { state = state }) (λ slot. was ≡ slot.state)
-  state_changes =
+  pub state_changes : ((kept : StoredSlot T) → get old key ≡ Some kept → was ≡ kept.slot.state) →
+      ChangesSlot (record { places = places; slots = slots_in old keys }) (record { places = places; slots = slots_in new keys }) serial (λ slot. record slot { state = state }) (λ slot. was ≡ slot.state)
+  state_changes told =
       let kept = kept_read old keys at key s.here k.within k.read in
       let are = are_keys old keys room places s in
-      let slots = changed_slots old new keys serial at key (λ slot. record slot { state = state }) kept.0 are k kept.1 h.put in
-      record { at = at; slot = kept.0.slot; seen = seen_at old keys serial at key kept.0 are k kept.1; changed = ap (λ xs. record { places = places; slots = xs }) slots; told = h.told kept.0 kept.1 }
+      let slots = changed_slots old new key (λ slot. record slot { state = state }) kept.0 kept.1 put keys serial at are k in
+      record {
+        at = at;
+        slot = kept.0.slot;
+        seen = seen_at old keys serial at key kept.0 are k kept.1;
+        changed = ap (λ xs. record { places = places; slots = xs }) slots;
+        told = told kept.0 kept.1;
+      }
+
+-- a search of the index, and a key that stands in the order
+pub ruleset index_laws = (index_rises, there_at, found_there, has_frame-frames_from)
+
+pub ruleset key_laws = (serials_of-rises, there_at, none_at, index_long, are_keys)

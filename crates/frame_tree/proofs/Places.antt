@@ -1,32 +1,33 @@
 -- Places in lists: by a number that rises, in those that pass a test, and in a list that begins at a place of another.
-use Rattle.std.proofs.Common.{◌≡◌, ◌≢◌, ℕ, zero, suc, ◌<◌, ◌≤◌, Bool, true, false, not, eqb, List, [], ◌∷◌, length, get_or, take, refl, ap, sym, subst, ◌∙◌, arith, nat_lt, ◌+◌, ◌++◌, cond, ◌-◌, drop, append_assoc, append-nil, add-suc}
+use Rattle.std.proofs.Common.{◌≡◌, ◌≢◌, ℕ, zero, suc, ◌<◌, ◌≤◌, Bool, true, false, not, eqb, List, [], ◌∷◌, length, get_or, take, refl, ap, sym, subst, ◌∙◌}
+use Rattle.std.proofs.Common.{arith, nat_lt, ◌+◌, ◌++◌, cond, ◌-◌, drop, append_assoc, append-nil, add-suc}
 use Rattle.frame_tree.proofs.Common.{common_steps, all-at, all-map, AreAbove, AreRising, inserted, has_number, AllFromBy, IsPlaceFor, filter, insert, remove}
-use Rattle.frame_tree.proofs.Common.{copy_within, ne_eqb, ltb-true, ltb-false, lt-ltb}
+use Rattle.frame_tree.proofs.Common.{copy_within, drop-set-add, ne_eqb, ltb-true, ltb-false, lt-ltb}
 use Rattle.std.specs.List.Sorted.{IsNonDecreasingBy, IsPartitionPoint}
 use Rattle.std.proofs.lemmas.List.Sums.{length-filter, count_by-le-length}
 use Rattle.std.proofs.lemmas.List.{drop-take, drop-drop, drop_all, drop_at, drop-append-le, length-take-le, length-drop}
 
 -- what rises does not fall
-pub rises_by-not_falls : {X : Type 0} (number : X → ℕ) (xs : List X) → AreRising number xs → IsNonDecreasingBy number xs
-rises_by-not_falls number [] rise i j d le lt = absurd (omega arith)
-rises_by-not_falls number (x ∷ xs) rise zero zero d le lt = omega arith
-rises_by-not_falls number (x ∷ xs) rise zero (suc j) d le lt = let h : number x < number (get_or xs j d) = all-at (λ z. number x < number z) xs j d rise.0 (omega arith) in omega (arith, h)
-rises_by-not_falls number (x ∷ xs) rise (suc i) zero d le lt = absurd (omega arith)
-rises_by-not_falls number (x ∷ xs) rise (suc i) (suc j) d le lt = rises_by-not_falls number xs rise.1 i j d (omega arith) (omega arith)
-
--- the place that a search has found
-pub place_from_point : {X : Type 0} (number : X → ℕ) (xs : List X) (n at : ℕ) → at ≤ length xs → IsPartitionPoint (λ x. nat_lt (number x) n ≡ true) (λ x. nat_lt (number x) n ≡ false) xs at → IsPlaceFor number xs n at
-place_from_point number xs n zero le p = all number xs n (λ k d lt. p.1 k d (omega arith) lt)
-  where
-    all : {X : Type 0} (number : X → ℕ) (xs : List X) (n : ℕ) → ((k : ℕ) (d : X) → k < length xs → nat_lt (number (get_or xs k d)) n ≡ false) → AllFromBy number n xs
-    all number [] n h = tt
-    all number (x ∷ xs) n h = (ltb-false (number x) n (h 0 x (omega arith)), all number xs n (λ k d lt. h (suc k) d (omega arith)))
-place_from_point number [] n (suc at) le p = absurd (omega arith)
-place_from_point number (x ∷ xs) n (suc at) le p =
-    (ltb-true (number x) n (p.0 0 x (omega arith) (omega arith)), place_from_point number xs n at (omega arith) (λ k d ge lt. p.0 (suc k) d (omega arith) (omega arith), λ k d ge lt. p.1 (suc k) d (omega arith) (omega arith)))
-
--- what is above a number is not below it
 module _ {X : Type 0} (number : X → ℕ) where
+  pub rises_by-not_falls : (xs : List X) → AreRising number xs → IsNonDecreasingBy number xs
+  rises_by-not_falls [] rise i j d le lt = absurd (omega arith)
+  rises_by-not_falls (x ∷ xs) rise zero zero d le lt = omega arith
+  rises_by-not_falls (x ∷ xs) rise zero (suc j) d le lt = let h : number x < number (get_or xs j d) = all-at (λ z. number x < number z) xs j d rise.0 (omega arith) in omega (arith, h)
+  rises_by-not_falls (x ∷ xs) rise (suc i) zero d le lt = absurd (omega arith)
+  rises_by-not_falls (x ∷ xs) rise (suc i) (suc j) d le lt = rises_by-not_falls xs rise.1 i j d (omega arith) (omega arith)
+
+  -- the place that a search has found
+  pub place_from_point : (xs : List X) (n at : ℕ) → at ≤ length xs → IsPartitionPoint (λ x. nat_lt (number x) n ≡ true) (λ x. nat_lt (number x) n ≡ false) xs at → IsPlaceFor number xs n at
+  place_from_point xs n zero le p = all xs (λ k d lt. p.1 k d (omega arith) lt)
+    where
+      all : (xs : List X) → ((k : ℕ) (d : X) → k < length xs → nat_lt (number (get_or xs k d)) n ≡ false) → AllFromBy number n xs
+      all [] h = tt
+      all (x ∷ xs) h = (ltb-false (number x) n (h 0 x (omega arith)), all xs (λ k d lt. h (suc k) d (omega arith)))
+  place_from_point [] n (suc at) le p = absurd (omega arith)
+  place_from_point (x ∷ xs) n (suc at) le p =
+      (ltb-true (number x) n (p.0 0 x (omega arith) (omega arith)), place_from_point xs n at (omega arith) (λ k d ge lt. p.0 (suc k) d (omega arith) (omega arith), λ k d ge lt. p.1 (suc k) d (omega arith) (omega arith)))
+
+  -- what is above a number is not below it
   from_above : (n m : ℕ) (xs : List X) → n ≤ m → AreAbove number m xs → AllFromBy number n xs
   from_above n m [] le above = tt
   from_above n m (x ∷ xs) le above = (omega (arith, le, above.0), from_above n m xs le above.1)
@@ -47,16 +48,16 @@ module _ {X : Type 0} (number : X → ℕ) where
   place_before (y ∷ ys) n x rise some is le = grind (arith, from_above)
 
   pub place_behind : (xs : List X) (n at count : ℕ) (x : X) → AreRising number xs → count ≡ length xs → suc at ≡ length xs → x ≡ get_or xs at x → number x < n → IsPlaceFor number xs n count
-  place_behind xs n at count x rise all e is lt = let P : ℕ → Type 0 = λ k. IsPlaceFor number xs n k in subst P (e ∙ sym all) (behind number xs n at x rise e is lt)
+  place_behind xs n at count x rise all e is lt = let P : ℕ → Type 0 = λ k. IsPlaceFor number xs n k in subst P (e ∙ sym all) (behind xs at rise e is lt)
     where
-      behind : {X : Type 0} (number : X → ℕ) (xs : List X) (n at : ℕ) (x : X) → AreRising number xs → suc at ≡ length xs → x ≡ get_or xs at x → number x < n → IsPlaceFor number xs n (suc at)
-      behind number [] n at x rise e is lt = absurd (omega arith)
-      behind number (y ∷ []) n zero x rise e is lt = let here : number x ≡ number y = ap number is in (omega (arith, here), tt)
-      behind number (y ∷ z ∷ zs) n zero x rise e is lt = absurd (omega arith)
-      behind number (y ∷ ys) n (suc at) x rise e is lt =
+      behind : (xs : List X) (at : ℕ) → AreRising number xs → suc at ≡ length xs → x ≡ get_or xs at x → number x < n → IsPlaceFor number xs n (suc at)
+      behind [] at rise e is lt = absurd (omega arith)
+      behind (y ∷ []) zero rise e is lt = let here : number x ≡ number y = ap number is in (omega (arith, here), tt)
+      behind (y ∷ z ∷ zs) zero rise e is lt = absurd (omega arith)
+      behind (y ∷ ys) (suc at) rise e is lt =
           let above : number y < number (get_or ys at x) = all-at (λ z. number y < number z) ys at x rise.0 (omega arith) in
           let here : number x ≡ number (get_or ys at x) = ap number is in
-          (omega (arith, above, here), behind number ys n at x rise.1 (omega arith) is lt)
+          (omega (arith, above, here), behind ys at rise.1 (omega arith) is lt)
 
   -- an element put at its place
   pub inserted-place : (new : X) (xs : List X) (at : ℕ) → IsPlaceFor number xs (number new) at → insert xs at new ≡ inserted number new xs
@@ -123,35 +124,43 @@ absent_between (x ∷ xs) n (suc i) below above =
     rw (ne_eqb x n (λ e. omega (arith, first, e))) (absent_between xs n i (λ k lt. below (suc k) (omega arith)) (λ k ge lt. above (suc k) (omega arith) (omega arith)))
 
 -- lengths of lists in part and with one more
-pub length-filter-le : {X : Type 0} (p : X → Bool) (xs : List X) → length (filter p xs) ≤ length xs
-length-filter-le p xs = omega (arith, length-filter p xs, count_by-le-length p xs)
+module _ {X : Type 0} (p : X → Bool) (xs : List X) where
+  pub length-filter-le : length (filter p xs) ≤ length xs
+  length-filter-le = omega (arith, length-filter p xs, count_by-le-length p xs)
 
--- how many pass a test, with one more
-pub length-filter_push : {X : Type 0} (p : X → Bool) (xs : List X) (x : X) → length (filter p (xs ++ x ∷ [])) ≡ length (filter p xs) + cond (p x) 1 0
-length-filter_push p xs x = grind (arith, common_steps)
+  -- how many pass a test, with one more
+  pub length-filter_push : (x : X) → length (filter p (xs ++ x ∷ [])) ≡ length (filter p xs) + cond (p x) 1 0
+  length-filter_push x = grind (arith, common_steps)
 
 -- an element that goes with those after it moved
-pub removed_back : {X : Type 0} (items : List X) (start at : ℕ) → start + at < length items → drop start (remove items (start + at)) ≡ remove (drop start items) at
-removed_back items start at lt =
-    let long : start ≤ length (take (start + at) items) = rw (length-take-le (start + at) items (omega arith)) (omega arith) in
-    rw (drop-append-le start (take (start + at) items) (drop (suc (start + at)) items) long, drop-take start at items, drop-drop (suc at) start items, add-suc) refl
+module _ {X : Type 0} (items : List X) (start at : ℕ) (lt : start + at < length items) where
+  pub removed_back : drop start (remove items (start + at)) ≡ remove (drop start items) at
+  removed_back =
+      let long : start ≤ length (take (start + at) items) = rw (length-take-le (start + at) items (omega arith)) (omega arith) in
+      rw (drop-append-le start (take (start + at) items) (drop (suc (start + at)) items) long, drop-take start at items, drop-drop (suc at) start items, add-suc) refl
 
--- an element that goes with those before it moved
-pub removed_front : {X : Type 0} (items : List X) (start at : ℕ) → start + at < length items → drop (start + 1) (copy_within items start (start + at) (start + 1)) ≡ remove (drop start items) at
-removed_front items start at lt =
-    let count : start + at - start ≡ at = omega arith in
-    let long : length (take (start + 1) items) ≡ start + 1 = length-take-le (start + 1) items (omega arith) in
-    let rest : start + 1 + at ≡ start + suc at = omega arith in
-    rw (count, append_assoc, drop_at (take (start + 1) items) (take at (drop start items) ++ drop (start + 1 + at) items) (start + 1) long, drop-drop (suc at) start items, rest) refl
+  -- an element that goes with those before it moved
+  pub removed_front : drop (start + 1) (copy_within items start (start + at) (start + 1)) ≡ remove (drop start items) at
+  removed_front =
+      let count : start + at - start ≡ at = omega arith in
+      let long : length (take (start + 1) items) ≡ start + 1 = length-take-le (start + 1) items (omega arith) in
+      let rest : start + 1 + at ≡ start + suc at = omega arith in
+      rw (count, append_assoc, drop_at (take (start + 1) items) (take at (drop start items) ++ drop (start + 1 + at) items) (start + 1) long, drop-drop (suc at) start items, rest) refl
 
 -- the last element
 pub removed_last : {X : Type 0} (xs : List X) (at : ℕ) → at + 1 ≡ length xs → take at xs ≡ remove xs at
 removed_last xs at e = rw (drop_all (suc at) xs (omega arith), append-nil) refl
 
 -- an element that is put at a place
-pub inserted_back : {X : Type 0} (items : List X) (start at : ℕ) (x : X) → start + at ≤ length items → drop start (insert items (start + at) x) ≡ insert (drop start items) at x
-inserted_back items start at x le = grind (arith, length-take-le, drop-append-le, drop-take, drop-drop)
+module _ {X : Type 0} (items : List X) (start at : ℕ) where
+  pub inserted_back : (x : X) → start + at ≤ length items → drop start (insert items (start + at) x) ≡ insert (drop start items) at x
+  inserted_back x le = grind (arith, length-take-le, drop-append-le, drop-take, drop-drop)
 
--- a place of the list is a place of all
-pub place_within : {X : Type 0} (items : List X) (start at : ℕ) → start ≤ length items → at < length (drop start items) → start + at < length items
-place_within items start at within lt = omega (arith, within, lt, length-drop start items)
+  -- a place of the list is a place of all
+  pub place_within : start ≤ length items → at < length (drop start items) → start + at < length items
+  place_within within lt = omega (arith, within, lt, length-drop start items)
+
+-- what a window onto a list shows after each edit
+pub ruleset window_laws = (drop-set-add, drop-take, removed_last)
+
+pub ruleset place_laws = (inserted-place, filter_below-place)

@@ -1,17 +1,23 @@
 -- The trees of a table: look-ups, and what a change of one of them leaves.
-use Rattle.std.proofs.Common.{◌≡◌, ◌≢◌, ℕ, suc, ◌+◌, ◌*◌, ◌<◌, ◌≤◌, Bool, true, false, not, ◌||◌, eqb, List, [], ◌∷◌, ◌++◌, Option, Some, None, length, get_or, drop, refl, ap, sym, ◌∙◌, inl, inr, arith, IsNone, IfSome, IfNone, subst}
+use Rattle.std.proofs.Common.{◌≡◌, ◌≢◌, ℕ, ◌+◌, ◌*◌, ◌<◌, ◌≤◌, true, false, not, List, [], ◌∷◌, ◌++◌, Option, Some, None, length, get_or, drop, refl, ap, sym}
+use Rattle.std.proofs.Common.{◌∙◌, inl, inr, arith, IsNone, IfSome, IfNone, subst}
 use Rattle.std.specs.Prelude.{option_copied}
 use Rattle.std.specs.Borrow.{Bor}
-use Rattle.frame_tree.proofs.Common.{State, FrameId, at_drop_more, Ready, Running, Computing, Waiting, Returned, cases_eq, cases_Bool, false≢true, true≢false}
+use Rattle.frame_tree.proofs.Common.{State, FrameId, at_drop_more, cases_eq, true≢false}
 use Rattle.frame_tree.proofs.Common.{eq-eqb, ne_eqb, find_by_number, read_by_number, remove_by_number, inserted, AreRising, change_by_number}
 use Rattle.std.proofs.lemmas.List.Sums.{sum_by-cons}
-use Rattle.frame_tree.specs.Frames.{Frame, TenantTree, owner_of_tree, frames_in, frame_at, has_frame, ready_frames, is_ready, newest_ready_of, ready_name, first_of_two, IsReadyAt, has_parent, with_state, aborted, goes_under}
+use Rattle.frame_tree.specs.Frames.{Frame, TenantTree, owner_of_tree, frames_in, frame_at, has_frame, ready_frames, is_ready, newest_ready_of, first_of_two}
+use Rattle.frame_tree.specs.Frames.{IsReadyAt, has_parent, with_state, aborted, goes_under}
 use Rattle.number_index.proofs.Places.{find_by_number-found}
-use Rattle.number_index.proofs.Edits.{all-map, all-of, thing-own, said-found, said-none, said-lacks, has-found, has-above, length-without, said-without_other, all-without, rising-without, sum_by-without, said-inserted_own, said-inserted_other, all-inserted, rising-inserted, length-inserted, sum_by-inserted, thing-with, said-with_other, length-with, rising-with, all-with, sum_by-with, put-same}
-use Rattle.frame_tree.specs.Tables.{frames_of, places_of, KeepsOtherTenants, has_tenant, FitsPlaces, AllFitPlaces, total_ready, IsSoundTable, IsTreeOf, HasNoTree, first_ready_of, serial_of, IsParentIn, KeepsOtherFrames}
+use Rattle.number_index.proofs.Edits.{all-map, all-of, thing-own, said-found, said-none, said-lacks, has-found, has-above, length-without, said-without_other}
+use Rattle.number_index.proofs.Edits.{all-without, rising-without, sum_by-without, said-inserted_own, said-inserted_other, all-inserted, rising-inserted}
+use Rattle.number_index.proofs.Edits.{length-inserted, sum_by-inserted, thing-with, said-with_other, length-with, rising-with, all-with, sum_by-with}
+use Rattle.number_index.proofs.Edits.{put-same}
+use Rattle.frame_tree.specs.Tables.{frames_of, places_of, KeepsOtherTenants, has_tenant, FitsPlaces, AllFitPlaces, total_ready, IsSoundTable, IsTreeOf}
+use Rattle.frame_tree.specs.Tables.{HasNoTree, first_ready_of, serial_of, IsParentIn, KeepsOtherFrames}
 use Rattle.frame_tree.proofs.Places.{length-filter-le, length-filter_push}
 use Rattle.frame_tree.proofs.Forest.{has_frame-append}
-use Rattle.frame_tree.proofs.Finds.{none_of_length}
+use Rattle.frame_tree.proofs.Finds.{none_of_length, IsNewest}
 
 -- how many frames of a tree are ready
 abbrev pub ready_of : {T : Type 0} → TenantTree T → ℕ
@@ -24,12 +30,10 @@ module _ {T : Type 0} (xs : List (TenantTree T)) (t : ℕ) where
 
   -- a tenant that has places or a frame has a tree
   pub tree_by_places : 0 < places_of xs t → has_tenant xs t ≡ true
-  tree_by_places h =
-      elim (cases_Bool (has_tenant xs t)) [ inl there ↦ there | inr gone ↦ absurd (let e = (no_tree gone).places in omega (arith, h, e)) ]
+  tree_by_places h = grind (arith, no_tree)
 
   pub tree_by_frame : (serial : ℕ) → has_frame (frames_of xs t) serial ≡ true → has_tenant xs t ≡ true
-  tree_by_frame serial h =
-      elim (cases_Bool (has_tenant xs t)) [ inl there ↦ there | inr gone ↦ absurd (let e = (no_tree gone).frames in false≢true (rw e at h)) ]
+  tree_by_frame serial h = grind (arith, no_tree)
 
   -- the tree that was found is the tenant's
   pub tree_found : (x : TenantTree T) → find_by_number owner_of_tree t xs ≡ Some x → IsTreeOf xs t x
@@ -48,138 +52,92 @@ module _ {T : Type 0} (xs : List (TenantTree T)) (t : ℕ) where
   found_none None is = record { frames = said-none owner_of_tree (λ tree. tree.frames) [] t xs (sym is); places = said-none owner_of_tree (λ tree. tree.places) 0 t xs (sym is) }
   found_none (Some tree) is = tt
 
-pub fit_more : {T : Type 0} (room more : ℕ) (xs : List (TenantTree T)) → room ≤ more → AllFitPlaces room xs → AllFitPlaces more xs
-fit_more room more xs le fit =
-    all-map (λ tree. FitsPlaces room tree) (λ tree. FitsPlaces more tree) (λ x f. record { within = f.within; some = f.some; few = f.few; room_left = (let h = f.room_left in omega (arith, le, h)) }) xs fit
+module _ {T : Type 0} (room : ℕ) where
+  pub fit_more : (more : ℕ) (xs : List (TenantTree T)) → room ≤ more → AllFitPlaces room xs → AllFitPlaces more xs
+  fit_more more xs le fit =
+      all-map (λ tree. FitsPlaces room tree) (λ tree. FitsPlaces more tree) (λ x f. record { within = f.within; some = f.some; few = f.few; room_left = (let h = f.room_left in omega (arith, le, h)) }) xs fit
 
-pub found_fits : {T : Type 0} (room : ℕ) (xs : List (TenantTree T)) (t : ℕ) (found : Option (Bor (TenantTree T))) → AllFitPlaces room xs → option_copied found ≡ find_by_number owner_of_tree t xs → IfSome found (λ tree. 1 ≤ tree.now.places)
-found_fits room xs t None fit is = tt
-found_fits room xs t (Some tree) fit is = (all-of (λ z. FitsPlaces room z) owner_of_tree t tree.now xs (sym is) fit).some
+  pub found_fits : (xs : List (TenantTree T)) (t : ℕ) (found : Option (Bor (TenantTree T))) → AllFitPlaces room xs → option_copied found ≡ find_by_number owner_of_tree t xs → IfSome found (λ tree. 1 ≤ tree.now.places)
+  found_fits xs t None fit is = tt
+  found_fits xs t (Some tree) fit is = (all-of (λ z. FitsPlaces room z) owner_of_tree t tree.now xs (sym is) fit).some
 
--- the count of ready frames is bounded
-pub total_bound : {T : Type 0} (room : ℕ) (xs : List (TenantTree T)) → AllFitPlaces room xs → total_ready xs ≤ 4096 * length xs
-total_bound room [] fit = omega arith
-total_bound room (x ∷ xs) fit =
-    omega (arith, sum_by-cons ready_of x xs, total_bound room xs fit.1, length-filter-le (λ f. is_ready f.state) x.frames, fit.0.few, fit.0.within)
+  -- the count of ready frames is bounded
+  pub total_bound : (xs : List (TenantTree T)) → AllFitPlaces room xs → total_ready xs ≤ 4096 * length xs
+  total_bound [] fit = omega arith
+  total_bound (x ∷ xs) fit =
+      omega (arith, sum_by-cons ready_of x xs, total_bound xs fit.1, length-filter-le (λ f. is_ready f.state) x.frames, fit.0.few, fit.0.within)
 
--- no places where nothing was reserved
-pub no_places : {T : Type 0} (room : ℕ) (xs : List (TenantTree T)) (t : ℕ) → AllFitPlaces room xs → places_of xs t ≡ 0 → has_tenant xs t ≡ false
-no_places room [] t fit none = refl
-no_places room (x ∷ xs) t fit none =
-    elim (cases_Bool (eqb x.tenant t)) [
-      | inl same ↦ absurd (let e = rw same at none in let h = fit.0.some in omega (arith, e, h))
-      | inr differs ↦ rw differs (no_places room xs t fit.1 (rw differs at none))
-    ]
+  -- no places where nothing was reserved
+  pub no_places : (xs : List (TenantTree T)) (t : ℕ) → AllFitPlaces room xs → places_of xs t ≡ 0 → has_tenant xs t ≡ false
+  no_places [] t fit none = refl
+  no_places (x ∷ xs) t fit none = grind (arith, no_places xs t)
 
 -- a newest ready frame is there exactly where one is ready
-pub newest_none : {T : Type 0} (t : ℕ) (fs : List (Frame T)) → length (ready_frames fs) ≡ 0 → newest_ready_of t fs ≡ None
-newest_none t [] none = refl
-newest_none t (f ∷ fs) none =
-    elim (cases_Bool (is_ready f.state)) [
-      | inl ready ↦ absurd (zero_suc (rw ready at none))
-      | inr other ↦ rw (newest_none t fs (rw other at none), not_ready t f.serial f.state other) refl
-    ]
-  where
-    zero_suc : {n : ℕ} → suc n ≡ 0 → ⊥
-    zero_suc h = omega (arith, h)
+module _ {T : Type 0} (t : ℕ) where
+  pub newest_none : (fs : List (Frame T)) → length (ready_frames fs) ≡ 0 → newest_ready_of t fs ≡ None
+  newest_none [] none = refl
+  newest_none (f ∷ fs) none = grind (arith, newest_none fs)
 
-    not_ready : (t serial : ℕ) (state : State) → is_ready state ≡ false → ready_name t serial state ≡ None
-    not_ready t serial (Ready home) h = absurd (true≢false h)
-    not_ready t serial (Running worker) h = refl
-    not_ready t serial (Computing worker) h = refl
-    not_ready t serial Waiting h = refl
-    not_ready t serial Returned h = refl
-
-pub newest_some : {T : Type 0} (t : ℕ) (fs : List (Frame T)) → newest_ready_of t fs ≡ None → ready_frames fs ≡ []
-newest_some t [] none = refl
-newest_some t (f ∷ fs) none = by_tail t f fs (newest_ready_of t fs) refl none (λ e. newest_some t fs e)
-  where
-    some_none : {X : Type 0} {x : X} → Some x ≡ None → ⊥
-    some_none h = cc
-
-    not_ready : (t serial : ℕ) (state : State) → ready_name t serial state ≡ None → is_ready state ≡ false
-    not_ready t serial (Ready home) h = absurd (some_none h)
-    not_ready t serial (Running worker) h = refl
-    not_ready t serial (Computing worker) h = refl
-    not_ready t serial Waiting h = refl
-    not_ready t serial Returned h = refl
-
-    by_tail : {T : Type 0} (t : ℕ) (f : Frame T) (fs : List (Frame T)) (tail : Option (FrameId × ℕ)) → newest_ready_of t fs ≡ tail → first_of_two tail (ready_name t f.serial f.state) ≡ None → (newest_ready_of t fs ≡ None → ready_frames fs ≡ []) → ready_frames (f ∷ fs) ≡ []
-    by_tail t f fs None is none rest = rw (not_ready t f.serial f.state none) (rest is)
-    by_tail t f fs (Some r) is none rest = absurd (some_none none)
+  pub newest_some : (fs : List (Frame T)) → newest_ready_of t fs ≡ None → ready_frames fs ≡ []
+  newest_some [] none = refl
+  newest_some (f ∷ fs) none = grind (arith, newest_some fs)
 
 -- the tree at a place, and those after it
-pub head_of : {T : Type 0} (xs : List (TenantTree T)) (i : ℕ) (x : TenantTree T) → i < length xs → x ≡ get_or xs i x → first_ready_of (drop i xs) ≡ first_of_two (newest_ready_of x.tenant x.frames) (first_ready_of (drop (i + 1) xs))
-head_of xs i x lt is = at_drop_more first_ready_of xs i x lt ∙ (rw (← is) refl)
+module _ {T : Type 0} (xs : List (TenantTree T)) (i : ℕ) (x : TenantTree T) (lt : i < length xs) (is : x ≡ get_or xs i x) where
+  head_of : first_ready_of (drop i xs) ≡ first_of_two (newest_ready_of x.tenant x.frames) (first_ready_of (drop (i + 1) xs))
+  head_of = at_drop_more first_ready_of xs i x lt ∙ (rw (← is) refl)
 
--- the first tree that has a ready frame
-pub first_found : {T : Type 0} (xs : List (TenantTree T)) (i : ℕ) (x : TenantTree T) (result : Option (FrameId × ℕ)) → first_ready_of xs ≡ first_ready_of (drop i xs) → i < length xs → x ≡ get_or xs i x → 0 < ready_of x → result ≡ newest_ready_of x.tenant x.frames → result ≡ first_ready_of xs
-first_found {T} xs i x result rest lt is some newest =
-    newest ∙ (sym (first_some (newest_ready_of x.tenant x.frames) (first_ready_of (drop (i + 1) xs)) (λ none. omega (arith, some, ap length (newest_some x.tenant x.frames none))))
-    ∙ (sym (head_of xs i x lt is) ∙ sym rest))
-  where
-    first_some : {X : Type 0} (a b : Option X) → (a ≡ None → ⊥) → first_of_two a b ≡ a
-    first_some None b h = absurd (h refl)
-    first_some (Some x) b h = refl
+  -- the first tree that has a ready frame
+  pub first_found : (result : Option (FrameId × ℕ)) → first_ready_of xs ≡ first_ready_of (drop i xs) → 0 < ready_of x → result ≡ newest_ready_of x.tenant x.frames → result ≡ first_ready_of xs
+  first_found result rest some newest = grind (arith, head_of, newest_some)
 
-pub first_later : {T : Type 0} (xs : List (TenantTree T)) (i : ℕ) (x : TenantTree T) → first_ready_of xs ≡ first_ready_of (drop i xs) → i < length xs → x ≡ get_or xs i x → ready_of x ≤ 0 → first_ready_of xs ≡ first_ready_of (drop (i + 1) xs)
-first_later xs i x rest lt is none =
-    rest ∙ (head_of xs i x lt is ∙ (rw (newest_none x.tenant x.frames (omega (arith, none))) refl))
+  pub first_later : first_ready_of xs ≡ first_ready_of (drop i xs) → ready_of x ≤ 0 → first_ready_of xs ≡ first_ready_of (drop (i + 1) xs)
+  first_later rest none = rest ∙ (head_of ∙ (rw (newest_none x.tenant x.frames (omega (arith, none))) refl))
 
-pub if_some_more : {X : Type 0} (o : Option X) (P Q : X → Type 0) → ((x : X) → P x → Q x) → IfSome o P → IfSome o Q
-if_some_more None P Q f h = tt
-if_some_more (Some x) P Q f h = f x h
+  -- what it shows is ready
+  pub first_is_ready : (result : Option (FrameId × ℕ)) → AreRising owner_of_tree xs → IfSome result (λ ready. IsNewest x.tenant x.frames ready) →
+      IfSome result (λ ready. IsReadyAt (frame_at (frames_of xs ready.0.tenant) ready.0.serial) ready.1)
+  first_is_ready None rise h = tt
+  first_is_ready (Some ready) rise h =
+      let own = tree_found xs x.tenant x (find_by_number-found owner_of_tree x.tenant xs i x rise lt is refl) in
+      rw (h.0, own.frames) h.1
 
-pub first_is_ready : {T : Type 0} (xs : List (TenantTree T)) (i : ℕ) (x : TenantTree T) (result : Option (FrameId × ℕ)) → AreRising owner_of_tree xs → i < length xs → x ≡ get_or xs i x → IfSome result (λ ready. (ready.0.tenant ≡ x.tenant) × IsReadyAt (frame_at x.frames ready.0.serial) ready.1) → IfSome result (λ ready. IsReadyAt (frame_at (frames_of xs ready.0.tenant) ready.0.serial) ready.1)
-first_is_ready xs i x result rise lt is h =
-    let own = tree_found xs x.tenant x (find_by_number-found owner_of_tree x.tenant xs i x rise lt is refl) in
-    if_some_more result _ _ (λ ready r. rw (r.0, own.frames) r.1) h
+module _ {T : Type 0} where
+  -- nothing is ready in any tree where the count is 0
+  pub none_ready : (xs : List (TenantTree T)) (t : ℕ) → total_ready xs ≡ 0 → ready_frames (frames_of xs t) ≡ []
+  none_ready [] t none = refl
+  none_ready (x ∷ xs) t none = let sum = sum_by-cons ready_of x xs in grind (arith, sum, none_ready xs t, none_of_length)
 
--- nothing is ready in any tree where the count is 0
-pub none_ready : {T : Type 0} (xs : List (TenantTree T)) (t : ℕ) → total_ready xs ≡ 0 → ready_frames (frames_of xs t) ≡ []
-none_ready [] t none = refl
-none_ready (x ∷ xs) t none =
-    elim (cases_Bool (eqb x.tenant t)) [
-      | inl same ↦ rw same (none_of_length (ready_frames x.frames) (omega (arith, none, sum_by-cons ready_of x xs)))
-      | inr differs ↦ rw differs (none_ready xs t (omega (arith, none, sum_by-cons ready_of x xs)))
-    ]
+  -- where no tree shows a ready frame, and back
+  pub first_none : (xs : List (TenantTree T)) → first_ready_of xs ≡ None → (t : ℕ) → ready_frames (frames_of xs t) ≡ []
+  first_none [] none t = refl
+  first_none (x ∷ xs) none t = grind (arith, first_none xs, newest_some)
 
--- where no tree shows a ready frame, and back
-pub first_none : {T : Type 0} (xs : List (TenantTree T)) → first_ready_of xs ≡ None → (t : ℕ) → ready_frames (frames_of xs t) ≡ []
-first_none [] none t = refl
-first_none (x ∷ xs) none t = by_head x xs (newest_ready_of x.tenant x.frames) refl none t (λ e. first_none xs e t)
-  where
-    some_none : {X : Type 0} {x : X} → Some x ≡ None → ⊥
-    some_none h = cc
-
-    by_head : {T : Type 0} (x : TenantTree T) (xs : List (TenantTree T)) (head : Option (FrameId × ℕ)) → newest_ready_of x.tenant x.frames ≡ head → first_of_two head (first_ready_of xs) ≡ None → (t : ℕ) → (first_ready_of xs ≡ None → ready_frames (frames_of xs t) ≡ []) → ready_frames (frames_of (x ∷ xs) t) ≡ []
-    by_head x xs None is none t rest =
-        elim (cases_Bool (eqb x.tenant t)) [ inl same ↦ rw same (newest_some x.tenant x.frames is) | inr differs ↦ rw differs (rest none) ]
-    by_head x xs (Some r) is none t rest = absurd (some_none none)
-
-pub none_first : {T : Type 0} (xs : List (TenantTree T)) → AreRising owner_of_tree xs → ((t : ℕ) → ready_frames (frames_of xs t) ≡ []) → first_ready_of xs ≡ None
-none_first [] rise none = refl
-none_first (x ∷ xs) rise none =
-    let here : ready_frames x.frames ≡ [] = (let h = none x.tenant in rw (eq-eqb x.tenant x.tenant refl) at h) in
-    let rest = none_first xs rise.1 (λ t. elim (cases_eq x.tenant t) [
-      | inl e ↦ (let gone = (no_tree xs t (ap (λ n. has_tenant xs n) (sym e) ∙ has-above owner_of_tree x.tenant x.tenant xs (omega arith) rise.0)).frames in rw gone refl)
-      | inr ne ↦ (let h = none t in rw (ne_eqb x.tenant t ne) at h)
-    ]) in
-    rw (newest_none x.tenant x.frames (ap length here), rest) refl
+  pub none_first : (xs : List (TenantTree T)) → AreRising owner_of_tree xs → ((t : ℕ) → ready_frames (frames_of xs t) ≡ []) → first_ready_of xs ≡ None
+  none_first [] rise none = refl
+  none_first (x ∷ xs) rise none =
+      let here : ready_frames x.frames ≡ [] = (let h = none x.tenant in rw (eq-eqb x.tenant x.tenant refl) at h) in
+      let rest = none_first xs rise.1 (λ t. elim (cases_eq x.tenant t) [
+        | inl e ↦ (let gone = (no_tree xs t (ap (λ n. has_tenant xs n) (sym e) ∙ has-above owner_of_tree x.tenant x.tenant xs (omega arith) rise.0)).frames in rw gone refl)
+        | inr ne ↦ (let h = none t in rw (ne_eqb x.tenant t ne) at h)
+      ]) in
+      rw (newest_none x.tenant x.frames (ap length here), rest) refl
 
 -- the count of ready frames stays a small number
-pub ready_bound : {T : Type 0} (xs : List (TenantTree T)) (room ready : ℕ) → IsSoundTable xs room ready → ready ≤ 262144
-ready_bound xs room ready s = let h = total_bound room xs s.fit in let few = s.few in let c = s.counted in omega (arith, h, few, c)
+module _ {T : Type 0} (xs : List (TenantTree T)) (room ready : ℕ) where
+  pub ready_bound : IsSoundTable xs room ready → ready ≤ 262144
+  ready_bound s = let h = total_bound room xs s.fit in let few = s.few in let c = s.counted in omega (arith, h, few, c)
 
-ready_here : {T : Type 0} (xs : List (TenantTree T)) (room ready t : ℕ) (x : TenantTree T) → IsSoundTable xs room ready → find_by_number owner_of_tree t xs ≡ Some x → ready_of x ≤ ready
-ready_here xs room ready t x s is = omega (arith, sum_by-without ready_of owner_of_tree t x xs is, s.counted)
+  ready_here : (t : ℕ) (x : TenantTree T) → IsSoundTable xs room ready → find_by_number owner_of_tree t xs ≡ Some x → ready_of x ≤ ready
+  ready_here t x s is = omega (arith, sum_by-without ready_of owner_of_tree t x xs is, s.counted)
 
 -- one more frame
-pub more_ready : {T : Type 0} (fs : List (Frame T)) (f : Frame T) → is_ready f.state ≡ true → length (ready_frames (fs ++ f ∷ [])) ≡ length (ready_frames fs) + 1
-more_ready fs f ready = length-filter_push (λ g. is_ready g.state) fs f ∙ (rw ready refl)
+module _ {T : Type 0} (fs : List (Frame T)) where
+  pub more_ready : (f : Frame T) → is_ready f.state ≡ true → length (ready_frames (fs ++ f ∷ [])) ≡ length (ready_frames fs) + 1
+  more_ready f ready = length-filter_push (λ g. is_ready g.state) fs f ∙ (rw ready refl)
 
-pub few_ready_frames : {T : Type 0} (fs : List (Frame T)) → length (ready_frames fs) ≤ length fs
-few_ready_frames fs = length-filter-le (λ f. is_ready f.state) fs
+  pub few_ready_frames : length (ready_frames fs) ≤ length fs
+  few_ready_frames = length-filter-le (λ f. is_ready f.state) fs
 
 -- as many frames in another state
 pub state_length : {T : Type 0} (serial : ℕ) (state : State) (fs : List (Frame T)) → length (with_state serial state fs) ≡ length fs
@@ -192,49 +150,52 @@ named_parent fs t None above is p = rw is refl
 named_parent fs t (Some name) above is p = rw is p.1
 
 -- a table with a new tenant
-pub reserve_sound : {T : Type 0} (xs : List (TenantTree T)) (room more ready t places : ℕ) (y : TenantTree T) → IsSoundTable xs room ready → room ≤ more → places ≤ more → 1 ≤ places → places ≤ 4096 → length xs < 64 → places_of xs t ≡ 0 → y ≡ record { tenant = t; places = places; frames = [] } → IsSoundTable (inserted owner_of_tree y xs) more ready
-reserve_sound xs room more ready t places y s le within some few free fresh is =
-    let none : has_tenant xs y.tenant ≡ false = ap (λ z. has_tenant xs z.tenant) is ∙ no_places room xs t s.fit fresh in
-    let sized = ap (λ z. z.places) is in
-    let long = ap (λ z. length z.frames) is in
-    let unready = ap (λ z. length (ready_frames z.frames)) is in
-    record {
-      few = omega (arith, length-inserted owner_of_tree y xs, free);
-      rise = rising-inserted owner_of_tree y xs s.rise none;
-      fit = all-inserted (λ tree. FitsPlaces more tree) owner_of_tree y xs (record { within = omega (arith, long); some = omega (arith, sized, some); few = omega (arith, sized, few); room_left = omega (arith, sized, within) }) (fit_more room more xs le s.fit);
-      counted = omega (arith, sum_by-inserted ready_of owner_of_tree y xs, s.counted, unready);
-    }
+module _ {T : Type 0} {xs : List (TenantTree T)} {room ready : ℕ} {y : TenantTree T} (t places : ℕ) (s : IsSoundTable xs room ready) (fresh : places_of xs t ≡ 0)
+    (is : y ≡ record { tenant = t; places = places; frames = [] }) where
+  pub reserve_sound : {more : ℕ} → room ≤ more → places ≤ more → 1 ≤ places → places ≤ 4096 → length xs < 64 → IsSoundTable (inserted owner_of_tree y xs) more ready
+  reserve_sound {more} le within some few free =
+      let none : has_tenant xs y.tenant ≡ false = ap (λ z. has_tenant xs z.tenant) is ∙ no_places room xs t s.fit fresh in
+      let sized = ap (λ z. z.places) is in
+      let long = ap (λ z. length z.frames) is in
+      let unready = ap (λ z. length (ready_frames z.frames)) is in
+      let fits : FitsPlaces more y = record { within = omega (arith, long); some = omega (arith, sized, some); few = omega (arith, sized, few); room_left = omega (arith, sized, within) } in
+      record {
+        few = omega (arith, length-inserted owner_of_tree y xs, free);
+        rise = rising-inserted owner_of_tree y xs s.rise none;
+        fit = all-inserted (λ tree. FitsPlaces more tree) owner_of_tree y xs fits (fit_more room more xs le s.fit);
+        counted = omega (arith, sum_by-inserted ready_of owner_of_tree y xs, s.counted, unready);
+      }
 
-pub reserve_here : {T Y : Type 0} (say : TenantTree T → Y) (none : Y) (xs : List (TenantTree T)) (room ready t places : ℕ) (y : TenantTree T) → IsSoundTable xs room ready → places_of xs t ≡ 0 → y ≡ record { tenant = t; places = places; frames = [] } → read_by_number owner_of_tree say none t (inserted owner_of_tree y xs) ≡ say (record { tenant = t; places = places; frames = [] })
-reserve_here say none xs room ready t places y s fresh is =
-    rw is (said-inserted_own owner_of_tree say none (record { tenant = t; places = places; frames = [] }) xs (no_places room xs t s.fit fresh))
+  pub reserve_here : {Y : Type 0} (say : TenantTree T → Y) (none : Y) → read_by_number owner_of_tree say none t (inserted owner_of_tree y xs) ≡ say (record { tenant = t; places = places; frames = [] })
+  reserve_here say none = rw is (said-inserted_own owner_of_tree say none (record { tenant = t; places = places; frames = [] }) xs (no_places room xs t s.fit fresh))
 
-pub insert_keeps : {T : Type 0} (xs : List (TenantTree T)) (t : ℕ) (y : TenantTree T) → y.tenant ≡ t → KeepsOtherTenants xs (inserted owner_of_tree y xs) t
-insert_keeps xs t y named = record {
-  frames = λ u other. said-inserted_other owner_of_tree (λ tree. tree.frames) [] u y xs (λ e. other (sym e ∙ named));
-  places = λ u other. said-inserted_other owner_of_tree (λ tree. tree.places) 0 u y xs (λ e. other (sym e ∙ named));
-}
+module _ {T : Type 0} (xs : List (TenantTree T)) where
+  pub insert_keeps : (t : ℕ) (y : TenantTree T) → y.tenant ≡ t → KeepsOtherTenants xs (inserted owner_of_tree y xs) t
+  insert_keeps t y named = record {
+    frames = λ u other. said-inserted_other owner_of_tree (λ tree. tree.frames) [] u y xs (λ e. other (sym e ∙ named));
+    places = λ u other. said-inserted_other owner_of_tree (λ tree. tree.places) 0 u y xs (λ e. other (sym e ∙ named));
+  }
 
--- a table with room for more removed values
-pub more_room : {T : Type 0} (xs : List (TenantTree T)) (room more ready : ℕ) → room ≤ more → IsSoundTable xs room ready → IsSoundTable xs more ready
-more_room xs room more ready le s = record { few = s.few; rise = s.rise; fit = fit_more room more xs le s.fit; counted = s.counted }
+  -- a table with room for more removed values
+  pub more_room : (room more ready : ℕ) → room ≤ more → IsSoundTable xs room ready → IsSoundTable xs more ready
+  more_room room more ready le s = record { few = s.few; rise = s.rise; fit = fit_more room more xs le s.fit; counted = s.counted }
 
--- a tree that goes with no frame
-pub release_sound : {T : Type 0} (xs : List (TenantTree T)) (room ready t : ℕ) (x : TenantTree T) → IsSoundTable xs room ready → find_by_number owner_of_tree t xs ≡ Some x → frames_of xs t ≡ [] → IsSoundTable (remove_by_number owner_of_tree t xs) room ready
-release_sound xs room ready t x s is empty =
-    let unready = ap (λ fs. length (ready_frames fs)) (sym (tree_found xs t x is).frames ∙ empty) in
-    record {
-      few = omega (arith, length-without owner_of_tree t xs (has-found owner_of_tree t xs x is), s.few);
-      rise = rising-without owner_of_tree t xs s.rise;
-      fit = all-without (λ tree. FitsPlaces room tree) owner_of_tree t xs s.fit;
-      counted = omega (arith, sum_by-without ready_of owner_of_tree t x xs is, s.counted, unready);
-    }
+  -- a tree that goes with no frame
+  pub release_sound : (room ready t : ℕ) (x : TenantTree T) → IsSoundTable xs room ready → find_by_number owner_of_tree t xs ≡ Some x → frames_of xs t ≡ [] → IsSoundTable (remove_by_number owner_of_tree t xs) room ready
+  release_sound room ready t x s is empty =
+      let unready = ap (λ fs. length (ready_frames fs)) (sym (tree_found xs t x is).frames ∙ empty) in
+      record {
+        few = omega (arith, length-without owner_of_tree t xs (has-found owner_of_tree t xs x is), s.few);
+        rise = rising-without owner_of_tree t xs s.rise;
+        fit = all-without (λ tree. FitsPlaces room tree) owner_of_tree t xs s.fit;
+        counted = omega (arith, sum_by-without ready_of owner_of_tree t x xs is, s.counted, unready);
+      }
 
-pub release_keeps : {T : Type 0} (xs : List (TenantTree T)) (t : ℕ) → KeepsOtherTenants xs (remove_by_number owner_of_tree t xs) t
-release_keeps xs t = record {
-  frames = λ u other. said-without_other owner_of_tree (λ tree. tree.frames) [] u t xs (λ e. other (sym e));
-  places = λ u other. said-without_other owner_of_tree (λ tree. tree.places) 0 u t xs (λ e. other (sym e));
-}
+  pub release_keeps : (t : ℕ) → KeepsOtherTenants xs (remove_by_number owner_of_tree t xs) t
+  release_keeps t = record {
+    frames = λ u other. said-without_other owner_of_tree (λ tree. tree.frames) [] u t xs (λ e. other (sym e));
+    places = λ u other. said-without_other owner_of_tree (λ tree. tree.places) 0 u t xs (λ e. other (sym e));
+  }
 
 -- what `None` is
 pub none_is : {X : Type 0} (o : Option X) → IsNone o → o ≡ None
@@ -250,11 +211,7 @@ aborted_length serial fs = length-filter-le (λ f. not (goes_under serial f.path
 
 -- a new frame is found under its own serial alone
 pub others_there : {T : Type 0} (old new : List (Frame T)) (f : Frame T) (serial : ℕ) → new ≡ old ++ f ∷ [] → f.serial ≢ serial → has_frame new serial ≡ has_frame old serial
-others_there old new f serial is other = rw (is, has_frame-append old (f ∷ []) serial, ne_eqb f.serial serial other) (or_false (has_frame old serial))
-  where
-    or_false : (b : Bool) → (b || false) ≡ b
-    or_false true = refl
-    or_false false = refl
+others_there old new f serial is other = grind (arith, has_frame-append, ne_eqb)
 
 -- the count of its ready frames is part of that of all, its frames are within its places, and those are few
 pub record IsWithin {T : Type 0} (x : TenantTree T) (room ready : ℕ) : Type 0 where
@@ -285,26 +242,28 @@ pub record HasTree {T : Type 0} (trees : List (TenantTree T)) (room ready tenant
   pub within : IsWithin x room ready
 
 -- the trees with another in its place
-abbrev pub put : {T : Type 0} → List (TenantTree T) → ℕ → TenantTree T → List (TenantTree T)
-put trees tenant y = change_by_number owner_of_tree tenant (λ was. y) trees
+module _ {T : Type 0} where
+  abbrev pub put : List (TenantTree T) → ℕ → TenantTree T → List (TenantTree T)
+  put trees tenant y = change_by_number owner_of_tree tenant (λ was. y) trees
 
-pub has_tree : {T : Type 0} {trees : List (TenantTree T)} {room ready tenant : ℕ} {x : TenantTree T} → IsSoundTable trees room ready → find_by_number owner_of_tree tenant trees ≡ Some x → HasTree trees room ready tenant x
-has_tree {trees = trees} {room = room} {ready = ready} {tenant = tenant} {x = x} sound found = record { sound = sound; found = found; own = tree_found trees tenant x found; within = is_within trees room ready tenant x sound found }
+  pub has_tree : {trees : List (TenantTree T)} {room ready tenant : ℕ} {x : TenantTree T} → IsSoundTable trees room ready → find_by_number owner_of_tree tenant trees ≡ Some x → HasTree trees room ready tenant x
+  has_tree {trees = trees} {room = room} {ready = ready} {tenant = tenant} {x = x} sound found =
+      record { sound = sound; found = found; own = tree_found trees tenant x found; within = is_within trees room ready tenant x sound found }
 
--- another tree of the tenant's in its place: no other tenant's frames or places change
-others_keep : {T : Type 0} (trees : List (TenantTree T)) (tenant : ℕ) (y : TenantTree T) → y.tenant ≡ tenant → KeepsOtherTenants trees (put trees tenant y) tenant
-others_keep trees tenant y named = record {
-  frames = λ u other. said-with_other owner_of_tree (λ z. z.frames) [] u tenant (λ was. y) trees (λ e. other (sym e)) (λ z own. named);
-  places = λ u other. said-with_other owner_of_tree (λ z. z.places) 0 u tenant (λ was. y) trees (λ e. other (sym e)) (λ z own. named);
-}
+  -- another tree of the tenant's in its place: no other tenant's frames or places change
+  others_keep : (trees : List (TenantTree T)) (tenant : ℕ) (y : TenantTree T) → y.tenant ≡ tenant → KeepsOtherTenants trees (put trees tenant y) tenant
+  others_keep trees tenant y named = record {
+    frames = λ u other. said-with_other owner_of_tree (λ z. z.frames) [] u tenant (λ was. y) trees (λ e. other (sym e)) (λ z own. named);
+    places = λ u other. said-with_other owner_of_tree (λ z. z.places) 0 u tenant (λ was. y) trees (λ e. other (sym e)) (λ z own. named);
+  }
 
-module _ {T : Type 0} {trees : List (TenantTree T)} {room ready tenant : ℕ} {x y : TenantTree T} where
+module _ {T : Type 0} {trees : List (TenantTree T)} {room ready tenant : ℕ} {x y : TenantTree T} (tree : HasTree trees room ready tenant x) where
   -- the tree that has come into its place is the tenant's
-  here_now : HasTree trees room ready tenant x → y.tenant ≡ x.tenant → IsTreeOf (put trees tenant y) tenant y
-  here_now tree same = tree_found (put trees tenant y) tenant y (thing-with owner_of_tree tenant (λ was. y) trees x (λ z own. same ∙ tree.own.named) tree.found)
+  here_now : y.tenant ≡ x.tenant → IsTreeOf (put trees tenant y) tenant y
+  here_now same = tree_found (put trees tenant y) tenant y (thing-with owner_of_tree tenant (λ was. y) trees x (λ z own. same ∙ tree.own.named) tree.found)
 
-  still_sound : {more after : ℕ} → HasTree trees room ready tenant x → y.tenant ≡ x.tenant → FitsPlaces more y → room ≤ more → after + ready_of x ≡ ready + ready_of y → IsSoundTable (put trees tenant y) more after
-  still_sound {more} {after} tree same fits wider count = record {
+  still_sound : {more after : ℕ} → y.tenant ≡ x.tenant → FitsPlaces more y → room ≤ more → after + ready_of x ≡ ready + ready_of y → IsSoundTable (put trees tenant y) more after
+  still_sound {more} {after} same fits wider count = record {
     few = omega (arith, length-with owner_of_tree tenant (λ was. y) trees, tree.sound.few);
     rise = rising-with owner_of_tree tenant (λ was. y) trees (λ z own. same ∙ tree.own.named) tree.sound.rise;
     fit = all-with (λ z. FitsPlaces more z) owner_of_tree tenant (λ was. y) trees (fit_more room more trees wider tree.sound.fit) (λ z fit is. fits);
@@ -312,41 +271,48 @@ module _ {T : Type 0} {trees : List (TenantTree T)} {room ready tenant : ℕ} {x
   }
 
   -- other frames in it: the tenant has those, and nothing else changes
-  pub new_frames : {frames : List (Frame T)} → HasTree trees room ready tenant x → y ≡ record x { frames = frames } → frames_of (put trees tenant y) tenant ≡ frames
-  new_frames tree now = (here_now tree (ap (λ z. z.tenant) now)).frames ∙ ap (λ z. z.frames) now
+  module _ {frames : List (Frame T)} (now : y ≡ record x { frames = frames }) where
+    pub new_frames : frames_of (put trees tenant y) tenant ≡ frames
+    new_frames = (here_now (ap (λ z. z.tenant) now)).frames ∙ ap (λ z. z.frames) now
 
-  pub new_keeps : {frames : List (Frame T)} → HasTree trees room ready tenant x → y ≡ record x { frames = frames } → KeepsOtherFrames trees (put trees tenant y) tenant
-  new_keeps tree now =
-      let others = others_keep trees tenant y (ap (λ z. z.tenant) now ∙ tree.own.named) in
-      record {
-        frames = others.frames;
-        places = λ u. elim (cases_eq u tenant) [ inl e ↦ rw e ((here_now tree (ap (λ z. z.tenant) now)).places ∙ (ap (λ z. z.places) now ∙ sym tree.own.places)) | inr other ↦ others.places u other ];
-        count = length-with owner_of_tree tenant (λ was. y) trees;
-      }
+    pub new_keeps : KeepsOtherFrames trees (put trees tenant y) tenant
+    new_keeps =
+        let others = others_keep trees tenant y (ap (λ z. z.tenant) now ∙ tree.own.named) in
+        let places = (here_now (ap (λ z. z.tenant) now)).places ∙ (ap (λ z. z.places) now ∙ sym tree.own.places) in
+        record {
+          frames = others.frames;
+          places = λ u. elim (cases_eq u tenant) [ inl e ↦ rw e places | inr other ↦ others.places u other ];
+          count = length-with owner_of_tree tenant (λ was. y) trees;
+        }
 
-  pub new_sound : {frames : List (Frame T)} {after : ℕ} → HasTree trees room ready tenant x → y ≡ record x { frames = frames } → length frames ≤ x.places → after + ready_of x ≡ ready + length (ready_frames frames) → IsSoundTable (put trees tenant y) room after
-  new_sound {frames} {after} tree now within count =
-      let fits : FitsPlaces room (record x { frames = frames }) = record { within = within; some = tree.within.some; few = tree.within.few; room_left = tree.within.room_left } in
-      still_sound tree (ap (λ z. z.tenant) now) (subst (λ (z : TenantTree T). FitsPlaces room z) (sym now) fits) (omega arith) (rw now count)
+    pub new_sound : {after : ℕ} → length frames ≤ x.places → after + ready_of x ≡ ready + length (ready_frames frames) → IsSoundTable (put trees tenant y) room after
+    new_sound {after} within count =
+        let in_places = tree.within in
+        let fits : FitsPlaces room (record x { frames = frames }) = record { within = within; some = in_places.some; few = in_places.few; room_left = in_places.room_left } in
+        still_sound (ap (λ z. z.tenant) now) (subst (λ (z : TenantTree T). FitsPlaces room z) (sym now) fits) (omega arith) (rw now count)
 
   -- other places for it: the tenant has those, and no other tenant's frames or places change
-  pub raised_places : {places : ℕ} → HasTree trees room ready tenant x → y ≡ record x { places = places } → places_of (put trees tenant y) tenant ≡ places
-  raised_places tree now = (here_now tree (ap (λ z. z.tenant) now)).places ∙ ap (λ z. z.places) now
+  module _ {places : ℕ} (now : y ≡ record x { places = places }) where
+    pub raised_places : places_of (put trees tenant y) tenant ≡ places
+    raised_places = (here_now (ap (λ z. z.tenant) now)).places ∙ ap (λ z. z.places) now
 
-  pub raised_frames : {places : ℕ} → HasTree trees room ready tenant x → y ≡ record x { places = places } → frames_of (put trees tenant y) tenant ≡ frames_of trees tenant
-  raised_frames tree now = (here_now tree (ap (λ z. z.tenant) now)).frames ∙ (ap (λ z. z.frames) now ∙ sym tree.own.frames)
+    pub raised_frames : frames_of (put trees tenant y) tenant ≡ frames_of trees tenant
+    raised_frames = (here_now (ap (λ z. z.tenant) now)).frames ∙ (ap (λ z. z.frames) now ∙ sym tree.own.frames)
 
-  pub raised_keeps : {places : ℕ} → HasTree trees room ready tenant x → y ≡ record x { places = places } → KeepsOtherTenants trees (put trees tenant y) tenant
-  raised_keeps tree now = others_keep trees tenant y (ap (λ z. z.tenant) now ∙ tree.own.named)
+    pub raised_keeps : KeepsOtherTenants trees (put trees tenant y) tenant
+    raised_keeps = others_keep trees tenant y (ap (λ z. z.tenant) now ∙ tree.own.named)
 
-  pub raised_sound : {places more : ℕ} → HasTree trees room ready tenant x → y ≡ record x { places = places } → x.places ≤ places → places ≤ 4096 → places ≤ more → room ≤ more → IsSoundTable (put trees tenant y) more ready
-  raised_sound {places} {more} tree now above few enough wider =
-      let fits : FitsPlaces more (record x { places = places }) = record { within = omega (arith, tree.within.frames, above); some = omega (arith, tree.within.some, above); few = few; room_left = enough } in
-      still_sound tree (ap (λ z. z.tenant) now) (subst (λ (z : TenantTree T). FitsPlaces more z) (sym now) fits) wider (rw now refl)
+    pub raised_sound : {more : ℕ} → x.places ≤ places → places ≤ 4096 → places ≤ more → room ≤ more → IsSoundTable (put trees tenant y) more ready
+    raised_sound {more} above few enough wider =
+        let in_places = tree.within in
+        let within : length x.frames ≤ places = omega (arith, in_places.frames, above) in
+        let fits : FitsPlaces more (record x { places = places }) = record { within = within; some = omega (arith, in_places.some, above); few = few; room_left = enough } in
+        still_sound (ap (λ z. z.tenant) now) (subst (λ (z : TenantTree T). FitsPlaces more z) (sym now) fits) wider (rw now refl)
 
   -- the same tree put back: nothing has changed but the room
-  pub unraised : HasTree trees room ready tenant x → y ≡ x → put trees tenant y ≡ trees
-  unraised tree now = ap (put trees tenant) now ∙ put-same owner_of_tree tenant trees x tree.found
+  pub unraised : y ≡ x → put trees tenant y ≡ trees
+  unraised now = ap (put trees tenant) now ∙ put-same owner_of_tree tenant trees x tree.found
 
-  pub unraised_sound : {more : ℕ} → HasTree trees room ready tenant x → y ≡ x → room ≤ more → IsSoundTable (put trees tenant y) more ready
-  unraised_sound {more} tree now wider = subst (λ (xs : List (TenantTree T)). IsSoundTable xs more ready) (sym (unraised tree now)) (more_room trees room more ready wider tree.sound)
+  pub unraised_sound : {more : ℕ} → y ≡ x → room ≤ more → IsSoundTable (put trees tenant y) more ready
+  unraised_sound {more} now wider =
+      subst (λ (xs : List (TenantTree T)). IsSoundTable xs more ready) (sym (unraised now)) (more_room trees room more ready wider tree.sound)

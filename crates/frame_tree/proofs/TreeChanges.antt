@@ -1,10 +1,11 @@
 -- What each change leaves of a tree: an abort, a leaf removed, a frame added, other states and values.
 use Rattle.frame_tree.proofs.Common.{◌≡◌, ◌≢◌, ℕ, ◌<◌, inl, inr, Bool, true, false, not, eqb, List, [], ◌∷◌, ◌++◌, Option, Some, None, refl, ap, sym, ◌∙◌}
-use Rattle.frame_tree.proofs.Common.{arith, append_assoc, filter, cases_Bool, false≢true, true≢false, eq-eqb, eqb-true, or_parts, not_from_true, not_from_false}
+use Rattle.frame_tree.proofs.Common.{arith, append_assoc, filter, false≢true, true≢false, eq-eqb, eqb-true, or_parts, not_from_true, not_from_false}
 use Rattle.frame_tree.proofs.Common.{not-true, or_right, Frame, frame_at, AllBelow, goes_under, children_of, aborted, frames_without, IsNextFrame, IsTree}
 use Rattle.frame_tree.proofs.Common.{IsTreeAfter, is_child_of, AllAboveSerial, AreSerialsRising, Each, if_kept}
 use Rattle.frame_tree.proofs.Places.{above_by-filter, rises_by-filter}
-use Rattle.frame_tree.proofs.TreeLaws.{found-there, found-serial, found-path, missing, frame_at-left, frame_at-right, tree-rising, above-missing, each-found, found-each, IsUnder, IsPlaced, placed, under-through, not-under-itself, children-by-paths}
+use Rattle.frame_tree.proofs.TreeLaws.{found-there, found-serial, found-path, missing, frame_at-left, frame_at-right, tree-rising, above-missing, each-found}
+use Rattle.frame_tree.proofs.TreeLaws.{found-each, IsUnder, IsPlaced, placed, under-through, not-under-itself, children-by-paths}
 
 -- frames that rise, each in its place, are a tree
 below-rising : {T : Type 0} (before : List (Frame T)) (x : Frame T) (xs : List (Frame T)) → AreSerialsRising (before ++ x ∷ xs) → AllBelow x.serial before
@@ -20,12 +21,12 @@ rising-right [] xs rising = rising
 rising-right (y ∷ before) xs rising = rising-right before xs rising.1
 
 -- a parent stands before its child
-parent-before : {T : Type 0} (before : List (Frame T)) (x : Frame T) (xs : List (Frame T)) (p : ℕ) (f : Frame T) → AreSerialsRising (before ++ x ∷ xs) → p < x.serial →
-    frame_at (before ++ x ∷ xs) p ≡ Some f → frame_at before p ≡ Some f
-parent-before before x xs p f rising low at = grind (arith, frame_at-left, frame_at-right, rising-right, above-missing, found-there)
+module _ {T : Type 0} (before : List (Frame T)) (x : Frame T) (xs : List (Frame T)) where
+  parent-before : (p : ℕ) (f : Frame T) → AreSerialsRising (before ++ x ∷ xs) → p < x.serial → frame_at (before ++ x ∷ xs) p ≡ Some f → frame_at before p ≡ Some f
+  parent-before p f rising low at = grind (arith, frame_at-left, frame_at-right, rising-right, above-missing, found-there)
 
-next-from : {T : Type 0} (before : List (Frame T)) (x : Frame T) (xs : List (Frame T)) → AreSerialsRising (before ++ x ∷ xs) → IsPlaced (before ++ x ∷ xs) x → IsNextFrame before x
-next-from before x xs h4 h5 = grind (arith, below-rising, parent-before, found-there, found-path)
+  next-from : AreSerialsRising (before ++ x ∷ xs) → IsPlaced (before ++ x ∷ xs) x → IsNextFrame before x
+  next-from h4 h5 = grind (arith, below-rising, parent-before, found-there, found-path)
 
 tree-after : {T : Type 0} (before xs : List (Frame T)) → AreSerialsRising (before ++ xs) → Each (IsPlaced (before ++ xs)) xs → IsTreeAfter before xs
 tree-after before [] rising each = tt
@@ -47,16 +48,15 @@ module _ {T : Type 0} (keep : Frame T → Bool) where
   frame_at-filter [] s rising = refl
   frame_at-filter (x ∷ xs) s rising = grind (arith, frame_at-filter xs s, missing, above-missing, above_by-filter)
 
--- a frame that stays is found as before, and what is found was there and stays
-module _ {T : Type 0} (keep : Frame T → Bool) where
+  -- a frame that stays is found as before, and what is found was there and stays
   pub frame_at-stays : (xs : List (Frame T)) (s : ℕ) (f : Frame T) → AreSerialsRising xs → frame_at xs s ≡ Some f → keep f ≡ true → frame_at (filter keep xs) s ≡ Some f
-  frame_at-stays xs s f rising at is = frame_at-filter keep xs s rising ∙ ap (λ o. if_kept keep o) at ∙ (rw is refl)
+  frame_at-stays xs s f rising at is = frame_at-filter xs s rising ∙ ap (λ o. if_kept keep o) at ∙ (rw is refl)
 
   kept-found : (o : Option (Frame T)) (f : Frame T) → if_kept keep o ≡ Some f → (o ≡ Some f) × (keep f ≡ true)
   kept-found o f h4 = grind arith
 
   pub filter-found : (xs : List (Frame T)) (s : ℕ) (f : Frame T) → AreSerialsRising xs → frame_at (filter keep xs) s ≡ Some f → (frame_at xs s ≡ Some f) × (keep f ≡ true)
-  filter-found xs s f rising at = kept-found (frame_at xs s) f (sym (frame_at-filter keep xs s rising) ∙ at)
+  filter-found xs s f rising at = kept-found (frame_at xs s) f (sym (frame_at-filter xs s rising) ∙ at)
 
   -- a tree stays one where each frame that stays has a parent that stays
   placed-filter : (xs : List (Frame T)) (f : Frame T) → AreSerialsRising xs → IsPlaced xs f → ((u : IsUnder xs f) → keep u.above ≡ true) → IsPlaced (filter keep xs) f
@@ -82,23 +82,24 @@ module _ {T : Type 0} (p : ℕ) (xs : List (Frame T)) where
   aborted-itself f t at = grind (arith, frame_at-stays, tree-rising, not_from_false, not-under-itself)
 
 -- a child of a frame is under it, and one of a frame under p is under p
-pub child-under-parent : {T : Type 0} (xs : List (Frame T)) (p s : ℕ) (x : Frame T) → IsTree xs → frame_at xs s ≡ Some x → is_child_of p x.path ≡ true → goes_under p x.path ≡ true
-child-under-parent xs p s x t at child =
-    elim (placed xs s x t at) [
-      | inl top ↦ absurd (false≢true (rw top.0 at child))
-      | inr u ↦ (let same : eqb u.parent p ≡ true = rw u.named at child in under-through xs x p t u ∙ (rw same refl))
-    ]
+module _ {T : Type 0} (xs : List (Frame T)) (p : ℕ) where
+  pub child-under-parent : (s : ℕ) (x : Frame T) → IsTree xs → frame_at xs s ≡ Some x → is_child_of p x.path ≡ true → goes_under p x.path ≡ true
+  child-under-parent s x t at child =
+      elim (placed xs s x t at) [
+        | inl top ↦ absurd (false≢true (rw top.0 at child))
+        | inr u ↦ (let same : eqb u.parent p ≡ true = rw u.named at child in under-through xs x p t u ∙ (rw same refl))
+      ]
 
-pub child-further-under : {T : Type 0} (xs : List (Frame T)) (p q s : ℕ) (f x : Frame T) → IsTree xs → frame_at xs q ≡ Some f → goes_under p f.path ≡ true → frame_at xs s ≡ Some x → is_child_of q x.path ≡ true → goes_under p x.path ≡ true
-child-further-under {T} xs p q s f x t at_q goes at child =
-    elim (placed xs s x t at) [
-      | inl top ↦ absurd (false≢true (rw top.0 at child))
-      | inr u ↦ (let same : eqb u.parent q ≡ true = rw u.named at child in
-          let is = eqb-true u.parent q same in
-          let both : ◌≡◌ {A = Option (Frame T)} (Some u.above) (Some f) = sym u.there ∙ (rw is at_q) in
-          let e : u.above ≡ f = cc in
-          under-through xs x p t u ∙ (rw (e, goes) (or_right (eqb u.parent p) true refl)))
-    ]
+  pub child-further-under : (q s : ℕ) (f x : Frame T) → IsTree xs → frame_at xs q ≡ Some f → goes_under p f.path ≡ true → frame_at xs s ≡ Some x → is_child_of q x.path ≡ true → goes_under p x.path ≡ true
+  child-further-under q s f x t at_q goes at child =
+      elim (placed xs s x t at) [
+        | inl top ↦ absurd (false≢true (rw top.0 at child))
+        | inr u ↦ (let same : eqb u.parent q ≡ true = rw u.named at child in
+            let is = eqb-true u.parent q same in
+            let both : ◌≡◌ {A = Option (Frame T)} (Some u.above) (Some f) = sym u.there ∙ (rw is at_q) in
+            let e : u.above ≡ f = cc in
+            under-through xs x p t u ∙ (rw (e, goes) (or_right (eqb u.parent p) true refl)))
+      ]
 
 -- two tests, one after the other
 filter-filter : {T : Type 0} (p q : Frame T → Bool) (xs : List (Frame T)) → Each (λ x. q x ≡ true → p x ≡ false) xs → filter q (filter p xs) ≡ []
@@ -115,25 +116,23 @@ no-child-found {T} q xs s x none at = each-found (λ y. q y ≡ false) xs s x (a
   where
     all : (ys : List (Frame T)) → filter q ys ≡ [] → Each (λ y. q y ≡ false) ys
     all [] e = tt
-    all (y ∷ ys) e = elim (cases_Bool (q y)) [
-      | inl is ↦ (let e' : (y ∷ filter q ys) ≡ [] = rw is at e in absurd cc)
-      | inr not_so ↦ (not_so, all ys (rw not_so at e))
-    ]
+    all (y ∷ ys) e = grind (arith, all ys)
 
-pub tree-without : {T : Type 0} (p : ℕ) (xs : List (Frame T)) → IsTree xs → children_of xs p ≡ [] → IsTree (frames_without p xs)
-tree-without p xs t leaf = grind (arith, children-by-paths, tree-filter, not_from_false, found-serial, eqb-true, eq-eqb, true≢false, no-child-found)
+module _ {T : Type 0} (p : ℕ) where
+  pub tree-without : (xs : List (Frame T)) → IsTree xs → children_of xs p ≡ [] → IsTree (frames_without p xs)
+  tree-without xs t leaf = grind (arith, children-by-paths, tree-filter, not_from_false, found-serial, eqb-true, eq-eqb, true≢false, no-child-found)
 
-pub frame_at-without : {T : Type 0} (p : ℕ) (xs : List (Frame T)) → frame_at (frames_without p xs) p ≡ None
-frame_at-without p [] = refl
-frame_at-without p (x ∷ xs) = elim (cases_Bool (eqb x.serial p)) [ inl same ↦ rw same (frame_at-without p xs) | inr other ↦ rw (other, other) (frame_at-without p xs) ]
+  pub frame_at-without : (xs : List (Frame T)) → frame_at (frames_without p xs) p ≡ None
+  frame_at-without [] = refl
+  frame_at-without (x ∷ xs) = grind (arith, frame_at-without xs)
 
-pub frame_at_other-without : {T : Type 0} (p : ℕ) (xs : List (Frame T)) (s : ℕ) → p ≢ s → frame_at (frames_without p xs) s ≡ frame_at xs s
-frame_at_other-without p [] s other = refl
-frame_at_other-without p (x ∷ xs) s other = grind (arith, frame_at_other-without p xs s other)
+  pub frame_at_other-without : (xs : List (Frame T)) (s : ℕ) → p ≢ s → frame_at (frames_without p xs) s ≡ frame_at xs s
+  frame_at_other-without [] s other = refl
+  frame_at_other-without (x ∷ xs) s other = grind (arith, frame_at_other-without xs s other)
 
--- a root with all that is below it is removed
-pub tree-without_job : {T : Type 0} (p : ℕ) (xs : List (Frame T)) → IsTree xs → IsTree (frames_without p (aborted p xs))
-tree-without_job p xs t = tree-without p (aborted p xs) (tree-aborted p xs t) (aborted-leaf p xs t)
+  -- a root with all that is below it is removed
+  pub tree-without_job : (xs : List (Frame T)) → IsTree xs → IsTree (frames_without p (aborted p xs))
+  tree-without_job xs t = tree-without (aborted p xs) (tree-aborted p xs t) (aborted-leaf p xs t)
 
 -- what the changes of a tree leave
 pub ruleset under_laws = (not-under-itself, child-under-parent, child-further-under)

@@ -8,71 +8,73 @@ use Rattle.frame_tree.proofs.Finds.{one_more_same, one_more_is, EndsIn-unique}
 use Rattle.frame_tree.proofs.Forest.{AllBelow-left, AllBelow-right, has_frame-above, EndsIn, EndsIn-append, goes_under-append}
 
 -- a frame that is found
-pub found-there : {T : Type 0} (frames : List (Frame T)) (serial : ℕ) (frame : Frame T) → frame_at frames serial ≡ Some frame → has_frame frames serial ≡ true
-found-there [] serial frame at = absurd cc
-found-there (x ∷ xs) serial frame at = grind (arith, found-there xs serial frame)
+module _ {T : Type 0} where
+  pub found-there : (frames : List (Frame T)) (serial : ℕ) (frame : Frame T) → frame_at frames serial ≡ Some frame → has_frame frames serial ≡ true
+  found-there [] serial frame at = absurd cc
+  found-there (x ∷ xs) serial frame at = grind (arith, found-there xs serial frame)
 
-pub there-found : {T : Type 0} (frames : List (Frame T)) (serial : ℕ) → has_frame frames serial ≡ true → (frame : Frame T) × (frame_at frames serial ≡ Some frame)
-there-found [] serial there = absurd (false≢true there)
-there-found (x ∷ xs) serial there =
-    elim (cases_Bool (eqb x.serial serial)) [ inl same ↦ (x, rw same refl) | inr other ↦ (let rest = there-found xs serial (rw other at there) in (rest.0, rw other rest.1)) ]
+  pub there-found : (frames : List (Frame T)) (serial : ℕ) → has_frame frames serial ≡ true → (frame : Frame T) × (frame_at frames serial ≡ Some frame)
+  there-found [] serial there = absurd (false≢true there)
+  there-found (x ∷ xs) serial there =
+      elim (cases_Bool (eqb x.serial serial)) [ inl same ↦ (x, rw same refl) | inr other ↦ (let rest = there-found xs serial (rw other at there) in (rest.0, rw other rest.1)) ]
 
-pub found-serial : {T : Type 0} (frames : List (Frame T)) (serial : ℕ) (frame : Frame T) → frame_at frames serial ≡ Some frame → frame.serial ≡ serial
-found-serial [] serial frame at = absurd cc
-found-serial {T} (x ∷ xs) serial frame at = grind (arith, found-serial xs serial frame)
+  pub found-serial : (frames : List (Frame T)) (serial : ℕ) (frame : Frame T) → frame_at frames serial ≡ Some frame → frame.serial ≡ serial
+  found-serial [] serial frame at = absurd cc
+  found-serial (x ∷ xs) serial frame at = grind (arith, found-serial xs serial frame)
 
-pub frame_at-left : {T : Type 0} (xs ys : List (Frame T)) (serial : ℕ) → has_frame xs serial ≡ true → frame_at (xs ++ ys) serial ≡ frame_at xs serial
-frame_at-left [] ys serial there = absurd (false≢true there)
-frame_at-left (x ∷ xs) ys serial there = grind (arith, frame_at-left xs ys serial)
+  pub frame_at-left : (xs ys : List (Frame T)) (serial : ℕ) → has_frame xs serial ≡ true → frame_at (xs ++ ys) serial ≡ frame_at xs serial
+  frame_at-left [] ys serial there = absurd (false≢true there)
+  frame_at-left (x ∷ xs) ys serial there = grind (arith, frame_at-left xs ys serial)
 
-pub frame_at-right : {T : Type 0} (xs ys : List (Frame T)) (serial : ℕ) → has_frame xs serial ≡ false → frame_at (xs ++ ys) serial ≡ frame_at ys serial
-frame_at-right [] ys serial lacks = refl
-frame_at-right (x ∷ xs) ys serial lacks = grind (arith, frame_at-right xs ys serial)
+  pub frame_at-right : (xs ys : List (Frame T)) (serial : ℕ) → has_frame xs serial ≡ false → frame_at (xs ++ ys) serial ≡ frame_at ys serial
+  frame_at-right [] ys serial lacks = refl
+  frame_at-right (x ∷ xs) ys serial lacks = grind (arith, frame_at-right xs ys serial)
 
--- one frame more: another serial is found as before, and its own where it is above all
-pub frame_at_other-push : {T : Type 0} (xs : List (Frame T)) (y : Frame T) (serial : ℕ) → y.serial ≢ serial → frame_at (xs ++ y ∷ []) serial ≡ frame_at xs serial
-frame_at_other-push [] y serial other = rw (ne_eqb y.serial serial other) refl
-frame_at_other-push (x ∷ xs) y serial other = grind (arith, frame_at_other-push xs y serial other)
+  -- one frame more: another serial is found as before, and its own where it is above all
+  pub frame_at_other-push : (xs : List (Frame T)) (y : Frame T) (serial : ℕ) → y.serial ≢ serial → frame_at (xs ++ y ∷ []) serial ≡ frame_at xs serial
+  frame_at_other-push [] y serial other = rw (ne_eqb y.serial serial other) refl
+  frame_at_other-push (x ∷ xs) y serial other = grind (arith, frame_at_other-push xs y serial other)
 
-pub frame_at-push : {T : Type 0} (xs : List (Frame T)) (y : Frame T) → AllBelow y.serial xs → frame_at (xs ++ y ∷ []) y.serial ≡ Some y
-frame_at-push xs y below = frame_at-right xs (y ∷ []) y.serial (has_frame-above xs y.serial below) ∙ (rw (eq-eqb y.serial y.serial refl) refl)
+  pub frame_at-push : (xs : List (Frame T)) (y : Frame T) → AllBelow y.serial xs → frame_at (xs ++ y ∷ []) y.serial ≡ Some y
+  frame_at-push xs y below = frame_at-right xs (y ∷ []) y.serial (has_frame-above xs y.serial below) ∙ (rw (eq-eqb y.serial y.serial refl) refl)
 
--- a serial below a bound on all
-pub below-found : {T : Type 0} (xs : List (Frame T)) (bound serial : ℕ) → AllBelow bound xs → has_frame xs serial ≡ true → serial < bound
-below-found [] bound serial below there = absurd (false≢true there)
-below-found (x ∷ xs) bound serial below there = grind (arith, below-found xs bound serial)
+  -- a serial below a bound on all
+  pub below-found : (xs : List (Frame T)) (bound serial : ℕ) → AllBelow bound xs → has_frame xs serial ≡ true → serial < bound
+  below-found [] bound serial below there = absurd (false≢true there)
+  below-found (x ∷ xs) bound serial below there = grind (arith, below-found xs bound serial)
 
--- the frames of a tree rise
-above-linked : {T : Type 0} (before frames : List (Frame T)) (serial : ℕ) → ((bound : ℕ) → AllBelow bound before → serial < bound) → IsTreeAfter before frames → AllAboveSerial serial frames
-above-linked before [] serial low t = tt
-above-linked before (x ∷ xs) serial low t =
-    (low x.serial t.0.above, above-linked (before ++ x ∷ []) xs serial (λ bound below. low bound (AllBelow-left bound before _ below)) t.1)
+  -- the frames of a tree rise
+  above-linked : (before frames : List (Frame T)) (serial : ℕ) → ((bound : ℕ) → AllBelow bound before → serial < bound) → IsTreeAfter before frames → AllAboveSerial serial frames
+  above-linked before [] serial low t = tt
+  above-linked before (x ∷ xs) serial low t =
+      (low x.serial t.0.above, above-linked (before ++ x ∷ []) xs serial (λ bound below. low bound (AllBelow-left bound before _ below)) t.1)
 
-rising-after : {T : Type 0} (before frames : List (Frame T)) → IsTreeAfter before frames → AreSerialsRising frames
-rising-after before [] t = tt
-rising-after before (x ∷ xs) t =
-    (above-linked (before ++ x ∷ []) xs x.serial (λ bound below. (AllBelow-right bound before (x ∷ []) below).0) t.1, rising-after (before ++ x ∷ []) xs t.1)
+  rising-after : (before frames : List (Frame T)) → IsTreeAfter before frames → AreSerialsRising frames
+  rising-after before [] t = tt
+  rising-after before (x ∷ xs) t =
+      (above-linked (before ++ x ∷ []) xs x.serial (λ bound below. (AllBelow-right bound before (x ∷ []) below).0) t.1, rising-after (before ++ x ∷ []) xs t.1)
 
-pub tree-rising : {T : Type 0} (frames : List (Frame T)) → IsTree frames → AreSerialsRising frames
-tree-rising frames t = rising-after [] frames t
+  pub tree-rising : (frames : List (Frame T)) → IsTree frames → AreSerialsRising frames
+  tree-rising frames t = rising-after [] frames t
 
--- what rises above a serial hasn't got it
-pub above-missing : {T : Type 0} (xs : List (Frame T)) (low serial : ℕ) → serial ≤ low → AllAboveSerial low xs → has_frame xs serial ≡ false
-above-missing [] low serial le above = refl
-above-missing (x ∷ xs) low serial le above = grind (arith, above-missing xs low serial le)
+  -- what rises above a serial hasn't got it
+  pub above-missing : (xs : List (Frame T)) (low serial : ℕ) → serial ≤ low → AllAboveSerial low xs → has_frame xs serial ≡ false
+  above-missing [] low serial le above = refl
+  above-missing (x ∷ xs) low serial le above = grind (arith, above-missing xs low serial le)
 
 -- a fact of each frame that is found, and of each frame of the list
-pub each-found : {T : Type 0} (P : Frame T → Type 0) (frames : List (Frame T)) (serial : ℕ) (frame : Frame T) → Each P frames → frame_at frames serial ≡ Some frame → P frame
-each-found P [] serial frame each at = absurd cc
-each-found {T} P (x ∷ xs) serial frame each at = grind (arith, each-found P xs serial frame)
+module _ {T : Type 0} (P : Frame T → Type 0) where
+  pub each-found : (frames : List (Frame T)) (serial : ℕ) (frame : Frame T) → Each P frames → frame_at frames serial ≡ Some frame → P frame
+  each-found [] serial frame each at = absurd cc
+  each-found (x ∷ xs) serial frame each at = grind (arith, each-found xs serial frame)
 
-pub found-each : {T : Type 0} (P : Frame T → Type 0) (frames : List (Frame T)) → AreSerialsRising frames → ((serial : ℕ) (frame : Frame T) → frame_at frames serial ≡ Some frame → P frame) → Each P frames
-found-each P [] rising all = tt
-found-each P (x ∷ xs) rising all = (
-  all x.serial x (rw (eq-eqb x.serial x.serial refl) refl),
-  found-each P xs rising.1 (λ serial frame at. all serial frame
-      (rw (ne_eqb x.serial serial (λ e. true≢false (sym (found-there xs serial frame at) ∙ above-missing xs x.serial serial (omega (arith, e)) rising.0))) at)),
-)
+  pub found-each : (frames : List (Frame T)) → AreSerialsRising frames → ((serial : ℕ) (frame : Frame T) → frame_at frames serial ≡ Some frame → P frame) → Each P frames
+  found-each [] rising all = tt
+  found-each (x ∷ xs) rising all = (
+    all x.serial x (rw (eq-eqb x.serial x.serial refl) refl),
+    found-each xs rising.1 (λ serial frame at. all serial frame
+        (rw (ne_eqb x.serial serial (λ e. true≢false (sym (found-there xs serial frame at) ∙ above-missing xs x.serial serial (omega (arith, e)) rising.0))) at)),
+  )
 
 -- the last serial of a path is one alone
 -- a frame in its place among others: a root, whose path is its serial alone, or one step further than its parent, which is there and has a lower serial
@@ -162,20 +164,16 @@ module _ {T : Type 0} (frames : List (Frame T)) (serial : ℕ) (frame : Frame T)
 
   -- no frame is under itself
   pub not-under-itself : goes_under serial frame.path ≡ false
-  not-under-itself =
-      elim (cases_Bool (goes_under serial frame.path)) [
-        | inl goes ↦ (let low = (goes-through serial goes).0 in let e = found-serial frames serial frame at in absurd (omega (arith, low, e)))
-        | inr stays ↦ stays
-      ]
+  not-under-itself = let own = found-serial frames serial frame at in let low = goes-through serial in grind (arith, own, low)
 
 -- the children of a frame are those whose path has its serial as the last but one
 child-top : {T : Type 0} (above : List ℕ) (s : ℕ) (x : Frame T) → EndsIn above s → IsTop x → is_one_more above x.path ≡ is_child_of s x.path
 child-top [] s x ends top = absurd ends
-child-top (a ∷ above) s x ends top = rw (top.0, top.1) (none a (x.serial) above)
+child-top (a ∷ above) s x ends top = rw (top.0, top.1) (none (x.serial) above)
   where
-    none : (a b : ℕ) (above : List ℕ) → (is_one_more (a ∷ above) (b ∷ [])) ≡ false
-    none a b [] = elim (cases_Bool (eqb a b)) [ inl same ↦ rw same refl | inr other ↦ rw other refl ]
-    none a b (c ∷ above) = elim (cases_Bool (eqb a b)) [ inl same ↦ rw same refl | inr other ↦ rw other refl ]
+    none : (b : ℕ) (above : List ℕ) → (is_one_more (a ∷ above) (b ∷ [])) ≡ false
+    none b [] = grind arith
+    none b (c ∷ above) = grind arith
 
 child-under : {T : Type 0} (frames : List (Frame T)) (s : ℕ) (f x : Frame T) → IsTree frames → frame_at frames s ≡ Some f → (u : IsUnder frames x) → is_one_more f.path x.path ≡ is_child_of s x.path
 child-under {T} frames s f x t at u =
@@ -189,13 +187,14 @@ child-under {T} frames s f x t at u =
       ]
     ]
 
-filter-alike : {T : Type 0} (p q : Frame T → Bool) (frames : List (Frame T)) → Each (λ x. p x ≡ q x) frames → filter p frames ≡ filter q frames
-filter-alike p q [] each = refl
-filter-alike p q (x ∷ xs) each = grind (arith, filter-alike p q xs)
+module _ {T : Type 0} (p : Frame T → Bool) where
+  filter-alike : (q : Frame T → Bool) (frames : List (Frame T)) → Each (λ x. p x ≡ q x) frames → filter p frames ≡ filter q frames
+  filter-alike q [] each = refl
+  filter-alike q (x ∷ xs) each = grind (arith, filter-alike q xs)
 
-filter-none : {T : Type 0} (p : Frame T → Bool) (frames : List (Frame T)) → Each (λ x. p x ≡ false) frames → filter p frames ≡ []
-filter-none p [] each = refl
-filter-none p (x ∷ xs) each = rw each.0 (filter-none p xs each.1)
+  filter-none : (frames : List (Frame T)) → Each (λ x. p x ≡ false) frames → filter p frames ≡ []
+  filter-none [] each = refl
+  filter-none (x ∷ xs) each = rw each.0 (filter-none xs each.1)
 
 module _ {T : Type 0} (frames : List (Frame T)) (s : ℕ) where
   not-child-missing : (x : Frame T) → has_frame frames s ≡ false → IsPlaced frames x → is_child_of s x.path ≡ false

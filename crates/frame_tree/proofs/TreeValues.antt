@@ -1,25 +1,29 @@
 -- A tree with one frame more, with another state in a frame, and with other values: what is found, the children, and that it is a tree.
-use Rattle.frame_tree.proofs.Common.{State, filter, cases_Bool, filter-append, is_child_of, map_value, map_values, AreAlike, ◌≡◌, ◌≢◌, ℕ, zero, suc, ◌<◌, inl}
-use Rattle.frame_tree.proofs.Common.{inr, Bool, true, not, eqb, List, [], ◌∷◌, ◌++◌, Option, Some, None, refl, ap, sym, ◌∙◌, arith, append_assoc, append-nil}
+use Rattle.frame_tree.proofs.Common.{State, filter, filter-append, is_child_of, map_value, map_values, AreAlike, ◌≡◌, ◌≢◌, ℕ, zero, suc, ◌<◌, inl}
+use Rattle.frame_tree.proofs.Common.{inr, Bool, true, not, List, [], ◌∷◌, ◌++◌, Option, Some, None, refl, ap, sym, ◌∙◌, arith, append_assoc, append-nil}
 use Rattle.std.specs.Prelude.{map, option_map}
-use Rattle.frame_tree.specs.Frames.{Frame, frame_at, has_frame, has_parent, path_in, AllBelow, parent_of, path_under, goes_under, root_of, is_one_more, children_under, children_of, frames_under, aborted, frames_without, with_state, values_of, IsNextFrame, IsTree, IsTreeAfter, new_frame}
+use Rattle.frame_tree.specs.Frames.{Frame, frame_at, has_frame, has_parent, path_in, AllBelow, parent_of, path_under, goes_under, root_of, is_one_more}
+use Rattle.frame_tree.specs.Frames.{children_under, children_of, frames_under, aborted, frames_without, with_state, values_of, IsNextFrame, IsTree}
+use Rattle.frame_tree.specs.Frames.{IsTreeAfter, new_frame}
 use Rattle.frame_tree.proofs.Forest.{EndsIn, parent_of-append}
-use Rattle.frame_tree.proofs.TreeLaws.{there-found, found-serial, found-path, IsUnder, placed, found-ends, children-by-paths, frame_at-push, frame_at_other-push}
+use Rattle.frame_tree.proofs.TreeLaws.{there-found, found-serial, found-path, IsUnder, placed, found-ends, children-by-paths, frame_at-push}
+use Rattle.frame_tree.proofs.TreeLaws.{frame_at_other-push}
 
 -- one frame more
 tree-push-after : {T : Type 0} (before xs : List (Frame T)) (y : Frame T) → IsTreeAfter before xs → IsNextFrame (before ++ xs) y → IsTreeAfter before (xs ++ y ∷ [])
 tree-push-after {T} before [] y t next = (rw append-nil at next, tt)
 tree-push-after {T} before (x ∷ xs) y t next = grind (arith, tree-push-after (before ++ x ∷ []) xs y, append_assoc)
 
-pub tree-push : {T : Type 0} (xs : List (Frame T)) (y : Frame T) → IsTree xs → IsNextFrame xs y → IsTree (xs ++ y ∷ [])
-tree-push xs y t next = tree-push-after [] xs y t next
+module _ {T : Type 0} (xs : List (Frame T)) where
+  pub tree-push : (y : Frame T) → IsTree xs → IsNextFrame xs y → IsTree (xs ++ y ∷ [])
+  tree-push y t next = tree-push-after [] xs y t next
 
--- the parent of a new frame
-pub parent_of-path_under : {T : Type 0} (xs : List (Frame T)) (parent : Option ℕ) (serial : ℕ) → IsTree xs → has_parent xs parent ≡ true → parent_of (path_under xs parent serial) ≡ parent
-parent_of-path_under xs None serial t there = refl
-parent_of-path_under xs (Some p) serial t there =
-    let f = there-found xs p there in
-    parent_of-append (path_in xs p) p serial (rw (found-path xs p f.0 f.1) (found-ends xs p f.0 t f.1))
+  -- the parent of a new frame
+  pub parent_of-path_under : (parent : Option ℕ) (serial : ℕ) → IsTree xs → has_parent xs parent ≡ true → parent_of (path_under xs parent serial) ≡ parent
+  parent_of-path_under None serial t there = refl
+  parent_of-path_under (Some p) serial t there =
+      let f = there-found xs p there in
+      parent_of-append (path_in xs p) p serial (rw (found-path xs p f.0 f.1) (found-ends xs p f.0 t f.1))
 
 module _ {T : Type 0} (xs : List (Frame T)) (serial : ℕ) (parent : Option ℕ) (home : ℕ) (value : T) (t : IsTree xs) (below : AllBelow serial xs)
     (there : has_parent xs parent ≡ true) where
@@ -41,7 +45,7 @@ root_of-append (x ∷ path) s last ends = refl
 pub root-there : {T : Type 0} (xs : List (Frame T)) (s : ℕ) (f : Frame T) → IsTree xs → frame_at xs s ≡ Some f → path_in xs (root_of f.path) ≡ root_of f.path ∷ []
 root-there {T} xs s f t at =
     let P : Frame T → Type 0 = λ x. (has_frame xs x.serial ≡ true → path_in xs (root_of x.path) ≡ root_of x.path ∷ []) in
-    found s f at
+    found at
   where
     step : (x : Frame T) → (u : IsUnder xs x) → root_of x.path ≡ root_of u.above.path
     step x u = ap root_of u.path ∙ root_of-append u.above.path x.serial u.parent (found-ends xs u.parent u.above t u.there)
@@ -55,8 +59,8 @@ root-there {T} xs s f t at =
           | inr u ↦ (let below = u.below in rw (step f u) (by bound u.parent u.above (omega (arith, is, low, below)) u.there))
         ]
 
-    found : (s : ℕ) (f : Frame T) → frame_at xs s ≡ Some f → path_in xs (root_of f.path) ≡ root_of f.path ∷ []
-    found s f at = by (suc s) s f (omega arith) at
+    found : frame_at xs s ≡ Some f → path_in xs (root_of f.path) ≡ root_of f.path ∷ []
+    found at = by (suc s) s f (omega arith) at
 
 -- a frame that is no root is under the root of its path
 pub under-root : (path : List ℕ) (p : ℕ) → parent_of path ≡ Some p → goes_under (root_of path) path ≡ true
@@ -157,7 +161,7 @@ module _ {T U : Type 0} (change : T → U) where
 
   pub frame_at-map_values : (xs : List (Frame T)) (s : ℕ) → frame_at (map_values change xs) s ≡ option_map (map_value change) (frame_at xs s)
   frame_at-map_values [] s = refl
-  frame_at-map_values (x ∷ xs) s = elim (cases_Bool (eqb x.serial s)) [ inl same ↦ rw same refl | inr other ↦ rw other (frame_at-map_values xs s) ]
+  frame_at-map_values (x ∷ xs) s = grind (arith, frame_at-map_values xs s)
 
 pub append-map_values : {T U : Type 0} (change : T → U) (xs ys : List (Frame T)) → map_values change (xs ++ ys) ≡ map_values change xs ++ map_values change ys
 append-map_values change [] ys = refl
@@ -174,7 +178,6 @@ module _ {T U : Type 0} (change : T → U) where
   pub frames_under-map_values : (s : ℕ) (xs : List (Frame T)) → frames_under s (map_values change xs) ≡ map_values change (frames_under s xs)
   frames_under-map_values s xs = paths-map_values (λ path. goes_under s path) xs
 
-module _ {T U : Type 0} (change : T → U) where
   pub frames_without-map_values : (s : ℕ) (xs : List (Frame T)) → frames_without s (map_values change xs) ≡ map_values change (frames_without s xs)
   frames_without-map_values s [] = refl
   frames_without-map_values s (x ∷ xs) = grind (arith, frames_without-map_values s xs)
@@ -184,7 +187,7 @@ module _ {T U : Type 0} (change : T → U) where
     where
       by : (o : Option (Frame T)) → children_under (option_map (map_value change) o) (map_values change xs) ≡ map_values change (children_under o xs)
       by None = refl
-      by (Some f) = paths-map_values change (is_one_more f.path) xs
+      by (Some f) = paths-map_values (is_one_more f.path) xs
 
   pub with_state-map_values : (n : ℕ) (state : State) (xs : List (Frame T)) → with_state n state (map_values change xs) ≡ map_values change (with_state n state xs)
   with_state-map_values n state [] = refl

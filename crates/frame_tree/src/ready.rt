@@ -22,6 +22,7 @@ pub(crate) struct ReadyFrame {
 pub(crate) type ReadyFrames<A> = ListWindow<ReadyFrame, A>;
 
 /// The ready frame of the greatest serial; None where none is ready.
+#[tactic(auto, using(crate::proofs::Readies::ready_laws))]
 pub(crate) fn newest<A: Allocator>(ready: &ReadyFrames<A>) -> Option<ReadyFrame>
     ensures { result ≡ last_ready ready.now.list }
 {
@@ -38,6 +39,7 @@ fn place_for<A: Allocator>(ready: &ReadyFrames<A>, serial: u64) -> usize
 }
 
 /// Adds a ready frame, which isn't in the list yet, at its place by serial.
+#[tactic(auto, using(crate::proofs::Places::place_laws))]
 fn put<A: Allocator>(ready: &mut ReadyFrames<A>, serial: u64, home: u8)
     requires rise { AreRising (λ frame. frame.serial) ready.old.list }
     requires room { length ready.old.list < ready.old.places }
@@ -73,6 +75,7 @@ pub(crate) fn leave<A: Allocator>(ready: &mut ReadyFrames<A>, serial: u64, was: 
 /// Updates the list for a frame that goes from state `was` to `now`: it is removed if it was ready, and added
 /// if it is ready now.
 #[inline(always)]
+#[tactic(auto, using(crate::proofs::Readies::ready_laws))]
 pub(crate) fn follow<A: Allocator>(ready: &mut ReadyFrames<A>, serial: u64, was: State, now: State)
     requires rise { AreRising (λ frame. frame.serial) ready.old.list }
     requires room { length (put_ready serial now (without_ready serial was ready.old.list)) ≤ ready.old.places }
@@ -85,6 +88,7 @@ pub(crate) fn follow<A: Allocator>(ready: &mut ReadyFrames<A>, serial: u64, was:
 }
 
 /// Removes the ready frames of this serial and above.
+#[tactic(auto, using(crate::proofs::Places::place_laws))]
 pub(crate) fn forget_from<A: Allocator>(ready: &mut ReadyFrames<A>, serial: u64)
     requires { AreRising (λ frame. frame.serial) ready.old.list }
     ensures { ready.new ≡ record ready.old { list = filter (λ frame. nat_lt frame.serial serial) ready.old.list } }

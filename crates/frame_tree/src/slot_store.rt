@@ -106,6 +106,7 @@ impl<T: Copy, A: Allocator> SlotStore<T, A> {
     }
 
     /// How many slots there are.
+    #[tactic(auto, using(crate::proofs::SlotStores::read_laws))]
     pub(crate) fn len(&self) -> usize
         ensures { result ≡ length self.now.slots }
     {
@@ -114,6 +115,7 @@ impl<T: Copy, A: Allocator> SlotStore<T, A> {
 
     /// The slot at a place in the order of serials.
     #[inline(always)]
+    #[tactic(auto, using(crate::proofs::SlotStores::read_laws))]
     pub(crate) fn at(&self, at: usize) -> Slot<T>
         requires { at < length self.now.slots }
         ensures { result ≡ get_or self.now.slots at result }
@@ -125,6 +127,7 @@ impl<T: Copy, A: Allocator> SlotStore<T, A> {
     /// The slot with this serial; None where there is none. The guessed key is tried first, then `serials` is
     /// searched, the serials of all slots.
     #[inline(always)]
+    #[tactic(auto, using(crate::proofs::Keys::key_laws))]
     pub(crate) fn find(&self, serials: &Serials<A>, serial: u64) -> Option<Slot<T>>
         requires index { serials.now.list ≡ serials_of self.now.slots }
         requires rise { Rises self.now.slots }
@@ -173,6 +176,7 @@ impl<T: Copy, A: Allocator> SlotStore<T, A> {
 
     /// Replaces the slot at a place by one of the same serial and parent.
     #[inline(always)]
+    #[tactic(auto, using(crate::proofs::SlotStores::read_laws))]
     pub(crate) fn put(&mut self, at: usize, slot: Slot<T>)
         requires within { at < length self.old.slots }
         requires serial { slot.serial ≡ (get_or self.old.slots at slot).serial }
@@ -186,6 +190,7 @@ impl<T: Copy, A: Allocator> SlotStore<T, A> {
     /// Puts the slot with this serial, which is there, into another state, and returns the state that it was
     /// in.
     #[inline(always)]
+    #[tactic(auto, using(crate::proofs::Keys::key_laws))]
     pub(crate) fn set_state(&mut self, serials: &Serials<A>, serial: u64, state: State) -> State
         requires index { serials.now.list ≡ serials_of self.old.slots }
         requires rise { Rises self.old.slots }
@@ -204,6 +209,7 @@ impl<T: Copy, A: Allocator> SlotStore<T, A> {
     /// Appends a slot for a new frame, ready at this home, and counts one more child at its parent, if it has
     /// one.
     #[inline(always)]
+    #[tactic(auto, using(crate::proofs::SlotStores::read_laws))]
     pub(crate) fn push(
         &mut self,
         serials: &Serials<A>,
@@ -245,6 +251,7 @@ impl<T: Copy, A: Allocator> SlotStore<T, A> {
 
     /// Removes all slots below the one with serial `under`, which is at place `at` and stays, and appends their
     /// values to `removed`: one pass from that place on marks them, and a second removes the marked.
+    #[tactic(auto, using(crate::proofs::SlotStores::read_laws))]
     pub(crate) fn cut(&mut self, at: usize, under: u64, removed: &mut Vec<T, A>)
         requires within { at < length self.old.slots }
         requires named { slice_index (serials_of self.old.slots) at ≡ under }
@@ -284,6 +291,7 @@ impl<T: Copy, A: Allocator> SlotStore<T, A> {
     /// Removes and returns the slot at a place, which is no slot's parent, and counts one child less at its own
     /// parent, if it has one.
     #[inline(always)]
+    #[tactic(auto, using(crate::proofs::SlotStores::read_laws))]
     pub(crate) fn take(&mut self, at: usize) -> Slot<T>
         requires within { at < length self.old.slots }
         requires linked { IsLinked [] self.old.slots }
@@ -300,6 +308,7 @@ impl<T: Copy, A: Allocator> SlotStore<T, A> {
 }
 
 /// Enters the key of each slot into a table of guesses, by its serial.
+#[tactic(auto, using(crate::proofs::SlotStores::contains_read))]
 fn guess_all<T: Copy, A: Allocator>(
     slab: &Slab<StoredSlot<T>, A>,
     order: &ListWindow<usize, A>,
@@ -364,6 +373,7 @@ fn search_key<A: Allocator>(
 /// Counts the new frame `serial` at its parent, if it has one. Returns the new frame's root (its parent's, or
 /// itself) and the parent's key (None for a root).
 #[inline(always)]
+#[tactic(auto, using(crate::proofs::Keys::key_laws))]
 fn adopt<T: Copy, A: Allocator>(
     slab: &mut Slab<StoredSlot<T>, A>,
     order: &ListWindow<usize, A>,

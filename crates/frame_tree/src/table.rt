@@ -182,6 +182,7 @@ impl<T: Copy, A: Allocator> FrameTable<T, A> {
     }
 
     /// A tenant's tree; None where the tenant has no places.
+    #[tactic(auto, using(crate::proofs::Tenants::found_some, crate::proofs::Tenants::found_none, crate::proofs::Tenants::found_fits))]
     fn tree(&self, tenant: u64) -> Option<&TenantFrames<T, A>>
         ensures found { IfSome result (λ tree. IsTreeOf self.now tenant tree.now) }
         ensures none { IfNone result (HasNoTree self.now tenant) }
@@ -194,6 +195,7 @@ impl<T: Copy, A: Allocator> FrameTable<T, A> {
     /// `find` and `has_child` inline this and call `search_tree` after None: were the search inlined too, what it
     /// finds would be tested twice.
     #[inline(always)]
+    #[tactic(auto, using(crate::proofs::Tenants::guess_found))]
     fn guessed_tree(&self, tenant: u64) -> Option<&TenantFrames<T, A>>
         ensures { IfSome result (λ tree. IsTreeOf self.now tenant tree.now) }
     {
@@ -211,6 +213,7 @@ impl<T: Copy, A: Allocator> FrameTable<T, A> {
     }
 
     /// The names of a frame's children, by rising serial; none where there is no such frame.
+    #[tactic(auto, using(crate::proofs::Tenants::frames_found))]
     pub fn children(&self, f: FrameId) -> Children<'_, T, A>
         ensures { result ≡ names_of f.tenant (children_of (frames_of self.now f.tenant) f.serial) }
     {
@@ -218,6 +221,7 @@ impl<T: Copy, A: Allocator> FrameTable<T, A> {
     }
 
     /// The names of a tenant's frames, by rising serial; none where it has no places.
+    #[tactic(auto, using(crate::proofs::Tenants::frames_found))]
     pub fn frames(&self, tenant: u64) -> Frames<'_, T, A>
         ensures names { result ≡ names_of tenant (frames_of self.now tenant) }
         ensures tree { IsTree (frames_of self.now tenant) }
@@ -296,6 +300,7 @@ impl<T: Copy, A: Allocator> FrameTable<T, A> {
     }
 
     /// Raises the number of places of a tenant that has some to this. Where memory is refused no place has changed.
+    #[tactic(auto, using(crate::proofs::Tenants::tree_by_places))]
     fn reserve_more(&mut self, tenant: u64, segments: usize) -> Result<(), AllocError>
     where
         A: Clone,
@@ -331,6 +336,7 @@ impl<T: Copy, A: Allocator> FrameTable<T, A> {
     /// Adds a frame under this parent, or as a root, ready at this home (a worker, or 0 for the hall). What `can_add`
     /// tests must be true. Takes no memory.
     #[inline(always)]
+    #[tactic(auto, using(crate::proofs::Tenants::tree_by_places))]
     pub fn add(&mut self, f: FrameId, parent: Option<FrameId>, home: u8, value: T)
         requires above { AllBelow f.serial (frames_of self.old f.tenant) }
         requires parent { IsParentIn (frames_of self.old f.tenant) f.tenant parent }
@@ -349,6 +355,7 @@ impl<T: Copy, A: Allocator> FrameTable<T, A> {
 
     /// Puts a frame into this state.
     #[inline(always)]
+    #[tactic(auto, using(crate::proofs::Tenants::tree_by_frame))]
     pub fn set_state(&mut self, f: FrameId, state: State)
         requires { IsTrue (has_frame (frames_of self.old f.tenant) f.serial) }
         ensures frames { frames_of self.new f.tenant ≡ with_state f.serial state (frames_of self.old f.tenant) }
@@ -361,6 +368,7 @@ impl<T: Copy, A: Allocator> FrameTable<T, A> {
 
     /// Removes all frames below this one (its children, theirs, and so on); the frame itself stays. Returns the
     /// removed frames' values, by rising serial. Takes no memory.
+    #[tactic(auto, using(crate::proofs::Tenants::tree_by_frame))]
     pub fn remove_under(&mut self, f: FrameId) -> &[T]
         requires { IsTrue (has_frame (frames_of self.old f.tenant) f.serial) }
         ensures* ends { sem 𝓛 (EndsAborted T.row A.row A.Allocator self.entry f) }
@@ -376,6 +384,7 @@ impl<T: Copy, A: Allocator> FrameTable<T, A> {
 
     /// Removes all frames of a tenant; it has as many places as before. Returns the removed frames' values, by rising
     /// serial. Takes no memory.
+    #[tactic(auto, using(crate::proofs::Tenants::tree_by_places))]
     pub fn remove_all(&mut self, tenant: u64) -> &[T]
         requires { 0 < places_of self.old tenant }
         ensures* ends { sem 𝓛 (EndsEmptied T.row A.row A.Allocator self.entry tenant) }
@@ -391,6 +400,7 @@ impl<T: Copy, A: Allocator> FrameTable<T, A> {
 
     /// Removes a frame that has no child, and returns its value.
     #[inline(always)]
+    #[tactic(auto, using(crate::proofs::Tenants::tree_by_frame))]
     pub fn remove(&mut self, f: FrameId) -> T
         requires there { IsTrue (has_frame (frames_of self.old f.tenant) f.serial) }
         requires leaf { children_of (frames_of self.old f.tenant) f.serial ≡ [] }

@@ -100,6 +100,7 @@ impl<T: Copy, A: Allocator> TenantFrames<T, A> {
     }
 
     /// How many frames there are.
+    #[tactic(auto, using(crate::proofs::Finds::of_frames))]
     pub fn len(&self) -> usize
         ensures { result ≡ length self.now.frames }
     {
@@ -107,6 +108,7 @@ impl<T: Copy, A: Allocator> TenantFrames<T, A> {
     }
 
     /// How many of the frames are ready. The frames aren't gone over: the ready ones are listed.
+    #[tactic(auto, using(crate::proofs::Finds::of_frames))]
     pub fn ready(&self) -> usize
         ensures { result ≡ length (ready_frames self.now.frames) }
     {
@@ -123,6 +125,7 @@ impl<T: Copy, A: Allocator> TenantFrames<T, A> {
 
     /// The parent, state and value of a frame; `None` where there is no such frame.
     #[inline(always)]
+    #[tactic(auto, using(crate::proofs::Finds::of_frames, crate::proofs::Forest::linked_rises))]
     pub fn find(&self, serial: u64) -> Option<Entry<T>>
         ensures entry { result ≡ entry_of_frame self.now.tenant (frame_at self.now.frames serial) }
         ensures tree { IsTree self.now.frames }
@@ -134,6 +137,7 @@ impl<T: Copy, A: Allocator> TenantFrames<T, A> {
     }
 
     /// The serial of the root above a frame that is there; the frame's own where it is a root.
+    #[tactic(auto, using(crate::proofs::Keys::index_laws))]
     pub fn root(&self, serial: u64) -> u64
         requires { IsTrue (has_frame self.now.frames serial) }
         ensures { result ≡ root_of (path_in self.now.frames serial) }
@@ -144,6 +148,7 @@ impl<T: Copy, A: Allocator> TenantFrames<T, A> {
 
     /// Whether a frame has a child, by a count kept with the frame; false also where there is no such frame.
     #[inline(always)]
+    #[tactic(auto, using(crate::proofs::Forest::linked_rises))]
     pub fn has_child(&self, serial: u64) -> bool
         ensures child { IsTrue result ↔ (0 < length (children_of self.now.frames serial)) }
         ensures leaf { result ≡ false → children_of self.now.frames serial ≡ [] }
@@ -155,6 +160,7 @@ impl<T: Copy, A: Allocator> TenantFrames<T, A> {
     }
 
     /// Whether there is a frame with this serial.
+    #[tactic(auto, using(crate::proofs::Keys::index_laws))]
     pub fn contains(&self, serial: u64) -> bool
         ensures { result ≡ has_frame self.now.frames serial }
     {
@@ -191,6 +197,7 @@ impl<T: Copy, A: Allocator> TenantFrames<T, A> {
     /// Adds a frame under this parent, or as a root, ready at this home (a worker, or 0 for the hall). Its serial is
     /// above those of all frames, the parent is there, and a place is free. Takes no memory.
     #[inline(always)]
+    #[tactic(auto, using(crate::proofs::Forest::linked_rises, crate::proofs::Finds::of_frames, crate::proofs::Finds::has_parent_laws))]
     pub fn add(&mut self, serial: u64, parent: Option<u64>, home: u8, value: T)
         requires above { AllBelow serial self.old.frames }
         requires parent { has_parent self.old.frames parent ≡ true }
@@ -204,6 +211,7 @@ impl<T: Copy, A: Allocator> TenantFrames<T, A> {
 
     /// Puts a frame into this state, and returns the state that it was in before.
     #[inline(always)]
+    #[tactic(auto, using(crate::proofs::Finds::of_frames, crate::proofs::Forest::linked_rises))]
     pub fn set_state(&mut self, serial: u64, state: State) -> State
         requires { IsTrue (has_frame self.old.frames serial) }
         ensures frames { self.new ≡ record self.old { frames = with_state serial state self.old.frames } }
@@ -216,6 +224,7 @@ impl<T: Copy, A: Allocator> TenantFrames<T, A> {
 
     /// Removes all frames below this one (its children, theirs, and so on); the frame itself stays. Appends their
     /// values, by rising serial, to `removed`, which has room for them. Takes no memory.
+    #[tactic(auto, using(crate::proofs::Keys::index_laws))]
     pub fn remove_under(&mut self, serial: u64, removed: &mut Vec<T, A>)
         requires there { IsTrue (has_frame self.old.frames serial) }
         requires room { vec_len removed.old + length self.old.frames ≤ vec_capacity removed.old }
@@ -244,6 +253,7 @@ impl<T: Copy, A: Allocator> TenantFrames<T, A> {
 
     /// Removes all frames; the number of places stays. Appends the frames' values, by rising serial, to `removed`,
     /// which has room for them. Takes no memory.
+    #[tactic(auto, using(crate::proofs::Finds::of_frames))]
     pub fn remove_all(&mut self, removed: &mut Vec<T, A>)
         requires { vec_len removed.old + length self.old.frames ≤ vec_capacity removed.old }
         ensures left { self.new ≡ record self.old { frames = [] } }
@@ -257,6 +267,7 @@ impl<T: Copy, A: Allocator> TenantFrames<T, A> {
 
     /// Removes a frame that has no child, and returns its state and its value.
     #[inline(always)]
+    #[tactic(auto, using(crate::proofs::Keys::index_laws))]
     pub fn remove(&mut self, serial: u64) -> (State, T)
         requires there { IsTrue (has_frame self.old.frames serial) }
         requires leaf { children_of self.old.frames serial ≡ [] }

@@ -39,6 +39,7 @@ impl<'a, T, A: Allocator> Model for Frames<'a, T, A> {
 
 impl<'a, T, A: Allocator> Frames<'a, T, A> {
     /// The names of all frames of a tenant, whose tree this is; no name without a tree.
+    #[tactic(auto, using(crate::proofs::Finds::of_frames))]
     pub fn of(tenant: u64, tree: Option<&'a TenantFrames<T, A>>) -> Self
     where
         T: Copy,
@@ -54,6 +55,7 @@ impl<'a, T, A: Allocator> Frames<'a, T, A> {
     }
 
     /// The names of a frame's children in its tenant's tree; no name without a tree, or where the frame isn't there.
+    #[tactic(auto, using(crate::proofs::Finds::of_frames))]
     pub fn of_parent(parent: FrameId, tree: Option<&'a TenantFrames<T, A>>) -> Children<'a, T, A>
     where
         T: Copy,

@@ -89,6 +89,7 @@ impl<T: Copy, A: Allocator> ListWindow<T, A> {
     }
 
     /// Replaces the element at a place.
+    #[tactic(auto, using(crate::proofs::Places::window_laws))]
     pub(crate) fn put(&mut self, at: usize, element: T)
         requires { at < length self.old.list }
         ensures { self.new ≡ record self.old { list = set self.old.list at element } }
@@ -124,6 +125,7 @@ impl<T: Copy, A: Allocator> ListWindow<T, A> {
     /// Removes the element at a place and returns it. Either those before it or those after it move, whichever
     /// are fewer.
     #[inline(always)]
+    #[tactic(auto, using(crate::proofs::Places::window_laws))]
     pub(crate) fn remove(&mut self, at: usize) -> T
         requires { at < length self.old.list }
         ensures left { self.new ≡ record self.old { list = remove self.old.list at } }
@@ -184,6 +186,7 @@ impl<T: Copy, A: Allocator> ListWindow<T, A> {
     }
 
     /// Removes the elements from a place on; none where the list is shorter.
+    #[tactic(auto, using(crate::proofs::Places::window_laws))]
     pub(crate) fn truncate(&mut self, at: usize)
         ensures { self.new ≡ record self.old { list = take at self.old.list } }
     {

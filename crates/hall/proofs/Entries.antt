@@ -42,7 +42,8 @@ steps_in-short n e [] ls short = rw short (append-nil (short_steps n e))
 steps_in-short n e (f ∷ es) ls short = grind (arith, steps_in-short n e es (drop 1 ls) short, steps_in-short n e es ls short)
 
 -- one long entry more
-pub steps_in-long : (n : ℕ) (l : LongEntry) (es : List JournalEntry) (ls : List LongEntry) → long_count es ≡ length ls → steps_in n (es ++ Long ∷ []) (ls ++ l ∷ []) ≡ steps_in n es ls ++ long_step n l ∷ []
+pub steps_in-long : (n : ℕ) (l : LongEntry) (es : List JournalEntry) (ls : List LongEntry) → long_count es ≡ length ls →
+    steps_in n (es ++ Long ∷ []) (ls ++ l ∷ []) ≡ steps_in n es ls ++ long_step n l ∷ []
 steps_in-long n l [] [] count = refl
 steps_in-long n l [] (k ∷ ls) count = absurd (omega (arith, count))
 steps_in-long n l (f ∷ es) [] count = grind (arith, steps_in-long n l es)
@@ -58,28 +59,30 @@ pub record AreAsMany (many few raised : ℕ) (j : JournalOf) : Type 0 where
   pub longs : long_steps j.steps ≡ few
   pub raises : raise_count j.steps ≡ raised
 
-pub counts : (n p q raises : ℕ) (es : List JournalEntry) (ls : List LongEntry) (j : JournalOf) → seen n p q es ls ≡ j → long_count es ≡ length ls → raises ≡ raise_count (steps_in n es ls) → AreAsMany (length es) (length ls) raises j
-counts n p q raises es ls j is count raised = grind (arith, steps_in-length, steps_in-longs)
+module _ (n p q : ℕ) (es : List JournalEntry) (ls : List LongEntry) (j : JournalOf) (is : seen n p q es ls ≡ j) where
+  -- a step is written as a short entry
+  pub written-short : (e : JournalEntry) (new : List JournalEntry) (step : Step) → new ≡ es ++ e ∷ [] → is_long e ≡ false → short_steps j.tenant e ≡ step ∷ [] → seen n p q new ls ≡ further step j
+  written-short e new step pushed short one = grind (arith, steps_in-short, further)
 
--- where a place is left for a step, there is room for an entry; and for a long one, where one is left for that
-pub has-room : (n p q : ℕ) (es : List JournalEntry) (ls : List LongEntry) (j : JournalOf) → seen n p q es ls ≡ j → long_count es ≡ length ls → length j.steps < j.places → length es < p
-has-room n p q es ls j is count place = grind (arith, steps_in-length)
+  module _ (count : long_count es ≡ length ls) where
+    pub counts : (raises : ℕ) → raises ≡ raise_count (steps_in n es ls) → AreAsMany (length es) (length ls) raises j
+    counts raises raised = grind (arith, steps_in-length, steps_in-longs)
 
-pub has-long-room : (n p q : ℕ) (es : List JournalEntry) (ls : List LongEntry) (j : JournalOf) → seen n p q es ls ≡ j → long_count es ≡ length ls → long_steps j.steps < j.longs → length ls < q
-has-long-room n p q es ls j is count place = grind (arith, steps_in-longs)
+    -- where a place is left for a step, there is room for an entry; and for a long one, where one is left for that
+    pub has-room : length j.steps < j.places → length es < p
+    has-room place = grind (arith, steps_in-length)
 
--- a step is written as a short entry
-pub written-short : (n p q : ℕ) (e : JournalEntry) (es new : List JournalEntry) (ls : List LongEntry) (j : JournalOf) (step : Step) → seen n p q es ls ≡ j → new ≡ es ++ e ∷ [] → is_long e ≡ false → short_steps j.tenant e ≡ step ∷ [] → seen n p q new ls ≡ further step j
-written-short n p q e es new ls j step is pushed short one = grind (arith, steps_in-short, further)
+    pub has-long-room : long_steps j.steps < j.longs → length ls < q
+    has-long-room place = grind (arith, steps_in-longs)
 
--- a step is written as a long one
-pub written-long : (n p q : ℕ) (es new : List JournalEntry) (l : LongEntry) (ls more : List LongEntry) (j : JournalOf) (step : Step) → seen n p q es ls ≡ j → long_count es ≡ length ls → new ≡ es ++ Long ∷ [] → more ≡ ls ++ l ∷ [] → long_step j.tenant l ≡ step → seen n p q new more ≡ further step j
-written-long n p q es new l ls more j step is count pushed added one = grind (arith, steps_in-long, further)
+    module _ (new : List JournalEntry) (l : LongEntry) (more : List LongEntry) (step : Step) (pushed : new ≡ es ++ Long ∷ []) (added : more ≡ ls ++ l ∷ [])
+        (one : long_step j.tenant l ≡ step) where
+      -- a step is written as a long one
+      pub written-long : seen n p q new more ≡ further step j
+      written-long = grind (arith, steps_in-long, further)
 
--- a step that raises what is reserved is written as a long one, in the places that it makes
-pub written-raise : (n p q r s : ℕ) (es new : List JournalEntry) (l : LongEntry) (ls more : List LongEntry) (j : JournalOf) (step : Step) → seen n p q es ls ≡ j → long_count es ≡ length ls → new ≡ es ++ Long ∷ [] → more ≡ ls ++ l ∷ [] → long_step j.tenant l ≡ step →
-    r ≡ places_with (raise_in step) j → s ≡ longs_with (raise_in step) j → seen n r s new more ≡ longer step j
-written-raise n p q r s es new l ls more j step is count pushed added one places longs =
-    ap (λ (k : JournalOf). record { tenant = k.tenant; places = r; longs = s; steps = k.steps }) (written-long n p q es new l ls more j step is count pushed added one)
-    ∙ ap (λ (k : ℕ). record { tenant = j.tenant; places = k; longs = s; steps = j.steps ++ step ∷ [] }) places
-    ∙ ap (λ (k : ℕ). record { tenant = j.tenant; places = places_with (raise_in step) j; longs = k; steps = j.steps ++ step ∷ [] }) longs
+      -- a step that raises what is reserved is written as a long one, in the places that it makes
+      pub written-raise : (r s : ℕ) → r ≡ places_with (raise_in step) j → s ≡ longs_with (raise_in step) j → seen n r s new more ≡ longer step j
+      written-raise r s places longs =
+          ap (λ (k : JournalOf). record { tenant = k.tenant; places = r; longs = s; steps = k.steps }) written-long
+          ∙ (λ i. record { tenant = j.tenant; places = places i; longs = longs i; steps = j.steps ++ step ∷ [] })

@@ -48,15 +48,13 @@ abbrev pub longs_of : JournalOf → ℕ
 longs_of journal = journal.longs
 
 -- one more step
-pub step-own : (n : ℕ) (step : Step) (js : Js) → has_journal n js ≡ true → journal_in (with_step n step js) n ≡ journal_in js n ++ step ∷ []
-step-own n step js has = said-with_own owner_of_journal steps_of [] (λ steps. steps ++ step ∷ []) n (longer step) js (λ j own. own) (λ j. refl) (λ lacks. absurd (false≢true (sym lacks ∙ has)))
+module _ (n : ℕ) (step : Step) where
+  pub step-own : (js : Js) → has_journal n js ≡ true → journal_in (with_step n step js) n ≡ journal_in js n ++ step ∷ []
+  step-own js has = said-with_own owner_of_journal steps_of [] (λ steps. steps ++ step ∷ []) n (longer step) js (λ j own. own) (λ j. refl) (λ lacks. absurd (false≢true (sym lacks ∙ has)))
 
-pub step-total : (n : ℕ) (step : Step) (js : Js) → has_journal n js ≡ true → total_length (with_step n step js) ≡ total_length js + 1
-step-total n step [] has = absurd (false≢true has)
-step-total n step (j ∷ js) has = elim (cases_Bool (eqb j.tenant n)) [
-  | inl same ↦ (let one = length-append j.steps (step ∷ []) in rw same (omega (arith, one)))
-  | inr other ↦ (let rest = step-total n step js (rw other at has) in rw other (omega (arith, rest)))
-]
+  pub step-total : (js : Js) → has_journal n js ≡ true → total_length (with_step n step js) ≡ total_length js + 1
+  step-total [] has = absurd (false≢true has)
+  step-total (j ∷ js) has = grind (arith, step-total js, length-append)
 
 -- what a step raises is what is reserved after it
 raised-after : (step : Step) (steps : List Step) → is_appended step ≡ true → reserved_in (steps ++ step ∷ []) ≡ newer (reserved_in steps) (raise_in step)
@@ -65,13 +63,12 @@ raised-after step steps goes = reserved-more (record { segments = 0; nodes = 0 }
 pub counted-after : (step : Step) (steps : List Step) (r : Option Quota) → raise_in step ≡ r → raise_count (steps ++ step ∷ []) ≡ raise_count steps + one_for r
 counted-after step steps r is = raise-more steps step ∙ ap (λ (o : Option Quota). raise_count steps + one_for o) is
 
-pub longer-places : (step : Step) (j : JournalOf) → is_appended step ≡ true → j.places ≡ places_for (reserved_in j.steps) + raise_count j.steps →
-    places_with (raise_in step) j ≡ places_for (reserved_in (j.steps ++ step ∷ [])) + raise_count (j.steps ++ step ∷ [])
-longer-places step j goes places = grind (arith, raised-after, raise-more)
+module _ (step : Step) (j : JournalOf) (goes : is_appended step ≡ true) where
+  pub longer-places : j.places ≡ places_for (reserved_in j.steps) + raise_count j.steps → places_with (raise_in step) j ≡ places_for (reserved_in (j.steps ++ step ∷ [])) + raise_count (j.steps ++ step ∷ [])
+  longer-places places = grind (arith, raised-after, raise-more)
 
-pub longer-longs : (step : Step) (j : JournalOf) → is_appended step ≡ true → j.longs ≡ longs_for (reserved_in j.steps) + raise_count j.steps →
-    longs_with (raise_in step) j ≡ longs_for (reserved_in (j.steps ++ step ∷ [])) + raise_count (j.steps ++ step ∷ [])
-longer-longs step j goes longs = grind (arith, raised-after, raise-more)
+  pub longer-longs : j.longs ≡ longs_for (reserved_in j.steps) + raise_count j.steps → longs_with (raise_in step) j ≡ longs_for (reserved_in (j.steps ++ step ∷ [])) + raise_count (j.steps ++ step ∷ [])
+  longer-longs longs = grind (arith, raised-after, raise-more)
 
 -- what is reserved stays within the limits, and above the count of raises
 limits-with : (r : Option Quota) (now : Quota) (count : ℕ) → IsAllowed r → Brings r now → now.segments ≤ 4096 → now.nodes ≤ 65536 → count ≤ now.segments + now.nodes →
@@ -79,7 +76,8 @@ limits-with : (r : Option Quota) (now : Quota) (count : ℕ) → IsAllowed r →
 limits-with r now count allowed brings segments nodes raised = grind arith
 
 -- a journal that has a place for one more
-longer-begun : (step : Step) (j : JournalOf) → is_appended step ≡ true → IsAllowed (raise_in step) → Brings (raise_in step) (reserved_in j.steps) → length j.steps < places_with (raise_in step) j → IsBegun j → IsBegun (longer step j)
+longer-begun : (step : Step) (j : JournalOf) → is_appended step ≡ true → IsAllowed (raise_in step) → Brings (raise_in step) (reserved_in j.steps) → length j.steps < places_with (raise_in step) j →
+    IsBegun j → IsBegun (longer step j)
 longer-begun step j goes allowed brings place is =
     let limits = limits-with (raise_in step) (reserved_in j.steps) (raise_count j.steps) allowed brings is.segments is.nodes is.raised in
     let segments = ap (λ (q : Quota). q.segments) (raised-after step j.steps goes) in
@@ -107,20 +105,23 @@ pub record IsAt (n : ℕ) (js : Js) : Type 0 where
   pub begun : IsBegun journal
 
 found : (n : ℕ) (js : Js) (j : JournalOf) → find_by_number owner_of_journal n js ≡ Some j → AreBegun js → IsAt n js
-found n js j is begun = record {
-  journal = j;
-  steps = said-found owner_of_journal steps_of [] n js j is;
-  places = said-found owner_of_journal places_of 0 n js j is;
-  longs = said-found owner_of_journal longs_of 0 n js j is;
-  after = λ step. said-found owner_of_journal places_of 0 n (with_step n step js) (longer step j) (thing-with owner_of_journal n (longer step) js j (λ i own. own) is);
-  long_after = λ step. said-found owner_of_journal longs_of 0 n (with_step n step js) (longer step j) (thing-with owner_of_journal n (longer step) js j (λ i own. own) is);
-  begun = all-of IsBegun owner_of_journal n j js is begun;
-}
+found n js j is begun =
+    let after = λ (step : Step). thing-with owner_of_journal n (longer step) js j (λ i own. own) is in
+    record {
+      journal = j;
+      steps = said-found owner_of_journal steps_of [] n js j is;
+      places = said-found owner_of_journal places_of 0 n js j is;
+      longs = said-found owner_of_journal longs_of 0 n js j is;
+      after = λ step. said-found owner_of_journal places_of 0 n (with_step n step js) (longer step j) (after step);
+      long_after = λ step. said-found owner_of_journal longs_of 0 n (with_step n step js) (longer step j) (after step);
+      begun = all-of IsBegun owner_of_journal n j js is begun;
+    }
 
 pub found-at : (n : ℕ) (js : Js) → has_journal n js ≡ true → AreBegun js → IsAt n js
 found-at n js has begun = (let there = thing-there owner_of_journal n js has in found n js there.0 there.1 begun)
 
-pub step-begun : (n : ℕ) (step : Step) (js : Js) → is_appended step ≡ true → IsAllowed (raise_in step) → Brings (raise_in step) (reserved_in (journal_in js n)) → length (journal_in js n) < places_in (with_step n step js) n → AreBegun js → AreBegun (with_step n step js)
+pub step-begun : (n : ℕ) (step : Step) (js : Js) → is_appended step ≡ true → IsAllowed (raise_in step) → Brings (raise_in step) (reserved_in (journal_in js n)) →
+    length (journal_in js n) < places_in (with_step n step js) n → AreBegun js → AreBegun (with_step n step js)
 unfolding found
 step-begun n step js goes allowed brings place begun = all-with IsBegun owner_of_journal n (longer step) js begun (λ j is there.
     let at = found n js j there begun in
@@ -129,29 +130,29 @@ step-begun n step js goes allowed brings place begun = all-with IsBegun owner_of
 -- one fewer
 pub without-total : (n : ℕ) (js : Js) → total_length (without_journal n js) + length (journal_in js n) ≡ total_length js
 without-total n [] = omega arith
-without-total n (j ∷ js) = elim (cases_Bool (eqb j.tenant n)) [
-  | inl same ↦ rw same (omega arith)
-  | inr other ↦ (let rest = without-total n js in rw other (omega (arith, rest)))
-]
+without-total n (j ∷ js) = grind (arith, without-total n js)
 
--- one more, of a tenant above all others
-pub push-own : (m : ℕ) (j : JournalOf) (js : Js) → AreUpTo m js → m < j.tenant → journal_in (js ++ j ∷ []) j.tenant ≡ j.steps
-push-own m j [] upto below = rw (eq-eqb j.tenant j.tenant refl) refl
-push-own m j (i ∷ js) upto below = grind (arith, push-own m j js upto.1 below, ne_eqb)
+-- one more
+module _ (j : JournalOf) where
+  pub push-other : (n : ℕ) (js : Js) → j.tenant ≢ n → journal_in (js ++ j ∷ []) n ≡ journal_in js n
+  push-other n [] ne = rw (ne_eqb j.tenant n ne) refl
+  push-other n (i ∷ js) ne = grind (arith, push-other n js ne)
 
-pub push-other : (n : ℕ) (j : JournalOf) (js : Js) → j.tenant ≢ n → journal_in (js ++ j ∷ []) n ≡ journal_in js n
-push-other n j [] ne = rw (ne_eqb j.tenant n ne) refl
-push-other n j (i ∷ js) ne = grind (arith, push-other n j js ne)
+  pub push-total : (js : Js) → total_length (js ++ j ∷ []) ≡ total_length js + length j.steps
+  push-total [] = omega arith
+  push-total (i ∷ js) = (let rest = push-total js in omega (arith, rest))
 
-pub push-total : (j : JournalOf) (js : Js) → total_length (js ++ j ∷ []) ≡ total_length js + length j.steps
-push-total j [] = omega arith
-push-total j (i ∷ js) = (let rest = push-total j js in omega (arith, rest))
+-- of a tenant above all others
+module _ (m : ℕ) (j : JournalOf) (above : m < j.tenant) where
+  pub push-own : (js : Js) → AreUpTo m js → journal_in (js ++ j ∷ []) j.tenant ≡ j.steps
+  push-own [] upto = rw (eq-eqb j.tenant j.tenant refl) refl
+  push-own (i ∷ js) upto = grind (arith, push-own js upto.1, ne_eqb)
 
-pub push-rising : (m : ℕ) (j : JournalOf) (js : Js) → AreUpTo m js → m < j.tenant → AreRising owner_of_journal js → AreRising owner_of_journal (js ++ j ∷ [])
-push-rising m j js upto below rising = grind (arith, rising-push, all-map)
+  pub push-rising : (js : Js) → AreUpTo m js → AreRising owner_of_journal js → AreRising owner_of_journal (js ++ j ∷ [])
+  push-rising js upto rising = grind (arith, rising-push, all-map)
 
-pub push-upto : (m : ℕ) (j : JournalOf) (js : Js) → AreUpTo m js → m < j.tenant → AreUpTo j.tenant (js ++ j ∷ [])
-push-upto m j js upto below = grind (arith, all-push, all-map)
+  pub push-upto : (js : Js) → AreUpTo m js → AreUpTo j.tenant (js ++ j ∷ [])
+  push-upto js upto = grind (arith, all-push, all-map)
 
 -- no journal is longer than its places, of which there are at most 1,118,978
 pub total-within : (js : Js) → AreBegun js → total_length js ≤ length js * 1118978
@@ -165,5 +166,7 @@ pub at-place : (n : ℕ) (js read : Js) (at : ℕ) → AreRising owner_of_journa
 at-place n js read at rising has same is = place-found owner_of_journal n js at rising has (is ∙ ap (count_below owner_of_journal n) same)
 
 -- the journal that stood there is taken out
-pub at-left : (n : ℕ) (js removed : Js) (at : ℕ) (j : JournalOf) (long : ℕ) → IsPlace owner_of_journal n js at → removed ≡ remove js at → j ≡ get_or js at j → long ≡ length j.steps → (removed ≡ without_journal n js) × (long ≡ length (journal_in js n))
-at-left n js removed at j long place gone stands long_is = (gone ∙ at-removed owner_of_journal n js at place, long_is ∙ ap length (sym (at-said owner_of_journal steps_of [] n js at j place stands)))
+pub at-left : (n : ℕ) (js removed : Js) (at : ℕ) (j : JournalOf) (long : ℕ) → IsPlace owner_of_journal n js at → removed ≡ remove js at → j ≡ get_or js at j → long ≡ length j.steps →
+    (removed ≡ without_journal n js) × (long ≡ length (journal_in js n))
+at-left n js removed at j long place gone stands long_is =
+    (gone ∙ at-removed owner_of_journal n js at place, long_is ∙ ap length (sym (at-said owner_of_journal steps_of [] n js at j place stands)))

@@ -1,6 +1,6 @@
 -- A journal stays within its places for long entries: each frame is given at most one Answer, and a job at most one Submit and one Cancel.
 use Rattle.hall.proofs.Common.{◌≡◌, ℕ, ◌+◌, ◌≤◌, List, [], ◌∷◌, length, Option, Some, None, Result, Ok, Err, refl, ap, arith, if◌then◌else◌, root_of, Done, Spent as SpentJob, Cancelled as CancelledJob, Refusal, OldTenant, StepOf, Admit, AdmitMore, Submit, Answer, Cancel, Functions, Tenant, admitted_with, Outcome, lone_step, ended, state_after, alone_from, LeafAnswer, jamboree, IsShaped, AreSearches, StaysTaken, AreTakenFrom, IsJournalOf, unless-passed, came, by-kinds, step-shaped, admitted-shaped, length-with_ended, live-root, root-above, one_if_answer, answer_count, journal-answers, is_long_step, long_steps, raise_in, one_for, raise_count, ended_count}
-use Rattle.hall.proofs.Using.{job-ended, submit-used, ended-more, ended-few, told-by}
+use Rattle.hall.proofs.Using.{followed, job-ended, submit-used, ended-more, ended-few, told-by}
 
 -- how often a tenant has asked: one Submit a job, and at most one Cancel for each that has ended
 abbrev pub asked : Tenant → ℕ
@@ -14,23 +14,24 @@ HasAsked more tenant (Some after) = asked tenant + more ≤ asked after
 finish-asked : (tenant : Tenant) (root : ℕ) (words : List ℕ) → asked tenant + 0 ≤ asked (ended root (Done words) tenant)
 finish-asked tenant root words = grind (arith, ended-more, length-with_ended)
 
-any-asked : {I A : Type 0} (functions : Functions I A) (tenant : Tenant) (step : StepOf A) (outcome : Outcome I) → lone_step functions tenant step ≡ Ok outcome → IsShaped tenant → HasAsked 0 tenant outcome.0
-any-asked functions tenant step outcome is shape = by-kinds functions tenant step outcome (HasAsked 0 tenant) is (record {
-  at_raise = λ number quota raises. omega arith;
-  at_submit = λ serials root frames. (let more = submit-used tenant root in omega (arith, more));
-  at_work = λ serials frames. omega arith;
-  at_finish = λ root words. finish-asked tenant root words;
-  at_spend = λ serial f at. (let more = (job-ended (root_of f.path) SpentJob tenant tt shape (root-above tenant serial f shape at)).0 in omega (arith, more));
-  at_cancel = λ number root at. (let more = (job-ended root CancelledJob tenant tt shape (live-root tenant number root shape at)).0 in omega (arith, more));
-  at_leave = λ number leaves. tt;
-})
+module _ {I A : Type 0} (functions : Functions I A) (tenant : Tenant) where
+  any-asked : (step : StepOf A) (outcome : Outcome I) → lone_step functions tenant step ≡ Ok outcome → IsShaped tenant → HasAsked 0 tenant outcome.0
+  any-asked step outcome is shape = by-kinds functions tenant step outcome (HasAsked 0 tenant) is (record {
+    at_raise = λ number quota raises. omega arith;
+    at_submit = λ serials root frames. (let more = submit-used tenant root in omega (arith, more));
+    at_work = λ serials frames. omega arith;
+    at_finish = λ root words. finish-asked tenant root words;
+    at_spend = λ serial f at. (let more = (job-ended (root_of f.path) SpentJob tenant tt shape (root-above tenant serial f shape at)).0 in omega (arith, more));
+    at_cancel = λ number root at. (let more = (job-ended root CancelledJob tenant tt shape (live-root tenant number root shape at)).0 in omega (arith, more));
+    at_leave = λ number leaves. tt;
+  })
 
--- a Submit and a Cancel
-submit-asked : {I A : Type 0} (functions : Functions I A) (tenant : Tenant) (number : ℕ) (words : List ℕ) (size : ℕ) (outcome : Outcome I) → lone_step functions tenant (Submit number words size) ≡ Ok outcome → HasAsked 1 tenant outcome.0
-submit-asked {I} functions tenant number words size outcome is = grind (arith, unless-passed, came, submit-used)
+  -- a Submit and a Cancel
+  submit-asked : (number : ℕ) (words : List ℕ) (size : ℕ) (outcome : Outcome I) → lone_step functions tenant (Submit number words size) ≡ Ok outcome → HasAsked 1 tenant outcome.0
+  submit-asked number words size outcome is = grind (arith, unless-passed, came, submit-used)
 
-cancel-asked : {I A : Type 0} (functions : Functions I A) (tenant : Tenant) (number job : ℕ) (outcome : Outcome I) → lone_step functions tenant (Cancel number job) ≡ Ok outcome → IsShaped tenant → HasAsked 1 tenant outcome.0
-cancel-asked {I} functions tenant number job outcome is shape = grind (arith, came, job-ended, live-root)
+  cancel-asked : (number job : ℕ) (outcome : Outcome I) → lone_step functions tenant (Cancel number job) ≡ Ok outcome → IsShaped tenant → HasAsked 1 tenant outcome.0
+  cancel-asked number job outcome is shape = grind (arith, came, job-ended, live-root)
 
 -- each long step is a raise, an Answer, or asks
 abbrev one_if_long : {A : Type 0} → StepOf A → ℕ
@@ -40,40 +41,43 @@ abbrev Accounted : {A : Type 0} → StepOf A → Tenant → Option Tenant → Ty
 Accounted step tenant None = Unit {0}
 Accounted step tenant (Some after) = asked tenant + one_if_long step ≤ asked after + one_for (raise_in step) + one_if_answer step
 
-account : {A : Type 0} (step : StepOf A) (tenant : Tenant) (after : Option Tenant) (more : ℕ) → one_if_long step ≤ more + one_for (raise_in step) + one_if_answer step → HasAsked more tenant after → Accounted step tenant after
+account : {A : Type 0} (step : StepOf A) (tenant : Tenant) (after : Option Tenant) (more : ℕ) → one_if_long step ≤ more + one_for (raise_in step) + one_if_answer step →
+    HasAsked more tenant after → Accounted step tenant after
 account step tenant after more long has = grind arith
 
-step-accounted : {I A : Type 0} (functions : Functions I A) (tenant : Tenant) (step : StepOf A) (outcome : Outcome I) → lone_step functions tenant step ≡ Ok outcome → IsShaped tenant → Accounted step tenant outcome.0
-step-accounted {I} {A} functions tenant (Admit number quota) outcome is shape = (let no_admission : ◌≡◌ {A = Result (Outcome I) Refusal} (Err OldTenant) (Ok outcome) = is in absurd cc)
-step-accounted {I} {A} functions tenant (Submit number words size) outcome is shape = account {A = A} (Submit number words size) tenant outcome.0 1 (omega arith) (submit-asked functions tenant number words size outcome is)
-step-accounted {I} {A} functions tenant (Cancel number job) outcome is shape = account {A = A} (Cancel number job) tenant outcome.0 1 (omega arith) (cancel-asked functions tenant number job outcome is shape)
-step-accounted {I} {A} functions tenant (AdmitMore number quota) outcome is shape = account {A = A} (AdmitMore number quota) tenant outcome.0 0 (omega arith) (any-asked functions tenant (AdmitMore number quota) outcome is shape)
-step-accounted {I} {A} functions tenant (Answer worker name answer) outcome is shape = account {A = A} (Answer worker name answer) tenant outcome.0 0 (omega arith) (any-asked functions tenant (Answer worker name answer) outcome is shape)
-step-accounted {I} {A} functions tenant step outcome is shape = account {A = A} step tenant outcome.0 0 (omega arith) (any-asked functions tenant step outcome is shape)
+module _ {I A : Type 0} (functions : Functions I A) (tenant : Tenant) where
+  -- what was asked of a step that asks nothing, where it isn't long but for a raise and an Answer
+  asks-none : (step : StepOf A) (outcome : Outcome I) → one_if_long step ≤ one_for (raise_in step) + one_if_answer step → lone_step functions tenant step ≡ Ok outcome → IsShaped tenant →
+      Accounted step tenant outcome.0
+  asks-none step outcome long is shape = account step tenant outcome.0 0 (omega (arith, long)) (any-asked functions tenant step outcome is shape)
+
+  step-accounted : (step : StepOf A) (outcome : Outcome I) → lone_step functions tenant step ≡ Ok outcome → IsShaped tenant → Accounted step tenant outcome.0
+  step-accounted (Admit number quota) outcome is shape = (let no_admission : ◌≡◌ {A = Result (Outcome I) Refusal} (Err OldTenant) (Ok outcome) = is in absurd cc)
+  step-accounted (Submit number words size) outcome is shape = account {A = A} (Submit number words size) tenant outcome.0 1 (omega arith) (submit-asked functions tenant number words size outcome is)
+  step-accounted (Cancel number job) outcome is shape = account {A = A} (Cancel number job) tenant outcome.0 1 (omega arith) (cancel-asked functions tenant number job outcome is shape)
+  step-accounted (AdmitMore number quota) outcome is shape = asks-none (AdmitMore number quota) outcome (omega arith) is shape
+  step-accounted (Answer worker name answer) outcome is shape = asks-none (Answer worker name answer) outcome (omega arith) is shape
+  step-accounted step outcome is shape = asks-none step outcome (omega arith) is shape
 
 -- over the steps of a journal
-longs-from : {I A : Type 0} (functions : Functions I A) (before tenant : Tenant) (steps : List (StepOf A)) → AreTakenFrom functions (Some before) steps → alone_from functions (Some before) steps ≡ Some tenant → IsShaped before →
-    asked before + long_steps steps ≤ asked tenant + raise_count steps + answer_count steps
+longs-from : {I A : Type 0} (functions : Functions I A) (before tenant : Tenant) (steps : List (StepOf A)) → AreTakenFrom functions (Some before) steps →
+    alone_from functions (Some before) steps ≡ Some tenant → IsShaped before → asked before + long_steps steps ≤ asked tenant + raise_count steps + answer_count steps
 longs-from functions before tenant [] taken comes shape = (let own : before ≡ tenant = cc in let same = ap asked own in omega (arith, same))
-longs-from {I} {A} functions before tenant (step ∷ steps) taken comes shape =
-    by (λ next on to well. longs-from functions next tenant steps on to well) (lone_step functions before step) refl taken.0 taken.1 comes
-  where
-    by : ((next : Tenant) → AreTakenFrom functions (Some next) steps → alone_from functions (Some next) steps ≡ Some tenant → IsShaped next → asked next + long_steps steps ≤ asked tenant + raise_count steps + answer_count steps) →
-        (result : Result (Outcome I) Refusal) → lone_step functions before step ≡ result → StaysTaken result → AreTakenFrom functions (state_after (Some before) result) steps →
-        alone_from functions (state_after (Some before) result) steps ≡ Some tenant → asked before + long_steps (step ∷ steps) ≤ asked tenant + raise_count (step ∷ steps) + answer_count (step ∷ steps)
-    by later (Ok (None, did)) is stays on to = absurd stays
-    by later (Err refusal) is stays on to = absurd stays
-    by later (Ok (Some next, did)) is stays on to =
-        let one : asked before + one_if_long step ≤ asked next + one_for (raise_in step) + one_if_answer step = step-accounted functions before step (Some next, did) is shape in
-        omega (arith, one, later next on to (step-shaped functions before step (Some next, did) is shape))
+longs-from functions before tenant (step ∷ steps) taken comes shape =
+    let f = followed functions before tenant step steps taken comes shape in
+    let next = f.next in
+    let one : asked before + one_if_long step ≤ asked next + one_for (raise_in step) + one_if_answer step = step-accounted functions before step (Some next, f.did) f.is shape in
+    omega (arith, one, longs-from functions next tenant steps f.on f.to f.shape)
 
-from-admission : {I A : Type 0} (functions : Functions I A) (journal : List (StepOf A)) (tenant : Tenant) → IsJournalOf functions journal tenant → long_steps journal ≤ asked tenant + raise_count journal + answer_count journal + 1
+from-admission : {I A : Type 0} (functions : Functions I A) (journal : List (StepOf A)) (tenant : Tenant) → IsJournalOf functions journal tenant →
+    long_steps journal ≤ asked tenant + raise_count journal + answer_count journal + 1
 from-admission functions [] tenant is = (let none : None ≡ Some tenant = is.comes in absurd cc)
 from-admission functions (Admit number quota ∷ later) tenant is = (let all = longs-from functions (admitted_with quota) tenant later is.taken.1 is.comes (admitted-shaped quota) in omega (arith, all))
 from-admission functions (_ ∷ later) tenant is = absurd is.taken.0
 
 -- how many steps of a journal of searches are kept in long entries at most
-pub journal-longs : (grain : ℕ) (journal : List (StepOf LeafAnswer)) (tenant : Tenant) → IsJournalOf (jamboree grain) journal tenant → AreSearches journal → long_steps journal ≤ tenant.reserve.nodes + 513 + raise_count journal
+pub journal-longs : (grain : ℕ) (journal : List (StepOf LeafAnswer)) (tenant : Tenant) → IsJournalOf (jamboree grain) journal tenant → AreSearches journal →
+    long_steps journal ≤ tenant.reserve.nodes + 513 + raise_count journal
 journal-longs grain journal tenant is searches =
     let all = from-admission (jamboree grain) journal tenant is in
     let shape = (told-by (jamboree grain) journal tenant is).shape in

@@ -39,9 +39,7 @@ unanswered-values (x ∷ xs) [] e = absurd cc
 unanswered-values (x ∷ xs) (y ∷ ys) e =
     let first : y.value ≡ x.value = cc in
     let others : values_of ys ≡ values_of xs = cc in
-    let rest = unanswered-values xs ys others in
-    let one = ap open_by first in
-    omega (arith, rest, one)
+    omega (arith, unanswered-values xs ys others, ap open_by first)
 
 -- a tree with other words in a frame
 unanswered-here : (n : ℕ) (words : List ℕ) (x : Frame (List ℕ)) (xs : Tree) → x.serial ≡ n → AreSerialsRising (x ∷ xs) →
@@ -91,8 +89,7 @@ phase-stored (change ∷ changes) words long =
 formed-long : (words : List ℕ) → is_formed words ≡ true → 7 < length words
 formed-long words formed =
     let first = and_parts (length words == 12 + slice_index words 10) (are_entries (drop 12 words) && is_frame (frame_of words)) formed in
-    let long = eqb-true (length words) (12 + slice_index words 10) first.0 in
-    omega (arith, long)
+    omega (arith, eqb-true (length words) (12 + slice_index words 10) first.0)
 
 -- an inlet leaves a parent no more open
 changes-close : (cuts test low higher : Bool) (f c : JamboreeFrame) (phase : ℕ) → open_in (phase_after (changes_by cuts test low higher f c) phase) ≤ open_in phase
@@ -107,55 +104,54 @@ inlet-closes own child = elim (cases_Bool (is_formed own && (is_formed child && 
   | inr isnt ↦ rw isnt (omega arith)
   | inl is ↦ (let f = frame_of own in
       let c = frame_of child in
-      let formed = (and_parts (is_formed own) (is_formed child && may_be_child f c) is).0 in
-      let after = ap open_in (phase-stored (changes_of f c) own (formed-long own formed)) in
+      let after = ap open_in (phase-stored (changes_of f c) own (formed-long own (and_parts (is_formed own) (is_formed child && may_be_child f c) is).0)) in
       let close = changes-close (int_le f.beta (seen c)) (c.role == role_test) (int_le (seen c) (neg_ℤ c.beta)) (int_lt (floor f) (seen c)) f c (slice_index own 7) in
       rw is (omega (arith, after, close)))
 ]
 
 -- an act leaves its frame no more open
-first-closes : (begins : Bool) (f : JamboreeFrame) (own : List ℕ) → 7 < length own → open_by (grown (first_search begins f).after (stored (first_search begins f).stores own)) ≤ open_by own
-first-closes true f own long = (let after = ap open_in (phase-stored (Spawned 1 ∷ Status 0 status_runs (rest_at f 0) ∷ []) own long) in omega (arith, after))
-first-closes false f own long = omega arith
+module _ (f : JamboreeFrame) (own : List ℕ) (long : 7 < length own) where
+  first-closes : (begins : Bool) → open_by (grown (first_search begins f).after (stored (first_search begins f).stores own)) ≤ open_by own
+  first-closes true = (let after = ap open_in (phase-stored (Spawned 1 ∷ Status 0 status_runs (rest_at f 0) ∷ []) own long) in omega (arith, after))
+  first-closes false = omega arith
 
-tests-close : (failed more all : Bool) (f : JamboreeFrame) (j : ℕ) (own : List ℕ) → 7 < length own → open_by (grown (tests failed more all f j).after (stored (tests failed more all f j).stores own)) ≤ open_by own
-tests-close true more all f j own long = (let after = ap open_in (phase-stored (Status j status_runs_again (rest_at f j) ∷ []) own long) in omega (arith, after))
-tests-close false true all f j own long = (let after = ap open_in (phase-stored (Spawned (f.spawned + 1) ∷ Status f.spawned status_runs (rest_at f f.spawned) ∷ []) own long) in omega (arith, after))
-tests-close false false true f j own long = (let after = ap open_in (phase-stored (Phase phase_done ∷ []) own long) in omega (arith, after))
-tests-close false false false f j own long = omega arith
+  tests-close : (failed more all : Bool) (j : ℕ) → open_by (grown (tests failed more all f j).after (stored (tests failed more all f j).stores own)) ≤ open_by own
+  tests-close true more all j = (let after = ap open_in (phase-stored (Status j status_runs_again (rest_at f j) ∷ []) own long) in omega (arith, after))
+  tests-close false true all j = (let after = ap open_in (phase-stored (Spawned (f.spawned + 1) ∷ Status f.spawned status_runs (rest_at f f.spawned) ∷ []) own long) in omega (arith, after))
+  tests-close false false true j = (let after = ap open_in (phase-stored (Phase phase_done ∷ []) own long) in omega (arith, after))
+  tests-close false false false j = omega arith
 
-act-closes : (opens computes first searches : Bool) (grain : ℕ) (f : JamboreeFrame) (parent : Option JamboreeFrame) (own : List ℕ) → 7 < length own → (opens ≡ true → open_by own ≡ 1) →
-    open_by (grown (act_by opens computes first searches grain f parent).after (stored (act_by opens computes first searches grain f parent).stores own)) ≤ open_by own
-act-closes true computes first searches grain f parent own long new =
-    let act = opening_under grain f parent in let is = new refl in let one = open-one (slice_index (grown act.after (stored act.stores own)) 7) in omega (arith, is, one)
-act-closes false true first searches grain f parent own long new = omega arith
-act-closes false false true searches grain f parent own long new = first-closes (f.spawned == 0) f own long
-act-closes false false false true grain f parent own long new =
-    let j = first_open f.statuses in tests-close (nat_lt j (length f.statuses) && (slice_index f.statuses j == status_failed)) (nat_lt f.spawned (length f.statuses)) (nat_le (length f.statuses) j) f j own long
-act-closes false false false false grain f parent own long new = omega arith
+  act-closes : (opens computes first searches : Bool) (grain : ℕ) (parent : Option JamboreeFrame) → (opens ≡ true → open_by own ≡ 1) →
+      open_by (grown (act_by opens computes first searches grain f parent).after (stored (act_by opens computes first searches grain f parent).stores own)) ≤ open_by own
+  act-closes true computes first searches grain parent new =
+      let act = opening_under grain f parent in let is = new refl in let one = open-one (slice_index (grown act.after (stored act.stores own)) 7) in omega (arith, is, one)
+  act-closes false true first searches grain parent new = omega arith
+  act-closes false false true searches grain parent new = first-closes (f.spawned == 0)
+  act-closes false false false true grain parent new =
+      let j = first_open f.statuses in tests-close (nat_lt j (length f.statuses) && (slice_index f.statuses j == status_failed)) (nat_lt f.spawned (length f.statuses)) (nat_le (length f.statuses) j) j
+  act-closes false false false false grain parent new = omega arith
 
 next-closes : (grain : ℕ) (own : List ℕ) (above : List (List ℕ)) → open_by (grown (next_act grain (own ∷ above)).after (stored (next_act grain (own ∷ above)).stores own)) ≤ open_by own
 next-closes grain own above = elim (cases_Bool (is_formed own && is_placed own above)) [
   | inr isnt ↦ rw isnt (omega arith)
   | inl is ↦ (let f = frame_of own in
       let formed = (and_parts (is_formed own) (is_placed own above) is).0 in
-      rw is (act-closes (f.phase == phase_new) (f.phase == phase_computing) (f.phase == phase_first) (f.phase == phase_tests) grain f (parent_in above) own (formed-long own formed)
+      rw is (act-closes f own (formed-long own formed) (f.phase == phase_new) (f.phase == phase_computing) (f.phase == phase_first) (f.phase == phase_tests) grain (parent_in above)
       (λ new. let phase = eqb-true f.phase phase_new new in rw phase refl)))
 ]
 
 -- an Answer closes a frame that is computed
-answer-closes : (own : List ℕ) (answer : LeafAnswer) → is_formed own ≡ true → slice_index own 7 ≡ phase_computing → open_by (stored (accepts own answer) own) + 1 ≤ open_by own
-answer-closes own answer formed computing =
-    let after = ap open_in (phase-stored (changes_of_answer answer) own (formed-long own formed)) in
-    let before = ap open_in computing in
-    rw formed (omega (arith, after, before))
+module _ (own : List ℕ) (answer : LeafAnswer) where
+  answer-closes : is_formed own ≡ true → slice_index own 7 ≡ phase_computing → open_by (stored (accepts own answer) own) + 1 ≤ open_by own
+  answer-closes formed computing =
+      rw formed (omega (arith, ap open_in (phase-stored (changes_of_answer answer) own (formed-long own formed)), ap open_in computing))
 
--- whatever the words
-accept-closes : (own : List ℕ) (answer : LeafAnswer) → open_by (stored (accepts own answer) own) + 0 ≤ open_by own
-accept-closes own answer = elim (cases_Bool (is_formed own)) [
-  | inl formed ↦ (let after = ap open_in (phase-stored (changes_of_answer answer) own (formed-long own formed)) in rw formed (omega (arith, after)))
-  | inr isnt ↦ rw isnt (omega arith)
-]
+  -- whatever the words
+  accept-closes : open_by (stored (accepts own answer) own) + 0 ≤ open_by own
+  accept-closes = elim (cases_Bool (is_formed own)) [
+    | inl formed ↦ (let after = ap open_in (phase-stored (changes_of_answer answer) own (formed-long own formed)) in rw formed (omega (arith, after)))
+    | inr isnt ↦ rw isnt (omega arith)
+  ]
 
 -- after a taken step so many frames fewer may be answered yet, but for those that it opened
 abbrev pub ClosesBy : ℕ → Tenant → Option Tenant → Type 0
@@ -166,107 +162,104 @@ unanswered-state : (n : ℕ) (state : State) (xs : Tree) → unanswered (with_st
 unanswered-state n state xs = unanswered-values xs (with_state n state xs) (values_of-with_state n state xs)
 
 -- what comes after the stores of an act
-then-closes : {I A : Type 0} (functions : Functions I A) (tenant : Tenant) (f : Frame (List ℕ)) (worker : ℕ) (name : FrameId) (path words : List ℕ) (after : Continuation) → IsTree tenant.frames → frame_at tenant.frames f.serial ≡ Some f →
-    open_by (grown after words) ≤ open_by f.value → ClosesBy 0 tenant (then_done functions (counted (holding f.serial words tenant)) worker (record name { serial = f.serial }) path words after).0
-then-closes functions tenant f worker name path words (Grow more) t at le =
-    let closed = unanswered-closed f.serial (words ++ replicate more 0) tenant.frames f 0 (tree-rising tenant.frames t) at (omega (arith, le)) in
-    let twice = ap unanswered (with_frame_words-twice f.serial words (words ++ replicate more 0) tenant.frames) in
-    omega (arith, closed, twice)
-then-closes functions tenant f worker name path words (Spawn given size) t at le =
-    let closed = unanswered-closed f.serial words tenant.frames f 0 (tree-rising tenant.frames t) at (omega (arith, le)) in
-    let tree = with_frame_words f.serial words tenant.frames in
-    let more = unanswered-push tree (new_frame tree (tenant.serials + 1) (Some f.serial) worker (padded given size)) in
-    omega (arith, closed, more)
-then-closes functions tenant f worker name path words Go t at le =
-    let closed = unanswered-closed f.serial words tenant.frames f 0 (tree-rising tenant.frames t) at (omega (arith, le)) in omega (arith, closed)
-then-closes functions tenant f worker name path words Wait t at le =
-    let closed = unanswered-closed f.serial words tenant.frames f 0 (tree-rising tenant.frames t) at (omega (arith, le)) in
-    let tree = with_frame_words f.serial words tenant.frames in
-    let same = unanswered-state f.serial Waiting tree in
-    elim (cases_Bool (has_child tree f.serial)) [ inl some ↦ rw some (omega (arith, closed, same)) | inr none ↦ rw none (omega (arith, closed)) ]
-then-closes functions tenant f worker name path words Compute t at le =
-    let closed = unanswered-closed f.serial words tenant.frames f 0 (tree-rising tenant.frames t) at (omega (arith, le)) in
-    let same = unanswered-state f.serial (Computing worker) (with_frame_words f.serial words tenant.frames) in
-    omega (arith, closed, same)
-then-closes functions tenant f worker name path words Return t at le =
-    let closed = unanswered-closed f.serial words tenant.frames f 0 (tree-rising tenant.frames t) at (omega (arith, le)) in
-    let tree = with_frame_words f.serial words tenant.frames in
-    let waits = unanswered-state f.serial Waiting tree in
-    let returns = unanswered-state f.serial Returned tree in
-    elim (cases_Bool (has_child tree f.serial)) [ inl some ↦ rw some (omega (arith, closed, waits)) | inr none ↦ rw none (omega (arith, closed, returns)) ]
+module _ (tenant : Tenant) (f : Frame (List ℕ)) (worker : ℕ) (name : FrameId) (t : IsTree tenant.frames) where
+  then-closes : {I A : Type 0} (functions : Functions I A) (path words : List ℕ) (after : Continuation) → frame_at tenant.frames f.serial ≡ Some f →
+      open_by (grown after words) ≤ open_by f.value →
+      ClosesBy 0 tenant (then_done functions (counted (holding f.serial words tenant)) worker (record name { serial = f.serial }) path words after).0
+  then-closes functions path words (Grow more) at le =
+      let twice = ap unanswered (with_frame_words-twice f.serial words (words ++ replicate more 0) tenant.frames) in
+      omega (arith, unanswered-closed f.serial (words ++ replicate more 0) tenant.frames f 0 (tree-rising tenant.frames t) at (omega (arith, le)), twice)
+  then-closes functions path words (Spawn given size) at le =
+      let tree = with_frame_words f.serial words tenant.frames in
+      let more = unanswered-push tree (new_frame tree (tenant.serials + 1) (Some f.serial) worker (padded given size)) in
+      omega (arith, unanswered-closed f.serial words tenant.frames f 0 (tree-rising tenant.frames t) at (omega (arith, le)), more)
+  then-closes functions path words Go at le =
+      let closed = unanswered-closed f.serial words tenant.frames f 0 (tree-rising tenant.frames t) at (omega (arith, le)) in omega (arith, closed)
+  then-closes functions path words Wait at le =
+      let closed = unanswered-closed f.serial words tenant.frames f 0 (tree-rising tenant.frames t) at (omega (arith, le)) in
+      let tree = with_frame_words f.serial words tenant.frames in
+      let same = unanswered-state f.serial Waiting tree in
+      elim (cases_Bool (has_child tree f.serial)) [ inl some ↦ rw some (omega (arith, closed, same)) | inr none ↦ rw none (omega (arith, closed)) ]
+  then-closes functions path words Compute at le =
+      let same = unanswered-state f.serial (Computing worker) (with_frame_words f.serial words tenant.frames) in
+      omega (arith, unanswered-closed f.serial words tenant.frames f 0 (tree-rising tenant.frames t) at (omega (arith, le)), same)
+  then-closes functions path words Return at le =
+      let closed = unanswered-closed f.serial words tenant.frames f 0 (tree-rising tenant.frames t) at (omega (arith, le)) in
+      let tree = with_frame_words f.serial words tenant.frames in
+      let waits = unanswered-state f.serial Waiting tree in
+      let returns = unanswered-state f.serial Returned tree in
+      elim (cases_Bool (has_child tree f.serial)) [ inl some ↦ rw some (omega (arith, closed, waits)) | inr none ↦ rw none (omega (arith, closed, returns)) ]
 
-advance-closes : (grain : ℕ) (tenant : Tenant) (worker : ℕ) (name : FrameId) (f : Frame (List ℕ)) → IsTree tenant.frames → frame_at tenant.frames name.serial ≡ Some f →
-    ClosesBy 0 tenant (advanced (jamboree grain) tenant worker name f (act_by_sight (jamboree grain) tenant f)).0
-advance-closes grain tenant worker name f t at =
-    let own = found-serial tenant.frames name.serial f at in
-    let seen = sight-head tenant.frames name.serial f t at in
-    let act = act_by_sight (jamboree grain) tenant f in
-    let is : act ≡ next_act grain (f.value ∷ seen.0) = ap (next_act grain) seen.1 in
-    let Q : Act → Type 0 = λ a. open_by (grown a.after (stored a.stores f.value)) ≤ open_by f.value in
-    let le = subst Q (sym is) (next-closes grain f.value seen.0) in
-    let same : record name { serial = f.serial } ≡ name = ap (λ (s : ℕ). record name { serial = s }) own in
-    let P : FrameId → Type 0 = λ nm. ClosesBy 0 tenant (then_done (jamboree grain) (counted (holding f.serial (stored act.stores f.value) tenant)) worker nm f.path (stored act.stores f.value) act.after).0 in
-    subst P same (then-closes (jamboree grain) tenant f worker name f.path (stored act.stores f.value) act.after t (ap (frame_at tenant.frames) own ∙ at) le)
+  advance-closes : (grain : ℕ) → frame_at tenant.frames name.serial ≡ Some f →
+      ClosesBy 0 tenant (advanced (jamboree grain) tenant worker name f (act_by_sight (jamboree grain) tenant f)).0
+  advance-closes grain at =
+      let own = found-serial tenant.frames name.serial f at in
+      let seen = sight-head tenant.frames name.serial f t at in
+      let act = act_by_sight (jamboree grain) tenant f in
+      let Q : Act → Type 0 = λ a. open_by (grown a.after (stored a.stores f.value)) ≤ open_by f.value in
+      let le = subst Q (sym (ap (next_act grain) seen.1)) (next-closes grain f.value seen.0) in
+      let same : record name { serial = f.serial } ≡ name = ap (λ (s : ℕ). record name { serial = s }) own in
+      let P : FrameId → Type 0 = λ nm. ClosesBy 0 tenant (then_done (jamboree grain) (counted (holding f.serial (stored act.stores f.value) tenant)) worker nm f.path (stored act.stores f.value) act.after).0 in
+      subst P same (then-closes (jamboree grain) f.path (stored act.stores f.value) act.after (ap (frame_at tenant.frames) own ∙ at) le)
 
 -- an inlet
 staying-fewer : (xs : Tree) (child parent : ℕ) (abort : Bool) → (unanswered (staying xs child parent abort) ≤ unanswered xs) × (AreSerialsRising xs → AreSerialsRising (staying xs child parent abort))
 staying-fewer xs child parent true = (unanswered-filter _ xs, λ rising. rising-filter _ xs rising)
 staying-fewer xs child parent false = (unanswered-filter _ xs, λ rising. rising-filter _ xs rising)
 
-take-closes : (tenant : Tenant) (worker : ℕ) (name : FrameId) (f : Frame (List ℕ)) (parent : ℕ) → IsShaped tenant → frame_at tenant.frames name.serial ≡ Some f → parent_of f.path ≡ Some parent →
-    ClosesBy 0 tenant (taken_in {I = Leaf} tenant worker name parent (inlet_act (words_in tenant.frames parent) f.value)).0
-take-closes tenant worker name f parent shape at named =
-    let act = inlet_act (words_in tenant.frames parent) f.value in
-    let g = there-found tenant.frames parent (under-there tenant.frames name.serial parent f shape.tree at named) in
-    let frames = staying tenant.frames name.serial parent act.abort in
-    let fewer = staying-fewer tenant.frames name.serial parent act.abort in
-    let at_g : frame_at frames parent ≡ Some g.0 = staying-parent tenant name.serial parent f g.0 act.abort at named g.1 shape in
-    let before : words_in tenant.frames parent ≡ g.0.value = words-found tenant.frames parent g.0 g.1 in
-    let after : words_in frames parent ≡ g.0.value = words-found frames parent g.0 at_g in
-    let words = stored act.stores (words_in frames parent) in
-    let is : words ≡ stored (inlet_act g.0.value f.value).stores g.0.value =
-    ap (λ (ws : List ℕ). stored act.stores ws) after ∙ ap (λ (ws : List ℕ). stored (inlet_act ws f.value).stores g.0.value) before in
-    let le = inlet-closes g.0.value f.value in
-    let same = ap open_by is in
-    let closed = unanswered-closed parent words frames g.0 0 (fewer.1 (tree-rising tenant.frames shape.tree)) at_g (omega (arith, le, same)) in
-    let less = fewer.0 in
-    let woken = unanswered-state parent (Ready worker) (with_frame_words parent words frames) in
-    elim (cases_Bool (does_wait (frame_at frames parent) && (act.abort || act.wake || not (has_child frames parent)))) [
-      | inl wakes ↦ rw wakes (omega (arith, closed, less, woken))
-      | inr sleeps ↦ rw sleeps (omega (arith, closed, less))
-    ]
+module _ (tenant : Tenant) where
+  take-closes : (worker : ℕ) (name : FrameId) (f : Frame (List ℕ)) (parent : ℕ) → IsShaped tenant → frame_at tenant.frames name.serial ≡ Some f →
+      parent_of f.path ≡ Some parent → ClosesBy 0 tenant (taken_in {I = Leaf} tenant worker name parent (inlet_act (words_in tenant.frames parent) f.value)).0
+  take-closes worker name f parent shape at named =
+      let act = inlet_act (words_in tenant.frames parent) f.value in
+      let g = there-found tenant.frames parent (under-there tenant.frames name.serial parent f shape.tree at named) in
+      let frames = staying tenant.frames name.serial parent act.abort in
+      let fewer = staying-fewer tenant.frames name.serial parent act.abort in
+      let at_g : frame_at frames parent ≡ Some g.0 = staying-parent tenant name.serial parent f g.0 act.abort at named g.1 shape in
+      let before : words_in tenant.frames parent ≡ g.0.value = words-found tenant.frames parent g.0 g.1 in
+      let after : words_in frames parent ≡ g.0.value = words-found frames parent g.0 at_g in
+      let words = stored act.stores (words_in frames parent) in
+      let is : words ≡ stored (inlet_act g.0.value f.value).stores g.0.value =
+      ap (λ (ws : List ℕ). stored act.stores ws) after ∙ ap (λ (ws : List ℕ). stored (inlet_act ws f.value).stores g.0.value) before in
+      let le = inlet-closes g.0.value f.value in
+      let closed = unanswered-closed parent words frames g.0 0 (fewer.1 (tree-rising tenant.frames shape.tree)) at_g (omega (arith, le, ap open_by is)) in
+      let less = fewer.0 in
+      elim (cases_Bool (does_wait (frame_at frames parent) && (act.abort || act.wake || not (has_child frames parent)))) [
+        | inl wakes ↦ rw wakes (omega (arith, closed, less, unanswered-state parent (Ready worker) (with_frame_words parent words frames)))
+        | inr sleeps ↦ rw sleeps (omega (arith, closed, less))
+      ]
 
--- the frames of a job that ended are removed
-end-closes : (root : ℕ) (job : Job) (tenant : Tenant) → ClosesBy 0 tenant (Some (ended root job tenant))
-end-closes root job tenant =
-    let first = unanswered-filter (λ x. not (goes_under root x.path)) tenant.frames in
-    let second = unanswered-filter (λ x. not (x.serial == root)) (aborted root tenant.frames) in
-    omega (arith, first, second)
+  -- the frames of a job that ended are removed
+  end-closes : (root : ℕ) (job : Job) → ClosesBy 0 tenant (Some (ended root job tenant))
+  end-closes root job =
+      let first = unanswered-filter (λ x. not (goes_under root x.path)) tenant.frames in
+      omega (arith, first, unanswered-filter (λ x. not (x.serial == root)) (aborted root tenant.frames))
 
 -- an Answer, where its stores close so many
-answered-by : (k grain : ℕ) (tenant : Tenant) (worker serial : ℕ) (f : Frame (List ℕ)) (answer : LeafAnswer) → IsShaped tenant → frame_at tenant.frames serial ≡ Some f → open_by (stored (accepts f.value answer) f.value) + k ≤ open_by f.value →
-    ClosesBy k tenant (answered {I = Leaf} (jamboree grain) tenant worker f answer).0
-answered-by k grain tenant worker serial f answer shape at le =
-    let words = stored (accepts f.value answer) f.value in
-    let at_own : frame_at tenant.frames f.serial ≡ Some f = ap (frame_at tenant.frames) (found-serial tenant.frames serial f at) ∙ at in
-    let closed = unanswered-closed f.serial words tenant.frames f k (tree-rising tenant.frames shape.tree) at_own le in
-    let same = unanswered-state f.serial (Running worker) (with_frame_words f.serial words tenant.frames) in
-    omega (arith, closed, same)
+module _ (grain : ℕ) {tenant : Tenant} (shape : IsShaped tenant) where
+  answered-by : (k worker serial : ℕ) (f : Frame (List ℕ)) (answer : LeafAnswer) → frame_at tenant.frames serial ≡ Some f →
+      open_by (stored (accepts f.value answer) f.value) + k ≤ open_by f.value →
+      ClosesBy k tenant (answered {I = Leaf} (jamboree grain) tenant worker f answer).0
+  answered-by k worker serial f answer at le =
+      let words = stored (accepts f.value answer) f.value in
+      let at_own : frame_at tenant.frames f.serial ≡ Some f = ap (frame_at tenant.frames) (found-serial tenant.frames serial f at) ∙ at in
+      let same = unanswered-state f.serial (Running worker) (with_frame_words f.serial words tenant.frames) in
+      omega (arith, unanswered-closed f.serial words tenant.frames f k (tree-rising tenant.frames shape.tree) at_own le, same)
 
--- each taken step
-pub step-closes : (grain : ℕ) (tenant : Tenant) (step : StepOf LeafAnswer) (outcome : Outcome Leaf) → lone_step (jamboree grain) tenant step ≡ Ok outcome → IsShaped tenant → ClosesBy 0 tenant outcome.0
-step-closes grain tenant step outcome is shape = by-effects (jamboree grain) tenant step outcome (ClosesBy 0 tenant) is (record {
-  at_raise = λ number quota raises enough. omega arith;
-  at_submit = λ number words size submits passed. (let more = unanswered-push tenant.frames (new_frame tenant.frames (tenant.serials + 1) None 0 (padded words size)) in omega (arith, more));
-  at_take = λ worker serial f at ready some. (let same = unanswered-state f.serial (Running worker) tenant.frames in omega (arith, same));
-  at_advance = λ worker name f at passed. advance-closes grain tenant worker name f shape.tree at;
-  at_answer = λ worker serial f answer at passed. answered-by 0 grain tenant worker serial f answer shape at (accept-closes f.value answer);
-  at_inlet = λ worker name f parent at named passed. take-closes tenant worker name f parent shape at named;
-  at_finish = λ worker serial f at passed. end-closes f.serial (Done (kept_words f.value)) tenant;
-  at_spend = λ serial f at. end-closes (root_of f.path) SpentJob tenant;
-  at_cancel = λ number root at. end-closes root CancelledJob tenant;
-  at_leave = λ number leaves. tt;
-})
+  -- each taken step
+  pub step-closes : (step : StepOf LeafAnswer) (outcome : Outcome Leaf) → lone_step (jamboree grain) tenant step ≡ Ok outcome → ClosesBy 0 tenant outcome.0
+  step-closes step outcome is = by-effects (jamboree grain) tenant step outcome (ClosesBy 0 tenant) is (record {
+    at_raise = λ number quota raises enough. omega arith;
+    at_submit = λ number words size submits passed. (let more = unanswered-push tenant.frames (new_frame tenant.frames (tenant.serials + 1) None 0 (padded words size)) in omega (arith, more));
+    at_take = λ worker serial f at ready some. (let same = unanswered-state f.serial (Running worker) tenant.frames in omega (arith, same));
+    at_advance = λ worker name f at passed. advance-closes tenant f worker name shape.tree grain at;
+    at_answer = λ worker serial f answer at passed. answered-by 0 worker serial f answer at (accept-closes f.value answer);
+    at_inlet = λ worker name f parent at named passed. take-closes tenant worker name f parent shape at named;
+    at_finish = λ worker serial f at passed. end-closes tenant f.serial (Done (kept_words f.value));
+    at_spend = λ serial f at. end-closes tenant (root_of f.path) SpentJob;
+    at_cancel = λ number root at. end-closes tenant root CancelledJob;
+    at_leave = λ number leaves. tt;
+  })
 
 -- a frame that is computed
 computes : (worker : ℕ) (state : State) → is_computed_by worker state ≡ true → mark_of_state state ≡ Computes
@@ -283,9 +276,8 @@ answer-closes-one grain origins tenant worker name answer outcome is shape fitti
     let computing = computes worker f.state (not-false (is_computed_by worker f.state) passed.0.0) in
     let M : Mark → Type 0 = λ m. AreFitting f.value (kids tenant.frames name.serial) m in
     let fits = subst M computing (fits-holds AreFitting tenant.frames fitting.frames name.serial f found.1) in
-    let phase : slice_index f.value 7 ≡ phase_computing = fits.frame.marked in
-    let closes = answer-closes f.value answer fits.formed phase in
-    came (ClosesBy 1 tenant) (answered {I = Leaf} (jamboree grain) tenant worker f answer) outcome passed.1 (answered-by 1 grain tenant worker name.serial f answer shape found.1 closes)
+    let closes = answer-closes f.value answer fits.formed fits.frame.marked in
+    came (ClosesBy 1 tenant) (answered {I = Leaf} (jamboree grain) tenant worker f answer) outcome passed.1 (answered-by grain shape 1 worker name.serial f answer found.1 closes)
 
 -- 1 for an Answer, 0 for any other step
 abbrev pub one_if_answer : {A : Type 0} → StepOf A → ℕ
@@ -299,8 +291,8 @@ answer_count (step ∷ steps) = one_if_answer step + answer_count steps
 
 each-closes : (grain : ℕ) (origins : List (List ℕ)) (tenant : Tenant) (step : StepOf LeafAnswer) (outcome : Outcome Leaf) → lone_step (jamboree grain) tenant step ≡ Ok outcome → IsShaped tenant → TenantFits AreFitting IsRoot origins tenant →
     ClosesBy (one_if_answer step) tenant outcome.0
-each-closes grain origins tenant (Answer worker name answer) outcome is shape fitting = answer-closes-one grain origins tenant worker name answer outcome is shape fitting
-each-closes grain origins tenant step outcome is shape fitting = step-closes grain tenant step outcome is shape
+each-closes grain origins tenant (Answer worker name answer) outcome is shape fitting = answer-closes-one grain _ tenant worker name answer _ is shape fitting
+each-closes grain origins tenant step outcome is shape fitting = step-closes grain shape step outcome is
 
 -- over the steps of a journal
 answers-from : (grain : ℕ) (origins : List (List ℕ)) (before tenant : Tenant) (steps : List (StepOf LeafAnswer)) → AreSearches steps → AreTakenFrom (jamboree grain) (Some before) steps → alone_from (jamboree grain) (Some before) steps ≡ Some tenant →
@@ -316,10 +308,9 @@ answers-from grain origins before tenant (step ∷ steps) searches taken comes s
     by later (Ok (None, did)) is stays on to = absurd stays
     by later (Err refusal) is stays on to = absurd stays
     by later (Ok (Some next, did)) is stays on to =
-        let one : unanswered next.frames + before.serials + one_if_answer step ≤ unanswered before.frames + next.serials = each-closes grain origins before step (Some next, did) is shape fitting in
         let fits = step-fits (jamboree grain) AreFitting IsRoot origins before step (Some next, did) (lawful grain) shape fitting (search-fits step searches.0) is in
         let rest = later next on to (step-shaped (jamboree grain) before step (Some next, did) is shape) fits in
-        omega (arith, one, rest)
+        omega (arith, each-closes grain origins before step (Some next, did) is shape fitting, rest)
 
 -- a journal of searches has at most one Answer for each serial that was given
 pub journal-answers : (grain : ℕ) (journal : List (StepOf LeafAnswer)) (tenant : Tenant) → IsJournalOf (jamboree grain) journal tenant → AreSearches journal → answer_count journal ≤ tenant.serials

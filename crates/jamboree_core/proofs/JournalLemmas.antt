@@ -7,16 +7,18 @@ abbrev Came : Type 0
 Came = Result (Outcome Leaf) Refusal
 
 -- from nothing only an admission is taken, and it leaves a tenant without jobs
-begun-fits : (grain : ℕ) (step : StepOf LeafAnswer) (outcome : Outcome Leaf) → lone (jamboree grain) None step ≡ Ok outcome → LeftFits AreFitting IsRoot (submits step) outcome.0
-begun-fits grain (Admit number quota) outcome is = grind arith
-begun-fits grain _ outcome is = (let no : ◌≡◌ {A = Came} (Err NoTenant) (Ok outcome) = is in absurd cc)
+module _ (grain : ℕ) (outcome : Outcome Leaf) where
+  begun-fits : (step : StepOf LeafAnswer) → lone (jamboree grain) None step ≡ Ok outcome → LeftFits AreFitting IsRoot (submits step) outcome.0
+  begun-fits (Admit number quota) is = grind arith
+  begun-fits _ is = (let no : ◌≡◌ {A = Came} (Err NoTenant) (Ok outcome) = is in absurd cc)
 
--- a tenant of searches after one of its own steps; where it wasn't there, no words were submitted
-lone-fits : (grain : ℕ) (origins : List (List ℕ)) (before : Option Tenant) (step : StepOf LeafAnswer) (outcome : Outcome Leaf) → IsSearch step → lone (jamboree grain) before step ≡ Ok outcome →
-    (before ≡ None → origins ≡ []) → LeftShaped before → LeftFits AreFitting IsRoot origins before → LeftFits AreFitting IsRoot (origins ++ submits step) outcome.0
-lone-fits grain origins (Some tenant) step outcome search is none shaped fits =
-    step-fits (jamboree grain) AreFitting IsRoot origins tenant step outcome (lawful grain) shaped fits (search-fits step search) is
-lone-fits grain origins None step outcome search is none shaped fits = rw (none refl) (begun-fits grain step outcome is)
+  -- a tenant of searches after one of its own steps; where it wasn't there, no words were submitted
+  lone-fits : (origins : List (List ℕ)) (before : Option Tenant) (step : StepOf LeafAnswer) → IsSearch step → lone (jamboree grain) before step ≡ Ok outcome →
+      (before ≡ None → origins ≡ []) → LeftShaped before → LeftFits AreFitting IsRoot origins before →
+      LeftFits AreFitting IsRoot (origins ++ submits step) outcome.0
+  lone-fits origins (Some tenant) step search is none shaped fits =
+      step-fits (jamboree grain) AreFitting IsRoot origins tenant step outcome (lawful grain) shaped fits (search-fits step search) is
+  lone-fits origins None step search is none shaped fits = rw (none refl) (begun-fits step is)
 
 -- a tenant of searches after a list of its own steps, each of which was taken
 abbrev KeepsFitting : ℕ → List (StepOf LeafAnswer) → Type 0
@@ -34,7 +36,7 @@ fits-on grain step steps search rest origins before taken none shaped fits = by 
     by (Ok (Some tenant, did)) e t =
         let P : List (List ℕ) → Type 0 = λ os. LeftFits AreFitting IsRoot os (alone_from (jamboree grain) (Some tenant) steps) in
         subst P (append_assoc origins (submits step) (origins_of steps)) (rest (origins ++ submits step) (Some tenant) t.1 (λ is. absurd cc)
-        (lone-shaped (jamboree grain) before step (Some tenant, did) e shaped) (lone-fits grain origins before step (Some tenant, did) search e none shaped fits))
+        (lone-shaped (jamboree grain) before step (Some tenant, did) e shaped) (lone-fits grain _ origins before step search e none shaped fits))
 
 alone-fits : (grain : ℕ) (steps : List (StepOf LeafAnswer)) → AreSearches steps → KeepsFitting grain steps
 alone-fits grain [] searches = λ origins before taken none shaped fits. let P : List (List ℕ) → Type 0 = λ os. LeftFits AreFitting IsRoot os before in subst P (sym (append-nil origins)) fits
@@ -52,44 +54,44 @@ journal-searches grain journal tenant is searches =
 stays : {I : Type 0} (came : Result (Outcome I) Refusal) (outcome : Outcome I) (next : Tenant) → came ≡ Ok outcome → outcome.0 ≡ Some next → StaysTaken came
 stays {I} came outcome next is left = grind arith
 
-longer : {I A : Type 0} (functions : Functions I A) (before : Option Tenant) (steps : List (StepOf A)) (tenant next : Tenant) (step : StepOf A) (outcome : Outcome I) →
-    AreTakenFrom functions before steps → alone_from functions before steps ≡ Some tenant → lone functions (Some tenant) step ≡ Ok outcome → outcome.0 ≡ Some next →
-    AreTakenFrom functions before (steps ++ step ∷ []) × (alone_from functions before (steps ++ step ∷ []) ≡ Some next)
-longer functions before [] tenant next step outcome taken comes is left = grind (arith, stays)
-longer functions before (first ∷ steps) tenant next step outcome taken comes is left =
-    let rest = longer functions (state_after before (lone functions before first)) steps tenant next step outcome taken.1 comes is left in
-    ((taken.0, rest.0), rest.1)
+module _ {I A : Type 0} (functions : Functions I A) where
+  longer : (before : Option Tenant) (steps : List (StepOf A)) (tenant next : Tenant) (step : StepOf A) (outcome : Outcome I) →
+      AreTakenFrom functions before steps → alone_from functions before steps ≡ Some tenant → lone functions (Some tenant) step ≡ Ok outcome →
+      outcome.0 ≡ Some next → AreTakenFrom functions before (steps ++ step ∷ []) × (alone_from functions before (steps ++ step ∷ []) ≡ Some next)
+  longer before [] tenant next step outcome taken comes is left = grind (arith, stays)
+  longer before (first ∷ steps) tenant next step outcome taken comes is left =
+      let rest = longer (state_after before (lone functions before first)) steps tenant next step outcome taken.1 comes is left in
+      ((taken.0, rest.0), rest.1)
 
-pub journal-goes-on : {I A : Type 0} (functions : Functions I A) (before : CoreState) (step : StepOf A) (did : DidOf I) (after : CoreState) (journal : List (StepOf A)) (tenant next : Tenant) →
-    AreNumbersGiven before → IsOneStep functions before step (Ok did) after → tenant_in before.tenants (tenant_of step) ≡ Some tenant → tenant_in after.tenants (tenant_of step) ≡ Some next →
-    IsJournalOf functions journal tenant → IsJournalOf functions (journal ++ step ∷ []) next
-journal-goes-on functions before step did after journal tenant next known one at at_after is =
-    let t = step-taken functions before step did known one.answered in
-    let after_is : after ≡ shared_with before step t.outcome.0 = one.left ∙ shared-after-taken functions before step did t in
-    let left : t.outcome.0 ≡ Some next = sym (tenant_in-with_outcome (tenant_of step) t.outcome.0 before.tenants) ∙ ap (λ (s : CoreState). tenant_in s.tenants (tenant_of step)) (sym after_is) ∙ at_after in
-    let own : lone functions (Some tenant) step ≡ Ok t.outcome = ap (λ (o : Option Tenant). lone functions o step) (sym at) ∙ t.own in
-    let on = longer functions None journal tenant next step t.outcome is.taken is.comes own left in
-    record { taken = on.0; comes = on.1 }
+  pub journal-goes-on : (before : CoreState) (step : StepOf A) (did : DidOf I) (after : CoreState) (journal : List (StepOf A)) (tenant next : Tenant) →
+      AreNumbersGiven before → IsOneStep functions before step (Ok did) after → tenant_in before.tenants (tenant_of step) ≡ Some tenant →
+      tenant_in after.tenants (tenant_of step) ≡ Some next → IsJournalOf functions journal tenant → IsJournalOf functions (journal ++ step ∷ []) next
+  journal-goes-on before step did after journal tenant next known one at at_after is =
+      let t = step-taken functions before step did known one.answered in
+      let after_is : after ≡ shared_with before step t.outcome.0 = one.left ∙ shared-after-taken functions before step did t in
+      let left : t.outcome.0 ≡ Some next = sym (tenant_in-with_outcome (tenant_of step) t.outcome.0 before.tenants) ∙ ap (λ (s : CoreState). tenant_in s.tenants (tenant_of step)) (sym after_is) ∙ at_after in
+      let on = longer None journal tenant next step t.outcome is.taken is.comes (ap (λ (o : Option Tenant). lone functions o step) (sym at) ∙ t.own) left in
+      record { taken = on.0; comes = on.1 }
 
--- an admission begins a journal
-pub journal-begins : {I A : Type 0} (functions : Functions I A) (before : CoreState) (number : ℕ) (quota : Quota) (did : DidOf I) (after : CoreState) → AreNumbersGiven before →
-    IsOneStep {A = A} functions before (Admit number quota) (Ok did) after →
-    (tenant_in after.tenants number ≡ Some (admitted_with quota)) × IsJournalOf {A = A} functions (Admit number quota ∷ []) (admitted_with quota)
-journal-begins {I} {A} functions before number quota did after known one =
-    let step : StepOf A = Admit number quota in
-    let t = step-taken functions before step did known one.answered in
-    let after_is : after ≡ shared_with before step t.outcome.0 = one.left ∙ shared-after-taken functions before step did t in
-    let found = ap (λ (s : CoreState). tenant_in s.tenants number) after_is ∙ tenant_in-with_outcome number t.outcome.0 before.tenants in
-    (found ∙ admitted-left functions (tenant_in before.tenants number) number quota t.outcome t.own, record { taken = (tt, tt); comes = refl })
-  where
-    admitted-left : (functions : Functions I A) (own : Option Tenant) (number : ℕ) (quota : Quota) (outcome : Outcome I) → lone {A = A} functions own (Admit number quota) ≡ Ok outcome → outcome.0 ≡ Some (admitted_with quota)
-    admitted-left functions None number quota outcome is =
-        let both : ◌≡◌ {A = Result (Outcome I) Refusal} (Ok (Some (admitted_with quota), Admitted)) (Ok outcome) = is in
-        let own : ◌≡◌ {A = Outcome I} outcome (Some (admitted_with quota), Admitted) = cc in ap (λ (o : Outcome I). o.0) own
-    admitted-left functions (Some tenant) number quota outcome is = let e : ◌≡◌ {A = Result (Outcome I) Refusal} (Err OldTenant) (Ok outcome) = is in absurd cc
+  -- an admission begins a journal
+  pub journal-begins : (before : CoreState) (number : ℕ) (quota : Quota) (did : DidOf I) (after : CoreState) → AreNumbersGiven before →
+      IsOneStep {A = A} functions before (Admit number quota) (Ok did) after →
+      (tenant_in after.tenants number ≡ Some (admitted_with quota)) × IsJournalOf {A = A} functions (Admit number quota ∷ []) (admitted_with quota)
+  journal-begins before number quota did after known one =
+      let step : StepOf A = Admit number quota in
+      let t = step-taken functions before step did known one.answered in
+      let after_is : after ≡ shared_with before step t.outcome.0 = one.left ∙ shared-after-taken functions before step did t in
+      let found = ap (λ (s : CoreState). tenant_in s.tenants number) after_is ∙ tenant_in-with_outcome number t.outcome.0 before.tenants in
+      (found ∙ admitted-left functions (tenant_in before.tenants number) number quota t.outcome t.own, record { taken = (tt, tt); comes = refl })
+    where
+      admitted-left : (functions : Functions I A) (own : Option Tenant) (number : ℕ) (quota : Quota) (outcome : Outcome I) → lone {A = A} functions own (Admit number quota) ≡ Ok outcome → outcome.0 ≡ Some (admitted_with quota)
+      admitted-left functions None number quota outcome is =
+          let both : ◌≡◌ {A = Result (Outcome I) Refusal} (Ok (Some (admitted_with quota), Admitted)) (Ok outcome) = is in
+          let own : ◌≡◌ {A = Outcome I} outcome (Some (admitted_with quota), Admitted) = cc in ap (λ (o : Outcome I). o.0) own
+      admitted-left functions (Some tenant) number quota outcome is = let e : ◌≡◌ {A = Result (Outcome I) Refusal} (Err OldTenant) (Ok outcome) = is in absurd cc
 
--- a step changes its own tenant alone
-pub others-stay : {I A : Type 0} (functions : Functions I A) (before : CoreState) (step : StepOf A) (answer : Result (DidOf I) Refusal) (after : CoreState) (number : ℕ) → AreNumbersGiven before →
-    IsOneStep functions before step answer after → tenant_of step ≢ number → tenant_in after.tenants number ≡ tenant_in before.tenants number
-others-stay functions before step (Err refusal) after number known one other = ap (λ (s : CoreState). tenant_in s.tenants number) one.left
-others-stay functions before step (Ok did) after number known one other = grind (arith, step-taken, shared-after-taken, tenant_in_other-with_outcome)
+  -- a step changes its own tenant alone
+  pub others-stay : (before : CoreState) (step : StepOf A) (answer : Result (DidOf I) Refusal) (after : CoreState) (number : ℕ) → AreNumbersGiven before →
+      IsOneStep functions before step answer after → tenant_of step ≢ number → tenant_in after.tenants number ≡ tenant_in before.tenants number
+  others-stay before step (Err refusal) after number known one other = ap (λ (s : CoreState). tenant_in s.tenants number) one.left
+  others-stay before step (Ok did) after number known one other = grind (arith, step-taken, shared-after-taken, tenant_in_other-with_outcome)

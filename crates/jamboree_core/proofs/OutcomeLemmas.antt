@@ -51,18 +51,18 @@ is-to origin (Done words) outcome holds is = grind arith
 is-to origin SpentJob outcome holds is = subst (IsTo origin) (sym is) tt
 is-to origin CancelledJob outcome holds is = subst (IsTo origin) (sym is) tt
 
-pub answers-asked : (shared : CoreState) (tenant number : ℕ) (origins : List (List ℕ)) (owner : Tenant) (job : Job) (outcome : Outcome) → tenant_in shared.tenants tenant ≡ Some owner → TenantSearches origins owner →
-    job_of shared tenant number ≡ Some job → IsOutcomeOf job outcome → AnswersTo (origin_at origins number) (Some outcome)
-answers-asked shared tenant number origins owner job outcome there searches at is =
-    let found : job_at owner.jobs number ≡ Some job = sym (ap (λ (o : Option Tenant). option_and_then (λ (t : Tenant). job_at t.jobs number) o) there) ∙ at in
-    let held = reply-at origins owner.jobs number job (tenant-replies origins owner searches) found in
-    rw held.1 (is-to held.0 job outcome held.2 is)
+module _ (shared : CoreState) (tenant number : ℕ) {origins : List (List ℕ)} {owner : Tenant} (searches : TenantSearches origins owner) where
+  pub answers-asked : (job : Job) (outcome : Outcome) → tenant_in shared.tenants tenant ≡ Some owner → job_of shared tenant number ≡ Some job →
+      IsOutcomeOf job outcome → AnswersTo (origin_at origins number) (Some outcome)
+  answers-asked job outcome there at is =
+      let found : job_at owner.jobs number ≡ Some job = sym (ap (λ (o : Option Tenant). option_and_then (λ (t : Tenant). job_at t.jobs number) o) there) ∙ at in
+      let held = reply-at origins owner.jobs number job (tenant-replies origins owner searches) found in
+      rw held.1 (is-to held.0 job outcome held.2 is)
 
-pub none-asked : (shared : CoreState) (tenant number : ℕ) (origins : List (List ℕ)) (owner : Tenant) → tenant_in shared.tenants tenant ≡ Some owner → TenantSearches origins owner →
-    job_of shared tenant number ≡ None → AnswersTo (origin_at origins number) None
-none-asked shared tenant number origins owner there searches at =
-    let found : job_at owner.jobs number ≡ None = sym (ap (λ (o : Option Tenant). option_and_then (λ (t : Tenant). job_at t.jobs number) o) there) ∙ at in
-    rw (none-at origins owner.jobs number (tenant-replies origins owner searches) found) tt
+  pub none-asked : tenant_in shared.tenants tenant ≡ Some owner → job_of shared tenant number ≡ None → AnswersTo (origin_at origins number) None
+  none-asked there at =
+      let found : job_at owner.jobs number ≡ None = sym (ap (λ (o : Option Tenant). option_and_then (λ (t : Tenant). job_at t.jobs number) o) there) ∙ at in
+      rw (none-at origins owner.jobs number (tenant-replies origins owner searches) found) tt
 
 -- the reply of a done job is in the words that it kept
 reply-in : Reply → Outcome → Reply
@@ -71,17 +71,18 @@ reply-in other (DoneWith reply) = reply
 reply-in other Spent = other
 reply-in other Cancelled = other
 
-same-table : (job : Job) (first second : Reply) → IsOutcomeOf job (DoneWith first) → IsOutcomeOf job (DoneWith second) → table_of first ≡ table_of second
-unfolding reply-in
-same-table (Live root) first second a b = absurd cc
-same-table (Done words) first second a b =
-    ap (λ (o : Outcome). table_of (reply-in first o)) a.1 ∙ a.2.table ∙ sym b.2.table ∙ sym (ap (λ (o : Outcome). table_of (reply-in first o)) b.1)
-same-table SpentJob first second a b = absurd cc
-same-table CancelledJob first second a b = absurd cc
+module _ (first second : Reply) where
+  same-table : (job : Job) → IsOutcomeOf job (DoneWith first) → IsOutcomeOf job (DoneWith second) → table_of first ≡ table_of second
+  unfolding reply-in
+  same-table (Live root) a b = absurd cc
+  same-table (Done words) a b =
+      ap (λ (o : Outcome). table_of (reply-in first o)) a.1 ∙ a.2.table ∙ sym b.2.table ∙ sym (ap (λ (o : Outcome). table_of (reply-in first o)) b.1)
+  same-table SpentJob a b = absurd cc
+  same-table CancelledJob a b = absurd cc
 
-same-in : (job : Option Job) (first second : Reply) → IsOutcomeIn job (Some (DoneWith first)) → IsOutcomeIn job (Some (DoneWith second)) → table_of first ≡ table_of second
-same-in None first second a b = absurd cc
-same-in (Some job) first second a b = same-table job first second a b
+  same-in : (job : Option Job) → IsOutcomeIn job (Some (DoneWith first)) → IsOutcomeIn job (Some (DoneWith second)) → table_of first ≡ table_of second
+  same-in None a b = absurd cc
+  same-in (Some job) a b = same-table job a b
 
 -- what a tenant's job has come to is a function of the tenant's own taken steps
 pub own-table : (grain : ℕ) (journal : List (StepOf LeafAnswer)) (one other : Tenant) (number : ℕ) (first second : Reply) → IsJournalOf (jamboree grain) journal one → IsJournalOf (jamboree grain) journal other →

@@ -14,16 +14,17 @@ not-bad (test ∷ tests) effect none = λ e. elim (cases_Bool test.0) [
 ]
 
 -- a step at a frame
-at-none-bad : {X : Type 0} (frames : Tree) (s : ℕ) (step : F → Result X Refusal) → ((f : F) → frame_at frames s ≡ Some f → refusal_in (step f) ≢ Some BadAct) → refusal_in (at_frame (frame_at frames s) step) ≢ Some BadAct
-at-none-bad {X} frames s step each = by (frame_at frames s) refl
-  where
-    by : (o : Option F) → frame_at frames s ≡ o → refusal_in (at_frame o step) ≢ Some BadAct
-    by None at = λ e. absurd cc
-    by (Some f) at = each f at
+module _ {X : Type 0} (frames : Tree) (s : ℕ) where
+  at-none-bad : (step : F → Result X Refusal) → ((f : F) → frame_at frames s ≡ Some f → refusal_in (step f) ≢ Some BadAct) → refusal_in (at_frame (frame_at frames s) step) ≢ Some BadAct
+  at-none-bad step each = by (frame_at frames s) refl
+    where
+      by : (o : Option F) → frame_at frames s ≡ o → refusal_in (at_frame o step) ≢ Some BadAct
+      by None at = λ e. absurd cc
+      by (Some f) at = each f at
 
-frame-none-bad : {X : Type 0} (frames : Tree) (s : ℕ) (tests : F → List (Bool × Refusal)) (effect : F → X) → ((f : F) → frame_at frames s ≡ Some f → NoneBad (tests f)) →
-    refusal_in (at_frame (frame_at frames s) (λ frame. unless (tests frame) (effect frame))) ≢ Some BadAct
-frame-none-bad frames s tests effect none = at-none-bad frames s (λ frame. unless (tests frame) (effect frame)) (λ f at. not-bad (tests f) (effect f) (none f at))
+  frame-none-bad : (tests : F → List (Bool × Refusal)) (effect : F → X) → ((f : F) → frame_at frames s ≡ Some f → NoneBad (tests f)) →
+      refusal_in (at_frame (frame_at frames s) (λ frame. unless (tests frame) (effect frame))) ≢ Some BadAct
+  frame-none-bad tests effect none = at-none-bad (λ frame. unless (tests frame) (effect frame)) (λ f at. not-bad (tests f) (effect f) (none f at))
 
 module _ (grain : ℕ) (origins : Lists) (tenant : Tenant) (shape : IsShaped tenant) (fitting : TenantFits AreFitting IsRoot origins tenant) where
   -- the next act of a frame that runs
@@ -64,8 +65,7 @@ module _ (grain : ℕ) (origins : Lists) (tenant : Tenant) (shape : IsShaped ten
       let whole = subst P (ap values_of leaf) (subst R marked (fits-holds AreFitting tenant.frames fitting.frames s f at)) in
       let a = among-kids tenant.frames parent s f shape.tree at (ap (is_that parent) named ∙ eq-eqb parent parent refl) in
       let S : Mark → Type 0 = λ m. AreFitting g.0.value (kids tenant.frames parent) m in
-      let Q : Lists → Type 0 = λ k. AreFitting g.0.value k Neither in
-      let fit = subst Q a.all (subst S free (fits-holds AreFitting tenant.frames fitting.frames parent g.0 g.1)) in
+      let fit = subst (λ k. AreFitting g.0.value k Neither) a.all (subst S free (fits-holds AreFitting tenant.frames fitting.frames parent g.0 g.1)) in
       ap (λ (w : List ℕ). is_outside (inlet_act w f.value).stores w) own ∙ inlet-possible g.0.value f.value a.older a.younger fit whole
 
   -- each step
@@ -115,52 +115,54 @@ own-none-bad answer false (Ok outcome) told none = λ e. let said : ◌≡◌ {A
 abbrev pub IsOfSearches : Lists → CoreState → StepOf LeafAnswer → Type 0
 IsOfSearches origins before step = (tenant : Tenant) → tenant_in before.tenants (tenant_of step) ≡ Some tenant → IsShaped tenant × TenantFits AreFitting IsRoot origins tenant
 
-step-none-bad : (grain : ℕ) (origins : Lists) (before : CoreState) (step : StepOf LeafAnswer) (answer : Result (DidOf Leaf) Refusal) → IsOfSearches origins before step → submits step ≡ [] →
-    IsAnswerToStep (jamboree grain) before step answer → answer ≢ Err BadAct
-step-none-bad grain origins before step answer own none right = by (tenant_in before.tenants (tenant_of step)) refl
-  where
-    by : (found : Option Tenant) → tenant_in before.tenants (tenant_of step) ≡ found → answer ≢ Err BadAct
-    by None at = own-none-bad answer (meets_busy step before.tenants) (lone (jamboree grain) (tenant_in before.tenants (tenant_of step)) step) (right.own_state, right.busy_worker, right.else_taken) (rw at (first-none-bad step))
-    by (Some tenant) at =
-        let is = own tenant at in
-        own-none-bad answer (meets_busy step before.tenants) (lone (jamboree grain) (tenant_in before.tenants (tenant_of step)) step) (right.own_state, right.busy_worker, right.else_taken)
-        (rw at (possible grain origins tenant is.0 is.1 step none))
+module _ (grain : ℕ) (before : CoreState) (step : StepOf LeafAnswer) (answer : Result (DidOf Leaf) Refusal) where
+  step-none-bad : (origins : Lists) → IsOfSearches origins before step → submits step ≡ [] → IsAnswerToStep (jamboree grain) before step answer →
+      answer ≢ Err BadAct
+  step-none-bad origins own none right = by (tenant_in before.tenants (tenant_of step)) refl
+    where
+      by : (found : Option Tenant) → tenant_in before.tenants (tenant_of step) ≡ found → answer ≢ Err BadAct
+      by None at = own-none-bad answer (meets_busy step before.tenants) (lone (jamboree grain) (tenant_in before.tenants (tenant_of step)) step) (right.own_state, right.busy_worker, right.else_taken) (rw at (first-none-bad step))
+      by (Some tenant) at =
+          let is = own tenant at in
+          own-none-bad answer (meets_busy step before.tenants) (lone (jamboree grain) (tenant_in before.tenants (tenant_of step)) step) (right.own_state, right.busy_worker, right.else_taken)
+          (rw at (possible grain origins tenant is.0 is.1 step none))
 
--- an admission, of which BadAct isn't judged
-admission-none-bad : (grain : ℕ) (before : CoreState) (step : StepOf LeafAnswer) (answer : Result (DidOf Leaf) Refusal) → shared_refusal (jamboree grain) before step ≢ Some BadAct → IsAnswerToAdmit (jamboree grain) before step answer → answer ≢ Err BadAct
-admission-none-bad grain before step answer none right = by (shared_refusal (jamboree grain) before step) refl
-  where
-    step_result-good : (came : Result (Outcome Leaf) Refusal) → refusal_in came ≢ Some BadAct → answer_of came ≢ Err BadAct
-    step_result-good (Ok outcome) none = λ e. absurd cc
-    step_result-good (Err refusal) none = λ e. let is : refusal ≡ BadAct = cc in none (ap (λ (r : Refusal). Some r) is)
+  -- an admission, of which BadAct isn't judged
+  admission-none-bad : shared_refusal (jamboree grain) before step ≢ Some BadAct → IsAnswerToAdmit (jamboree grain) before step answer → answer ≢ Err BadAct
+  admission-none-bad none right = by (shared_refusal (jamboree grain) before step) refl
+    where
+      step_result-good : (came : Result (Outcome Leaf) Refusal) → refusal_in came ≢ Some BadAct → answer_of came ≢ Err BadAct
+      step_result-good (Ok outcome) none = λ e. absurd cc
+      step_result-good (Err refusal) none = λ e. let is : refusal ≡ BadAct = cc in none (ap (λ (r : Refusal). Some r) is)
 
-    either : (answer ≡ answer_of (step_result (jamboree grain) before step)) ⊎ (◌≡◌ {A = Result (DidOf Leaf) Refusal} answer (Err OutOfMemory)) → answer ≢ Err BadAct
-    either (inl is) = λ e. step_result-good (step_result (jamboree grain) before step) none (sym is ∙ e)
-    either (inr is) = λ e. let both : ◌≡◌ {A = Result (DidOf Leaf) Refusal} (Err OutOfMemory) (Err BadAct) = sym is ∙ e in absurd cc
+      either : (answer ≡ answer_of (step_result (jamboree grain) before step)) ⊎ (◌≡◌ {A = Result (DidOf Leaf) Refusal} answer (Err OutOfMemory)) → answer ≢ Err BadAct
+      either (inl is) = λ e. step_result-good (step_result (jamboree grain) before step) none (sym is ∙ e)
+      either (inr is) = λ e. let both : ◌≡◌ {A = Result (DidOf Leaf) Refusal} (Err OutOfMemory) (Err BadAct) = sym is ∙ e in absurd cc
 
-    by : (refusal : Option Refusal) → shared_refusal (jamboree grain) before step ≡ refusal → answer ≢ Err BadAct
-    by None at = either (right.else_taken at)
-    by (Some refusal) at = λ e.
-        let said : ◌≡◌ {A = Result (DidOf Leaf) Refusal} (Err refusal) (Err BadAct) = sym (right.refused refusal at) ∙ e in
-        let is : refusal ≡ BadAct = cc in none (at ∙ ap (λ (r : Refusal). Some r) is)
+      by : (refusal : Option Refusal) → shared_refusal (jamboree grain) before step ≡ refusal → answer ≢ Err BadAct
+      by None at = either (right.else_taken at)
+      by (Some refusal) at = λ e.
+          let said : ◌≡◌ {A = Result (DidOf Leaf) Refusal} (Err refusal) (Err BadAct) = sym (right.refused refusal at) ∙ e in
+          let is : refusal ≡ BadAct = cc in none (at ∙ ap (λ (r : Refusal). Some r) is)
 
 -- an admission is refused by OldTenant or Full
-admit-none-bad : (grain : ℕ) (before : CoreState) (number : ℕ) (quota : Quota) → shared_refusal {A = LeafAnswer} (jamboree grain) before (Admit number quota) ≢ Some BadAct
-admit-none-bad grain before number quota = grind (arith, not-bad)
+module _ (grain : ℕ) (before : CoreState) (number : ℕ) (quota : Quota) where
+  admit-none-bad : shared_refusal {A = LeafAnswer} (jamboree grain) before (Admit number quota) ≢ Some BadAct
+  admit-none-bad = grind (arith, not-bad)
 
--- a further reservation by NoTenant, Lower or Full
-more-none-bad : (grain : ℕ) (before : CoreState) (number : ℕ) (quota : Quota) → shared_refusal {A = LeafAnswer} (jamboree grain) before (AdmitMore number quota) ≢ Some BadAct
-more-none-bad grain before number quota =
-    unless-none (is_beyond (reservations_in before) (reserved_by (tenant_in before.tenants number)) quota) (lone (jamboree grain) (tenant_in before.tenants number) (AdmitMore number quota)) (own (tenant_in before.tenants number))
-  where
-    unless-none : (beyond : Bool) (came : Result (Outcome Leaf) Refusal) → refusal_in came ≢ Some BadAct → refusal_in (unless_beyond beyond came) ≢ Some BadAct
-    unless-none beyond (Err refusal) none = none
-    unless-none true (Ok outcome) none = λ e. absurd cc
-    unless-none false (Ok outcome) none = none
+  -- a further reservation by NoTenant, Lower or Full
+  more-none-bad : shared_refusal {A = LeafAnswer} (jamboree grain) before (AdmitMore number quota) ≢ Some BadAct
+  more-none-bad =
+      unless-none (is_beyond (reservations_in before) (reserved_by (tenant_in before.tenants number)) quota) (lone (jamboree grain) (tenant_in before.tenants number) (AdmitMore number quota)) (own (tenant_in before.tenants number))
+    where
+      unless-none : (beyond : Bool) (came : Result (Outcome Leaf) Refusal) → refusal_in came ≢ Some BadAct → refusal_in (unless_beyond beyond came) ≢ Some BadAct
+      unless-none beyond (Err refusal) none = none
+      unless-none true (Ok outcome) none = λ e. absurd cc
+      unless-none false (Ok outcome) none = none
 
-    own : (found : Option Tenant) → refusal_in (lone (jamboree grain) found (AdmitMore number quota)) ≢ Some BadAct
-    own None = λ e. absurd cc
-    own (Some tenant) = not-bad {X = Outcome Leaf} ((is_lower tenant.reserve quota, Lower) ∷ []) (raised tenant quota) ((λ e. absurd cc), λ n. tt)
+      own : (found : Option Tenant) → refusal_in (lone (jamboree grain) found (AdmitMore number quota)) ≢ Some BadAct
+      own None = λ e. absurd cc
+      own (Some tenant) = not-bad {X = Outcome Leaf} ((is_lower tenant.reserve quota, Lower) ∷ []) (raised tenant quota) ((λ e. absurd cc), λ n. tt)
 
 -- each step whose tenant's jobs are searches
 pub tenant-none-bad : (grain : ℕ) (origins : Lists) (before : CoreState) (step : StepOf LeafAnswer) (answer : Result (DidOf Leaf) Refusal) → IsOfSearches origins before step → submits step ≡ [] →
@@ -168,7 +170,7 @@ pub tenant-none-bad : (grain : ℕ) (origins : Lists) (before : CoreState) (step
 tenant-none-bad grain origins before (Admit number quota) answer own none right = admission-none-bad grain before (Admit number quota) answer (admit-none-bad grain before number quota) (right.0 refl)
 tenant-none-bad grain origins before (AdmitMore number quota) answer own none right = admission-none-bad grain before (AdmitMore number quota) answer (more-none-bad grain before number quota) (right.0 refl)
 tenant-none-bad grain origins before (Submit number words size) answer own none right = absurd cc
-tenant-none-bad grain origins before step answer own none right = step-none-bad grain origins before step answer own none (right.1 refl)
+tenant-none-bad grain origins before step answer own none right = step-none-bad grain before step answer origins own none (right.1 refl)
 
 -- each step of a core of searches
 pub answer-none-bad : (grain : ℕ) (origins : ℕ → Lists) (before : CoreState) (step : StepOf LeafAnswer) (answer : Result (DidOf Leaf) Refusal) → AreShaped before.tenants → CoreFits AreFitting IsRoot origins before → submits step ≡ [] →

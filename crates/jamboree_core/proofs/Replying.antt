@@ -1,12 +1,11 @@
 -- A done job kept a returned root, which holds what it was asked.
-use Rattle.jamboree_core.proofs.Common.{◌≡◌, ℕ, List, [], ◌∷◌, Some, Result, refl, sym, ◌∙◌, subst, arith, Quota, Frame as TreeFrame, children_of, values_of, Job, Live, Done, Spent as SpentJob, Cancelled as CancelledJob, Refusal, StepOf, Submit, DidOf, Tree, Tenant, kept_words, HasReturned, mark_of_state, EachFits, only, shared_by_nobody, tenant_in, AreAnswersTo, after_answers, taken_steps, JobsFit, TenantFits, submits, RootFits, RootsFit, origins_of, IsLawful, run-fits, nobody-fits, Leaf, LeafAnswer, cells_of, Bound, IsTable, board, frame_of, bounds_of, AreFitting, IsRoot, jamboree, next-keeps, inlet-keeps, fits_sound, accept-keeps, root_fits, root_value, root-whole, root-kept, AreAllRootWords, IsSearch, AreSearches, IsReplyTo, AreReplies, AreAllSound}
+use Rattle.jamboree_core.proofs.Common.{◌≡◌, ℕ, List, [], ◌∷◌, Some, Result, refl, sym, ◌∙◌, subst, arith, Quota, Frame as TreeFrame, Job, Live, Done, Spent as SpentJob, Cancelled as CancelledJob, Refusal, StepOf, Submit, DidOf, Tree, Tenant, kept_words, HasReturned, mark_of_state, EachFits, only, shared_by_nobody, tenant_in, AreAnswersTo, after_answers, taken_steps, JobsFit, TenantFits, submits, RootFits, RootsFit, origins_of, IsLawful, run-fits, nobody-fits, Leaf, LeafAnswer, cells_of, Bound, IsTable, board, frame_of, bounds_of, AreFitting, IsRoot, jamboree, next-keeps, inlet-keeps, fits_sound, accept-keeps, root_fits, root_value, root-whole, root-kept, AreAllRootWords, IsSearch, AreSearches, IsReplyTo, AreReplies, AreAllSound}
 use Rattle.jamboree_rules.specs.Frames.{Frame}
 
 -- the new root of a search fits, and belongs to a board and a depth
 pub search-parts : {A : Type 0} (step : StepOf A) → IsSearch step → RootFits AreFitting IsRoot step × AreAllRootWords (submits step)
 search-parts (Submit number words size) is =
-    let root = root_fits is.0.own is.0.opp is.0.depth is.0.apart is.0.shallow in
-    (rw (is.0.are, is.1) root, (is.0, tt))
+    (rw (is.0.are, is.1) (root_fits is.0.own is.0.opp is.0.depth is.0.apart is.0.shallow), (is.0, tt))
 search-parts _ is = (tt, tt)
 
 pub search-fits : (step : StepOf LeafAnswer) → IsSearch step → RootFits AreFitting IsRoot step
@@ -35,35 +34,36 @@ same-table : (own opp depth : ℕ) (bounds : List Bound) (f : Frame) → f.own �
 same-table own opp depth bounds f o p d table = grind arith
 
 -- a returned root holds the reply
-root-replies : (origin all : List ℕ) → AreFitting all [] HasReturned → IsRoot origin all → IsReplyTo origin all
-root-replies origin all fits root =
-    let holds = root_value origin all fits root in
-    let table : IsTable (frame_of all).depth (board (frame_of all)) (bounds_of (frame_of all)) = (root-whole origin all fits root).2 in
-    let own : (frame_of all).own ≡ (frame_of origin).own = root.own_is in
-    let opp : (frame_of all).opp ≡ (frame_of origin).opp = root.opp_is in
-    let depth : (frame_of all).depth ≡ (frame_of origin).depth = root.depth_is in
-    record {
-      own = own;
-      opp = opp;
-      depth = depth;
-      value = holds.0 ∙ (rw (depth, own, opp) refl);
-      choice = holds.1 ∙ (rw (depth, own, opp) refl);
-      table = same-table (frame_of origin).own (frame_of origin).opp (frame_of origin).depth (bounds_of (frame_of all)) (frame_of all) own opp depth table;
-    }
+module _ {origin all : List ℕ} (fits : AreFitting all [] HasReturned) (root : IsRoot origin all) where
+  root-replies : IsReplyTo origin all
+  root-replies =
+      let holds = root_value origin all fits root in
+      let table : IsTable (frame_of all).depth (board (frame_of all)) (bounds_of (frame_of all)) = (root-whole origin all fits root).2 in
+      let own : (frame_of all).own ≡ (frame_of origin).own = root.own_is in
+      let opp : (frame_of all).opp ≡ (frame_of origin).opp = root.opp_is in
+      let depth : (frame_of all).depth ≡ (frame_of origin).depth = root.depth_is in
+      record {
+        own = own;
+        opp = opp;
+        depth = depth;
+        value = holds.0 ∙ (rw (depth, own, opp) refl);
+        choice = holds.1 ∙ (rw (depth, own, opp) refl);
+        table = same-table (frame_of origin).own (frame_of origin).opp (frame_of origin).depth (bounds_of (frame_of all)) (frame_of all) own opp depth table;
+      }
 
--- so does a job, which keeps all its words
-reply-held : (origin words all : List ℕ) → kept_words all ≡ words → AreFitting all [] HasReturned → IsRoot origin all → IsReplyTo origin words
-reply-held origin words all kept fits root = subst (λ (ws : List ℕ). IsReplyTo origin ws) (sym (root-kept origin all fits root) ∙ kept) (root-replies origin all fits root)
+  -- so does a job, which keeps all its words
+  reply-held : (words : List ℕ) → kept_words all ≡ words → IsReplyTo origin words
+  reply-held words kept = subst (λ (ws : List ℕ). IsReplyTo origin ws) (sym (root-kept origin all fits root) ∙ kept) (root-replies)
 
 pub replies-held : (tree : Tree) (origins : List (List ℕ)) (jobs : List Job) → JobsFit AreFitting IsRoot tree origins jobs → AreReplies origins jobs
 replies-held tree [] [] fit = tt
 replies-held tree [] (job ∷ jobs) fit = absurd fit
 replies-held tree (origin ∷ origins) [] fit = absurd fit
 replies-held tree (origin ∷ origins) (Live root ∷ jobs) fit = (tt, replies-held tree origins jobs fit.1)
-replies-held tree (origin ∷ origins) (Done words ∷ jobs) fit = (reply-held origin words fit.0.0 fit.0.1 fit.0.2 fit.0.3, replies-held tree origins jobs fit.1)
+replies-held tree (origin ∷ origins) (Done words ∷ jobs) fit = (reply-held fit.0.2 fit.0.3 words fit.0.1, replies-held tree origins jobs fit.1)
 replies-held tree (origin ∷ origins) (SpentJob ∷ jobs) fit = (tt, replies-held tree origins jobs fit.1)
 replies-held tree (origin ∷ origins) (CancelledJob ∷ jobs) fit = (tt, replies-held tree origins jobs fit.1)
 
 pub all-sound : (tree : Tree) (frames : List (TreeFrame (List ℕ))) → EachFits AreFitting tree frames → AreAllSound tree frames
 all-sound tree [] fit = tt
-all-sound tree (frame ∷ frames) fit = (fits_sound (frame.value) (values_of (children_of tree frame.serial)) (mark_of_state frame.state) fit.0, all-sound tree frames fit.1)
+all-sound tree (frame ∷ frames) fit = (fits_sound (frame.value) _ (mark_of_state frame.state) fit.0, all-sound tree frames fit.1)

@@ -11,15 +11,16 @@ tenant-replies origins tenant searches = replies-held tenant.frames origins tena
 pub tenant-sound : (origins : List (List ℕ)) (tenant : Tenant) → TenantSearches origins tenant → AreAllSound tenant.frames tenant.frames
 tenant-sound origins tenant searches = all-sound tenant.frames tenant.frames searches.fits.frames
 
-pub core-tenant : (origins : ℕ → List (List ℕ)) (shared : CoreState) (number : ℕ) (tenant : Tenant) → CoreSearches origins shared → tenant_in shared.tenants number ≡ Some tenant → TenantSearches (origins number) tenant
-core-tenant origins shared number tenant core at = record { fits = core.fits.tenants number tenant at; asked = core.asked number }
+module _ (origins : ℕ → List (List ℕ)) (shared : CoreState) (number : ℕ) where
+  pub core-tenant : (tenant : Tenant) → CoreSearches origins shared → tenant_in shared.tenants number ≡ Some tenant → TenantSearches (origins number) tenant
+  core-tenant tenant core at = record { fits = core.fits.tenants number tenant at; asked = core.asked number }
 
-pub core-serves : (origins : ℕ → List (List ℕ)) (shared : CoreState) (number : ℕ) → CoreSearches origins shared → ServesSearches (tenant_in shared.tenants number)
-core-serves origins shared number core = by (tenant_in shared.tenants number) refl
-  where
-    by : (own : Option Tenant) → tenant_in shared.tenants number ≡ own → ServesSearches own
-    by None at = tt
-    by (Some tenant) at = (origins number, core-tenant origins shared number tenant core at)
+  pub core-serves : CoreSearches origins shared → ServesSearches (tenant_in shared.tenants number)
+  core-serves core = by (tenant_in shared.tenants number) refl
+    where
+      by : (own : Option Tenant) → tenant_in shared.tenants number ≡ own → ServesSearches own
+      by None at = tt
+      by (Some tenant) at = (origins number, core-tenant tenant core at)
 
 pub core-replies : (origins : ℕ → List (List ℕ)) (shared : CoreState) → CoreSearches origins shared → HoldsReplies origins shared
 core-replies origins shared core = record {
@@ -53,38 +54,41 @@ searches-asked [] are = tt
 searches-asked (step ∷ steps) are = asked-append (submits step) (origins_of steps) (search-parts step are.0).1 (searches-asked steps are.1)
 
 -- the words under each number after a step and after a list
-pub after-asked : {I A : Type 0} (origins : ℕ → List (List ℕ)) (step : StepOf A) (answer : Result (DidOf I) Refusal) → ((number : ℕ) → AreAllRootWords (origins number)) → (is_ok answer ≡ true → IsSearch step) →
-    (number : ℕ) → AreAllRootWords (origins_after origins step answer number)
-after-asked origins step (Err refusal) asked search number = asked number
-after-asked origins step (Ok did) asked search number = elim (cases_Bool (eqb (tenant_of step) number)) [
-  | inl own ↦ rw own (asked-append (origins number) (submits step) (asked number) (search-parts step (search refl)).1)
-  | inr other ↦ rw other (asked number)
-]
+module _ {A : Type 0} (number : ℕ) where
+  pub after-asked : {I : Type 0} (origins : ℕ → List (List ℕ)) (step : StepOf A) (answer : Result (DidOf I) Refusal) →
+      ((number : ℕ) → AreAllRootWords (origins number)) → (is_ok answer ≡ true → IsSearch step) → AreAllRootWords (origins_after origins step answer number)
+  after-asked origins step (Err refusal) asked search = asked number
+  after-asked origins step (Ok did) asked search = elim (cases_Bool (eqb (tenant_of step) number)) [
+    | inl own ↦ rw own (asked-append (origins number) (submits step) (asked number) (search-parts step (search refl)).1)
+    | inr other ↦ rw other (asked number)
+  ]
 
--- those of one tenant's steps
-only-searches : {A : Type 0} (number : ℕ) (steps : List (StepOf A)) → AreSearches steps → AreSearches (only number steps)
-only-searches number [] are = tt
-only-searches number (step ∷ steps) are = elim (cases_Bool (eqb (tenant_of step) number)) [
-  | inl own ↦ rw own (are.0, only-searches number steps are.1)
-  | inr other ↦ rw other (only-searches number steps are.1)
-]
+  -- those of one tenant's steps
+  only-searches : (steps : List (StepOf A)) → AreSearches steps → AreSearches (only number steps)
+  only-searches [] are = tt
+  only-searches (step ∷ steps) are = elim (cases_Bool (eqb (tenant_of step) number)) [
+    | inl own ↦ rw own (are.0, only-searches steps are.1)
+    | inr other ↦ rw other (only-searches steps are.1)
+  ]
 
-searches-after-run : (origins : ℕ → List (List ℕ)) (before after : CoreState) (steps : List (StepOf LeafAnswer)) → CoreSearches origins before → AreSearches steps →
-    CoreFits AreFitting IsRoot (submitted_to origins steps) after → CoreSearches (submitted_to origins steps) after
-searches-after-run origins before after steps core searches fits = grind (arith, asked-append, searches-asked, only-searches)
+module _ (before after : CoreState) where
+  searches-after-run : (origins : ℕ → List (List ℕ)) (steps : List (StepOf LeafAnswer)) → CoreSearches origins before → AreSearches steps →
+      CoreFits AreFitting IsRoot (submitted_to origins steps) after → CoreSearches (submitted_to origins steps) after
+  searches-after-run origins steps core searches fits = grind (arith, asked-append, searches-asked, only-searches)
 
--- the headline in full, from what a run says
-pub headline-in-full : (grain : ℕ) (before : CoreState) (steps : List (StepOf LeafAnswer)) (answered : List (Result (DidOf Leaf) Refusal)) (after : CoreState) → IsHeadline (jamboree grain) before steps answered after →
-    ((origins : ℕ → List (List ℕ)) → CoreFits AreFitting IsRoot origins before → RootsFit AreFitting IsRoot (taken_steps steps answered) → CoreFits AreFitting IsRoot (submitted_to origins (taken_steps steps answered)) after) →
-    IsHeadlineInFull grain before steps answered after
-headline-in-full grain before steps answered after tenants fitting = record {
-  tenants = tenants;
-  searches = λ origins core search. kept origins core search;
-  replies = λ origins core search. core-replies (submitted_to origins (taken_steps steps answered)) after (kept origins core search);
-}
-  where
-    kept : (origins : ℕ → List (List ℕ)) → CoreSearches origins before → AreSearches (taken_steps steps answered) → CoreSearches (submitted_to origins (taken_steps steps answered)) after
-    kept origins core search = searches-after-run origins before after (taken_steps steps answered) core search (fitting origins core.fits (searches-fit (taken_steps steps answered) search))
+  -- the headline in full, from what a run says
+  pub headline-in-full : (grain : ℕ) (steps : List (StepOf LeafAnswer)) (answered : List (Result (DidOf Leaf) Refusal)) →
+      IsHeadline (jamboree grain) before steps answered after →
+      ((origins : ℕ → List (List ℕ)) → CoreFits AreFitting IsRoot origins before → RootsFit AreFitting IsRoot (taken_steps steps answered) → CoreFits AreFitting IsRoot (submitted_to origins (taken_steps steps answered)) after) →
+      IsHeadlineInFull grain before steps answered after
+  headline-in-full grain steps answered tenants fitting = record {
+    tenants = tenants;
+    searches = λ origins core search. kept origins core search;
+    replies = λ origins core search. core-replies (submitted_to origins (taken_steps steps answered)) after (kept origins core search);
+  }
+    where
+      kept : (origins : ℕ → List (List ℕ)) → CoreSearches origins before → AreSearches (taken_steps steps answered) → CoreSearches (submitted_to origins (taken_steps steps answered)) after
+      kept origins core search = searches-after-run origins (taken_steps steps answered) core search (fitting origins core.fits (searches-fit (taken_steps steps answered) search))
 
 pub both-ok : {T E P Q R : Type 0} (r : Result T E) → OnOk r P → OnOk r Q → (P → Q → R) → OnOk r R
 both-ok (Ok value) p q make = make p q

@@ -84,12 +84,14 @@ set-first w k x early long = grind (arith, put-is, drop-set-lt)
 frame-alike : (w v : List ℕ) → ((j : ℕ) → j < 12 → slice_index v j ≡ slice_index w j) → frame_of v ≡ record (frame_of w) { statuses = map status_of (drop 12 v); rests = map entry_rest (drop 12 v) }
 frame-alike w v same = grind arith
 
-set-entry : (w : List ℕ) (i x : ℕ) → frame_of (slice_set w (12 + i) x) ≡ record (frame_of w) { statuses = slice_set (map status_of (drop 12 w)) i (status_of x); rests = slice_set (map entry_rest (drop 12 w)) i (entry_rest x) }
+set-entry : (w : List ℕ) (i x : ℕ) → frame_of (slice_set w (12 + i) x) ≡ record (frame_of w) {
+  statuses = slice_set (map status_of (drop 12 w)) i (status_of x);
+  rests = slice_set (map entry_rest (drop 12 w)) i (entry_rest x);
+}
 set-entry w i x =
     frame-alike w (slice_set w (12 + i) x) (λ j below. get_or-set_other w (12 + i) j x 0 (λ e. absurd (omega (arith, e))))
     ∙ ap (λ (es : List ℕ). record (frame_of w) { statuses = map status_of es; rests = map entry_rest es }) (drop-set-add 12 w i x)
-    ∙ ap (λ (st : List ℕ). record (frame_of w) { statuses = st; rests = map entry_rest (slice_set (drop 12 w) i x) }) (map-set status_of (drop 12 w) i x)
-    ∙ ap (λ (rs : List ℕ). record (frame_of w) { statuses = slice_set (map status_of (drop 12 w)) i (status_of x); rests = rs }) (map-set entry_rest (drop 12 w) i x)
+    ∙ (λ j. record (frame_of w) { statuses = map-set status_of (drop 12 w) i x j; rests = map-set entry_rest (drop 12 w) i x j })
 
 -- an entry that is set is read again
 set-both : (w : List ℕ) (i status rest : ℕ) → status ≤ 4 → frame_of (slice_set w (12 + i) (entry_of status rest)) ≡ changed (Status i status rest) (frame_of w)
@@ -219,11 +221,11 @@ counts-passes depth count n d c e = grind (arith, nat_tests)
 
 pub frame-told : (f : Frame) → is_frame f ≡ true → IsFrame f
 frame-told f h =
-    let a = and_parts (is_leaf f.own f.opp f.depth f.alpha f.beta) (nat_le f.role 3 && (nat_le f.phase 4 && (nat_le f.choice 65 && (nat_le f.spawned f.count && is_in_phase f)))) h in
-    let b = and_parts (nat_le f.role 3) (nat_le f.phase 4 && (nat_le f.choice 65 && (nat_le f.spawned f.count && is_in_phase f))) a.1 in
-    let c = and_parts (nat_le f.phase 4) (nat_le f.choice 65 && (nat_le f.spawned f.count && is_in_phase f)) b.1 in
-    let d = and_parts (nat_le f.choice 65) (nat_le f.spawned f.count && is_in_phase f) c.1 in
-    let e = and_parts (nat_le f.spawned f.count) (is_in_phase f) d.1 in
+    let a = and_parts _ _ h in
+    let b = and_parts _ _ a.1 in
+    let c = and_parts _ _ b.1 in
+    let d = and_parts _ _ c.1 in
+    let e = and_parts _ _ d.1 in
     let p = phase-told f.phase (int_eq f.best unscored && (f.count == 0)) (is_score f.best) (counts_choices f) e.1 in
     record {
       leaf = leaf-told f.own f.opp f.depth f.alpha f.beta a.0;
@@ -238,15 +240,12 @@ frame-told f h =
 
 pub frame-passes : (f : Frame) → IsFrame f → is_frame f ≡ true
 frame-passes f h =
-    and_from (is_leaf f.own f.opp f.depth f.alpha f.beta) (nat_le f.role 3 && (nat_le f.phase 4 && (nat_le f.choice 65 && (nat_le f.spawned f.count && is_in_phase f)))) (leaf-passes f.own f.opp f.depth f.alpha f.beta h.leaf)
-    (and_from (nat_le f.role 3) (nat_le f.phase 4 && (nat_le f.choice 65 && (nat_le f.spawned f.count && is_in_phase f))) (le-leb f.role 3 h.role)
-    (and_from (nat_le f.phase 4) (nat_le f.choice 65 && (nat_le f.spawned f.count && is_in_phase f)) (le-leb f.phase 4 h.phase)
-    (and_from (nat_le f.choice 65) (nat_le f.spawned f.count && is_in_phase f) (le-leb f.choice 65 h.choice)
-    (and_from (nat_le f.spawned f.count) (is_in_phase f) (le-leb f.spawned f.count h.spawned)
-    (phase-passes f.phase (int_eq f.best unscored && (f.count == 0)) (is_score f.best) (counts_choices f)
+    let phase = phase-passes f.phase (int_eq f.best unscored && (f.count == 0)) (is_score f.best) (counts_choices f)
     (λ l. early-passes f.best f.count (h.early l).0 (h.early l).1)
     (λ l. score-passes f.best (h.late l).0 (h.late l).1)
-    (λ l. counts-passes f.depth f.count (length (choices (board f))) (h.counts l).0 (h.counts l).1 (h.counts l).2))))))
+    (λ l. counts-passes f.depth f.count (length (choices (board f))) (h.counts l).0 (h.counts l).1 (h.counts l).2) in
+    and_from _ _ (leaf-passes f.own f.opp f.depth f.alpha f.beta h.leaf) (and_from _ _ (le-leb _ _ h.role) (and_from _ _ (le-leb _ _ h.phase)
+    (and_from _ _ (le-leb _ _ h.choice) (and_from _ _ (le-leb _ _ h.spawned) phase))))
 
 -- words have the form of a frame
 pub record IsFormed (words : List ℕ) : Type 0 where
@@ -256,14 +255,12 @@ pub record IsFormed (words : List ℕ) : Type 0 where
 
 pub formed-told : (words : List ℕ) → is_formed words ≡ true → IsFormed words
 formed-told words h =
-    let a = and_parts (length words == 12 + (frame_of words).count) (are_entries (drop 12 words) && is_frame (frame_of words)) h in
-    let b = and_parts (are_entries (drop 12 words)) (is_frame (frame_of words)) a.1 in
-    record { places = eqb-true (length words) (12 + (frame_of words).count) a.0; entries = b.0; frame = frame-told (frame_of words) b.1 }
+    let a = and_parts _ _ h in
+    let b = and_parts _ _ a.1 in
+    record { places = eqb-true _ _ a.0; entries = b.0; frame = frame-told (frame_of words) b.1 }
 
 pub formed-passes : (words : List ℕ) → IsFormed words → is_formed words ≡ true
-formed-passes words h =
-    and_from (length words == 12 + (frame_of words).count) (are_entries (drop 12 words) && is_frame (frame_of words)) (eq-eqb (length words) (12 + (frame_of words).count) h.places)
-    (and_from (are_entries (drop 12 words)) (is_frame (frame_of words)) h.entries (frame-passes (frame_of words) h.frame))
+formed-passes words h = and_from _ _ (eq-eqb _ _ h.places) (and_from _ _ h.entries (frame-passes (frame_of words) h.frame))
 
 -- words have the form after stores that leave the count
 pub formed-stored : (changes : List Change) (w : List ℕ) → IsFormed w → AreSafe changes → (changed_by changes (frame_of w)).count ≡ (frame_of w).count → IsFrame (changed_by changes (frame_of w)) →

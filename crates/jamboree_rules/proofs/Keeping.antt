@@ -3,7 +3,7 @@ use Rattle.jamboree_rules.proofs.Common.{◌≡◌, ◌≢◌, ℕ, ◌<◌, ◌
 use Rattle.jamboree_rules.proofs.Searching.{IsSearching-low, IsSearching-higher, le-told, not-le-told, found-true, found-exact, found-passes, entered-none}
 use Rattle.jamboree_rules.proofs.Kinship.{taken_in, child-of, in-search, unsettled, scored, inlet-failed, inlet-low, inlet-higher, inlet-first, inlet-cut, first-low, first-exact, again-low, again-exact, test-low, over-beta, IsSameGoal, parent-kept}
 use Rattle.jamboree_rules.proofs.Forms.{code-small, AreSafe, changed_by, frame-stored, IsFrame, IsFormed, formed-stored, formed-told, formed-passes, child-passes}
-use Rattle.jamboree_rules.proofs.Steps.{AreInside, inside-stored, searched, searching-late, greatest-of, status-count, HasSameGoal, IsGoodAct, map-joined, none-told, first-good, tests-good, done-good, opening-good}
+use Rattle.jamboree_rules.proofs.Steps.{IsAtTests, AreInside, inside-stored, searched, searching-late, greatest-of, status-count, HasSameGoal, IsGoodAct, map-joined, none-told, first-good, tests-good, done-good, opening-good}
 use Rattle.jamboree_rules.proofs.LeafLemmas.{words-apart, after-holds}
 
 -- the frame after each of the five cases of an inlet
@@ -58,20 +58,16 @@ pub ranged : (f : Frame) → IsFrame f → 1 < f.phase → IsRanged f
 ranged f form late = let r = form.late late in record { low = r.0; high = r.1 }
 
 -- what an inlet stores can be read again, lies inside, and leaves the frame so
-record AreTaken (f c : Frame) (changes : List Change) (g : Frame) : Type 0 where
-  safe : AreSafe changes
-  inside : AreInside f.count changes
-  is : changed_by changes f ≡ g
-  count : g.count ≡ f.count
-  form : IsFrame g
-  goal : HasSameGoal f g
-  own_is : g.own ≡ f.own
-  opp_is : g.opp ≡ f.opp
-  known : g.phase ≢ 0
-
-taken : (f c : Frame) (changes : List Change) (phase : ℕ) (best : ℤ) (choice status : ℕ) → IsFrame f → (f.phase ≡ 2) ⊎ (f.phase ≡ 3) → 1 < phase → phase ≤ 4 → choice ≤ 65 → least ≤ℤ best → best ≤ℤ greatest →
-    AreSafe changes → AreInside f.count changes → changed_by changes f ≡ taken_in f c phase best choice status → AreTaken f c changes (taken_in f c phase best choice status)
-taken f c changes phase best choice status form before late last small low high safe inside is = grind (arith, searched)
+pub record AreTaken (f : Frame) (changes : List Change) (g : Frame) : Type 0 where
+  pub safe : AreSafe changes
+  pub inside : AreInside f.count changes
+  pub is : changed_by changes f ≡ g
+  pub count : g.count ≡ f.count
+  pub form : IsFrame g
+  pub goal : HasSameGoal f g
+  pub own_is : g.own ≡ f.own
+  pub opp_is : g.opp ≡ f.opp
+  pub known : g.phase ≢ 0
 
 seen-ranged : (c : Frame) → IsRanged c → (least ≤ℤ seen c) × (seen c ≤ℤ greatest)
 seen-ranged c r = grind arith
@@ -79,28 +75,33 @@ seen-ranged c r = grind arith
 best-ranged : (f c : Frame) → IsRanged f → IsRanged c → (least ≤ℤ int_max f.best (seen c)) × (int_max f.best (seen c) ≤ℤ greatest)
 best-ranged f c rf rc = grind (arith, seen-ranged, ints, clamps)
 
-taken-by : (cuts test low higher : Bool) (f c : Frame) → IsFrame f → (f.phase ≡ 2) ⊎ (f.phase ≡ 3) → c.number < f.count → IsRanged f → IsRanged c → AreTaken f c (changes_by cuts test low higher f c) (frame_by cuts test low higher f c)
-taken-by true test low higher f c form phase inside rf rc =
-    let code : code_at f c.number ≤ 64 = code-small f c.number in
-    let ends = seen-ranged c rc in
-    taken f c (changes_by true test low higher f c) 4 (seen c) (code_at f c.number) 2 form phase (omega arith) (omega arith) (omega arith) ends.0 ends.1
-    (ends.0, (tt, ((omega arith, found-passes c rc.low rc.high), (tt, tt)))) (tt, (tt, (inside, (tt, tt)))) refl
-taken-by false true true higher f c form phase inside rf rc =
-    let ends = best-ranged f c rf rc in
-    taken f c (changes_by false true true higher f c) f.phase (int_max f.best (seen c)) f.choice 2 form phase (searching-late f phase) form.phase form.choice ends.0 ends.1
-    (ends.0, ((omega arith, found-passes c rc.low rc.high), tt)) (tt, (inside, tt)) refl
-taken-by false true false higher f c form phase inside rf rc =
-    taken f c (changes_by false true false higher f c) f.phase f.best f.choice 3 form phase (searching-late f phase) form.phase form.choice rf.low rf.high
-    ((omega arith, found-passes c rc.low rc.high), tt) (inside, tt) refl
-taken-by false false low true f c form phase inside rf rc =
-    let code : code_at f c.number ≤ 64 = code-small f c.number in
-    let ends = best-ranged f c rf rc in
-    taken f c (changes_by false false low true f c) 3 (int_max f.best (seen c)) (code_at f c.number) 2 form phase (omega arith) (omega arith) (omega arith) ends.0 ends.1
-    (ends.0, (tt, ((omega arith, found-passes c rc.low rc.high), (tt, tt)))) (tt, (tt, (inside, (tt, tt)))) refl
-taken-by false false low false f c form phase inside rf rc =
-    let ends = best-ranged f c rf rc in
-    taken f c (changes_by false false low false f c) 3 (int_max f.best (seen c)) f.choice 2 form phase (omega arith) (omega arith) form.choice ends.0 ends.1
-    (ends.0, ((omega arith, found-passes c rc.low rc.high), (tt, tt))) (tt, (inside, (tt, tt))) refl
+module _ (f c : Frame) (form : IsFrame f) (before : (f.phase ≡ 2) ⊎ (f.phase ≡ 3)) where
+  taken : (changes : List Change) (phase : ℕ) (best : ℤ) (choice status : ℕ) → 1 < phase → phase ≤ 4 → choice ≤ 65 → least ≤ℤ best → best ≤ℤ greatest → AreSafe changes →
+      AreInside f.count changes → changed_by changes f ≡ taken_in f c phase best choice status → AreTaken f changes (taken_in f c phase best choice status)
+  taken changes phase best choice status late last small low high safe inside is = grind (arith, searched)
+
+  module _ (inside : c.number < f.count) (rf : IsRanged f) (rc : IsRanged c) where
+    taken-by : (cuts test low higher : Bool) → AreTaken f (changes_by cuts test low higher f c) (frame_by cuts test low higher f c)
+    taken-by true test low higher =
+        let code : code_at f c.number ≤ 64 = code-small f c.number in
+        let ends = seen-ranged c rc in
+        taken _ 4 (seen c) (code_at f c.number) 2 (omega arith) (omega arith) (omega arith) ends.0 ends.1
+        (ends.0, (tt, ((omega arith, found-passes c rc.low rc.high), (tt, tt)))) (tt, (tt, (inside, (tt, tt)))) refl
+    taken-by false true true higher =
+        let ends = best-ranged f c rf rc in
+        taken _ f.phase (int_max f.best (seen c)) f.choice 2 (searching-late f before) form.phase form.choice ends.0 ends.1
+        (ends.0, ((omega arith, found-passes c rc.low rc.high), tt)) (tt, (inside, tt)) refl
+    taken-by false true false higher =
+        taken _ f.phase f.best f.choice 3 (searching-late f before) form.phase form.choice rf.low rf.high ((omega arith, found-passes c rc.low rc.high), tt) (inside, tt) refl
+    taken-by false false low true =
+        let code : code_at f c.number ≤ 64 = code-small f c.number in
+        let ends = best-ranged f c rf rc in
+        taken _ 3 (int_max f.best (seen c)) (code_at f c.number) 2 (omega arith) (omega arith) (omega arith) ends.0 ends.1
+        (ends.0, (tt, ((omega arith, found-passes c rc.low rc.high), (tt, tt)))) (tt, (tt, (inside, (tt, tt)))) refl
+    taken-by false false low false =
+        let ends = best-ranged f c rf rc in
+        taken _ 3 (int_max f.best (seen c)) f.choice 2 (omega arith) (omega arith) form.choice ends.0 ends.1
+        (ends.0, ((omega arith, found-passes c rc.low rc.high), (tt, tt))) (tt, (inside, (tt, tt))) refl
 
 -- stores that can be done leave words of the form, with the same goal and the same board
 pub record IsGoodStore (own : List ℕ) (changes : List Change) (g : Frame) : Type 0 where
@@ -112,26 +113,16 @@ pub record IsGoodStore (own : List ℕ) (changes : List Change) (g : Frame) : Ty
   pub opp_is : g.opp ≡ (frame_of own).opp
   pub known : g.phase ≢ 0
 
-pub good-store : (own : List ℕ) (changes : List Change) → IsFormed own → AreSafe changes → AreInside (frame_of own).count changes → (changed_by changes (frame_of own)).count ≡ (frame_of own).count → IsFrame (changed_by changes (frame_of own)) →
-    HasSameGoal (frame_of own) (changed_by changes (frame_of own)) → (changed_by changes (frame_of own)).own ≡ (frame_of own).own → (changed_by changes (frame_of own)).opp ≡ (frame_of own).opp → (changed_by changes (frame_of own)).phase ≢ 0 →
-    IsGoodStore own changes (changed_by changes (frame_of own))
-good-store own changes form safe inside count after goal own_is opp_is known = record {
-  good = inside-stored changes own (frame_of own).count form.places inside;
-  is = frame-stored changes own safe (omega (arith, form.places));
-  formed = formed-stored changes own form safe count after;
-  goal = goal;
-  own_is = own_is;
-  opp_is = opp_is;
-  known = known;
+pub good-store : (own : List ℕ) (changes : List Change) (g : Frame) → IsFormed own → AreTaken (frame_of own) changes g → IsGoodStore own changes g
+good-store own changes g form t = record {
+  good = inside-stored changes own (frame_of own).count form.places t.inside;
+  is = frame-stored changes own t.safe (omega (arith, form.places)) ∙ t.is;
+  formed = formed-stored changes own form t.safe (ap (λ (h : Frame). h.count) t.is ∙ t.count) (subst IsFrame (sym t.is) t.form);
+  goal = t.goal;
+  own_is = t.own_is;
+  opp_is = t.opp_is;
+  known = t.known;
 }
-
-taken-good : (own : List ℕ) (c : Frame) (changes : List Change) (g : Frame) → IsFormed own → AreTaken (frame_of own) c changes g → IsGoodStore own changes g
-taken-good own c changes g form t =
-    let same : changed_by changes (frame_of own) ≡ g = t.is in
-    subst (λ (h : Frame). IsGoodStore own changes h) same
-    (good-store own changes form t.safe t.inside (ap (λ (h : Frame). h.count) same ∙ t.count) (subst IsFrame (sym same) t.form)
-    (subst (λ (h : Frame). HasSameGoal (frame_of own) h) (sym same) t.goal) (ap (λ (h : Frame). h.own) same ∙ t.own_is) (ap (λ (h : Frame). h.opp) same ∙ t.opp_is)
-    (subst (λ (h : Frame). h.phase ≢ 0) (sym same) t.known))
 
 -- the inlet of a frame for a child of it that has returned
 pub inlet-good : (own : List ℕ) (c : Frame) → IsFormed own → IsFrame c → IsChildOf (frame_of own) c → c.phase ≡ 4 → IsGoodStore own (changes_of (frame_of own) c) (frame_after (frame_of own) c)
@@ -139,8 +130,8 @@ inlet-good own c form child kin done =
     let f : Frame = frame_of own in
     let phase : (f.phase ≡ 2) ⊎ (f.phase ≡ 3) = in-search f c kin.in_role in
     let inside : c.number < f.count = omega (arith, kin.inside, status-count own form) in
-    taken-good own c (changes_of f c) (frame_after f c) form
-    (taken-by (int_le f.beta (seen c)) (c.role == 2) (int_le (seen c) (neg_ℤ c.beta)) (int_lt (floor f) (seen c)) f c form.frame phase inside (ranged f form.frame (searching-late f phase)) (ranged c child (omega arith)))
+    good-store own (changes_of f c) (frame_after f c) form
+    (taken-by f c form.frame phase inside (ranged f form.frame (searching-late f phase)) (ranged c child (omega arith)) _ _ _ _)
 
 -- a child that has returned is taken in
 module _ (f c : Frame) (before behind : List Frame) (fits : Fits f (before ++ c ∷ behind) Neither) (returned : Fits c [] HasReturned) where
@@ -171,7 +162,7 @@ module _ (f c : Frame) (before behind : List Frame) (fits : Fits f (before ++ c 
       let over : floor f <ℤ seen c = lt-told (floor f) (seen c) eh in
       ⊎_elim
       (λ (r : IsFirst f c). inlet-first f c before behind fits (code_at f c.number) r holds
-      (IsSearching-higher (value_at f) (code_at f) f.statuses f.rests f.alpha f.beta f.best (seen c) f.choice c.number (found_rest c) own_child.inside fits.table.places (first-kind f c r under over) over under
+      (IsSearching-higher (found_rest c) own_child.inside fits.table.places (first-kind f c r under over) over under
       (first-exact f c r worth.0 worth.1 under over) (λ k below. absurd (omega (arith, r.number, below))) searching.search))
       (λ (r : IsAgain f c). inlet-higher f c before behind fits r over under (again-exact f c r worth.0 worth.1 under over) holds (again-kind f c r under over))
       (other-told f c et own_child.in_role)
@@ -180,7 +171,7 @@ module _ (f c : Frame) (before behind : List Frame) (fits : Fits f (before ++ c 
       let small : seen c ≤ℤ floor f = not-lt-told (floor f) (seen c) eh in
       ⊎_elim
       (λ (r : IsFirst f c). inlet-first f c before behind fits f.choice r holds
-      (IsSearching-low (value_at f) (code_at f) f.statuses f.rests f.alpha f.beta f.best (seen c) f.choice c.number (found_rest c) fits.window own_child.inside (unsettled f c own_child.in_role) small (first-low f c r worth.0 worth.1 under) searching.search))
+      (IsSearching-low (found_rest c) fits.window own_child.inside (unsettled f c own_child.in_role) small (first-low f c r worth.0 worth.1 under) searching.search))
       (λ (r : IsAgain f c). inlet-low f c before behind fits small (again-low f c r worth.0 worth.1 small) holds r.phase)
       (other-told f c et own_child.in_role)
 
@@ -291,53 +282,55 @@ over-told depth n h1 = grind arith
 root-over : (f : Frame) (b : List Cell) → is_computed 0 f b ≡ true → length (entered f.depth b) ≡ 0
 root-over f b e = entered-none f.depth b (over-told f.depth (length (choices b)) e)
 
-opening-goes : (grain : ℕ) (own : List ℕ) (above children : List (List ℕ)) (o p : ℕ) → (is_computed grain (frame_of own) (cells_of o p) ≡ true → (frame_of own).role ≡ 0 → length (entered (frame_of own).depth (cells_of o p)) ≡ 0) →
-    (frame_of own).phase ≡ 0 → bit_and o p ≡ 0 → IsBoardOf above (frame_of own) o p → IsFormed own → Fits (frame_of own) (map frame_of children) Neither → Goes own above children (opening_on grain (frame_of own) o p)
-opening-goes grain own above children o p over phase apart words form fits =
-    (o, p, opening-good (is_computed grain (frame_of own) (cells_of o p)) own children o p (λ e. computed-told grain (frame_of own).depth (length (choices (cells_of o p))) e) over apart phase form fits, words)
+module _ (own : List ℕ) (children : List (List ℕ)) (phase : (frame_of own).phase ≡ 0) (form : IsFormed own) (fits : Fits (frame_of own) (map frame_of children) Neither) where
+  opening-goes : (grain : ℕ) (above : List (List ℕ)) (o p : ℕ) → (is_computed grain (frame_of own) (cells_of o p) ≡ true → (frame_of own).role ≡ 0 → length (entered (frame_of own).depth (cells_of o p)) ≡ 0) →
+      bit_and o p ≡ 0 → IsBoardOf above (frame_of own) o p → Goes own above children (opening_on grain (frame_of own) o p)
+  opening-goes grain above o p over apart words =
+      let act = opening-good _ own children o p (λ e. computed-told grain (frame_of own).depth (length (choices (cells_of o p))) e) over apart phase form fits in (o, p, act, words)
 
-opens : (grain : ℕ) (origin own : List ℕ) (above older younger children : List (List ℕ)) → (frame_of own).phase ≡ 0 → IsFormed own → Fits (frame_of own) (map frame_of children) Neither →
-    ParentFits AreFitting IsRoot origin above older own younger → Goes own above children (opening_under grain (frame_of own) (parent_in above))
-opens grain origin own [] older younger children phase form fits root =
-    opening-goes 0 own [] children (frame_of own).own (frame_of own).opp (λ e _. root-over (frame_of own) (board (frame_of own)) e) phase form.frame.leaf.disjoint (refl, refl) form fits
-opens grain origin own (parent ∷ above) older younger children phase form fits there =
-    let q : Frame = frame_of parent in
-    let b : List Cell = after (board q) (choice_at q (frame_of own).number) in
-    let kin : IsChildOf q (frame_of own) = kin-of parent own older younger Neither there in
-    opening-goes grain own (parent ∷ above) children (own_word b) (opp_word b) (λ _ (root : (frame_of own).role ≡ 0). absurd (omega (arith, root, role-there q (frame_of own) kin.in_role))) phase (words-apart b) (after-holds q.own q.opp (choice_at q (frame_of own).number)) form fits
+  opens : (grain : ℕ) (origin : List ℕ) (above older younger : List (List ℕ)) → ParentFits AreFitting IsRoot origin above older own younger →
+      Goes own above children (opening_under grain (frame_of own) (parent_in above))
+  opens grain origin [] older younger root =
+      opening-goes 0 [] (frame_of own).own (frame_of own).opp (λ e _. root-over (frame_of own) (board (frame_of own)) e) form.frame.leaf.disjoint (refl, refl)
+  opens grain origin (parent ∷ above) older younger there =
+      let q : Frame = frame_of parent in
+      let b : List Cell = after (board q) (choice_at q (frame_of own).number) in
+      let kin : IsChildOf q (frame_of own) = kin-of parent own older younger Neither there in
+      let there = role-there q (frame_of own) kin.in_role in
+      opening-goes grain (parent ∷ above) (own_word b) (opp_word b) (λ _ (root : (frame_of own).role ≡ 0). absurd (omega arith)) (words-apart b) (after-holds q.own q.opp (choice_at q (frame_of own).number))
 
-act-goes : (p0 p1 p2 p3 : Bool) (grain : ℕ) (origin own : List ℕ) (above older younger children : List (List ℕ)) →
-    p0 ≡ ((frame_of own).phase == 0) → p1 ≡ ((frame_of own).phase == 1) → p2 ≡ ((frame_of own).phase == 2) → p3 ≡ ((frame_of own).phase == 3) →
-    IsFormed own → Fits (frame_of own) (map frame_of children) Neither → ParentFits AreFitting IsRoot origin above older own younger → Goes own above children (act_by p0 p1 p2 p3 grain (frame_of own) (parent_in above))
-act-goes true p1 p2 p3 grain origin own above older younger children e0 e1 e2 e3 form fits parent = opens grain origin own above older younger children (none-told (frame_of own).phase e0) form fits parent
-act-goes false true p2 p3 grain origin own above older younger children e0 e1 e2 e3 form fits parent = absurd (fits.marked (is-told (frame_of own).phase 1 e1))
-act-goes false false true p3 grain origin own above older younger children e0 e1 e2 e3 form fits parent = (
-  (frame_of own).own,
-  (frame_of own).opp,
-  first-good ((frame_of own).spawned == 0) own children refl (is-told (frame_of own).phase 2 e2) form fits,
-  known-board origin own above older younger (isn't-told (frame_of own).phase 0 e0) parent,
-)
-act-goes false false false true grain origin own above older younger children e0 e1 e2 e3 form fits parent =
-    let st : List ℕ = (frame_of own).statuses in (
-      (frame_of own).own,
-      (frame_of own).opp,
-      tests-good (nat_lt (first_open st) (length st) && (slice_index st (first_open st) == 3)) (nat_lt (frame_of own).spawned (length st)) (nat_le (length st) (first_open st)) own children (first_open st)
-          (record { settled = open-settled st; inside = open-inside st }) refl refl refl (is-told (frame_of own).phase 3 e3) form fits,
-      known-board origin own above older younger (isn't-told (frame_of own).phase 0 e0) parent,
-    )
-act-goes false false false false grain origin own above older younger children e0 e1 e2 e3 form fits parent = grind (arith, done-good, last-phase, known-board, isn't-told)
+module _ (grain : ℕ) (origin own : List ℕ) (above older younger children : List (List ℕ)) (form : IsFormed own) (fits : Fits (frame_of own) (map frame_of children) Neither)
+    (parent : ParentFits AreFitting IsRoot origin above older own younger) where
+  act-goes : (p0 p1 p2 p3 : Bool) → p0 ≡ ((frame_of own).phase == 0) → p1 ≡ ((frame_of own).phase == 1) → p2 ≡ ((frame_of own).phase == 2) → p3 ≡ ((frame_of own).phase == 3) →
+      Goes own above children (act_by p0 p1 p2 p3 grain (frame_of own) (parent_in above))
+  act-goes true p1 p2 p3 e0 e1 e2 e3 = opens own children (none-told _ e0) form fits grain origin above older younger parent
+  act-goes false true p2 p3 e0 e1 e2 e3 = absurd (fits.marked (is-told (frame_of own).phase 1 e1))
+  act-goes false false true p3 e0 e1 e2 e3 =
+      let act = first-good own children form fits ((frame_of own).spawned == 0) refl (is-told (frame_of own).phase 2 e2) in
+      ((frame_of own).own, (frame_of own).opp, act, known-board origin own above older younger (isn't-told (frame_of own).phase 0 e0) parent)
+  act-goes false false false true e0 e1 e2 e3 =
+      let st : List ℕ = (frame_of own).statuses in
+      let at : IsAtTests (frame_of own) (first_open st) = record { settled = open-settled st; inside = open-inside st } in
+      let act = tests-good own children form fits (nat_lt (first_open st) (length st) && (slice_index st (first_open st) == 3)) (nat_lt (frame_of own).spawned (length st))
+      (nat_le (length st) (first_open st)) (first_open st) at refl refl refl (is-told (frame_of own).phase 3 e3) in
+      ((frame_of own).own, (frame_of own).opp, act, known-board origin own above older younger (isn't-told (frame_of own).phase 0 e0) parent)
+  act-goes false false false false e0 e1 e2 e3 = grind (arith, done-good, last-phase, known-board, isn't-told)
 
 chosen-act : (formed placed : Bool) (act other : Act) → formed ≡ true → placed ≡ true → act ≡ (if formed && placed then act else other)
 chosen-act formed placed act other ef ep = rw (ef, ep) refl
 
 -- the next act of a frame that fits, under what fits
-pub next-goes : (grain : ℕ) (origin own : List ℕ) (above older younger children : List (List ℕ)) → AreFitting own children Neither → ParentFits AreFitting IsRoot origin above older own younger →
-    Goes own above children (next_act grain (own ∷ above))
-next-goes grain origin own above older younger children fits parent =
-    let f : Frame = frame_of own in
-    subst (λ (act : Act). Goes own above children act)
-    (chosen-act (is_formed own) (is_placed own above) (act_of grain f (parent_in above)) returns fits.formed (placed origin own above older younger parent))
-    (act-goes (f.phase == 0) (f.phase == 1) (f.phase == 2) (f.phase == 3) grain origin own above older younger children refl refl refl refl (formed-told own fits.formed) fits.frame parent)
+module _ (grain : ℕ) (origin own : List ℕ) (above older younger children : List (List ℕ)) (fits : AreFitting own children Neither)
+    (parent : ParentFits AreFitting IsRoot origin above older own younger) where
+  pub next-goes : Goes own above children (next_act grain (own ∷ above))
+  next-goes =
+      let f : Frame = frame_of own in
+      subst (λ (act : Act). Goes own above children act) (chosen-act _ _ (act_of grain f (parent_in above)) returns fits.formed (placed origin own above older younger parent))
+      (act-goes grain origin own above older younger children (formed-told own fits.formed) fits.frame parent _ _ _ _ refl refl refl refl)
+
+  -- it can be done
+  pub next-possible : is_bad_act own (has_one children) (next_act grain (own ∷ above)) ≡ false
+  next-possible = next-goes.2.good
 
 -- Advance keeps that frames fit
 pub next-keeps : {I A : Type 0} (functions : Functions I A) (grain : ℕ) → functions.next ≡ next_act grain → NextKeeps functions AreFitting IsRoot
@@ -353,28 +346,10 @@ next-keeps functions grain is origin own above older younger children fits paren
     ) in
     subst (λ (next : List (List ℕ) → Act). ActFits AreFitting IsRoot origin own above older younger children (next (own ∷ above))) (sym is) whole
 
--- the next act of a frame that fits can be done
-pub next-possible : (grain : ℕ) (origin own : List ℕ) (above older younger children : List (List ℕ)) → AreFitting own children Neither → ParentFits AreFitting IsRoot origin above older own younger →
-    is_bad_act own (has_one children) (next_act grain (own ∷ above)) ≡ false
-next-possible grain origin own above older younger children fits parent = (next-goes grain origin own above older younger children fits parent).2.good
-
 -- ---- the inlet
 
 chosen-inlet : (own child may : Bool) (act other : InletAct) → own ≡ true → child ≡ true → may ≡ true → act ≡ (if own && (child && may) then act else other)
 chosen-inlet own child may act other eo ec em = rw (eo, ec, em) refl
-
--- the inlet of words that fit for those of a child that has returned is that of the frames in them
-module _ (own child : List ℕ) (before behind : List (List ℕ)) (fits : AreFitting own (before ++ child ∷ behind) Neither)
-    (returned : AreFitting child [] HasReturned) where
-  pub inlet-is : inlet_of (frame_of own) (frame_of child) ≡ inlet_act own child
-  inlet-is =
-      chosen-inlet (is_formed own) (is_formed child) (may_be_child (frame_of own) (frame_of child)) (inlet_of (frame_of own) (frame_of child)) (record { stores = []; abort = false; wake = true }) fits.formed returned.formed
-      (child-may own (frame_of child) (map frame_of (before ++ child ∷ behind)) Neither (formed-told own fits.formed) fits.frame (kin-of own child before behind Neither fits))
-
-  inlet-stores : IsGoodStore own (changes_of (frame_of own) (frame_of child)) (frame_after (frame_of own) (frame_of child))
-  inlet-stores =
-      let form : IsFormed child = formed-told child returned.formed in
-      inlet-good own (frame_of child) (formed-told own fits.formed) form.frame (kin-of own child before behind Neither fits) returned.frame.marked
 
 left-joined : (cuts : Bool) (before behind : List (List ℕ)) → map frame_of (children_left cuts (before ++ behind)) ≡ frames_left cuts (map frame_of before ++ map frame_of behind)
 left-joined cuts before behind = grind (arith, map-joined)
@@ -382,39 +357,57 @@ left-joined cuts before behind = grind (arith, map-joined)
 searching-known : (f : Frame) → (f.phase ≡ 2) ⊎ (f.phase ≡ 3) → f.phase ≢ 0
 searching-known f h2 = grind arith
 
+-- a frame fits with these children, and so does what stands above it
+abbrev pub FitsUnder : List ℕ → (above older younger children : List (List ℕ)) → List ℕ → Type 0
+FitsUnder origin above older younger children own = AreFitting own children Neither × ParentFits AreFitting IsRoot origin above older own younger
+
 -- what stands above a frame that knows its board fits after stores that leave its goal and its board
-pub store-above : (origin own own' : List ℕ) (g : Frame) (above older younger : List (List ℕ)) → (frame_of own).phase ≢ 0 → frame_of own' ≡ g → HasSameGoal (frame_of own) g → g.own ≡ (frame_of own).own → g.opp ≡ (frame_of own).opp →
-    ParentFits AreFitting IsRoot origin above older own younger → ParentFits AreFitting IsRoot origin above older own' younger
+pub store-above : (origin own own' : List ℕ) (g : Frame) (above older younger : List (List ℕ)) → (frame_of own).phase ≢ 0 → frame_of own' ≡ g → HasSameGoal (frame_of own) g →
+    g.own ≡ (frame_of own).own → g.opp ≡ (frame_of own).opp → ParentFits AreFitting IsRoot origin above older own younger → ParentFits AreFitting IsRoot origin above older own' younger
 store-above origin own own' g above older younger known is goal own_is opp_is parent = grind (arith, above-kept, known-board)
 
--- what an inlet of the frames leaves
-inlet-leaves : (origin own child : List ℕ) (above older younger before behind : List (List ℕ)) → AreFitting own (before ++ child ∷ behind) Neither → ParentFits AreFitting IsRoot origin above older own younger → AreFitting child [] HasReturned →
-    AreFitting (stored (inlet_of (frame_of own) (frame_of child)).stores own) (children_left (inlet_of (frame_of own) (frame_of child)).abort (before ++ behind)) Neither
-    × ParentFits AreFitting IsRoot origin above older (stored (inlet_of (frame_of own) (frame_of child)).stores own) younger
-inlet-leaves origin own child above older younger before behind fits parent returned =
-    let f : Frame = frame_of own in
-    let c : Frame = frame_of child in
-    let cuts : Bool = int_le f.beta (seen c) in
-    let s = inlet-stores own child before behind fits returned in
-    let after : List ℕ = stored (pairs_of (changes_of f c)) own in
-    let there : Fits f (map frame_of before ++ c ∷ map frame_of behind) Neither = subst (λ (fs : List Frame). Fits f fs Neither) (map-joined before (child ∷ behind)) fits.frame in
-    let phase : (f.phase ≡ 2) ⊎ (f.phase ≡ 3) = in-search f c (kin-of own child before behind Neither fits).in_role in (
-      record {
-        formed = formed-passes after s.formed;
-        frame = subst (λ (g : Frame). Fits g (map frame_of (children_left cuts (before ++ behind))) Neither) (sym s.is)
-            (subst (λ (fs : List Frame). Fits (frame_after f c) fs Neither) (sym (left-joined cuts before behind)) (inlet-fits f c (map frame_of before) (map frame_of behind) there returned.frame (formed-told child returned.formed).frame));
-      },
-      store-above origin own after (frame_after f c) above older younger (searching-known f phase) s.is s.goal s.own_is s.opp_is parent,
-    )
+-- the inlet of words that fit for those of a child that has returned is that of the frames in them
+module _ (own child : List ℕ) (before behind : List (List ℕ)) (fits : AreFitting own (before ++ child ∷ behind) Neither)
+    (returned : AreFitting child [] HasReturned) where
+  kin : IsChildOf (frame_of own) (frame_of child)
+  kin = kin-of own child before behind Neither fits
+
+  pub inlet-is : inlet_of (frame_of own) (frame_of child) ≡ inlet_act own child
+  inlet-is =
+      let may = child-may own (frame_of child) (map frame_of (before ++ child ∷ behind)) Neither (formed-told own fits.formed) fits.frame kin in
+      chosen-inlet _ _ _ (inlet_of (frame_of own) (frame_of child)) (record { stores = []; abort = false; wake = true }) fits.formed returned.formed may
+
+  inlet-stores : IsGoodStore own (changes_of (frame_of own) (frame_of child)) (frame_after (frame_of own) (frame_of child))
+  inlet-stores =
+      let form : IsFormed child = formed-told child returned.formed in
+      inlet-good own (frame_of child) (formed-told own fits.formed) form.frame kin returned.frame.marked
+
+  -- the stores of the inlet can be done
+  pub inlet-possible : is_outside (inlet_act own child).stores own ≡ false
+  inlet-possible = subst (λ (act : InletAct). is_outside act.stores own ≡ false) inlet-is inlet-stores.good
+
+  -- what an inlet of the frames leaves
+  inlet-leaves : (origin : List ℕ) (above older younger : List (List ℕ)) → ParentFits AreFitting IsRoot origin above older own younger →
+      FitsUnder origin above older younger (children_left (inlet_of (frame_of own) (frame_of child)).abort (before ++ behind)) (stored (inlet_of (frame_of own) (frame_of child)).stores own)
+  inlet-leaves origin above older younger parent =
+      let f : Frame = frame_of own in
+      let c : Frame = frame_of child in
+      let s = inlet-stores in
+      let after : List ℕ = stored (pairs_of (changes_of f c)) own in
+      let there : Fits f (map frame_of before ++ c ∷ map frame_of behind) Neither = subst (λ (fs : List Frame). Fits f fs Neither) (map-joined before (child ∷ behind)) fits.frame in
+      let left = inlet-fits f c (map frame_of before) (map frame_of behind) there returned.frame (formed-told child returned.formed).frame in
+      let cuts : Bool = int_le f.beta (seen c) in (
+        record {
+          formed = formed-passes after s.formed;
+          frame = subst (λ (g : Frame). Fits g (map frame_of (children_left cuts (before ++ behind))) Neither) (sym s.is)
+              (subst (λ (fs : List Frame). Fits (frame_after f c) fs Neither) (sym (left-joined cuts before behind)) left);
+        },
+        store-above origin own after (frame_after f c) above older younger (searching-known f (in-search f c kin.in_role)) s.is s.goal s.own_is s.opp_is parent,
+      )
 
 -- Inlet keeps that frames fit, also after an abort
 pub inlet-keeps : {I A : Type 0} (functions : Functions I A) → functions.inlet ≡ inlet_act → InletKeeps functions AreFitting IsRoot
 inlet-keeps functions is origin own child above older younger before behind fits parent all_before returned all_behind inside =
-    subst (λ (act : InletAct). AreFitting (stored act.stores own) (children_left act.abort (before ++ behind)) Neither × ParentFits AreFitting IsRoot origin above older (stored act.stores own) younger)
+    subst (λ (act : InletAct). FitsUnder origin above older younger (children_left act.abort (before ++ behind)) (stored act.stores own))
     (inlet-is own child before behind fits returned ∙ ap (λ (i : List ℕ → List ℕ → InletAct). i own child) (sym is))
-    (inlet-leaves origin own child above older younger before behind fits parent returned)
-
--- the stores of the inlet of a frame that fits can be done
-pub inlet-possible : (own child : List ℕ) (before behind : List (List ℕ)) → AreFitting own (before ++ child ∷ behind) Neither → AreFitting child [] HasReturned → is_outside (inlet_act own child).stores own ≡ false
-inlet-possible own child before behind fits returned =
-    subst (λ (act : InletAct). is_outside act.stores own ≡ false) (inlet-is own child before behind fits returned) (inlet-stores own child before behind fits returned).good
+    (inlet-leaves own child before behind fits returned origin above older younger parent)

@@ -168,7 +168,7 @@ module _ (f c : Frame) (before behind : List Frame) (fits : Fits f (before ++ c 
       let s : IsSearchingFrame f = fits.searching (inr test.phase) in
       let open_ : slice_index f.statuses c.number ≢ 2 = unsettled f c kin.in_role in
       Fits-searched f.phase f.best f.choice 3 holds test.phase
-      (IsSearching-mark (value_at f) (code_at f) f.statuses f.rests f.alpha f.beta f.best f.choice c.number 3 (found_rest c) kin.inside open_ (λ e. absurd (omega (arith, e))) s.search)
+      (IsSearching-mark (found_rest c) kin.inside open_ (λ e. absurd (omega (arith, e))) s.search)
       (λ d other. role-kept-mark f d c.number 3 (found_rest c) kin.inside other open_)
 
   -- what a returned child's score says, of any role
@@ -182,8 +182,8 @@ module _ (f c : Frame) (before behind : List Frame) (fits : Fits f (before ++ c 
   inlet-low low worth holds phase =
       let s : IsSearchingFrame f = fits.searching (inr phase) in
       Fits-searched 3 (int_max f.best (neg_ℤ c.best)) f.choice 2 holds refl
-      (IsSearching-low (value_at f) (code_at f) f.statuses f.rests f.alpha f.beta f.best (neg_ℤ c.best) f.choice c.number (found_rest c) fits.window kin.inside (unsettled f c kin.in_role) low worth s.search)
-      (λ d other. role-kept-settle f d c.number f.choice (found_rest c) (int_max f.best (neg_ℤ c.best)) kin.inside other phase (omega (arith, ints, clamps)) (λ _. omega (arith, ints, clamps)))
+      (IsSearching-low (found_rest c) fits.window kin.inside (unsettled f c kin.in_role) low worth s.search)
+      (λ d other. role-kept-settle f d _ _ _ _ kin.inside other phase (omega (arith, ints, clamps)) (λ _. omega (arith, ints, clamps)))
 
   -- inlet case 2 of a search again, with a better score
   pub inlet-higher : IsAgain f c →
@@ -192,8 +192,8 @@ module _ (f c : Frame) (before behind : List Frame) (fits : Fits f (before ++ c 
   inlet-higher again high under worth holds exact =
       let s : IsSearchingFrame f = fits.searching (inr again.phase) in
       Fits-searched 3 (int_max f.best (neg_ℤ c.best)) (code_at f c.number) 2 holds refl
-      (IsSearching-higher (value_at f) (code_at f) f.statuses f.rests f.alpha f.beta f.best (neg_ℤ c.best) f.choice c.number (found_rest c) kin.inside fits.table.places exact high under worth again.earlier s.search)
-      (λ d other. role-kept-settle f d c.number (code_at f c.number) (found_rest c) (int_max f.best (neg_ℤ c.best)) kin.inside other again.phase (omega (arith, ints, clamps)) (λ r. absurd (one-again f c d again r other)))
+      (IsSearching-higher (found_rest c) kin.inside fits.table.places exact high under worth again.earlier s.search)
+      (λ d other. role-kept-settle f d _ _ _ _ kin.inside other again.phase (omega (arith, ints, clamps)) (λ r. absurd (one-again f c d again r other)))
 
   -- inlet case 1: the frame is done, and has no child
   pub inlet-cut : (g : IsGreatest (value_at f) (length f.statuses) (value f)) →
@@ -273,30 +273,35 @@ not-there : (f c : Frame) (i : ℕ) → slice_index f.statuses i ≢ 1 → slice
 not-there f c i h4 h5 h6 h7 = grind arith
 
 -- no child is for a choice whose status is neither 1 nor 4
-pub none-for : (f : Frame) (i : ℕ) (cs : List Frame) → slice_index f.statuses i ≢ 1 → slice_index f.statuses i ≢ 4 → AreChildren f cs → how_many i cs ≡ 0
-none-for f i [] not1 not4 kin = refl
-none-for f i (c ∷ cs) not1 not4 kin =
-    let rest : how_many i cs ≡ 0 = none-for f i cs not1 not4 kin.1 in
-    let apart : c.number ≢ i = λ e. not-there f c i not1 not4 e kin.0.in_role in
-    grind (arith, common_steps, rest, apart)
+module _ (f : Frame) (i : ℕ) (not1 : slice_index f.statuses i ≢ 1) (not4 : slice_index f.statuses i ≢ 4) where
+  pub none-for : (cs : List Frame) → AreChildren f cs → how_many i cs ≡ 0
+  none-for [] kin = refl
+  none-for (c ∷ cs) kin =
+      let rest : how_many i cs ≡ 0 = none-for cs kin.1 in
+      let apart : c.number ≢ i = λ e. not-there f c i not1 not4 e kin.0.in_role in
+      grind (arith, common_steps, rest, apart)
 
 respawned : (f c : Frame) (spawned i x rest : ℕ) → IsInRole (record f { statuses = slice_set f.statuses i x; rests = slice_set f.rests i rest }) c →
     IsInRole (record f { spawned = spawned; statuses = slice_set f.statuses i x; rests = slice_set f.rests i rest }) c
 respawned f c spawned i x rest h7 = grind arith
 
-once-more : (j i : ℕ) (c : Frame) (children : List Frame) → c.number ≡ i → how_many i children ≡ 0 → how_many j children ≤ 1 → how_many j (children ++ c ∷ []) ≡ how_many j children + how_many j (c ∷ []) → how_many j (children ++ c ∷ []) ≤ 1
+once-more : (j i : ℕ) (c : Frame) (children : List Frame) → c.number ≡ i → how_many i children ≡ 0 → how_many j children ≤ 1 →
+    how_many j (children ++ c ∷ []) ≡ how_many j children + how_many j (c ∷ []) → how_many j (children ++ c ∷ []) ≤ 1
 once-more j i c children number none most sum = grind arith
 
+-- the frame with this status at a choice, and so many spawned
+abbrev pub with_place : Frame → (i status spawned : ℕ) → Frame
+with_place f i status spawned = record f { spawned = spawned; statuses = slice_set f.statuses i status; rests = slice_set f.rests i (rest_at f i) }
+
 -- next, phases 2 and 3: a child is opened for choice i, whose status was 0 or 3 and is 1 or 4 now
-pub spawned-child : (f c : Frame) (children : List Frame) (i x spawned : ℕ) → Fits f children Neither → (f.phase ≡ 2) ⊎ (f.phase ≡ 3) →
-    i < length f.statuses → slice_index f.statuses i ≢ 1 → slice_index f.statuses i ≢ 2 → slice_index f.statuses i ≢ 4 → x ≢ 2 → x ≢ 0 →
-    f.spawned ≤ spawned → spawned ≤ length f.statuses → i < spawned →
-    c.number ≡ i → IsChildOf (record f { spawned = spawned; statuses = slice_set f.statuses i x; rests = slice_set f.rests i (rest_at f i) }) c →
-    Fits (record f { spawned = spawned; statuses = slice_set f.statuses i x; rests = slice_set f.rests i (rest_at f i) }) (children ++ c ∷ []) Neither
-spawned-child f c children i x spawned fits phase inside not1 not2 not4 x2 x0 more few before number kin =
+pub spawned-child : (f c : Frame) (children : List Frame) (i x spawned : ℕ) → Fits f children Neither → (f.phase ≡ 2) ⊎ (f.phase ≡ 3) → i < length f.statuses →
+    (slice_index f.statuses i ≡ 0) ⊎ (slice_index f.statuses i ≡ 3) → (x ≡ 1) ⊎ (x ≡ 4) → f.spawned ≤ spawned → spawned ≤ length f.statuses → i < spawned →
+    c.number ≡ i → IsChildOf (with_place f i x spawned) c → Fits (with_place f i x spawned) (children ++ c ∷ []) Neither
+spawned-child f c children i x spawned fits phase inside free opened more few before number kin =
     let s : IsSearchingFrame f = fits.searching phase in
-    let f' : Frame = record f { spawned = spawned; statuses = slice_set f.statuses i x; rests = slice_set f.rests i (rest_at f i) } in
-    let none : how_many i children ≡ 0 = none-for f i children not1 not4 fits.kin in
+    let not2 : slice_index f.statuses i ≢ 2 = grind arith in
+    let x2 : x ≢ 2 = grind arith in
+    let none : how_many i children ≡ 0 = none-for f i (grind arith) (grind arith) children fits.kin in
     record {
       window = fits.window;
       marked = fits.marked;
@@ -307,23 +312,20 @@ spawned-child f c children i x spawned fits phase inside not1 not2 not4 x2 x0 mo
         deep = s.deep;
         spawned_in = rw (set_length f.statuses i x) (omega arith);
         unspawned = λ k low high. set_beside f.statuses i x k (λ (e : k ≡ i). omega arith) ∙ s.unspawned k (omega arith) (omega (arith, set_length f.statuses i x));
-        search = IsSearching-mark (value_at f) (code_at f) f.statuses f.rests f.alpha f.beta f.best f.choice i x (rest_at f i) inside not2 x2 s.search;
+        search = IsSearching-mark (rest_at f i) inside not2 x2 s.search;
       };
       done = λ (e : f.phase ≡ 4). ⊎_elim (λ (p : f.phase ≡ 2). absurd (omega arith)) (λ (p : f.phase ≡ 3). absurd (omega arith)) phase;
       table = tabled-kept (value_at f) f.statuses f.rests i x inside x2 fits.table;
       whole = λ root known. set_length f.statuses i x ∙ fits.whole root known;
-      kin = children-joined f' children (c ∷ [])
-          (children-kept f f' i (λ d other dkin. record {
+      kin = children-joined (with_place f i x spawned) children (c ∷ [])
+          (children-kept f (with_place f i x spawned) i (λ d other dkin. record {
             inside = rw (set_length f.statuses i x) dkin.inside;
             shallower = dkin.shallower;
             known = dkin.known;
             in_role = respawned f d spawned i x (rest_at f i) (role-kept-mark f d i x (rest_at f i) inside other not2 dkin.in_role);
           }) children none fits.kin)
           (kin, tt);
-      once = λ j.
-          let sum : how_many j (children ++ c ∷ []) ≡ how_many j children + how_many j (c ∷ []) = how_many-append j children (c ∷ []) in
-          let most : how_many j children ≤ 1 = fits.once j in
-          once-more j i c children number none most sum;
+      once = λ j. once-more j i c children number none (fits.once j) (how_many-append j children (c ∷ []));
     }
 
 -- a child whose words changed stays its parent's: its goal is the same, and once it knows its board, that is the board after its choice

@@ -17,7 +17,7 @@ and-true b = grind arith
 
 -- the bits of the squares that pass a test
 bit-passing : (p : ℕ → Bool) (s : ℕ) → s < 64 → bit_at (bits_of (filter p squares)) s ≡ cond (p s) 1 0
-bit-passing p s below = bit_at-bits_of (filter p squares) s ∙ ap (λ (b : Bool). cond b 1 0) (is_among-filter p squares s ∙ ap (λ (b : Bool). p s && b) (is_square s below) ∙ and-true (p s))
+bit-passing p s below = grind (arith, bit_at-bits_of, is_among-filter, is_square)
 
 among-range : (i a n : ℕ) → a + n ≤ i → is_among i (range_with_len a n) ≡ false
 among-range i a zero past = refl
@@ -28,7 +28,7 @@ unfolding squares
 no-square i past = among-range i 0 64 past
 
 bit-past : (p : ℕ → Bool) (s : ℕ) → 64 ≤ s → bit_at (bits_of (filter p squares)) s ≡ 0
-bit-past p s past = bit_at-bits_of (filter p squares) s ∙ ap (λ (b : Bool). cond b 1 0) (is_among-filter p squares s ∙ ap (λ (b : Bool). p s && b) (no-square s past) ∙ and_right (p s) false refl)
+bit-past p s past = grind (arith, bit_at-bits_of, is_among-filter, no-square)
 
 cell-by : (c : Cell) (x y : ℕ) → x ≡ cond (is_own_cell c) 1 0 → y ≡ cond (is_opp_cell c) 1 0 → (if x == 1 then Own else (if y == 1 then Opp else Empty)) ≡ c
 cell-by c x y h4 h5 = grind arith
@@ -116,18 +116,18 @@ same-has one other h = record {
   beta_is = grind (arith, ints);
 }
 
--- a bound to a leaf's numbers is a bound to the same numbers
-pub moved : (answer : LeafAnswer) (own opp depth : ℕ) (alpha beta : ℤ) → Has answer.leaf own opp depth alpha beta → IsBound alpha beta answer.score (minimax depth (cells_of own opp))
-moved answer own opp depth alpha beta has = rw (← has.own_is, ← has.opp_is, ← has.depth_is, ← has.alpha_is, ← has.beta_is) answer.bound
-
 -- what is known of the choice
-named-leaf : (answer : LeafAnswer) → answer.leaf.alpha <ℤ answer.score → answer.score <ℤ answer.leaf.beta → coded answer.choice ≡ coded (best_choice answer.leaf.depth (cells_of answer.leaf.board.own answer.leaf.board.opp))
-named-leaf answer over under =
-    let prop : IsProp (coded answer.choice ≡ coded (best_choice answer.leaf.depth (cells_of answer.leaf.board.own answer.leaf.board.opp))) = Prim.hlevel props in
-    ∥∥₁_elim answer.best prop (λ h. ap coded (h over under))
+named-leaf : (answer : LeafAnswer) → answer.leaf.alpha <ℤ answer.score → answer.score <ℤ answer.leaf.beta →
+    coded answer.choice ≡ coded (best_choice answer.leaf.depth (cells_of answer.leaf.board.own answer.leaf.board.opp))
+named-leaf answer over under = ∥∥₁_elim answer.best (Prim.hlevel props) (λ h. ap coded (h over under))
 
-pub named-by : (answer : LeafAnswer) (own opp depth : ℕ) (alpha beta : ℤ) → Has answer.leaf own opp depth alpha beta → alpha <ℤ answer.score → answer.score <ℤ beta → coded answer.choice ≡ coded (best_choice depth (cells_of own opp))
-named-by answer own opp depth alpha beta has = grind (arith, named-leaf)
+-- a bound to a leaf's numbers is a bound to the same numbers
+module _ (answer : LeafAnswer) (own opp depth : ℕ) (alpha beta : ℤ) (has : Has answer.leaf own opp depth alpha beta) where
+  pub moved : IsBound alpha beta answer.score (minimax depth (cells_of own opp))
+  moved = rw (← has.own_is, ← has.opp_is, ← has.depth_is, ← has.alpha_is, ← has.beta_is) answer.bound
+
+  pub named-by : alpha <ℤ answer.score → answer.score <ℤ beta → coded answer.choice ≡ coded (best_choice depth (cells_of own opp))
+  named-by over under = grind (arith, named-leaf)
 
 pub choice-small : (answer : LeafAnswer) → coded answer.choice ≤ 65
 choice-small answer =

@@ -4,7 +4,7 @@ use Rattle.jamboree_rules.proofs.LeafLemmas.{Has, has-from, same-has, moved, nam
 use Rattle.jamboree_rules.proofs.Steps.{accepted, status-count, new-form}
 use Rattle.jamboree_rules.proofs.Forms.{IsFrame, IsFormed, formed-told, formed-passes, few-choices}
 use Rattle.jamboree_rules.proofs.Searching.{tabled-none, entered-deep, found-best}
-use Rattle.jamboree_rules.proofs.Keeping.{IsGoodStore, good-store, store-above}
+use Rattle.jamboree_rules.proofs.Keeping.{IsGoodStore, FitsUnder, good-store, store-above}
 use Rattle.jamboree_rules.specs.Sound.{First as WholeWindow, Test as TestWindow, Again as AgainWindow}
 use Rattle.jamboree_rules.proofs.Kinship.{in-search}
 
@@ -79,15 +79,24 @@ answered-form f answer form phase = grind (arith, choice-small, ints)
 answer-good : (own : List ℕ) (answer : LeafAnswer) → IsFormed own → (frame_of own).phase ≡ 1 → IsGoodStore own (changes_of_answer answer) (answered_frame (frame_of own) answer)
 answer-good own answer form phase =
     let low : negsuc 127999 ≤ℤ answer.score = answer.low in
-    good-store own (changes_of_answer answer) form (omega (arith, ints), (tt, (tt, tt))) (tt, (tt, (tt, tt))) refl (answered-form (frame_of own) answer form.frame phase)
-    (record { depth = refl; alpha = refl; beta = refl; role = refl; number = refl }) refl refl (λ (e : 4 ≡ 0). absurd (omega arith))
+    good-store own _ _ form (record {
+      safe = (omega (arith, ints), (tt, (tt, tt)));
+      inside = (tt, (tt, (tt, tt)));
+      is = refl;
+      count = refl;
+      form = answered-form (frame_of own) answer form.frame phase;
+      goal = record { depth = refl; alpha = refl; beta = refl; role = refl; number = refl };
+      own_is = refl;
+      opp_is = refl;
+      known = λ (e : 4 ≡ 0). absurd (omega arith);
+    })
 
 -- an answer to a frame's leaf bounds its value
 answered-done : (own : List ℕ) (answer : LeafAnswer) → IsFormed own → (frame_of own).phase ≡ 1 → same_leaf answer.leaf (leaf_in own) ≡ true → IsDoneFrame (answered_frame (frame_of own) answer)
 answered-done own answer form phase alike =
     let f : Frame = frame_of own in
     let there : Has (leaf_in own) f.own f.opp f.depth f.alpha f.beta = has-from f.own f.opp f.depth f.alpha f.beta form.frame.leaf in
-    let asked : Has answer.leaf (leaf_in own).board.own (leaf_in own).board.opp (leaf_in own).depth (leaf_in own).alpha (leaf_in own).beta = same-has answer.leaf (leaf_in own) alike in
+    let asked = same-has answer.leaf (leaf_in own) alike in
     let has : Has answer.leaf f.own f.opp f.depth f.alpha f.beta = grind arith in
     let early = form.frame.early (omega arith) in
     let none : length f.statuses ≡ 0 = status-count own form ∙ early.1 in
@@ -106,20 +115,20 @@ accepts-is : (own : List ℕ) (answer : LeafAnswer) → is_formed own ≡ true �
 accepts-is own answer e = chosen-stores (is_formed own) (pairs_of (changes_of_answer answer)) e
 
 -- what an answer to a frame's leaf leaves
-accept-leaves : (origin own : List ℕ) (above older younger : List (List ℕ)) (answer : LeafAnswer) → AreFitting own [] Computes → ParentFits AreFitting IsRoot origin above older own younger → same_leaf answer.leaf (leaf_in own) ≡ true →
-    AreFitting (stored (accepts own answer) own) [] Neither × ParentFits AreFitting IsRoot origin above older (stored (accepts own answer) own) younger
+accept-leaves : (origin own : List ℕ) (above older younger : List (List ℕ)) (answer : LeafAnswer) → AreFitting own [] Computes →
+    ParentFits AreFitting IsRoot origin above older own younger → same_leaf answer.leaf (leaf_in own) ≡ true → FitsUnder origin above older younger [] (stored (accepts own answer) own)
 accept-leaves origin own above older younger answer fits parent alike =
     let form : IsFormed own = formed-told own fits.formed in
     let f : Frame = frame_of own in
     let phase : f.phase ≡ 1 = fits.frame.marked in
     let s = answer-good own answer form phase in
-    let g : Frame = answered_frame f answer in
-    subst (λ (stores : List (ℕ × ℕ)). AreFitting (stored stores own) [] Neither × ParentFits AreFitting IsRoot origin above older (stored stores own) younger) (accepts-is own answer fits.formed) (
+    let after = stored (pairs_of (changes_of_answer answer)) own in
+    subst (λ (stores : List (ℕ × ℕ)). FitsUnder origin above older younger [] (stored stores own)) (accepts-is own answer fits.formed) (
       record {
-        formed = formed-passes (stored (pairs_of (changes_of_answer answer)) own) s.formed;
-        frame = subst (λ (h : Frame). Fits h [] Neither) (sym s.is) (accepted f answer.score (coded answer.choice) fits.frame (answered-done own answer form phase alike));
+        formed = formed-passes after s.formed;
+        frame = subst (λ (h : Frame). Fits h [] Neither) (sym s.is) (accepted f _ _ fits.frame (answered-done own answer form phase alike));
       },
-      store-above origin own (stored (pairs_of (changes_of_answer answer)) own) g above older younger (λ (z : f.phase ≡ 0). absurd (omega arith)) s.is s.goal s.own_is s.opp_is parent,
+      store-above origin own after (answered_frame f answer) above older younger (λ (z : f.phase ≡ 0). absurd (omega arith)) s.is s.goal s.own_is s.opp_is parent,
     )
 
 -- Answer keeps that frames fit
@@ -128,7 +137,7 @@ accept-keeps functions input asked same accept origin own above older younger an
     let same' : functions.same (functions.asked answer) (functions.input own) ≡ same_leaf answer.leaf (leaf_in own) =
     ap (λ (s : Leaf → Leaf → Bool). s (functions.asked answer) (functions.input own)) same ∙ ap (λ (a : LeafAnswer → Leaf). same_leaf (a answer) (functions.input own)) asked
     ∙ ap (λ (i : List ℕ → Leaf). same_leaf answer.leaf (i own)) input in
-    subst (λ (a : List ℕ → LeafAnswer → List (ℕ × ℕ)). AreFitting (stored (a own answer) own) [] Neither × ParentFits AreFitting IsRoot origin above older (stored (a own answer) own) younger) (sym accept)
+    subst (λ (a : List ℕ → LeafAnswer → List (ℕ × ℕ)). FitsUnder origin above older younger [] (stored (a own answer) own)) (sym accept)
     (accept-leaves origin own above older younger answer fits parent (sym same' ∙ alike))
 
 -- the stores of an answer can be done
@@ -194,8 +203,9 @@ bounds-none [] rests none = refl
 bounds-none (c ∷ cs) [] none = refl
 bounds-none (c ∷ cs) (rest ∷ rests) none = absurd (omega arith)
 
-bounds-all : (P : Bound → Type 0) (cs : List Choice) (rests : List ℕ) → ((i : ℕ) → i < length cs → i < length rests → P (bound_in (slice_index_or cs i Pass) (slice_index rests i))) → All P (bounds_in cs rests)
-bounds-all P (c ∷ cs) (rest ∷ rests) each = All-cons P (bound_in c rest) (bounds_in cs rests) (each 0 (omega arith) (omega arith)) (bounds-all P cs rests (λ i inside there. each (suc i) (omega arith) (omega arith)))
+bounds-all : (P : Bound → Type 0) (cs : List Choice) (rests : List ℕ) →
+    ((i : ℕ) → i < length cs → i < length rests → P (bound_in (slice_index_or cs i Pass) (slice_index rests i))) → All P (bounds_in cs rests)
+bounds-all P (c ∷ cs) (rest ∷ rests) each = All-cons P _ _ (each 0 (omega arith) (omega arith)) (bounds-all P cs rests (λ i inside there. each (suc i) (omega arith) (omega arith)))
 bounds-all P cs rests each = grind arith
 
 bounds-each : (depth : ℕ) (b : List Cell) (rests : List ℕ) → length rests ≡ length (entered depth b) → map (λ (e : Bound). e.choice) (bounds_in (choices b) rests) ≡ entered depth b
@@ -225,7 +235,7 @@ best-exact : (f : Frame) (i : ℕ) → 0 < f.depth → length f.statuses ≡ len
     IsFound (value_at f) (code_at f) f.statuses f.rests f.best f.choice → best_choice f.depth (board f) ≡ Some (choice_at f i) → kind_numbered (kind_in (rest_at f i)) ≡ Exact
 best-exact f i deep len below worth found is =
     let there : best_choice f.depth (board f) ≡ Some (choice_at f found.place) = found-best f f.statuses f.rests deep len found (sym worth) in
-    let number : i ≡ found.place = same-number f i found.place (omega arith) (omega (arith, found.inside)) (same-choice (choice_at f i) (choice_at f found.place) (sym is ∙ there)) in
+    let number : i ≡ found.place = same-number f i found.place (omega arith) (omega (arith, found.inside)) (same-choice _ _ (sym is ∙ there)) in
     ap kind_numbered (ap (λ (j : ℕ). kind_in (rest_at f j)) number ∙ found.exact)
 
 returned-known : (f : Frame) → f.phase ≡ 4 → f.phase ≢ 0
@@ -240,7 +250,7 @@ whole-of f fits root over under worth =
     record {
       places = long ∙ same;
       kinds = kinds;
-      holds = λ i below. fits.table.holds i (kind_numbered (kind_in (rest_at f i))) (numbered (kind_in (rest_at f i)) (kinds i below) (few-kinds (rest_at f i)));
+      holds = λ i below. fits.table.holds i (kind_numbered (kind_in (rest_at f i))) (numbered _ (kinds i below) (few-kinds (rest_at f i)));
       best = λ i below is. grind (arith, deep-there, entered-deep, best-exact);
     }
 

@@ -34,25 +34,27 @@ pub settled-set : (v : ℕ → ℤ) (st : List ℕ) (best : ℤ) (i x : ℕ) →
 settled-set v st best i x inside here h k below is = grind (arith, ints, common_steps, set_there, set_beside, set_length st i x, h k, here)
 
 -- next: a failed choice is searched again (3 to 4), a choice is tested (0 to 1); inlet case 4: a test failed (1 to 3)
-pub IsSearching-mark : (v : ℕ → ℤ) (code : ℕ → ℕ) (st rests : List ℕ) (alpha beta best : ℤ) (choice i x rest : ℕ) → i < length st → slice_index st i ≢ 2 → x ≢ 2 →
-    IsSearching v code st rests alpha beta best choice → IsSearching v code (slice_set st i x) (slice_set rests i rest) alpha beta best choice
-IsSearching-mark v code st rests alpha beta best choice i x rest inside unsettled other s = record {
-  below = s.below;
-  settled = settled-set v st best i x inside (λ e. absurd (other e)) s.settled;
-  found = λ higher. found-set v code st rests best choice i x rest inside unsettled (s.found higher);
-}
+module _ {v : ℕ → ℤ} {code : ℕ → ℕ} {st rests : List ℕ} {alpha beta best : ℤ} {choice i x : ℕ} (rest : ℕ) where
+  pub IsSearching-mark : i < length st → slice_index st i ≢ 2 → x ≢ 2 → IsSearching v code st rests alpha beta best choice →
+      IsSearching v code (slice_set st i x) (slice_set rests i rest) alpha beta best choice
+  IsSearching-mark inside unsettled other s = record {
+    below = s.below;
+    settled = settled-set v st best i x inside (λ e. absurd (other e)) s.settled;
+    found = λ higher. found-set v code st rests best choice i x rest inside unsettled (s.found higher);
+  }
 
 -- inlet cases 2 and 3 with a score at most the greater of alpha and best
-module _ (v : ℕ → ℤ) (code : ℕ → ℕ) (st rests : List ℕ) (alpha beta best score : ℤ) (choice i rest : ℕ) where
+module _ {v : ℕ → ℤ} {code : ℕ → ℕ} {st rests : List ℕ} {alpha beta best score : ℤ} {choice i : ℕ} (rest : ℕ) where
   pub IsSearching-low : alpha <ℤ beta → i < length st → slice_index st i ≢ 2 → score ≤ℤ int_max alpha best → v i ≤ℤ score →
       IsSearching v code st rests alpha beta best choice → IsSearching v code (slice_set st i 2) (slice_set rests i rest) alpha beta (int_max best score) choice
   IsSearching-low window inside unsettled low under s = record {
     below = let b : best <ℤ beta = s.below in omega (arith, ints, clamps);
-    settled = settled-set v st (int_max best score) i 2 inside (λ e. omega (arith, ints, clamps)) (λ k below is. let h : v k ≤ℤ best = s.settled k below is in omega (arith, ints, clamps));
+    settled = settled-set v st _ i 2 inside (λ e. omega (arith, ints, clamps)) (λ k below is. let h : v k ≤ℤ best = s.settled k below is in omega (arith, ints, clamps));
     found = λ (higher : alpha <ℤ int_max best score).
         let same : int_max best score ≡ best = omega (arith, ints, clamps) in
         let above : alpha <ℤ best = omega (arith, ints, clamps) in
-        subst (λ (b : ℤ). IsFound v code (slice_set st i 2) (slice_set rests i rest) b choice) (sym same) (found-set v code st rests best choice i 2 rest inside unsettled (s.found above));
+        subst (λ (b : ℤ). IsFound v code (slice_set st i 2) (slice_set rests i rest) b choice) (sym same)
+        (found-set v code st rests best choice i 2 rest inside unsettled (s.found above));
   }
 
   -- inlet case 2 with a score above the greater of alpha and best: it is exact, and every earlier choice is settled
@@ -63,7 +65,7 @@ module _ (v : ℕ → ℤ) (code : ℕ → ℕ) (st rests : List ℕ) (alpha bet
       let same : int_max best score ≡ score = omega (arith, ints, clamps) in
       record {
         below = omega (arith, ints, clamps);
-        settled = settled-set v st (int_max best score) i 2 inside (λ e. omega (arith, ints, clamps)) (λ k under is. let h : v k ≤ℤ best = s.settled k under is in omega (arith, ints, clamps));
+        settled = settled-set v st _ i 2 inside (λ e. omega (arith, ints, clamps)) (λ k under is. let h : v k ≤ℤ best = s.settled k under is in omega (arith, ints, clamps));
         found = λ higher. record {
           place = i;
           inside = omega (arith, set_length st i 2);
@@ -202,59 +204,65 @@ says-by false false alpha beta s m el eh b =
     let under : neg_ℤ s <ℤ neg_ℤ alpha = not-le-told (neg_ℤ alpha) (neg_ℤ s) eh in
     ap neg_ℤ (b.exact (omega (arith, ints)) (omega (arith, ints)))
 
--- what a returned child's score says of its choice is true
-pub found-true : (c : Frame) (v : ℤ) → least ≤ℤ seen c → IsBound c.alpha c.beta c.best (value c) → v ≡ neg_ℤ (value c) → IsTrueRest (found_rest c) v
-found-true c v low bound worth kind is =
-    let own : BoundKind = kind_of (neg_ℤ c.beta) (neg_ℤ c.alpha) (seen c) in
-    let says : Says own (seen c) (neg_ℤ (value c)) = says-by (int_le (seen c) (neg_ℤ c.beta)) (int_le (neg_ℤ c.alpha) (seen c)) c.alpha c.beta c.best (value c) refl refl bound in
-    let there : Says own (score_in (found_rest c)) v = subst (λ (s : ℤ). Says own s v) (sym (score-read own (seen c) low)) (subst (λ (m : ℤ). Says own (seen c) m) (sym worth) says) in
-    same-kind (λ (k : BoundKind). Says k (score_in (found_rest c)) v) own kind (sym (kind-read own (seen c)) ∙ is) there
-
--- and it says something
-pub found-said : (c : Frame) → kind_in (found_rest c) ≢ 0
-found-said c none = kind-some (kind_of (neg_ℤ c.beta) (neg_ℤ c.alpha) (seen c)) (sym (kind-read (kind_of (neg_ℤ c.beta) (neg_ℤ c.alpha) (seen c)) (seen c)) ∙ none)
-
 kind-exact : (low high : Bool) → low ≡ false → high ≡ false → kind_number (kind_by low high) ≡ 3
 kind-exact low high el eh = rw (el, eh) refl
 
 above-told : (x y : ℤ) → y <ℤ x → int_le x y ≡ false
 above-told x y h = grind (arith, ints)
 
--- inside its window it is exact
-pub found-exact : (c : Frame) → neg_ℤ c.beta <ℤ seen c → seen c <ℤ neg_ℤ c.alpha → IsOfKind (found_rest c) Exact
-found-exact c over under = grind (arith, kind-read, kind-exact, above-told)
+module _ (c : Frame) where
+  abbrev kind_seen : BoundKind
+  kind_seen = kind_of (neg_ℤ c.beta) (neg_ℤ c.alpha) (seen c)
 
-pub found-passes : (c : Frame) → least ≤ℤ c.best → c.best ≤ℤ greatest → is_rest (found_rest c) ≡ true
-found-passes c low high = rest-passes (kind_of (neg_ℤ c.beta) (neg_ℤ c.alpha) (seen c)) (seen c) (omega (arith, ints)) (omega (arith, ints))
+  -- what a returned child's score says of its choice is true
+  pub found-true : (v : ℤ) → least ≤ℤ seen c → IsBound c.alpha c.beta c.best (value c) → v ≡ neg_ℤ (value c) → IsTrueRest (found_rest c) v
+  found-true v low bound worth kind is =
+      let says : Says kind_seen (seen c) (neg_ℤ (value c)) = says-by _ _ c.alpha c.beta c.best (value c) refl refl bound in
+      let seen_is : Says kind_seen (seen c) v = subst (λ (m : ℤ). Says kind_seen (seen c) m) (sym worth) says in
+      let there : Says kind_seen (score_in (found_rest c)) v = subst (λ (s : ℤ). Says kind_seen s v) (sym (score-read kind_seen (seen c) low)) seen_is in
+      same-kind (λ (k : BoundKind). Says k (score_in (found_rest c)) v) kind_seen kind (sym (kind-read kind_seen (seen c)) ∙ is) there
+
+  -- and it says something
+  pub found-said : kind_in (found_rest c) ≢ 0
+  found-said none = kind-some kind_seen (sym (kind-read kind_seen (seen c)) ∙ none)
+
+  -- inside its window it is exact
+  pub found-exact : neg_ℤ c.beta <ℤ seen c → seen c <ℤ neg_ℤ c.alpha → IsOfKind (found_rest c) Exact
+  found-exact over under = grind (arith, kind-read, kind-exact, above-told)
+
+  pub found-passes : least ≤ℤ c.best → c.best ≤ℤ greatest → is_rest (found_rest c) ≡ true
+  found-passes low high = rest-passes kind_seen (seen c) (omega (arith, ints)) (omega (arith, ints))
 
 -- a rest of nothing says nothing
 pub nothing-true : (rest : ℕ) (v : ℤ) → rest ≡ 0 → IsTrueRest rest v
 nothing-true rest v none kind is = absurd (kind-some kind (sym is ∙ ap kind_in none))
 
--- an entry is set
-pub tabled-set : (v : ℕ → ℤ) (st rests : List ℕ) (i x rest : ℕ) → i < length st → IsTrueRest rest (v i) → (x ≡ 2 → kind_in rest ≢ 0) → IsTabled v st rests → IsTabled v (slice_set st i x) (slice_set rests i rest)
-tabled-set v st rests i x rest inside holds said t = record {
-  places = set_length rests i rest ∙ t.places ∙ sym (set_length st i x);
-  holds = λ k. true-set v rests i rest k (omega (arith, t.places)) holds (t.holds k);
-  said = λ k. said-set st rests i x rest k inside (omega (arith, t.places)) said (t.said k);
-}
-  where
-    true-set : (v : ℕ → ℤ) (rests : List ℕ) (i rest k : ℕ) → i < length rests → IsTrueRest rest (v i) → IsTrueRest (slice_index rests k) (v k) → IsTrueRest (slice_index (slice_set rests i rest) k) (v k)
-    true-set v rests i rest k inside here there = elim (cases_eq k i) [
-      | inl same ↦ subst (λ (r : ℕ). IsTrueRest r (v k)) (sym (ap (λ (j : ℕ). slice_index (slice_set rests i rest) j) same ∙ set_there rests i rest inside)) (subst (λ (j : ℕ). IsTrueRest rest (v j)) (sym same) here)
-      | inr other ↦ subst (λ (r : ℕ). IsTrueRest r (v k)) (sym (set_beside rests i rest k other)) there
-    ]
+module _ (v : ℕ → ℤ) (st rests : List ℕ) (i : ℕ) where
+  true-set : (rest k : ℕ) → i < length rests → IsTrueRest rest (v i) → IsTrueRest (slice_index rests k) (v k) → IsTrueRest (slice_index (slice_set rests i rest) k) (v k)
+  true-set rest k inside here there = elim (cases_eq k i) [
+    | inl same ↦ (let is = ap (λ (j : ℕ). slice_index (slice_set rests i rest) j) same ∙ set_there rests i rest inside in
+        subst (λ (r : ℕ). IsTrueRest r (v k)) (sym is) (subst (λ (j : ℕ). IsTrueRest rest (v j)) (sym same) here))
+    | inr other ↦ subst (λ (r : ℕ). IsTrueRest r (v k)) (sym (set_beside rests i rest k other)) there
+  ]
 
-    said-set : (st rests : List ℕ) (i x rest k : ℕ) → i < length st → i < length rests → (x ≡ 2 → kind_in rest ≢ 0) → (slice_index st k ≡ 2 → kind_in (slice_index rests k) ≢ 0) →
-        slice_index (slice_set st i x) k ≡ 2 → kind_in (slice_index (slice_set rests i rest) k) ≢ 0
-    said-set st rests i x rest k inside within here there is = elim (cases_eq k i) [
-      | inl same ↦ grind (arith, set_there)
-      | inr other ↦ subst (λ (r : ℕ). kind_in r ≢ 0) (sym (set_beside rests i rest k other)) (there (sym (set_beside st i x k other) ∙ is))
-    ]
+  said-set : (x rest k : ℕ) → i < length st → i < length rests → (x ≡ 2 → kind_in rest ≢ 0) → (slice_index st k ≡ 2 → kind_in (slice_index rests k) ≢ 0) →
+      slice_index (slice_set st i x) k ≡ 2 → kind_in (slice_index (slice_set rests i rest) k) ≢ 0
+  said-set x rest k inside within here there is = elim (cases_eq k i) [
+    | inl same ↦ grind (arith, set_there)
+    | inr other ↦ subst (λ (r : ℕ). kind_in r ≢ 0) (sym (set_beside rests i rest k other)) (there (sym (set_beside st i x k other) ∙ is))
+  ]
 
--- a status that `next` stores keeps what is said
-pub tabled-kept : (v : ℕ → ℤ) (st rests : List ℕ) (i x : ℕ) → i < length st → x ≢ 2 → IsTabled v st rests → IsTabled v (slice_set st i x) (slice_set rests i (slice_index rests i))
-tabled-kept v st rests i x inside other t = tabled-set v st rests i x (slice_index rests i) inside (t.holds i) (λ two. absurd (other two)) t
+  -- an entry is set
+  pub tabled-set : (x rest : ℕ) → i < length st → IsTrueRest rest (v i) → (x ≡ 2 → kind_in rest ≢ 0) → IsTabled v st rests → IsTabled v (slice_set st i x) (slice_set rests i rest)
+  tabled-set x rest inside holds said t = record {
+    places = set_length rests i rest ∙ t.places ∙ sym (set_length st i x);
+    holds = λ k. true-set rest k (omega (arith, t.places)) holds (t.holds k);
+    said = λ k. said-set x rest k inside (omega (arith, t.places)) said (t.said k);
+  }
+
+  -- a status that `next` stores keeps what is said
+  pub tabled-kept : (x : ℕ) → i < length st → x ≢ 2 → IsTabled v st rests → IsTabled v (slice_set st i x) (slice_set rests i (slice_index rests i))
+  tabled-kept x inside other t = tabled-set x (slice_index rests i) inside (t.holds i) (λ two. absurd (other two)) t
 
 pub zero-at : (n k : ℕ) → slice_index (replicate n 0) k ≡ 0
 zero-at n k = grind (arith, common_steps)

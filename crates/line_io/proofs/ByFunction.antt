@@ -11,21 +11,23 @@ Answers-function answers holds answer step a (l ∷ ls) (t ∷ ts) b h p =
     ap (λ z. z ∷ ts) s.0 ∙ ap (λ zs. answer l ∷ zs) (Answers-function answers holds answer step p.0 ls ts b s.1 p.2)
 
 -- all of the answers
-answers-all : (answer : LineText → List ℕ) (pieces : List (List ℕ)) (rest : List ℕ) (texts : List (List ℕ)) (answered lines : List LineText) → concat pieces ++ rest ≡ written_texts texts → texts ≡ map answer answered → answered ≡ lines → rest ≡ [] → concat pieces ≡ answers_to answer lines
-answers-all answer pieces rest texts answered lines t e same none = grind (arith, append-nil, flat_map-map)
+module _ (answer : LineText → List ℕ) (pieces : List (List ℕ)) (rest : List ℕ) (texts : List (List ℕ)) (answered lines : List LineText)
+    (t : concat pieces ++ rest ≡ written_texts texts) (e : texts ≡ map answer answered) where
+  answers-all : answered ≡ lines → rest ≡ [] → concat pieces ≡ answers_to answer lines
+  answers-all same none = grind (arith, append-nil, flat_map-map)
 
--- a beginning of them
-answers-begun : (answer : LineText → List ℕ) (pieces : List (List ℕ)) (rest : List ℕ) (texts : List (List ℕ)) (answered lines : List LineText) → concat pieces ++ rest ≡ written_texts texts → texts ≡ map answer answered → IsPrefixOf answered lines → 0 < length rest → IsProperPrefix (concat pieces) (answers_to answer lines)
-answers-begun answer pieces rest texts answered lines t e first some =
-    let f : LineText → List ℕ = λ line. with_newline (answer line) in
-    let same : concat pieces ++ rest ≡ flat_map f answered = t ∙ (ap written_texts e ∙ flat_map-map with_newline answer answered) in
-    (rest ++ flat_map f first.0, sym (append_assoc (concat pieces) rest (flat_map f first.0)) ∙ (ap (λ z. z ++ flat_map f first.0) same ∙ (sym (flat_map-append f answered first.0) ∙ ap (flat_map f) first.1)), omega (arith, length-append rest (flat_map f first.0)))
+  -- a beginning of them
+  answers-begun : IsPrefixOf answered lines → 0 < length rest → IsProperPrefix (concat pieces) (answers_to answer lines)
+  answers-begun first some =
+      let f : LineText → List ℕ = λ line. with_newline (answer line) in
+      let same : concat pieces ++ rest ≡ flat_map f answered = t ∙ (ap written_texts e ∙ flat_map-map with_newline answer answered) in
+      (rest ++ flat_map f first.0, sym (append_assoc (concat pieces) rest (flat_map f first.0)) ∙ (ap (λ z. z ++ flat_map f first.0) same ∙ (sym (flat_map-append f answered first.0) ∙ ap (flat_map f) first.1)), omega (arith, length-append rest (flat_map f first.0)))
 
--- what is written of the answers, as the writes ended
-answers-written : (answer : LineText → List ℕ) (r : Result (Unit {0}) WriteFailed) (pieces : List (List ℕ)) (rest : List ℕ) (texts : List (List ℕ)) (answered lines : List LineText) → concat pieces ++ rest ≡ written_texts texts → texts ≡ map answer answered → IsAnswered r lines answered texts rest → IsOutput r (concat pieces) (answers_to answer lines)
-answers-written answer (Ok u) pieces rest texts answered lines t e h = answers-all answer pieces rest texts answered lines t e h.0 h.1
-answers-written answer (Err d) pieces rest texts answered lines t e h =
-    answers-begun answer pieces rest texts answered lines t e h.0 h.1.left
+  -- what is written of the answers, as the writes ended
+  answers-written : (r : Result (Unit {0}) WriteFailed) → IsAnswered r lines answered texts rest → IsOutput r (concat pieces) (answers_to answer lines)
+  answers-written (Ok u) h = answers-all h.0 h.1
+  answers-written (Err d) h =
+      answers-begun h.0 h.1.left
 
 -- a run, where what its writes left is this of the lines due
 pub Run-written : {S K A : Type 0} (gives : S → ReadAnswer → S → Type 0) (takes : K → WriteAnswer → K → Type 0) (answers : A → LineText → List ℕ → A → Type 0) (out : List LineText → List ℕ) (s : S) (k : K) (a : A) (s' : S) (k' : K) (a' : A) (r : Result (Unit {0}) LineFault) (x : Run gives takes answers s k a s' k' a' r) → IsOutput (write_result r) (concat x.lines.pieces) (out (lines_of (bytes_due r (concat x.blocks)))) → FunctionRun gives takes (λ bytes. out (lines_of bytes)) s k s' k' r
@@ -38,7 +40,7 @@ module _ {S K A : Type 0} (gives : S → ReadAnswer → S → Type 0) (takes : K
       let y = x.lines in
       let texts_are : y.texts ≡ map answer y.answered = Answers-function answers holds answer step a y.answered y.texts a' h y.answers_lead in
       Run-written gives takes answers (answers_to answer) s k a s' k' a' r x
-      (answers-written answer (write_result r) y.pieces y.rest y.texts y.answered (lines_of (bytes_due r (concat x.blocks))) y.taken texts_are y.ends)
+      (answers-written answer y.pieces y.rest y.texts y.answered (lines_of (bytes_due r (concat x.blocks))) y.taken texts_are (write_result r) y.ends)
 
 -- answers by a relation of lines and texts alone, whatever the states
 Answers-related : {A : Type 0} (answers : A → LineText → List ℕ → A → Type 0) (related : LineText → List ℕ → Type 0) → ((a : A) (l : LineText) (t : List ℕ) (b : A) → answers a l t b → related l t) → (a : A) (ls : List LineText) (ts : List (List ℕ)) (b : A) → Answers answers a ls ts b → Answers (λ (_ : Unit {0}) l t (_ : Unit {0}). related l t) tt ls ts tt

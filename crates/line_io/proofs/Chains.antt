@@ -1,14 +1,15 @@
 -- Chains of states.
 use Rattle.line_io.proofs.Common.{◌≡◌, ℕ, List, [], ◌∷◌, ◌++◌, refl, sym, ap, ◌∙◌, subst, append-nil, concat-append, concat, LineText, Leads, Answers}
 
--- two chains, one after the other
-pub Leads-append : {S E : Type 0} (steps : S → E → S → Type 0) (a : S) (xs : List E) (b : S) (ys : List E) (c : S) → Leads steps a xs b → Leads steps b ys c → Leads steps a (xs ++ ys) c
-Leads-append steps a [] b ys c p q = subst (λ s. Leads steps s ys c) (sym p) q
-Leads-append steps a (x ∷ xs) b ys c p q = (p.0, p.1, Leads-append steps p.0 xs b ys c p.2 q)
+module _ {S E : Type 0} (steps : S → E → S → Type 0) where
+  -- two chains, one after the other
+  pub Leads-append : (a : S) (xs : List E) (b : S) (ys : List E) (c : S) → Leads steps a xs b → Leads steps b ys c → Leads steps a (xs ++ ys) c
+  Leads-append a [] b ys c p q = subst (λ s. Leads steps s ys c) (sym p) q
+  Leads-append a (x ∷ xs) b ys c p q = (p.0, p.1, Leads-append p.0 xs b ys c p.2 q)
 
--- one step more
-pub Leads-more : {S E : Type 0} (steps : S → E → S → Type 0) (a : S) (xs : List E) (b : S) (y : E) (c : S) → Leads steps a xs b → steps b y c → Leads steps a (xs ++ y ∷ []) c
-Leads-more steps a xs b y c p q = Leads-append steps a xs b (y ∷ []) c p (c, q, refl)
+  -- one step more
+  pub Leads-more : (a : S) (xs : List E) (b : S) (y : E) (c : S) → Leads steps a xs b → steps b y c → Leads steps a (xs ++ y ∷ []) c
+  Leads-more a xs b y c p q = Leads-append a xs b (y ∷ []) c p (c, q, refl)
 
 -- two chains of answers, one after the other
 pub Answers-append : {A : Type 0} (answers : A → LineText → List ℕ → A → Type 0) (a : A) (ls : List LineText) (ts : List (List ℕ)) (b : A) (ms : List LineText) (us : List (List ℕ)) (c : A) → Answers answers a ls ts b → Answers answers b ms us c → Answers answers a (ls ++ ms) (ts ++ us) c

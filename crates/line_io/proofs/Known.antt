@@ -2,18 +2,19 @@
 use Rattle.line_io.proofs.Common.{◌≡◌, ℕ, List, [], ◌∷◌, ◌++◌, map, sym, ap, ◌∙◌, append_assoc, subst, Option, Some, Result, Ok, Err, arith, append-nil, concat, Keeps, Appends, Consumes, IsAtEnd, WriteFailed, Leads, Gave, Ended, ReadsKnown, WritesKnown, writes_of, FunctionRun}
 
 -- at the end no byte is left
-at-end : (old new : Option (List ℕ)) (bytes : List ℕ) → old ≡ Some bytes → Consumes old new [] → IsAtEnd new → [] ≡ bytes
-at-end old new bytes h4 h5 h6 = grind arith
+module _ (old new : Option (List ℕ)) (bytes : List ℕ) (h4 : old ≡ Some bytes) where
+  at-end : Consumes old new [] → IsAtEnd new → [] ≡ bytes
+  at-end h5 h6 = grind arith
 
--- a read takes the first of the bytes
-takes-first : (old new : Option (List ℕ)) (bytes block : List ℕ) → old ≡ Some bytes → Consumes old new block → (rest : List ℕ) × (new ≡ Some rest) × (block ++ rest ≡ bytes)
-takes-first old new bytes block h5 h6 = grind arith
+  -- a read takes the first of the bytes
+  takes-first : (block : List ℕ) → Consumes old new block → (rest : List ℕ) × (new ≡ Some rest) × (block ++ rest ≡ bytes)
+  takes-first block h6 = grind arith
 
 -- reads up to the end give all bytes
 pub known-read : {S : Type 0} (left : S → Option (List ℕ)) (s : S) (blocks : List (List ℕ)) (t : S) (bytes : List ℕ) → left s ≡ Some bytes → Leads (λ a r b. ReadsKnown (left a) r (left b)) s (map Gave blocks ++ Ended ∷ []) t → concat blocks ≡ bytes
 known-read left s [] t bytes e p = at-end (left s) (left p.0) bytes e p.1.0 p.1.1
 known-read left s (block ∷ blocks) t bytes e p =
-    let q = takes-first (left s) (left p.0) bytes block e p.1 in
+    let q = takes-first (left s) (left p.0) bytes e block p.1 in
     ap (λ z. block ++ z) (known-read left p.0 blocks t q.0 q.1 p.2) ∙ q.2
 
 -- a write adds its bytes
@@ -37,5 +38,4 @@ known-write held k (piece ∷ pieces) t (Err f) bytes e p =
 pub known-run : {S K : Type 0} (left : S → Option (List ℕ)) (holds : K → Option (List ℕ)) (out : List ℕ → List ℕ) (s : S) (k : K) (s' : S) (k' : K) (bytes held : List ℕ) → left s ≡ Some bytes → holds k ≡ Some held → FunctionRun (λ a r b. ReadsKnown (left a) r (left b)) (λ a w b. WritesKnown (holds a) w (holds b)) out s k s' k' (Ok tt) → holds k' ≡ Some (held ++ out bytes)
 known-run left holds out s k s' k' bytes held e f x =
     let reads = subst (λ last. Leads (λ a r b. ReadsKnown (left a) r (left b)) s (map Gave x.blocks ++ last) s') x.ends x.reads in
-    let all : concat x.blocks ≡ bytes = known-read left s x.blocks s' bytes e reads in
-    known-write holds k x.pieces k' (Ok tt) held f x.writes ∙ ap (λ z. Some (held ++ z)) (x.written ∙ ap out all)
+    known-write holds k x.pieces k' (Ok tt) held f x.writes ∙ ap (λ z. Some (held ++ z)) (x.written ∙ ap out (known-read left s x.blocks s' bytes e reads))

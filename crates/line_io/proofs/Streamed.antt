@@ -9,17 +9,18 @@ strip-most : (l : List ℕ) → length (strip_carriage_return l) ≤ length l
 strip-most l = grind (arith, common_steps)
 
 -- a test that fails stays failed
-held-none : (t : Bool) (raw : List ℕ) (b : ℕ) → nat_le (length (strip_carriage_return raw)) 128 ≡ t → with_byte (cond t (Some raw) None) b ≡ held (raw ++ b ∷ [])
-held-none true raw b e = refl
-held-none false raw b e =
-    let more = strip-least (raw ++ b ∷ []) in
-    let less = strip-most raw in
-    let len = length-append raw (b ∷ []) in
-    grind (arith, nat_tests)
+module _ (raw : List ℕ) (b : ℕ) where
+  held-none : (t : Bool) → nat_le (length (strip_carriage_return raw)) 128 ≡ t → with_byte (cond t (Some raw) None) b ≡ held (raw ++ b ∷ [])
+  held-none true e = refl
+  held-none false e =
+      let more = strip-least (raw ++ b ∷ []) in
+      let less = strip-most raw in
+      let len = length-append raw (b ∷ []) in
+      grind (arith, nat_tests)
 
--- one more byte
-pub with_byte-held : (raw : List ℕ) (b : ℕ) → with_byte (held raw) b ≡ held (raw ++ b ∷ [])
-with_byte-held raw b = held-none (nat_le (length (strip_carriage_return raw)) 128) raw b refl
+  -- one more byte
+  pub with_byte-held : with_byte (held raw) b ≡ held (raw ++ b ∷ [])
+  with_byte-held = held-none (nat_le (length (strip_carriage_return raw)) 128) refl
 
 -- the line that an LF ends
 pub ended_line-held : (raw : List ℕ) → ended_line (held raw) ≡ line_text (strip_carriage_return raw)

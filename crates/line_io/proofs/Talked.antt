@@ -22,7 +22,8 @@ module _ (ends : LineText → Bool) where
   some-last : (xs : List LineText) (l : LineText) (ls : List LineText) → none_ends ends xs ≡ true → ends l ≡ true → none_ends ends (xs ++ l ∷ ls) ≡ false
   some-last xs l ls none e = none-append xs (l ∷ ls) none ∙ ap (λ t. not t && none_ends ends ls) e
 
-  module _ {K A : Type 0} (takes : K → WriteAnswer → K → Type 0) (answers : A → LineText → List ℕ → A → Type 0) (k : K) (a : A) (h : Option (List ℕ)) (block : List ℕ) where
+  module _ {K A : Type 0} (takes : K → WriteAnswer → K → Type 0) (answers : A → LineText → List ℕ → A → Type 0) (k : K) (a : A)
+      (h : Option (List ℕ)) (block : List ℕ) where
     -- the lines that ended so far are answered, and none of them ends the talk
     pub record TalkSoFar (i : ℕ) (k' : K) (a' : A) (h' : Option (List ℕ)) : Type 0 where
       pub so_far : BlockSoFar takes answers k a h block i k' a' h'
@@ -31,42 +32,38 @@ module _ (ends : LineText → Bool) where
     pub Talk-start : TalkSoFar 0 k a h
     Talk-start = record { so_far = Block-start takes answers k a h block; none = refl }
 
-    pub Talk-byte : (i : ℕ) (k' : K) (a' : A) (h' h'' : Option (List ℕ)) → TalkSoFar i k' a' h' → i < length block → get_or block i 0 ≢ 10 → h'' ≡ with_byte h' (get_or block i 0) → TalkSoFar (i + 1) k' a' h''
-    Talk-byte i k' a' h' h'' s l ne e = record { so_far = Block-byte takes answers k a h block i k' a' h' h'' s.so_far l ne e; none = s.none }
+module _ {ends : LineText → Bool} {K A : Type 0} {takes : K → WriteAnswer → K → Type 0} {answers : A → LineText → List ℕ → A → Type 0} {k k' : K} {a a' : A}
+    {h h' : Option (List ℕ)} {block : List ℕ} {i : ℕ} (s : TalkSoFar ends takes answers k a h block i k' a' h') where
+  pub Talk-end : length block ≤ i → LinesAnswered takes answers k a (upto ends (ended_within h block)) k' a' (Ok tt) × (none_ends ends (ended_within h block) ≡ true) × (h' ≡ held_after h block)
+  Talk-end l = grind (arith, drop_all, upto-append, append-nil, LinesAnswered-same, none-append, Block-held)
 
-    pub Talk-line : (i : ℕ) (k' : K) (a' : A) (h' : Option (List ℕ)) (k'' : K) (a'' : A) (h'' : Option (List ℕ)) → TalkSoFar i k' a' h' → i < length block → get_or block i 0 ≡ 10 → LinesAnswered takes answers k' a' (ended_line h' ∷ []) k'' a'' (Ok tt) → ends (ended_line h') ≡ false → h'' ≡ Some [] → TalkSoFar (i + 1) k'' a'' h''
-    Talk-line i k' a' h' k'' a'' h'' s l e x on n =
-        record {
-          so_far = Block-line takes answers k a h block i k' a' h' (ended_line h') k'' a'' h'' tt s.so_far l e refl x n;
-          none = none-append s.so_far.lines (ended_line h' ∷ []) s.none ∙ ap (λ t. not t && true) on;
+  module _ (l : i < length block) where
+    pub Talk-byte : {h'' : Option (List ℕ)} → get_or block i 0 ≢ 10 → h'' ≡ with_byte h' (get_or block i 0) → TalkSoFar ends takes answers k a h block (i + 1) k' a' h''
+    Talk-byte ne e = record { so_far = Block-byte s.so_far l ne e; none = s.none }
+
+    module _ (e : get_or block i 0 ≡ 10) where
+      -- all lines of the block
+      next : ended_within h block ≡ s.so_far.lines ++ ended_line h' ∷ ended_within (Some []) (drop (i + 1) block)
+      next = sym s.so_far.to_come ∙ ap (λ z. s.so_far.lines ++ z) (lf-next [] h' block i l e)
+
+      pub Talk-failed : {k'' : K} {a'' : A} {d : WriteFailed} → LinesAnswered takes answers k' a' (ended_line h' ∷ []) k'' a'' (Err d) → LinesAnswered takes answers k a (upto ends (ended_within h block)) k'' a'' (Err d)
+      Talk-failed x =
+          let lines = s.so_far.lines in
+          let rest = ended_within (Some []) (drop (i + 1) block) in
+          let first = upto-first ends (ended_line h') rest in
+          let due = ap (upto ends) next ∙ (upto-append ends lines (ended_line h' ∷ rest) s.none ∙ ap (λ (z : List LineText). lines ++ z) first.1) in
+          LinesAnswered-same (append_assoc lines (ended_line h' ∷ []) first.0 ∙ sym due) (LinesAnswered-before first.0 (LinesAnswered-append s.so_far.answered x))
+
+      module _ {k'' : K} {a'' : A} (x : LinesAnswered takes answers k' a' (ended_line h' ∷ []) k'' a'' (Ok tt)) where
+        pub Talk-line : {h'' : Option (List ℕ)} → ends (ended_line h') ≡ false → h'' ≡ Some [] → TalkSoFar ends takes answers k a h block (i + 1) k'' a'' h''
+        Talk-line on n = record {
+          so_far = Block-line s.so_far l e refl x n;
+          none = none-append ends s.so_far.lines (ended_line h' ∷ []) s.none ∙ ap (λ t. not t && true) on;
         }
 
-    -- all lines of the block, where the next byte is an LF
-    next : (i : ℕ) (k' : K) (a' : A) (h' : Option (List ℕ)) (s : TalkSoFar i k' a' h') → i < length block → get_or block i 0 ≡ 10 → ended_within h block ≡ s.so_far.lines ++ ended_line h' ∷ ended_within (Some []) (drop (i + 1) block)
-    next i k' a' h' s l e = sym s.so_far.to_come ∙ ap (λ z. s.so_far.lines ++ z) (lf-next [] h' block i l e)
-
-    pub Talk-stopped : (i : ℕ) (k' : K) (a' : A) (h' : Option (List ℕ)) (k'' : K) (a'' : A) → TalkSoFar i k' a' h' → i < length block → get_or block i 0 ≡ 10 → LinesAnswered takes answers k' a' (ended_line h' ∷ []) k'' a'' (Ok tt) → ends (ended_line h') ≡ true
-        → LinesAnswered takes answers k a (upto ends (ended_within h block)) k'' a'' (Ok tt) × (none_ends ends (ended_within h block) ≡ false)
-    Talk-stopped i k' a' h' k'' a'' s l e x off =
-        let lines = s.so_far.lines in
-        let rest = ended_within (Some []) (drop (i + 1) block) in
-        let whole = next i k' a' h' s l e in
-        let due : lines ++ ended_line h' ∷ [] ≡ upto ends (ended_within h block) = sym (ap (upto ends) whole ∙ (upto-append lines (ended_line h' ∷ rest) s.none ∙ ap (λ z. lines ++ z) (upto-last (ended_line h') rest off))) in (
-          LinesAnswered-same takes answers k a (lines ++ ended_line h' ∷ []) (upto ends (ended_within h block)) k'' a'' (Ok tt) due (LinesAnswered-append takes answers k a lines k' a' tt (ended_line h' ∷ []) k'' a'' (Ok tt) s.so_far.answered x),
-          ap (none_ends ends) whole ∙ some-last lines (ended_line h') rest s.none off,
-        )
-
-    pub Talk-failed : (i : ℕ) (k' : K) (a' : A) (h' : Option (List ℕ)) (k'' : K) (a'' : A) (d : WriteFailed) → TalkSoFar i k' a' h' → i < length block → get_or block i 0 ≡ 10 → LinesAnswered takes answers k' a' (ended_line h' ∷ []) k'' a'' (Err d)
-        → LinesAnswered takes answers k a (upto ends (ended_within h block)) k'' a'' (Err d)
-    Talk-failed i k' a' h' k'' a'' d s l e x =
-        let lines = s.so_far.lines in
-        let rest = ended_within (Some []) (drop (i + 1) block) in
-        let first = upto-first (ended_line h') rest in
-        let due : (lines ++ ended_line h' ∷ []) ++ first.0 ≡ upto ends (ended_within h block) =
-        append_assoc lines (ended_line h' ∷ []) first.0 ∙ sym (ap (upto ends) (next i k' a' h' s l e) ∙ (upto-append lines (ended_line h' ∷ rest) s.none ∙ ap (λ z. lines ++ z) first.1)) in
-        LinesAnswered-same takes answers k a ((lines ++ ended_line h' ∷ []) ++ first.0) (upto ends (ended_within h block)) k'' a'' (Err d) due
-        (LinesAnswered-before takes answers k a (lines ++ ended_line h' ∷ []) first.0 k'' a'' d (LinesAnswered-append takes answers k a lines k' a' tt (ended_line h' ∷ []) k'' a'' (Err d) s.so_far.answered x))
-
-    pub Talk-end : (i : ℕ) (k' : K) (a' : A) (h' : Option (List ℕ)) → TalkSoFar i k' a' h' → length block ≤ i
-        → LinesAnswered takes answers k a (upto ends (ended_within h block)) k' a' (Ok tt) × (none_ends ends (ended_within h block) ≡ true) × (h' ≡ held_after h block)
-    Talk-end i k' a' h' s l = grind (arith, drop_all, upto-append, append-nil, LinesAnswered-same, none-append, Block-held)
+        pub Talk-stopped : ends (ended_line h') ≡ true → LinesAnswered takes answers k a (upto ends (ended_within h block)) k'' a'' (Ok tt) × (none_ends ends (ended_within h block) ≡ false)
+        Talk-stopped off =
+            let lines = s.so_far.lines in
+            let rest = ended_within (Some []) (drop (i + 1) block) in
+            let due = ap (upto ends) next ∙ (upto-append ends lines (ended_line h' ∷ rest) s.none ∙ ap (λ (z : List LineText). lines ++ z) (upto-last ends (ended_line h') rest off)) in
+            (LinesAnswered-same (sym due) (LinesAnswered-append s.so_far.answered x), ap (none_ends ends) next ∙ some-last ends lines (ended_line h') rest s.none off)

@@ -1,5 +1,6 @@
 -- What a change of one thing, a removal and an insertion leave: of the thing itself, of all others, of the order, and of lengths and sums.
-use Rattle.std.proofs.Common.{◌≡◌, ◌≢◌, ℕ, zero, suc, ◌+◌, ◌-◌, ◌<◌, ◌≤◌, true, false, cond, eqb, ltb, List, [], ◌∷◌, ◌++◌, length, get_or, set, Option, Some, None, refl, ap, sym, ◌∙◌, subst, inl, inr, arith}
+use Rattle.std.proofs.Common.{◌≡◌, ◌≢◌, ℕ, zero, suc, ◌+◌, ◌-◌, ◌<◌, ◌≤◌, true, false, cond, eqb, ltb, List, [], ◌∷◌, ◌++◌, length, get_or, set, Option, Some}
+use Rattle.std.proofs.Common.{None, refl, ap, sym, ◌∙◌, subst, inl, inr, arith}
 use Rattle.std.specs.Prelude.{sum_by, IfSome, IfNone, option_copied}
 use Rattle.std.specs.Borrow.{Bor}
 use Rattle.std.specs.List.{insert, remove, AllByRecursion}
@@ -7,7 +8,8 @@ use Rattle.std.proofs.lemmas.Bool.{cases_Bool, false≢true, ltb-true, ltb-false
 use Rattle.std.proofs.lemmas.List.{get_or_default}
 use Rattle.std.proofs.lemmas.List.Edits.{length-insert}
 use Rattle.std.proofs.lemmas.List.Sums.{sum_by-insert, sum_by-cons}
-use Rattle.number_index.specs.Places.{count_below, find_by_number, has_by_number, read_by_number, change_by_number, remove_by_number, inserted, IsAt, AreAbove, AreRising}
+use Rattle.number_index.specs.Places.{count_below, find_by_number, has_by_number, read_by_number, change_by_number, remove_by_number, inserted, IsAt}
+use Rattle.number_index.specs.Places.{AreAbove, AreRising}
 use Rattle.number_index.proofs.Places.{count_below-cases, count_below-le-length}
 
 -- what each thing has
@@ -93,17 +95,18 @@ module _ {X Y : Type 0} (number_of : X → ℕ) (say : X → Y) (none : Y) (n : 
   found-none xs (Some x) is = tt
 
 -- none is there where all are above
-pub has-above : {X : Type 0} (number_of : X → ℕ) (n m : ℕ) (xs : List X) → n ≤ m → AreAbove number_of m xs → has_by_number number_of n xs ≡ false
-has-above number_of n m [] le above = refl
-has-above number_of n m (x ∷ xs) le above = grind (arith, has-above number_of n m xs le above.1, ne_eqb)
+module _ {X : Type 0} (number_of : X → ℕ) (n m : ℕ) where
+  pub has-above : (xs : List X) → n ≤ m → AreAbove number_of m xs → has_by_number number_of n xs ≡ false
+  has-above [] le above = refl
+  has-above (x ∷ xs) le above = grind (arith, has-above xs le above.1, ne_eqb)
 
--- a thing that is there is above what all are above
-below-own : {X : Type 0} (number_of : X → ℕ) (n m : ℕ) (xs : List X) → AreAbove number_of m xs → has_by_number number_of n xs ≡ true → m < n
-below-own number_of n m [] above there = absurd (false≢true there)
-below-own number_of n m (x ∷ xs) above there = elim (cases_Bool (eqb (number_of x) n)) [
-  | inl same ↦ (let e = eqb-true (number_of x) n same in let lt : m < number_of x = above.0 in omega (arith, e, lt))
-  | inr other ↦ below-own number_of n m xs above.1 (rw other at there)
-]
+  -- a thing that is there is above what all are above
+  below-own : (xs : List X) → AreAbove number_of m xs → has_by_number number_of n xs ≡ true → m < n
+  below-own [] above there = absurd (false≢true there)
+  below-own (x ∷ xs) above there = elim (cases_Bool (eqb (number_of x) n)) [
+    | inl same ↦ (let e = eqb-true (number_of x) n same in let lt : m < number_of x = above.0 in omega (arith, e, lt))
+    | inr other ↦ below-own xs above.1 (rw other at there)
+  ]
 
 -- the place of a thing that is there, and what stands there
 
@@ -196,14 +199,16 @@ module _ {X Y : Type 0} (number_of : X → ℕ) (say : X → Y) (none : Y) where
   said-with_other m n change [] differs keeps = refl
   said-with_other m n change (x ∷ xs) differs keeps = grind (arith, said-with_other m n change xs differs keeps, eqb-true, ne_eqb)
 
-pub thing-with : {X : Type 0} (number_of : X → ℕ) (n : ℕ) (change : X → X) (xs : List X) (x : X) → ((x : X) → number_of x ≡ n → number_of (change x) ≡ n) → find_by_number number_of n xs ≡ Some x → find_by_number number_of n (change_by_number number_of n change xs) ≡ Some (change x)
+pub thing-with : {X : Type 0} (number_of : X → ℕ) (n : ℕ) (change : X → X) (xs : List X) (x : X) → ((x : X) → number_of x ≡ n → number_of (change x) ≡ n) →
+    find_by_number number_of n xs ≡ Some x → find_by_number number_of n (change_by_number number_of n change xs) ≡ Some (change x)
 thing-with number_of n change [] x keeps is = absurd cc
 thing-with number_of n change (y ∷ ys) x keeps is = elim (cases_Bool (eqb (number_of y) n)) [
   | inl same ↦ grind (arith, eq-eqb, eqb-true)
   | inr other ↦ rw (other, other) (thing-with number_of n change ys x keeps (rw other at is))
 ]
 
-pub all-with : {X : Type 0} (P : X → Type 0) (number_of : X → ℕ) (n : ℕ) (change : X → X) (xs : List X) → AllByRecursion P xs → ((x : X) → P x → find_by_number number_of n xs ≡ Some x → P (change x)) → AllByRecursion P (change_by_number number_of n change xs)
+pub all-with : {X : Type 0} (P : X → Type 0) (number_of : X → ℕ) (n : ℕ) (change : X → X) (xs : List X) → AllByRecursion P xs →
+    ((x : X) → P x → find_by_number number_of n xs ≡ Some x → P (change x)) → AllByRecursion P (change_by_number number_of n change xs)
 all-with P number_of n change [] all step = tt
 all-with P number_of n change (x ∷ xs) all step = grind (arith, all-with P number_of n change xs all.1)
 
@@ -312,25 +317,27 @@ module _ {X : Type 0} (number_of : X → ℕ) (new : X) where
   pub length-inserted : (xs : List X) → length (inserted number_of new xs) ≡ length xs + 1
   length-inserted xs = rw (← place-inserted number_of new xs) (length-insert xs (count_below number_of (number_of new) xs) new (count_below-le-length number_of (number_of new) xs))
 
-pub sum_by-inserted : {X : Type 0} (g : X → ℕ) (number_of : X → ℕ) (new : X) (xs : List X) → sum_by g (inserted number_of new xs) ≡ sum_by g xs + g new
-sum_by-inserted g number_of new xs = rw (← place-inserted number_of new xs) (sum_by-insert g xs (count_below number_of (number_of new) xs) new)
+module _ {X : Type 0} where
+  pub sum_by-inserted : (g number_of : X → ℕ) (new : X) (xs : List X) → sum_by g (inserted number_of new xs) ≡ sum_by g xs + g new
+  sum_by-inserted g number_of new xs = rw (← place-inserted number_of new xs) (sum_by-insert g xs (count_below number_of (number_of new) xs) new)
 
--- behind all others
-pub rising-push : {X : Type 0} (number_of : X → ℕ) (new : X) (xs : List X) → AllByRecursion (λ x. number_of x < number_of new) xs → AreRising number_of xs → AreRising number_of (xs ++ new ∷ [])
-rising-push number_of new [] below rising = (tt, tt)
-rising-push number_of new (x ∷ xs) below rising = (all-push (λ y. number_of x < number_of y) new xs below.0 rising.0, rising-push number_of new xs below.1 rising.1)
+  -- behind all others
+  pub rising-push : (number_of : X → ℕ) (new : X) (xs : List X) → AllByRecursion (λ x. number_of x < number_of new) xs → AreRising number_of xs → AreRising number_of (xs ++ new ∷ [])
+  rising-push number_of new [] below rising = (tt, tt)
+  rising-push number_of new (x ∷ xs) below rising = (all-push (λ y. number_of x < number_of y) new xs below.0 rising.0, rising-push number_of new xs below.1 rising.1)
 
 -- what one thing has of h beyond g lies within what all together have
 
-sum_by-le : {X : Type 0} (g h : X → ℕ) (xs : List X) → AllByRecursion (λ x. g x ≤ h x) xs → sum_by g xs ≤ sum_by h xs
-sum_by-le g h [] all = omega arith
-sum_by-le g h (x ∷ xs) all = let first : g x ≤ h x = all.0 in omega (arith, first, sum_by-cons g x xs, sum_by-cons h x xs, sum_by-le g h xs all.1)
+module _ {X : Type 0} (g h : X → ℕ) where
+  sum_by-le : (xs : List X) → AllByRecursion (λ x. g x ≤ h x) xs → sum_by g xs ≤ sum_by h xs
+  sum_by-le [] all = omega arith
+  sum_by-le (x ∷ xs) all = let first : g x ≤ h x = all.0 in omega (arith, first, sum_by-cons g x xs, sum_by-cons h x xs, sum_by-le xs all.1)
 
-pub sum_by-le_with : {X : Type 0} (g h : X → ℕ) (number_of : X → ℕ) (n : ℕ) (x : X) (xs : List X) → find_by_number number_of n xs ≡ Some x → AllByRecursion (λ x. g x ≤ h x) xs → sum_by g xs + (h x - g x) ≤ sum_by h xs
-sum_by-le_with g h number_of n x [] is all = absurd cc
-sum_by-le_with g h number_of n x (y ∷ ys) is all =
-    let first : g y ≤ h y = all.0 in
-    elim (cases_Bool (eqb (number_of y) n)) [
-      | inl same ↦ grind (arith, sum_by-cons, sum_by-le)
-      | inr other ↦ omega (arith, first, sum_by-cons g y ys, sum_by-cons h y ys, sum_by-le_with g h number_of n x ys (rw other at is) all.1)
-    ]
+  pub sum_by-le_with : (number_of : X → ℕ) (n : ℕ) (x : X) (xs : List X) → find_by_number number_of n xs ≡ Some x → AllByRecursion (λ x. g x ≤ h x) xs → sum_by g xs + (h x - g x) ≤ sum_by h xs
+  sum_by-le_with number_of n x [] is all = absurd cc
+  sum_by-le_with number_of n x (y ∷ ys) is all =
+      let first : g y ≤ h y = all.0 in
+      elim (cases_Bool (eqb (number_of y) n)) [
+        | inl same ↦ grind (arith, sum_by-cons, sum_by-le)
+        | inr other ↦ omega (arith, first, sum_by-cons g y ys, sum_by-cons h y ys, sum_by-le_with number_of n x ys (rw other at is) all.1)
+      ]

@@ -1,5 +1,6 @@
 -- Where the thing of a number stands in a list that rises.
-use Rattle.std.proofs.Common.{◌≡◌, ◌≢◌, ℕ, zero, suc, ◌<◌, ◌≤◌, true, false, ltb, List, [], ◌∷◌, length, get_or, Some, None, refl, ap, arith, ◌+◌, ◌-◌, ◌%◌, ◌^◌, bit_and, length-set}
+use Rattle.std.proofs.Common.{◌≡◌, ◌≢◌, ℕ, zero, suc, ◌<◌, ◌≤◌, true, false, ltb, List, [], ◌∷◌, length, get_or, Some, None, refl, ap, arith, ◌+◌, ◌-◌, ◌%◌}
+use Rattle.std.proofs.Common.{◌^◌, bit_and, length-set}
 use Rattle.std.proofs.lemmas.Bool.{ltb-true, ltb-false, lt-ltb, eq-eqb, ne_eqb}
 use Rattle.std.proofs.lemmas.List.{get_or_default, get_or-set_same}
 use Rattle.std.specs.List.Sorted.{IsPartitionedBy, IsPartitionPoint}
@@ -23,36 +24,35 @@ module _ {X : Type 0} (number_of : X → ℕ) (n : ℕ) where
   count_below-le-length [] = omega arith
   count_below-le-length (x ∷ xs) = count_below-cases x xs (λ i. i ≤ suc (length xs)) (λ _. omega (arith, count_below-le-length xs)) (λ _. omega arith)
 
--- where a later number is below this one, so are those before it
-pub partitioned-rising : {X : Type 0} (number_of : X → ℕ) (n : ℕ) (xs : List X) → AreRising number_of xs → IsPartitionedBy (λ x. ltb (number_of x) n) xs
-partitioned-rising number_of n [] rising i j d before within low = absurd (omega arith)
-partitioned-rising number_of n (x ∷ xs) rising zero zero d before within low = low
-partitioned-rising number_of n (x ∷ xs) rising zero (suc j) d before within low = grind (arith, above-at, ltb-true, lt-ltb)
-partitioned-rising number_of n (x ∷ xs) rising (suc i) zero d before within low = absurd (omega (arith, before))
-partitioned-rising number_of n (x ∷ xs) rising (suc i) (suc j) d before within low =
-    partitioned-rising number_of n xs rising.1 i j d (omega (arith, before)) (omega (arith, within)) low
+  -- where a later number is below this one, so are those before it
+  pub partitioned-rising : (xs : List X) → AreRising number_of xs → IsPartitionedBy (λ x. ltb (number_of x) n) xs
+  partitioned-rising [] rising i j d before within low = absurd (omega arith)
+  partitioned-rising (x ∷ xs) rising zero zero d before within low = low
+  partitioned-rising (x ∷ xs) rising zero (suc j) d before within low = grind (arith, above-at, ltb-true, lt-ltb)
+  partitioned-rising (x ∷ xs) rising (suc i) zero d before within low = absurd (omega (arith, before))
+  partitioned-rising (x ∷ xs) rising (suc i) (suc j) d before within low =
+      partitioned-rising xs rising.1 i j d (omega (arith, before)) (omega (arith, within)) low
 
--- the place before which all are below the number, and from which none is
-pub point-is_count_below : {X : Type 0} (number_of : X → ℕ) (n : ℕ) (xs : List X) (i : ℕ) → IsPartitionPoint (λ x. ltb (number_of x) n ≡ true) (λ x. ltb (number_of x) n ≡ false) xs i → i ≤ length xs → i ≡ count_below number_of n xs
-point-is_count_below number_of n [] i point within = omega arith
-point-is_count_below number_of n (x ∷ xs) zero point within =
-    count_below-cases number_of n x xs (λ k. 0 ≡ k)
-    (λ below. let above : n ≤ number_of x = ltb-false (number_of x) n (point.1 0 x (omega arith) (omega arith)) in absurd (omega arith))
-    (λ _. refl)
-point-is_count_below number_of n (x ∷ xs) (suc i) point within =
-    let rest : i ≡ count_below number_of n xs = point-is_count_below number_of n xs i (λ k d low high. point.0 (suc k) d (omega arith) (omega (arith, high)), λ k d low high. point.1 (suc k) d (omega (arith, low)) (omega (arith, high))) (omega (arith, within)) in
-    count_below-cases number_of n x xs (λ k. suc i ≡ k)
-    (λ below. ap suc rest)
-    (λ above. let below : number_of x < n = ltb-true (number_of x) n (point.0 0 x (omega arith) (omega arith)) in absurd (omega arith))
+  -- the place before which all are below the number, and from which none is
+  pub point-is_count_below : (xs : List X) (i : ℕ) → IsPartitionPoint (λ x. ltb (number_of x) n ≡ true) (λ x. ltb (number_of x) n ≡ false) xs i → i ≤ length xs → i ≡ count_below number_of n xs
+  point-is_count_below [] i point within = omega arith
+  point-is_count_below (x ∷ xs) zero point within =
+      count_below-cases x xs (λ k. 0 ≡ k)
+      (λ below. let above : n ≤ number_of x = ltb-false (number_of x) n (point.1 0 x (omega arith) (omega arith)) in absurd (omega arith))
+      (λ _. refl)
+  point-is_count_below (x ∷ xs) (suc i) point within =
+      let rest : i ≡ count_below number_of n xs = point-is_count_below xs i (λ k d low high. point.0 (suc k) d (omega arith) (omega (arith, high)), λ k d low high. point.1 (suc k) d (omega (arith, low)) (omega (arith, high))) (omega (arith, within)) in
+      count_below-cases x xs (λ k. suc i ≡ k)
+      (λ below. ap suc rest)
+      (λ above. let below : number_of x < n = ltb-true (number_of x) n (point.0 0 x (omega arith) (omega arith)) in absurd (omega arith))
 
--- where a thing of this number stands, that is its place
-pub count_below-found : {X : Type 0} (number_of : X → ℕ) (n : ℕ) (xs : List X) (i : ℕ) (d : X) → AreRising number_of xs → i < length xs → number_of (get_or xs i d) ≡ n → i ≡ count_below number_of n xs
-count_below-found number_of n [] i d rising within own = absurd (omega arith)
-count_below-found number_of n (x ∷ xs) zero d rising within own = count_below-cases number_of n x xs (λ k. 0 ≡ k) (λ below. absurd (omega arith)) (λ above. refl)
-count_below-found number_of n (x ∷ xs) (suc i) d rising within own = grind (arith, count_below-found number_of n xs i d rising.1, above-at, count_below-cases)
+  -- where a thing of this number stands, that is its place
+  pub count_below-found : (xs : List X) (i : ℕ) (d : X) → AreRising number_of xs → i < length xs → number_of (get_or xs i d) ≡ n → i ≡ count_below number_of n xs
+  count_below-found [] i d rising within own = absurd (omega arith)
+  count_below-found (x ∷ xs) zero d rising within own = count_below-cases x xs (λ k. 0 ≡ k) (λ below. absurd (omega arith)) (λ above. refl)
+  count_below-found (x ∷ xs) (suc i) d rising within own = grind (arith, count_below-found xs i d rising.1, above-at, count_below-cases)
 
--- a thing of this number that stands there is the one that is found
-module _ {X : Type 0} (number_of : X → ℕ) (n : ℕ) where
+  -- a thing of this number that stands there is the one that is found
   pub find_by_number-found : (xs : List X) (i : ℕ) (x : X) → AreRising number_of xs → i < length xs → x ≡ get_or xs i x → number_of x ≡ n → find_by_number number_of n xs ≡ Some x
   find_by_number-found [] i x rising within at own = absurd (omega arith)
   find_by_number-found (y ∷ ys) zero x rising within at own = grind (arith, eq-eqb)
@@ -67,7 +67,7 @@ module _ {X : Type 0} (number_of : X → ℕ) (n : ℕ) where
   pub find_by_number-absent : (xs : List X) → AreRising number_of xs → ((d : X) → count_below number_of n xs < length xs → number_of (get_or xs (count_below number_of n xs) d) ≢ n) → find_by_number number_of n xs ≡ None
   find_by_number-absent [] rising other = refl
   find_by_number-absent (x ∷ xs) rising other =
-      count_below-cases number_of n x xs (λ i. ((d : _) → i < suc (length xs) → number_of (get_or (x ∷ xs) i d) ≢ n) → find_by_number number_of n (x ∷ xs) ≡ None)
+      count_below-cases x xs (λ i. ((d : _) → i < suc (length xs) → number_of (get_or (x ∷ xs) i d) ≢ n) → find_by_number number_of n (x ∷ xs) ≡ None)
       (λ below others. rw (ne_eqb (number_of x) n (omega arith)) (find_by_number-absent xs rising.1 (λ d within. others d (omega arith))))
       (λ above others. rw (ne_eqb (number_of x) n (others x (omega arith))) (find_by_number-above (number_of x) xs above rising.0)) other
 
@@ -94,10 +94,11 @@ pub low_bits : (place : ℕ) → bit_and place 4294967295 ≡ place % 2 ^ 32
 low_bits place = and_mask place 32
 
 -- what stands at the remainder is the guess
-pub guessed : (places : List ℕ) (number found : ℕ) → 0 < length places → found ≡ get_or places (number % length places) found → found ≡ guess_of places number
-guessed places number found some h = grind (arith, get_or_default, mod-lt)
+module _ (places : List ℕ) (number : ℕ) where
+  pub guessed : (found : ℕ) → 0 < length places → found ≡ get_or places (number % length places) found → found ≡ guess_of places number
+  guessed found some h = grind (arith, get_or_default, mod-lt)
 
--- what is put down for a number is its guess
-pub found_again : (places : List ℕ) (number place : ℕ) → 0 < length places → place < 2 ^ 32 → guess_of (with_guess places number place) number ≡ place
-found_again places number place some small =
-    rw (length-set, mod-eq_of_lt small) (get_or-set_same places (number % length places) place 0 (mod-lt number some))
+  -- what is put down for a number is its guess
+  pub found_again : (place : ℕ) → 0 < length places → place < 2 ^ 32 → guess_of (with_guess places number place) number ≡ place
+  found_again place some small =
+      rw (length-set, mod-eq_of_lt small) (get_or-set_same places (number % length places) place 0 (mod-lt number some))

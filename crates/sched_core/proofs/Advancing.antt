@@ -5,13 +5,14 @@ use Rattle.sched_core.proofs.TakenStep.{IsWith, with_tenant-twice, begins, then-
 use Rattle.sched_core.proofs.Ending.{named-words}
 use Rattle.sched_core.proofs.Acting.{IsSetOut, not-false, held-found}
 
-without-with : (n : ℕ) (t : Tenant) (es : List (ℕ × Tenant)) → without_tenant n (with_tenant n t es) ≡ without_tenant n es
-without-with n t [] = grind (arith, nat_tests)
-without-with n t (e ∷ es) = grind (arith, without-with n t es, nat_tests)
+module _ (n : ℕ) (t : Tenant) where
+  without-with : (es : List (ℕ × Tenant)) → without_tenant n (with_tenant n t es) ≡ without_tenant n es
+  without-with [] = grind (arith, nat_tests)
+  without-with (e ∷ es) = grind (arith, without-with es, nat_tests)
 
-outcome-with : (n : ℕ) (t : Tenant) (outcome : Option Tenant) (es : List (ℕ × Tenant)) → with_outcome n outcome (with_tenant n t es) ≡ with_outcome n outcome es
-outcome-with n t None es = without-with n t es
-outcome-with n t (Some other) es = with_tenant-twice n t other es
+  outcome-with : (outcome : Option Tenant) (es : List (ℕ × Tenant)) → with_outcome n outcome (with_tenant n t es) ≡ with_outcome n outcome es
+  outcome-with None es = without-with es
+  outcome-with (Some other) es = with_tenant-twice n t other es
 
 -- an act that can't be done is one whose stores or whose rest can't
 act-can : (outside rest : Bool) → (outside || rest) ≡ false → rest ≡ false
@@ -30,30 +31,31 @@ segments-as frame words Wait same = refl
 segments-as frame words Compute same = refl
 segments-as frame words Return same = refl
 
-child-as : (serial : ℕ) (words : List ℕ) (tenant : Tenant) → IsShaped tenant → has_child (with_frame_words serial words tenant.frames) serial ≡ has_child tenant.frames serial
-child-as serial words tenant shape = grind (arith, children_of-with_frame_words, length-with_frame_words)
+module _ (serial : ℕ) (words : List ℕ) {tenant : Tenant} (shape : IsShaped tenant) where
+  child-as : has_child (with_frame_words serial words tenant.frames) serial ≡ has_child tenant.frames serial
+  child-as = grind (arith, children_of-with_frame_words, length-with_frame_words)
 
-charged-as : (serial : ℕ) (words : List ℕ) (tenant : Tenant) (frame : Frame (List ℕ)) → IsShaped tenant → frame_at tenant.frames serial ≡ Some frame → length words ≡ length frame.value →
-    charged_for (with_frame_words serial words tenant.frames) ≡ charged_for tenant.frames
-charged-as serial words tenant frame shape found same =
-    let sum = charged-with_frame_words serial words tenant.frames frame (tree-rising tenant.frames shape.tree) found in
-    let charges : charge (length words) ≡ charge (length frame.value) = ap charge same in
-    let both : charged_for (with_frame_words serial words tenant.frames) + charge (length frame.value) ≡ charged_for tenant.frames + charge (length frame.value) = sum ∙ ap (λ n. charged_for tenant.frames + n) charges in
-    cancel (charged_for (with_frame_words serial words tenant.frames)) (charged_for tenant.frames) (charge (length frame.value)) both
-  where
-    cancel : (a b c : ℕ) → a + c ≡ b + c → a ≡ b
-    cancel a b c e = omega arith
+  charged-as : (frame : Frame (List ℕ)) → frame_at tenant.frames serial ≡ Some frame → length words ≡ length frame.value →
+      charged_for (with_frame_words serial words tenant.frames) ≡ charged_for tenant.frames
+  charged-as frame found same =
+      let sum = charged-with_frame_words serial words tenant.frames frame (tree-rising tenant.frames shape.tree) found in
+      let charges : charge (length words) ≡ charge (length frame.value) = ap charge same in
+      let both : charged_for (with_frame_words serial words tenant.frames) + charge (length frame.value) ≡ charged_for tenant.frames + charge (length frame.value) = sum ∙ ap (λ n. charged_for tenant.frames + n) charges in
+      cancel (charged_for (with_frame_words serial words tenant.frames)) (charged_for tenant.frames) (charge (length frame.value)) both
+    where
+      cancel : (a b c : ℕ) → a + c ≡ b + c → a ≡ b
+      cancel a b c e = omega arith
 
 -- an act that may be done: the step is counted, and then the stores are done
 module _ {I A : Type 0} {functions : Functions I A} {shared : CoreState} {worker : ℕ} {name : FrameId} {tenant : Tenant} {frame : Frame (List ℕ)} {act : Act} (t : IsSetOut functions shared worker name tenant frame act) where
   -- a step is left to it
   pub set-left : TenantHasStepLeft shared name.tenant
-  set-left = step-left _ _ _ _ (begins shared name.tenant tenant t.owner) t.passes.1.0
+  set-left = step-left (begins name.tenant tenant shared t.owner) t.passes.1.0
 
   module _ {now : CoreState} (is : now ≡ on_tenant name.tenant counted shared) where
     -- the tenant with the step counted
     counted-is : IsWith shared name.tenant (counted tenant) now
-    counted-is = then-changed _ _ _ shared now counted (begins shared name.tenant tenant t.owner) is
+    counted-is = then-changed _ _ _ shared now counted (begins name.tenant tenant shared t.owner) is
 
     -- its frame has the same words after the count
     own-words : words_under now name ≡ frame.value
@@ -82,11 +84,11 @@ module _ {I A : Type 0} {functions : Functions I A} {shared : CoreState} {worker
           let can' : is_bad_then (length frame.value) (has_child tenant.frames name.serial) act.after ≡ false = rw (found-serial tenant.frames name.serial frame t.found) at can in
           record {
             owner = stored-is.there;
-            found = held-found name words tenant frame t.found;
+            found = held-found name tenant frame t.found words;
             runs = not-false _ t.passes.0;
-            can = rw (same, child-as name.serial words tenant shape) can';
+            can = rw (same, child-as name.serial words shape) can';
             node = t.passes.1.1.1.0;
-            segments = rw (segments-as frame words act.after same, charged-as name.serial words tenant frame shape t.found same) t.passes.1.1.1.1.0;
+            segments = rw (segments-as frame words act.after same, charged-as name.serial words shape frame t.found same) t.passes.1.1.1.1.0;
           }
 
       -- which is judged by what comes of that

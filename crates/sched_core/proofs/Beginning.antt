@@ -12,21 +12,22 @@ pub record IsSubmitting {I A : Type 0} (functions : Functions I A) (shared : Cor
   pub passes : AllPass (submit_tests tenant words size)
   pub among : step_result functions shared (Submit number words size) ≡ Ok (submitted tenant number words size)
 
-pub submit-going : {I A : Type 0} (functions : Functions I A) (shared : CoreState) (number : ℕ) (words : List ℕ) (size : ℕ) →
-    None ≡ shared_refusal functions shared (Submit number words size) → IsSubmitting functions shared number words size
-submit-going {I = I} functions shared number words size none = by-owner (tenant_in shared.tenants number) refl
-  where
-    by-owner : (owner : Option Tenant) → tenant_in shared.tenants number ≡ owner → IsSubmitting functions shared number words size
-    by-owner None lost = absurd (let no : None ≡ Some NoTenant = rw lost at none in cc)
-    by-owner (Some tenant) owner =
-        let passed = all-pass {I = I} false (submit_tests tenant words size) (submitted tenant number words size) (sym (rw owner at none)) in
-        record { tenant = tenant; owner = owner; passes = passed.1; among = rw owner passed.0 }
+module _ {I A : Type 0} (functions : Functions I A) (shared : CoreState) (number : ℕ) (words : List ℕ) (size : ℕ)
+    (none : None ≡ shared_refusal functions shared (Submit number words size)) where
+  pub submit-going : IsSubmitting functions shared number words size
+  submit-going = by-owner (tenant_in shared.tenants number) refl
+    where
+      by-owner : (owner : Option Tenant) → tenant_in shared.tenants number ≡ owner → IsSubmitting functions shared number words size
+      by-owner None lost = absurd (let no : None ≡ Some NoTenant = rw lost at none in cc)
+      by-owner (Some tenant) owner =
+          let passed = all-pass {I = I} false (submit_tests tenant words size) (submitted tenant number words size) (sym (rw owner at none)) in
+          record { tenant = tenant; owner = owner; passes = passed.1; among = rw owner passed.0 }
 
--- with its root open
-pub submit-opens : {I A : Type 0} (functions : Functions I A) (shared after : CoreState) (number : ℕ) (words : List ℕ) (size : ℕ) → None ≡ shared_refusal functions shared (Submit number words size) → after ≡ on_tenant number (opened None words size 0) shared →
-    (t : IsSubmitting functions shared number words size) × IsWith shared number (opened None words size 0 t.tenant) after
-submit-opens functions shared after number words size none is =
-    let t = submit-going functions shared number words size none in (t, then-changed shared number t.tenant shared after (opened None words size 0) (begins shared number t.tenant t.owner) is)
+  -- with its root open
+  pub submit-opens : (after : CoreState) → after ≡ on_tenant number (opened None words size 0) shared →
+      (t : IsSubmitting functions shared number words size) × IsWith shared number (opened None words size 0 t.tenant) after
+  submit-opens after is =
+      let t = submit-going in (t, then-changed number t.tenant shared shared after (opened None words size 0) (begins number t.tenant shared t.owner) is)
 
 -- under a serial that wasn't given no job lives
 not-live : (jobs : List Job) (frames : Tree) (first root bound : ℕ) → AreLiveRootsThere frames jobs → ((serial : ℕ) → has_frame frames serial ≡ true → serial < root) → number_from first root jobs ≡ 0
@@ -46,7 +47,7 @@ admit-taken {I = I} functions shared after number quota known none is =
     let passed = all-pass {I = I} false (admit_tests shared number quota) (Some (admitted_with quota), Admitted) (not-elsewhere _ ∙ sym none) in
     let nothing = tenant_in-new shared.newest number shared.tenants (above number shared.newest passed.1.0) known in
     let among : step_result functions shared (Admit number quota) ≡ Ok (Some (admitted_with quota), Admitted) = unless-only (admit_tests shared number quota) passed.1 in
-    step_result-taken functions shared (Admit number quota) (Some (admitted_with quota), Admitted) (Ok Admitted) after among refl (rw (with_tenant-new number (admitted_with quota) shared.tenants nothing) is)
+    step_result-taken functions shared _ (Ok Admitted) after _ among refl (rw (with_tenant-new number (admitted_with quota) shared.tenants nothing) is)
   where
     unless-only : {X : Type 0} {effect : X} (tests : List _) → AllPass tests → unless tests effect ≡ Ok effect
     unless-only [] passes = refl

@@ -3,21 +3,24 @@ use Rattle.sched_core.proofs.Common.{◌≡◌, ◌≢◌, ℕ, ◌==◌, Bool, 
 use Rattle.frame_tree.proofs.TreeLaws.{missing as unfound}
 
 -- a step that names a frame which isn't there is refused, by its tenant's want or its own
-lost-in : {I : Type 0} (busy : Bool) (owner : Option Tenant) (serial : ℕ) (alone : Option Tenant → Result (Outcome I) Refusal) (refusal : Refusal) →
-    alone None ≡ Err NoTenant → ((tenant : Tenant) → frame_at tenant.frames serial ≡ None → alone (Some tenant) ≡ Err NoFrame) →
-    missing_in owner serial ≡ Some refusal → refusal_in (unless_busy busy (alone owner)) ≡ Some refusal
-lost-in busy None serial alone refusal nobody nothing is = rw nobody is
-lost-in busy (Some tenant) serial alone refusal nobody nothing is =
-    elim (has_frame tenant.frames serial) as (λ b. has_frame tenant.frames serial ≡ b → refusal_in (unless_busy busy (alone (Some tenant))) ≡ Some refusal) [
-      | true ↦ λ there. absurd (let no : None ≡ Some refusal = rw there at is in cc)
-      | false ↦ λ lacks. rw (nothing tenant (unfound tenant.frames serial lacks)) (rw lacks at is)
-    ] refl
+module _ {I : Type 0} (refusal : Refusal) where
+  lost-in : (busy : Bool) (owner : Option Tenant) (serial : ℕ) (alone : Option Tenant → Result (Outcome I) Refusal) → alone None ≡ Err NoTenant →
+      ((tenant : Tenant) → frame_at tenant.frames serial ≡ None → alone (Some tenant) ≡ Err NoFrame) → missing_in owner serial ≡ Some refusal →
+      refusal_in (unless_busy busy (alone owner)) ≡ Some refusal
+  lost-in busy None serial alone nobody nothing is = rw nobody is
+  lost-in busy (Some tenant) serial alone nobody nothing is =
+      elim (has_frame tenant.frames serial) as (λ b. has_frame tenant.frames serial ≡ b → refusal_in (unless_busy busy (alone (Some tenant))) ≡ Some refusal) [
+        | true ↦ λ there. absurd (let no : None ≡ Some refusal = rw there at is in cc)
+        | false ↦ λ lacks. rw (nothing tenant (unfound tenant.frames serial lacks)) (rw lacks at is)
+      ] refl
 
-pub lost : {I A : Type 0} (functions : Functions I A) (shared : CoreState) (step : StepOf A) (name : FrameId) (refusal : Refusal) →
-    shared_refusal functions shared step ≡ refusal_in (unless_busy (meets_busy step shared.tenants) (lone functions (tenant_in shared.tenants name.tenant) step)) → lone functions None step ≡ Err NoTenant →
-    ((tenant : Tenant) → frame_at tenant.frames name.serial ≡ None → lone functions (Some tenant) step ≡ Err NoFrame) → missing shared name ≡ Some refusal → shared_refusal functions shared step ≡ Some refusal
-lost functions shared step name refusal among nobody nothing is =
-    among ∙ lost-in (meets_busy step shared.tenants) (tenant_in shared.tenants name.tenant) name.serial (λ owner. lone functions owner step) refusal nobody nothing is
+  pub lost : {A : Type 0} (functions : Functions I A) (shared : CoreState) (step : StepOf A) (name : FrameId) →
+      shared_refusal functions shared step ≡ refusal_in (unless_busy (meets_busy step shared.tenants) (lone functions (tenant_in shared.tenants name.tenant) step)) →
+      lone functions None step ≡ Err NoTenant →
+      ((tenant : Tenant) → frame_at tenant.frames name.serial ≡ None → lone functions (Some tenant) step ≡ Err NoFrame) → missing shared name ≡ Some refusal →
+      shared_refusal functions shared step ≡ Some refusal
+  lost functions shared step name among nobody nothing is =
+      among ∙ lost-in (meets_busy step shared.tenants) (tenant_in shared.tenants name.tenant) name.serial (λ owner. lone functions owner step) nobody nothing is
 
 -- the last test is that the worker is busy with a frame of this tenant, and then it may be busy elsewhere
 busy-last : {I : Type 0} (tests : List (Bool × Refusal)) (here elsewhere : Bool) (effect : Outcome I) →
@@ -78,89 +81,79 @@ second-part ((true, told) ∷ tests) others is = absurd cc
 second-part ((false, told) ∷ tests) others is = second-part tests others is
 
 -- Take, where the tenant and the frame are there
-pub take-decided : {I A : Type 0} (functions : Functions I A) (shared : CoreState) (worker : ℕ) (name : FrameId) (tenant : Tenant) (frame : Frame (List ℕ)) (seen : Seen) →
-    IsSeen shared name tenant frame seen → AreTenantsRising shared.tenants →
-    refusal_in (unless ((not (is_ready seen.state), NotReady) ∷ (not (is_ready_at worker seen.state), NotHere) ∷ (seen.left.steps == 0, NoSteps) ∷ (is_busy_among worker shared.tenants, Busy) ∷ []) (tt {0}))
-    ≡ shared_refusal functions shared (Take worker name)
-take-decided {I = I} functions shared worker name tenant frame seen is rising =
-    rw (is.state, is.left, is.owner, is.found)
-    (busy-anywhere {I = I} ((not (is_ready frame.state), NotReady) ∷ (not (is_ready_at worker frame.state), NotHere) ∷ ((left tenant).steps == 0, NoSteps) ∷ []) shared worker name.tenant tenant (taken_by tenant worker frame) rising is.owner)
+module _ {I A : Type 0} (functions : Functions I A) {shared : CoreState} (worker : ℕ) {name : FrameId} {tenant : Tenant} {frame : Frame (List ℕ)} {seen : Seen}
+    (is : IsSeen shared name tenant frame seen) (rising : AreTenantsRising shared.tenants) where
+  pub take-decided : refusal_in (unless ((not (is_ready seen.state), NotReady) ∷ (not (is_ready_at worker seen.state), NotHere) ∷ (seen.left.steps == 0, NoSteps) ∷ (is_busy_among worker shared.tenants, Busy) ∷ []) (tt {0})) ≡ shared_refusal functions shared (Take worker name)
+  take-decided =
+      rw (is.state, is.left, is.owner, is.found)
+      (busy-anywhere {I = I} ((not (is_ready frame.state), NotReady) ∷ (not (is_ready_at worker frame.state), NotHere) ∷ ((left tenant).steps == 0, NoSteps) ∷ []) shared worker name.tenant tenant (taken_by tenant worker frame) rising is.owner)
 
--- Steal
-pub steal-decided : {I A : Type 0} (functions : Functions I A) (shared : CoreState) (worker from : ℕ) (name : FrameId) (tenant : Tenant) (frame : Frame (List ℕ)) (seen : Seen) →
-    IsSeen shared name tenant frame seen → AreTenantsRising shared.tenants →
-    refusal_in (unless ((not (is_ready seen.state), NotReady) ∷ (not (is_ready_at from seen.state) || (from == worker), NotHere) ∷ (seen.left.steps == 0, NoSteps) ∷ (is_busy_among worker shared.tenants, Busy) ∷ []) (tt {0}))
-    ≡ shared_refusal functions shared (Steal worker from name)
-steal-decided {I = I} functions shared worker from name tenant frame seen is rising =
-    rw (is.state, is.left, is.owner, is.found)
-    (busy-anywhere {I = I} ((not (is_ready frame.state), NotReady) ∷ (not (is_ready_at from frame.state) || (from == worker), NotHere) ∷ ((left tenant).steps == 0, NoSteps) ∷ []) shared worker name.tenant tenant (taken_by tenant worker frame) rising is.owner)
+  -- Steal
+  pub steal-decided : (from : ℕ) →
+      refusal_in (unless ((not (is_ready seen.state), NotReady) ∷ (not (is_ready_at from seen.state) || (from == worker), NotHere) ∷ (seen.left.steps == 0, NoSteps) ∷ (is_busy_among worker shared.tenants, Busy) ∷ []) (tt {0})) ≡ shared_refusal functions shared (Steal worker from name)
+  steal-decided from =
+      rw (is.state, is.left, is.owner, is.found)
+      (busy-anywhere {I = I} ((not (is_ready frame.state), NotReady) ∷ (not (is_ready_at from frame.state) || (from == worker), NotHere) ∷ ((left tenant).steps == 0, NoSteps) ∷ []) shared worker name.tenant tenant (taken_by tenant worker frame) rising is.owner)
 
--- Finish
-pub finish-decided : {I A : Type 0} (functions : Functions I A) (shared : CoreState) (worker : ℕ) (name : FrameId) (tenant : Tenant) (frame : Frame (List ℕ)) (seen : Seen) →
-    IsSeen shared name tenant frame seen → AreTenantsRising shared.tenants →
-    refusal_in (unless ((not (is_returned seen.state) || not (is_root frame.path), NotReturned) ∷ (seen.left.steps == 0, NoSteps) ∷ (is_busy_among worker shared.tenants, Busy) ∷ []) (tt {0}))
-    ≡ shared_refusal functions shared (Finish worker name)
-finish-decided {I = I} functions shared worker name tenant frame seen is rising =
-    rw (is.state, is.left, is.owner, is.found)
-    (busy-anywhere {I = I} ((not (is_returned frame.state) || not (is_root frame.path), NotReturned) ∷ ((left tenant).steps == 0, NoSteps) ∷ []) shared worker name.tenant tenant (finished tenant frame) rising is.owner)
+  -- Finish
+  pub finish-decided : refusal_in (unless ((not (is_returned seen.state) || not (is_root frame.path), NotReturned) ∷ (seen.left.steps == 0, NoSteps) ∷ (is_busy_among worker shared.tenants, Busy) ∷ []) (tt {0})) ≡ shared_refusal functions shared (Finish worker name)
+  finish-decided =
+      rw (is.state, is.left, is.owner, is.found)
+      (busy-anywhere {I = I} ((not (is_returned frame.state) || not (is_root frame.path), NotReturned) ∷ ((left tenant).steps == 0, NoSteps) ∷ []) shared worker name.tenant tenant (finished tenant frame) rising is.owner)
 
--- by its tests, whichever way they were made
-pub finish-told : {I A : Type 0} (functions : Functions I A) (shared : CoreState) (worker : ℕ) (name : FrameId) (tenant : Tenant) (frame : Frame (List ℕ)) (seen : Seen) (unfinished busy : Bool) (told : Result (Unit {0}) Refusal) →
-    IsSeen shared name tenant frame seen → AreTenantsRising shared.tenants → unfinished ≡ (not (is_returned seen.state) || not (is_root frame.path)) → busy ≡ is_busy_among worker shared.tenants →
-    told ≡ unless ((unfinished, NotReturned) ∷ (seen.left.steps == 0, NoSteps) ∷ (busy, Busy) ∷ []) (tt {0}) → refusal_in told ≡ shared_refusal functions shared (Finish worker name)
-finish-told functions shared worker name tenant frame seen unfinished busy told is rising u b same = grind (arith, finish-decided)
+  -- by its tests, whichever way they were made
+  pub finish-told : (unfinished busy : Bool) (told : Result (Unit {0}) Refusal) → unfinished ≡ (not (is_returned seen.state) || not (is_root frame.path)) →
+      busy ≡ is_busy_among worker shared.tenants → told ≡ unless ((unfinished, NotReturned) ∷ (seen.left.steps == 0, NoSteps) ∷ (busy, Busy) ∷ []) (tt {0}) →
+      refusal_in told ≡ shared_refusal functions shared (Finish worker name)
+  finish-told unfinished busy told u b same = grind (arith, finish-decided)
 
 -- Advance
-pub advance-decided : {I A : Type 0} (functions : Functions I A) (shared : CoreState) (worker : ℕ) (name : FrameId) (tenant : Tenant) (frame : Frame (List ℕ)) (seen : Seen) (act : Act) →
-    IsSeen shared name tenant frame seen → act ≡ functions.next (sight_of shared name) →
-    refusal_in (unless ((not (is_run_by worker seen.state), NotRunning) ∷ (seen.left.steps == 0, NoSteps) ∷ act_tests tenant frame act) (tt {0}))
-    ≡ shared_refusal functions shared (Advance worker name)
-advance-decided functions shared worker name tenant frame seen act is same =
-    rw (same, is.state, is.left, is.owner, is.found)
-    (no-effect ((not (is_run_by worker frame.state), NotRunning) ∷ no_step tenant ∷ act_tests tenant frame (act_by_sight functions tenant frame)) (advanced functions tenant worker name frame (act_by_sight functions tenant frame))
-    ∙ sym (not-elsewhere _))
+module _ {I A : Type 0} (functions : Functions I A) {shared : CoreState} (worker : ℕ) {name : FrameId} {tenant : Tenant} {frame : Frame (List ℕ)} {seen : Seen}
+    (is : IsSeen shared name tenant frame seen) where
+  pub advance-decided : (act : Act) → act ≡ functions.next (sight_of shared name) →
+      refusal_in (unless ((not (is_run_by worker seen.state), NotRunning) ∷ (seen.left.steps == 0, NoSteps) ∷ act_tests tenant frame act) (tt {0})) ≡ shared_refusal functions shared (Advance worker name)
+  advance-decided act same =
+      rw (same, is.state, is.left, is.owner, is.found)
+      (no-effect ((not (is_run_by worker frame.state), NotRunning) ∷ no_step tenant ∷ act_tests tenant frame (act_by_sight functions tenant frame)) (advanced functions tenant worker name frame (act_by_sight functions tenant frame))
+      ∙ sym (not-elsewhere _))
 
--- Answer
-pub answer-decided : {I A : Type 0} (functions : Functions I A) (shared : CoreState) (worker : ℕ) (name : FrameId) (answer : A) (tenant : Tenant) (frame : Frame (List ℕ)) (seen : Seen) →
-    IsSeen shared name tenant frame seen →
-    refusal_in (unless ((not (is_computed_by worker seen.state), NotComputing) ∷ (not (functions.same (functions.asked answer) (functions.input (words_under shared name))), Mismatch)
-    ∷ (seen.left.steps == 0, NoSteps) ∷ (is_outside (functions.accept (words_under shared name) answer) (words_under shared name), BadAct) ∷ []) (tt {0}))
-    ≡ shared_refusal functions shared (Answer worker name answer)
-answer-decided functions shared worker name answer tenant frame seen is = grind (arith, no-effect, not-elsewhere)
+  -- Answer
+  pub answer-decided : (answer : A) →
+      refusal_in (unless ((not (is_computed_by worker seen.state), NotComputing) ∷ (not (functions.same (functions.asked answer) (functions.input (words_under shared name))), Mismatch) ∷ (seen.left.steps == 0, NoSteps) ∷ (is_outside (functions.accept (words_under shared name) answer) (words_under shared name), BadAct) ∷ []) (tt {0})) ≡ shared_refusal functions shared (Answer worker name answer)
+  answer-decided answer = grind (arith, no-effect, not-elsewhere)
 
 -- a refusal that is passed on
-pub passed-on : {X : Type 0} (answer : Result X Refusal) (told refusal : Refusal) (right : Option Refusal) → answer ≡ Err told → told ≡ refusal → right ≡ Some refusal → refusal_in answer ≡ right
-passed-on answer told refusal right is same e = rw (is, same, e) refl
+module _ {X : Type 0} (answer : Result X Refusal) (told refusal : Refusal) (is : answer ≡ Err told) (same : told ≡ refusal) where
+  pub passed-on : (right : Option Refusal) → right ≡ Some refusal → refusal_in answer ≡ right
+  passed-on right e = rw (is, same, e) refl
 
--- and so with what it means
-pub told-on : {X : Type 0} (P : X → Type 0) (Q : Refusal → Type 0) (answer : Result X Refusal) (told refusal : Refusal) → answer ≡ Err told → told ≡ refusal → Q refusal → MatchResult answer P Q
-told-on P Q answer told refusal is same right = rw (is, same) right
+  -- and so with what it means
+  pub told-on : (P : X → Type 0) (Q : Refusal → Type 0) → Q refusal → MatchResult answer P Q
+  told-on P Q right = rw (is, same) right
 
 -- what is seen of a frame
-pub seen-words : (shared : CoreState) (name : FrameId) (tenant : Tenant) (frame : Frame (List ℕ)) (seen : Seen) → IsSeen shared name tenant frame seen → frame.value ≡ words_under shared name
-seen-words shared name tenant frame seen is = rw (is.owner, is.found) refl
+module _ {shared : CoreState} {name : FrameId} {tenant : Tenant} {frame : Frame (List ℕ)} {seen : Seen} (is : IsSeen shared name tenant frame seen) where
+  pub seen-words : frame.value ≡ words_under shared name
+  seen-words = rw (is.owner, is.found) refl
 
-pub seen-child : (shared : CoreState) (name : FrameId) (tenant : Tenant) (frame : Frame (List ℕ)) (seen : Seen) → IsSeen shared name tenant frame seen →
-    has_child tenant.frames frame.serial ≡ has_child (frames_in_core shared name.tenant) name.serial
-seen-child shared name tenant frame seen is = rw (found-serial tenant.frames name.serial frame is.found, is.owner) refl
+  pub seen-child : has_child tenant.frames frame.serial ≡ has_child (frames_in_core shared name.tenant) name.serial
+  seen-child = rw (found-serial tenant.frames name.serial frame is.found, is.owner) refl
 
 -- Advance, where the worker runs the frame and a step is left, by the tests of the act
-pub advance-goes : {I A : Type 0} (functions : Functions I A) (shared : CoreState) (worker : ℕ) (name : FrameId) (tenant : Tenant) (frame : Frame (List ℕ)) (seen : Seen) (act : Act) (runs : Bool) (answer : Result (Unit {0}) Refusal) →
-    IsSeen shared name tenant frame seen → act ≡ functions.next (sight_of shared name) → runs ≡ is_run_by worker seen.state →
-    Ok (tt {0}) ≡ unless ((not runs, NotRunning) ∷ (seen.left.steps == 0, NoSteps) ∷ []) (tt {0}) →
-    answer ≡ unless (act_tests tenant frame act) (tt {0}) →
-    refusal_in answer ≡ shared_refusal functions shared (Advance worker name)
-advance-goes functions shared worker name tenant frame seen act runs answer is same run passes told =
-    let passes' : unless ((not (is_run_by worker seen.state), NotRunning) ∷ (seen.left.steps == 0, NoSteps) ∷ []) (tt {0}) ≡ Ok (tt {0}) = rw (← run) (sym passes) in
-    ap refusal_in (told ∙ sym (second-part ((not (is_run_by worker seen.state), NotRunning) ∷ (seen.left.steps == 0, NoSteps) ∷ []) (act_tests tenant frame act) passes'))
-    ∙ advance-decided functions shared worker name tenant frame seen act is same
+module _ {I A : Type 0} (functions : Functions I A) (shared : CoreState) (worker : ℕ) (name : FrameId) (tenant : Tenant) (frame : Frame (List ℕ)) (seen : Seen)
+    (act : Act) (answer : Result (Unit {0}) Refusal) (same : act ≡ functions.next (sight_of shared name))
+    (told : answer ≡ unless (act_tests tenant frame act) (tt {0})) where
+  pub advance-goes : (runs : Bool) → IsSeen shared name tenant frame seen → runs ≡ is_run_by worker seen.state →
+      Ok (tt {0}) ≡ unless ((not runs, NotRunning) ∷ (seen.left.steps == 0, NoSteps) ∷ []) (tt {0}) →
+      refusal_in answer ≡ shared_refusal functions shared (Advance worker name)
+  advance-goes runs is run passes =
+      let passes' : unless ((not (is_run_by worker seen.state), NotRunning) ∷ (seen.left.steps == 0, NoSteps) ∷ []) (tt {0}) ≡ Ok (tt {0}) = rw (← run) (sym passes) in
+      ap refusal_in (told ∙ sym (second-part ((not (is_run_by worker seen.state), NotRunning) ∷ (seen.left.steps == 0, NoSteps) ∷ []) (act_tests tenant frame act) passes'))
+      ∙ advance-decided functions worker is act same
 
-pub advance-told : {I A : Type 0} (functions : Functions I A) (shared : CoreState) (worker : ℕ) (name : FrameId) (tenant : Tenant) (frame : Frame (List ℕ)) (seen : Seen) (act : Act) (answer : Result (Unit {0}) Refusal) →
-    IsRunning shared name worker tenant frame seen → act ≡ functions.next (sight_of shared name) → answer ≡ unless (act_tests tenant frame act) (tt {0}) →
-    refusal_in answer ≡ shared_refusal functions shared (Advance worker name)
-advance-told functions shared worker name tenant frame seen act answer is same told =
-    let left = is.some in
-    advance-goes functions shared worker name tenant frame seen act true answer is.seen_so same (sym is.runs) (rw left refl) told
+  pub advance-told : IsRunning shared name worker tenant frame seen → refusal_in answer ≡ shared_refusal functions shared (Advance worker name)
+  advance-told is =
+      advance-goes true is.seen_so (sym is.runs) (rw is.some refl)
 
 -- a frame with no parent is a root
 pub root-is : (top : Bool) (seen : Seen) (path : List ℕ) → is_some seen.parent ≡ not top → is_some seen.parent ≡ not (is_root path) → top ≡ is_root path
@@ -194,9 +187,8 @@ pub spend-running : {I A : Type 0} (functions : Functions I A) (shared : CoreSta
     answer ≡ unless (act_tests tenant frame act) (tt {0}) → is_err answer ≡ is_spendable functions tenant frame
 spend-running functions shared name tenant frame seen act holder answer is runs some same told =
     let steps : ((left tenant).steps == 0) ≡ false = rw is.left at (none-left seen.left.steps some) in
-    let state : frame.state ≡ Running holder = sym is.state ∙ runs in
     let next : act ≡ act_by_sight functions tenant frame = rw (is.owner, is.found) at same in
-    rw (steps, state, told, next) (applies-is (act_tests tenant frame (act_by_sight functions tenant frame)) ∙ sym (or-false _))
+    rw (steps, sym is.state ∙ runs, told, next) (applies-is (act_tests tenant frame (act_by_sight functions tenant frame)) ∙ sym (or-false _))
   where
     none-left : (n : ℕ) → n ≢ 0 → (n == 0) ≡ false
     none-left n some = grind (arith, nat_tests)

@@ -23,23 +23,25 @@ named-there shared name some = by-owner (tenant_in shared.tenants name.tenant) r
     by-owner (Some tenant) owner = by-frame tenant owner (frame_at tenant.frames name.serial) refl
 
 -- a frame of the tenant as it is now
-pub with-named : (before now : CoreState) (name : FrameId) (tenant : Tenant) (frame : Frame (List ℕ)) → IsWith before name.tenant tenant now → frame_at tenant.frames name.serial ≡ Some frame → IsSome (named now name)
-with-named before now name tenant frame is found = let there = is.there in rw (there, found) refl
+module _ (name : FrameId) (tenant : Tenant) (frame : Frame (List ℕ)) (found : frame_at tenant.frames name.serial ≡ Some frame) where
+  pub with-named : (before now : CoreState) → IsWith before name.tenant tenant now → IsSome (named now name)
+  with-named before now is = let there = is.there in rw (there, found) refl
 
-pub found-named : (shared : CoreState) (name : FrameId) (tenant : Tenant) (frame : Frame (List ℕ)) → tenant_in shared.tenants name.tenant ≡ Some tenant → frame_at tenant.frames name.serial ≡ Some frame → IsSome (named shared name)
-found-named shared name tenant frame owner found = rw (owner, found) refl
+  pub found-named : (shared : CoreState) → tenant_in shared.tenants name.tenant ≡ Some tenant → IsSome (named shared name)
+  found-named shared owner = rw (owner, found) refl
 
 -- the tenant is there
-pub with-there : (before now : CoreState) (number : ℕ) (tenant : Tenant) → IsWith before number tenant now → IsSome (tenant_in now.tenants number)
-with-there before now number tenant is = let there = is.there in rw there refl
+module _ (before now : CoreState) (number : ℕ) (tenant : Tenant) where
+  pub with-there : IsWith before number tenant now → IsSome (tenant_in now.tenants number)
+  with-there is = let there = is.there in rw there refl
 
--- one change of the tenant
-pub as-change : (before now : CoreState) (number : ℕ) (tenant : Tenant) (change : Tenant → Tenant) → tenant_in before.tenants number ≡ Some tenant → IsWith before number (change tenant) now → now ≡ on_tenant number change before
-as-change before now number tenant change owner is = grind (arith, with_change-there)
+  -- one change of the tenant
+  pub as-change : (change : Tenant → Tenant) → tenant_in before.tenants number ≡ Some tenant → IsWith before number (change tenant) now → now ≡ on_tenant number change before
+  as-change change owner is = grind (arith, with_change-there)
 
--- after an abort a frame has no child
-pub aborted-childless : (before now : CoreState) (number serial : ℕ) (tenant : Tenant) → IsTree tenant.frames → IsWith before number (without_under serial tenant) now → has_child (frames_in_core now number) serial ≡ false
-aborted-childless before now number serial tenant tree is = grind (arith, aborted-leaf)
+  -- after an abort a frame has no child
+  pub aborted-childless : (serial : ℕ) → IsTree tenant.frames → IsWith before number (without_under serial tenant) now → has_child (frames_in_core now number) serial ≡ false
+  aborted-childless serial tree is = grind (arith, aborted-leaf)
 
 -- a root whose path is known is there
 pub root-found : (frames : List (Frame (List ℕ))) (serial : ℕ) → path_in frames serial ≡ serial ∷ [] → (frame : Frame (List ℕ)) × (frame_at frames serial ≡ Some frame)
@@ -52,39 +54,40 @@ pub record IsLive {I A : Type 0} (functions : Functions I A) (shared : CoreState
   pub job_is : job_at tenant.jobs job ≡ Some (Live root)
   pub among : step_result functions shared (Cancel number job) ≡ Ok (Some (ended root CancelledJob tenant), Cancelled)
 
-pub cancel-going : {I A : Type 0} (functions : Functions I A) (shared : CoreState) (number job root : ℕ) → job_of shared number job ≡ Some (Live root) → IsLive functions shared number job root
-cancel-going functions shared number job root is = by-owner (tenant_in shared.tenants number) refl
-  where
-    by-owner : (owner : Option Tenant) → tenant_in shared.tenants number ≡ owner → IsLive functions shared number job root
-    by-owner None lost = absurd (let no = rw lost at is in cc)
-    by-owner (Some tenant) owner = let at : job_at tenant.jobs job ≡ Some (Live root) = rw owner at is in record { tenant = tenant; owner = owner; job_is = at; among = rw (owner, at) refl }
+module _ (shared : CoreState) (number job root : ℕ) where
+  pub cancel-going : {I A : Type 0} (functions : Functions I A) → job_of shared number job ≡ Some (Live root) → IsLive functions shared number job root
+  cancel-going functions is = by-owner (tenant_in shared.tenants number) refl
+    where
+      by-owner : (owner : Option Tenant) → tenant_in shared.tenants number ≡ owner → IsLive functions shared number job root
+      by-owner None lost = absurd (let no = rw lost at is in cc)
+      by-owner (Some tenant) owner = let at : job_at tenant.jobs job ≡ Some (Live root) = rw owner at is in record { tenant = tenant; owner = owner; job_is = at; among = rw (owner, at) refl }
 
--- its root is there
-pub cancel-root : (shared : CoreState) (number job root : ℕ) (tenant : Tenant) → AreShaped shared.tenants → tenant_in shared.tenants number ≡ Some tenant → job_at tenant.jobs job ≡ Some (Live root) →
-    IsSome (named shared (record { tenant = number; serial = root }))
-cancel-root shared number job root tenant shaped owner is =
-    let shape = shaped-in number shared.tenants tenant shaped owner in
-    let found = root-found tenant.frames root (live-root tenant job root shape is) in
-    found-named shared (record { tenant = number; serial = root }) tenant found.0 owner found.1
+  -- its root is there
+  pub cancel-root : (tenant : Tenant) → AreShaped shared.tenants → tenant_in shared.tenants number ≡ Some tenant → job_at tenant.jobs job ≡ Some (Live root) →
+      IsSome (named shared (record { tenant = number; serial = root }))
+  cancel-root tenant shaped owner is =
+      let found = root-found tenant.frames root (live-root tenant job root (shaped-in number shared.tenants tenant shaped owner) is) in
+      found-named (record { tenant = number; serial = root }) tenant found.0 found.1 shared owner
 
 -- Finish and Spend
-pub finish-going : {I A : Type 0} (functions : Functions I A) (shared : CoreState) (worker : ℕ) (name : FrameId) → None ≡ shared_refusal functions shared (Finish worker name) →
-    IsGoing functions shared (Finish worker name) name (λ tenant. finish_tests tenant worker) finished
-finish-going functions shared worker name none = going functions shared (Finish worker name) name _ (λ tenant. finish_tests tenant worker) finished refl refl (λ tenant. refl) none
+module _ {I A : Type 0} (functions : Functions I A) (shared : CoreState) (name : FrameId) where
+  pub finish-going : (worker : ℕ) → None ≡ shared_refusal functions shared (Finish worker name) →
+      IsGoing functions shared (Finish worker name) name (λ tenant. finish_tests tenant worker) finished
+  finish-going worker none = going functions shared (Finish worker name) name _ (λ tenant. finish_tests tenant worker) finished refl refl (λ tenant. refl) none
 
-pub spend-going : {I A : Type 0} (functions : Functions I A) (shared : CoreState) (name : FrameId) → None ≡ shared_refusal functions shared (Spend name) →
-    IsGoing functions shared (Spend name) name (λ tenant frame. (not (is_spendable functions tenant frame), NotSpent) ∷ []) spent
-spend-going functions shared name none = going functions shared (Spend name) name false (λ tenant frame. (not (is_spendable functions tenant frame), NotSpent) ∷ []) spent refl refl (λ tenant. refl) none
+  pub spend-going : None ≡ shared_refusal functions shared (Spend name) →
+      IsGoing functions shared (Spend name) name (λ tenant frame. (not (is_spendable functions tenant frame), NotSpent) ∷ []) spent
+  spend-going none = going functions shared (Spend name) name false (λ tenant frame. (not (is_spendable functions tenant frame), NotSpent) ∷ []) spent refl refl (λ tenant. refl) none
 
 -- the root above a frame is there
-pub spend-root : (shared : CoreState) (name : FrameId) (tenant : Tenant) (frame : Frame (List ℕ)) → AreShaped shared.tenants → tenant_in shared.tenants name.tenant ≡ Some tenant → frame_at tenant.frames name.serial ≡ Some frame →
-    IsSome (named shared (record { tenant = name.tenant; serial = root_of frame.path }))
-spend-root shared name tenant frame shaped owner found =
-    let shape = shaped-in name.tenant shared.tenants tenant shaped owner in
-    let root = root-found tenant.frames (root_of frame.path) (root-above tenant name.serial frame shape found) in
-    found-named shared (record { tenant = name.tenant; serial = root_of frame.path }) tenant root.0 owner root.1
+module _ (shared : CoreState) (name : FrameId) (tenant : Tenant) (frame : Frame (List ℕ)) (owner : tenant_in shared.tenants name.tenant ≡ Some tenant)
+    (found : frame_at tenant.frames name.serial ≡ Some frame) where
+  pub spend-root : AreShaped shared.tenants → IsSome (named shared (record { tenant = name.tenant; serial = root_of frame.path }))
+  spend-root shaped =
+      let shape = shaped-in name.tenant shared.tenants tenant shaped owner in
+      let root = root-found tenant.frames (root_of frame.path) (root-above tenant name.serial frame shape found) in
+      found-named (record { tenant = name.tenant; serial = root_of frame.path }) tenant root.0 root.1 shared owner
 
--- the words of a frame
-pub named-words : (shared : CoreState) (name : FrameId) (tenant : Tenant) (frame : Frame (List ℕ)) → tenant_in shared.tenants name.tenant ≡ Some tenant → frame_at tenant.frames name.serial ≡ Some frame →
-    words_under shared name ≡ frame.value
-named-words shared name tenant frame owner found = rw (owner, found) refl
+  -- the words of a frame
+  pub named-words : words_under shared name ≡ frame.value
+  named-words = rw (owner, found) refl

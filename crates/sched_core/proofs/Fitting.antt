@@ -4,64 +4,60 @@ use Rattle.sched_core.proofs.Parents.{parent-of}
 use Rattle.sched_core.proofs.Stepping.{kept-still, fits-still}
 
 -- a frame of a tree in which every frame fits
-found-fits : (fits : Fitting) (tree : Tree) (s : ℕ) (f : F) → EveryFrameFits fits tree → frame_at tree s ≡ Some f → FitsSomehow fits f
-found-fits fits tree s f every at = (kids tree s, mark_of_state f.state, fits-holds fits tree every s f at)
+module _ (fits : Fitting) (tree : Tree) (every : EveryFrameFits fits tree) where
+  found-fits : (s : ℕ) (f : F) → frame_at tree s ≡ Some f → FitsSomehow fits f
+  found-fits s f at = (kids tree s, mark_of_state f.state, fits-holds fits tree every s f at)
 
--- and all that it sees
-sight-fits : (fits : Fitting) (tree : Tree) (s : ℕ) (f : F) → IsTree tree → EveryFrameFits fits tree → frame_at tree s ≡ Some f → AllFit fits (sight tree f.path)
-sight-fits fits tree s f t every at = tree-induction Sees tree t top under s f at s at
-  where
-    Sees : F → Type 0
-    Sees f = (s : ℕ) → frame_at tree s ≡ Some f → AllFit fits (sight tree f.path)
+  -- and all that it sees
+  sight-fits : (s : ℕ) (f : F) → IsTree tree → frame_at tree s ≡ Some f → AllFit fits (sight tree f.path)
+  sight-fits s f t at = tree-induction Sees tree t top under s f at s at
+    where
+      Sees : F → Type 0
+      Sees f = (s : ℕ) → frame_at tree s ≡ Some f → AllFit fits (sight tree f.path)
 
-    top : (f : F) → IsTop f → Sees f
-    top f is s at = rw (sight-top tree s f at is) (found-fits fits tree s f every at, tt)
+      top : (f : F) → IsTop f → Sees f
+      top f is s at = rw (sight-top tree s f at is) (found-fits s f at, tt)
 
-    under : (f : F) → (u : IsUnder tree f) → Sees u.above → Sees f
-    under f u above s at = rw (sight-under tree s f at u) (found-fits fits tree s f every at, above u.parent u.there)
+      under : (f : F) → (u : IsUnder tree f) → Sees u.above → Sees f
+      under f u above s at = rw (sight-under tree s f at u) (found-fits s f at, above u.parent u.there)
 
 -- a frame that is there
-tenant-fits : (fits : Fitting) (rooted : Rooting) (shared : CoreState) (name : FrameId) (tenant : Tenant) (frame : Frame (List ℕ)) (seen : Seen) → IsFitting fits rooted shared → IsSeen shared name tenant frame seen → EveryFrameFits fits tenant.frames
-tenant-fits fits rooted shared name tenant frame seen core is = (core.1.tenants name.tenant tenant is.owner).frames
+module _ (fits : Fitting) (rooted : Rooting) {shared : CoreState} {name : FrameId} {tenant : Tenant} {frame : Frame (List ℕ)} {seen : Seen}
+    (core : IsFitting fits rooted shared) (is : IsSeen shared name tenant frame seen) where
+  tenant-fits : EveryFrameFits fits tenant.frames
+  tenant-fits = (core.1.tenants name.tenant tenant is.owner).frames
 
-pub own-fits : (fits : Fitting) (rooted : Rooting) (shared : CoreState) (name : FrameId) (tenant : Tenant) (frame : Frame (List ℕ)) (seen : Seen) → IsFitting fits rooted shared → IsSeen shared name tenant frame seen →
-    AllFit fits (words_under shared name ∷ [])
-own-fits fits rooted shared name tenant frame seen core is =
-    let every = tenant-fits fits rooted shared name tenant frame seen core is in
-    rw (is.owner, is.found) (found-fits fits tenant.frames name.serial frame every is.found, tt)
+  pub own-fits : AllFit fits (words_under shared name ∷ [])
+  own-fits =
+      rw (is.owner, is.found) (found-fits fits tenant.frames tenant-fits name.serial frame is.found, tt)
 
-pub seen-fits : (fits : Fitting) (rooted : Rooting) (shared : CoreState) (name : FrameId) (tenant : Tenant) (frame : Frame (List ℕ)) (seen : Seen) → IsFitting fits rooted shared → IsSeen shared name tenant frame seen →
-    AllFit fits (sight_of shared name)
-seen-fits fits rooted shared name tenant frame seen core is =
-    let every = tenant-fits fits rooted shared name tenant frame seen core is in
-    rw (is.owner, is.found) (sight-fits fits tenant.frames name.serial frame is.tree every is.found)
+  pub seen-fits : AllFit fits (sight_of shared name)
+  seen-fits =
+      rw (is.owner, is.found) (sight-fits fits tenant.frames tenant-fits name.serial frame is.tree is.found)
 
 -- and its parent
-pub parent-fits : (fits : Fitting) (rooted : Rooting) (shared : CoreState) (name above : FrameId) (tenant : Tenant) (frame : Frame (List ℕ)) (seen : Seen) → IsFitting fits rooted shared → IsReturnedUnder shared name above tenant frame seen →
-    AllFit fits (words_under shared above ∷ words_under shared name ∷ [])
-parent-fits fits rooted shared name above tenant frame seen core is =
-    let every = tenant-fits fits rooted shared name tenant frame seen core is.seen_so in
-    let p = parent-of shared name tenant frame seen above is.seen_so is.above in
-    let own = own-fits fits rooted shared name tenant frame seen core is.seen_so in
-    let fit = found-fits fits tenant.frames p.serial p.parent every p.found in
-    let owner = is.seen_so.owner in
-    let there = p.found in
-    (rw (p.is, owner, there) fit, own)
+module _ (fits : Fitting) (rooted : Rooting) where
+  pub parent-fits : (shared : CoreState) (name above : FrameId) (tenant : Tenant) (frame : Frame (List ℕ)) (seen : Seen) → IsFitting fits rooted shared →
+      IsReturnedUnder shared name above tenant frame seen → AllFit fits (words_under shared above ∷ words_under shared name ∷ [])
+  parent-fits shared name above tenant frame seen core is =
+      let p = parent-of shared name tenant frame seen above is.seen_so is.above in
+      let fit = found-fits fits tenant.frames (tenant-fits fits rooted core is.seen_so) p.serial p.parent p.found in
+      (rw (p.is, is.seen_so.owner, p.found) fit, own-fits fits rooted core is.seen_so)
 
--- a core with no tenant
-pub nobody-kept : (fits : Fitting) (rooted : Rooting) (totals : Quota) → IsKeptFitting fits rooted true (shared_by_nobody totals)
-nobody-kept fits rooted totals =
-    record {
-      kept = record { shaped = tt; known = tt; within = record { segments = omega arith; nodes = omega arith } };
-      fit = λ so. ((λ number. []), record { tenants = λ number tenant is. absurd cc; unused = λ number above. refl });
-    }
+  -- a core with no tenant
+  pub nobody-kept : (totals : Quota) → IsKeptFitting fits rooted true (shared_by_nobody totals)
+  nobody-kept totals =
+      record {
+        kept = record { shaped = tt; known = tt; within = record { segments = omega arith; nodes = omega arith } };
+        fit = λ so. ((λ number. []), record { tenants = λ number tenant is. absurd cc; unused = λ number above. refl });
+      }
 
 -- a core keeps what it keeps
 pub kept-fitting : {I A : Type 0} (functions : Functions I A) (fits : Fitting) (rooted : Rooting) (before : CoreState) (step : StepOf A) (answer : Result (DidOf I) Refusal) (after : CoreState) (was is : Bool) → IsLawful functions fits rooted →
     IsKeptFitting fits rooted was before → IsOneStep functions before step answer after → (is ≡ true → was ≡ true) → (is ≡ true → is_ok answer ≡ true → RootFits fits rooted step) → IsKeptFitting fits rooted is after
 kept-fitting functions fits rooted before step answer after was is lawful core one earlier root =
     record {
-      kept = kept-still functions before step answer after core.kept one;
+      kept = kept-still functions before step after answer core.kept one;
       fit = λ so. (let origins = core.fit (earlier so) in
-          (origins_after origins.0 step answer, fits-still functions fits rooted before step answer after lawful core.kept one origins.0 origins.1 (root so)));
+          (origins_after origins.0 step answer, fits-still before lawful step answer after core.kept one origins.0 origins.1 (root so)));
     }

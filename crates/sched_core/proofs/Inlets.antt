@@ -57,28 +57,27 @@ pub record IsTakingIn {I A : Type 0} (functions : Functions I A) (shared : CoreS
   pub passes : AllPass (inlet_tests tenant worker frame parent act)
   pub among : step_result functions shared (Inlet worker name) ≡ Ok (taken_in tenant worker name parent act)
 
-takes-in-as : {I A : Type 0} (functions : Functions I A) (shared : CoreState) (worker : ℕ) (name above : FrameId) (tenant other : Tenant) (frame another : Frame (List ℕ)) (act : InletAct) (parent : ℕ) →
-    tenant_in shared.tenants name.tenant ≡ Some tenant → frame_at tenant.frames name.serial ≡ Some frame → other ≡ tenant → another ≡ frame →
-    name_of name.tenant (parent_of frame.path) ≡ Some above → parent_of another.path ≡ Some parent → act ≡ functions.inlet (words_under shared above) (words_under shared name) →
-    AllPass (inlet_tests other worker another parent (functions.inlet (words_in other.frames parent) another.value)) →
-    step_result functions shared (Inlet worker name) ≡ Ok (taken_in other worker name parent (functions.inlet (words_in other.frames parent) another.value)) →
-    IsTakingIn functions shared worker name above tenant frame act
-takes-in-as functions shared worker name above tenant other frame another act parent owner found own same names path does passes among = grind (arith, parent-is)
+module _ {I A : Type 0} (functions : Functions I A) (shared : CoreState) (worker : ℕ) (name above : FrameId) (tenant : Tenant) (frame : Frame (List ℕ))
+    (act : InletAct) (does : act ≡ functions.inlet (words_under shared above) (words_under shared name)) where
+  takes-in-as : (other : Tenant) (another : Frame (List ℕ)) (parent : ℕ) → tenant_in shared.tenants name.tenant ≡ Some tenant →
+      frame_at tenant.frames name.serial ≡ Some frame → other ≡ tenant → another ≡ frame → name_of name.tenant (parent_of frame.path) ≡ Some above →
+      parent_of another.path ≡ Some parent → AllPass (inlet_tests other worker another parent (functions.inlet (words_in other.frames parent) another.value)) →
+      step_result functions shared (Inlet worker name) ≡ Ok (taken_in other worker name parent (functions.inlet (words_in other.frames parent) another.value)) →
+      IsTakingIn functions shared worker name above tenant frame act
+  takes-in-as other another parent owner found own same names path passes among = grind (arith, parent-is)
 
-pub takes-in : {I A : Type 0} (functions : Functions I A) (shared : CoreState) (worker : ℕ) (name above : FrameId) (tenant : Tenant) (frame : Frame (List ℕ)) (seen : Seen) (act : InletAct) →
-    IsReturnedUnder shared name above tenant frame seen → AreTenantsRising shared.tenants → act ≡ functions.inlet (words_under shared above) (words_under shared name) →
-    Ok (tt {0}) ≡ unless ((is_outside act.stores (words_under shared above), BadAct) ∷ (is_busy_among worker shared.tenants, Busy) ∷ []) (tt {0}) →
-    IsTakingIn functions shared worker name above tenant frame act
-takes-in functions shared worker name above tenant frame seen act is rising same told =
-    let t = inlet-going functions shared worker name (inlet-told functions shared worker name tenant frame seen above act (Ok (tt {0})) is rising same told) in
-    let owner = is.seen_so.owner in
-    let found = is.seen_so.found in
-    let own : t.tenant ≡ tenant = same-tenant t.tenant tenant (sym t.owner ∙ owner) in
-    takes-in-as functions shared worker name above tenant t.tenant frame t.frame act t.parent owner found own (one-frame name tenant t.tenant frame t.frame own found t.found)
-    (sym is.seen_so.parent ∙ is.above) t.path same t.passes t.among
-  where
-    one-frame : (name : FrameId) (tenant other : Tenant) (frame another : Frame (List ℕ)) → other ≡ tenant → frame_at tenant.frames name.serial ≡ Some frame → frame_at other.frames name.serial ≡ Some another → another ≡ frame
-    one-frame name tenant other frame another own found at = let at' : frame_at tenant.frames name.serial ≡ Some another = rw own at at in some-is another frame (sym at' ∙ found)
+  pub takes-in : (seen : Seen) → IsReturnedUnder shared name above tenant frame seen → AreTenantsRising shared.tenants →
+      Ok (tt {0}) ≡ unless ((is_outside act.stores (words_under shared above), BadAct) ∷ (is_busy_among worker shared.tenants, Busy) ∷ []) (tt {0}) →
+      IsTakingIn functions shared worker name above tenant frame act
+  takes-in seen is rising told =
+      let t = inlet-going functions shared worker name (inlet-told functions shared worker name tenant frame seen above act _ rising is does told) in
+      let owner = is.seen_so.owner in
+      let found = is.seen_so.found in
+      let own : t.tenant ≡ tenant = same-tenant t.tenant tenant (sym t.owner ∙ owner) in
+      takes-in-as t.tenant t.frame t.parent owner found own (one-frame name tenant t.tenant frame t.frame own found t.found) (sym is.seen_so.parent ∙ is.above) t.path t.passes t.among
+    where
+      one-frame : (name : FrameId) (tenant other : Tenant) (frame another : Frame (List ℕ)) → other ≡ tenant → frame_at tenant.frames name.serial ≡ Some frame → frame_at other.frames name.serial ≡ Some another → another ≡ frame
+      one-frame name tenant other frame another own found at = let at' : frame_at tenant.frames name.serial ≡ Some another = rw own at at in some-is another frame (sym at' ∙ found)
 
 has-returned : (state : State) → is_returned state ≡ true → state ≡ Returned
 has-returned (Ready home) is = absurd cc
@@ -96,18 +95,18 @@ may-be-taken-in {shared = shared} {name = name} {tenant = tenant} {frame = frame
 other : (p c : ℕ) → p < c → c ≢ p
 other p c low is = omega (arith, low, is)
 
-pub parent-found : (frames : List (Frame (List ℕ))) (child parent : ℕ) (frame : Frame (List ℕ)) → IsTree frames → frame_at frames child ≡ Some frame → parent_of frame.path ≡ Some parent →
-    (above : Frame (List ℕ)) × (frame_at frames parent ≡ Some above)
-parent-found frames child parent frame tree found path = there-found frames parent (under-there frames child parent frame tree found path)
+module _ (frames : List (Frame (List ℕ))) (child parent : ℕ) (frame : Frame (List ℕ)) (tree : IsTree frames) (found : frame_at frames child ≡ Some frame)
+    (path : parent_of frame.path ≡ Some parent) where
+  pub parent-found : (above : Frame (List ℕ)) × (frame_at frames parent ≡ Some above)
+  parent-found = there-found frames parent (under-there frames child parent frame tree found path)
 
-pub stays-beside : (frames : List (Frame (List ℕ))) (child parent : ℕ) (frame above : Frame (List ℕ)) → IsTree frames → frame_at frames child ≡ Some frame → parent_of frame.path ≡ Some parent → frame_at frames parent ≡ Some above →
-    frame_at (frames_without child frames) parent ≡ Some above
-stays-beside frames child parent frame above tree found path at = grind (arith, frame_at_other-without, other, under-below)
+  pub stays-beside : (above : Frame (List ℕ)) → frame_at frames parent ≡ Some above → frame_at (frames_without child frames) parent ≡ Some above
+  stays-beside above at = grind (arith, frame_at_other-without, other, under-below)
 
-pub parent-stays : (frames : List (Frame (List ℕ))) (child parent : ℕ) (abort : Bool) (frame above : Frame (List ℕ)) → IsTree frames → frame_at frames child ≡ Some frame → parent_of frame.path ≡ Some parent → frame_at frames parent ≡ Some above →
-    frame_at (staying frames child parent abort) parent ≡ Some above
-parent-stays frames child parent true frame above tree found path at = aborted-itself parent frames above tree at
-parent-stays frames child parent false frame above tree found path at = stays-beside frames child parent frame above tree found path at
+  pub parent-stays : (abort : Bool) (above : Frame (List ℕ)) → frame_at frames parent ≡ Some above →
+      frame_at (staying frames child parent abort) parent ≡ Some above
+  parent-stays true above at = aborted-itself parent frames above tree at
+  parent-stays false above at = stays-beside above at
 
 -- the child is taken out, and the parent stays
 pub record IsTakenOut {I A : Type 0} (functions : Functions I A) (shared : CoreState) (worker : ℕ) (name above : FrameId) (tenant : Tenant) (frame : Frame (List ℕ)) (act : InletAct) (now : CoreState) : Type 0 where
@@ -122,42 +121,40 @@ pub takes-out : {I A : Type 0} (functions : Functions I A) (shared : CoreState) 
     Ok (tt {0}) ≡ unless ((is_outside act.stores (words_under shared above), BadAct) ∷ (is_busy_among worker shared.tenants, Busy) ∷ []) (tt {0}) →
     now ≡ on_tenant name.tenant (staying_with name.serial above.serial act.abort) shared → IsTakenOut functions shared worker name above tenant frame act now
 takes-out functions shared worker name above tenant frame seen act now shaped is rising same told outs =
-    let t = takes-in functions shared worker name above tenant frame seen act is rising same told in
+    let t = takes-in functions shared worker name above tenant frame act same seen is rising told in
     let tree = (shaped-in name.tenant shared.tenants tenant shaped t.owner).tree in
-    let parent_is = t.is in
-    let out : now ≡ on_tenant name.tenant (staying_with name.serial t.parent act.abort) shared = rw parent_is at outs in
+    let out : now ≡ on_tenant name.tenant (staying_with name.serial t.parent act.abort) shared = rw t.is at outs in
     let parent = parent-found tenant.frames name.serial t.parent frame tree t.found t.path in
     record {
       takes = t;
-      changed = then-changed _ _ _ _ now (staying_with name.serial t.parent act.abort) (begins shared name.tenant tenant t.owner) out;
+      changed = then-changed _ _ _ _ now (staying_with name.serial t.parent act.abort) (begins name.tenant tenant shared t.owner) out;
       parent = parent.0;
       found = parent.1;
-      stays = parent-stays tenant.frames name.serial t.parent act.abort frame parent.0 tree t.found t.path parent.1;
+      stays = parent-stays tenant.frames name.serial t.parent frame tree t.found t.path act.abort parent.0 parent.1;
     }
 
 -- an abort removes the child too
 abbrev IsBelow : ℕ → ℕ → Frame (List ℕ) → Type 0
 IsBelow parent child frame = (frame.serial == child) ≡ true → goes_under parent frame.path ≡ true
 
-dropped : (parent child : ℕ) (frames : List (Frame (List ℕ))) → Each (IsBelow parent child) frames → aborted parent (frames_without child frames) ≡ aborted parent frames
-dropped parent child [] each = refl
-dropped parent child (frame ∷ frames) each =
-    let rest = dropped parent child frames each.1 in
-    elim (frame.serial == child) as (λ b. (frame.serial == child) ≡ b → aborted parent (frames_without child (frame ∷ frames)) ≡ aborted parent (frame ∷ frames)) [
-      | true ↦ λ same. (let below = each.0 same in rw (same, below) rest)
-      | false ↦ grind arith
-    ] refl
+module _ (parent child : ℕ) where
+  dropped : (frames : List (Frame (List ℕ))) → Each (IsBelow parent child) frames → aborted parent (frames_without child frames) ≡ aborted parent frames
+  dropped [] each = refl
+  dropped (frame ∷ frames) each =
+      let rest = dropped frames each.1 in
+      elim (frame.serial == child) as (λ b. (frame.serial == child) ≡ b → aborted parent (frames_without child (frame ∷ frames)) ≡ aborted parent (frame ∷ frames)) [
+        | true ↦ λ same. (let below = each.0 same in rw (same, below) rest)
+        | false ↦ grind arith
+      ] refl
 
-pub aborts-child : (frames : List (Frame (List ℕ))) (child parent : ℕ) (frame : Frame (List ℕ)) → IsTree frames → frame_at frames child ≡ Some frame → parent_of frame.path ≡ Some parent →
-    aborted parent (frames_without child frames) ≡ aborted parent frames
-aborts-child frames child parent frame tree found path =
-    dropped parent child frames (found-each (IsBelow parent child) frames (tree-rising frames tree) (λ serial x at same.
-    let own = found-serial frames serial x at in
-    let is : serial ≡ child = grind (arith, nat_tests, own, same) in
-    let at_child : frame_at frames child ≡ Some x = rw (← is) at in
-    let one : x ≡ frame = some-is x frame (sym at_child ∙ found) in
-    let child_path : is_child_of parent x.path ≡ true = rw (one, path) (eq-eqb parent parent refl) in
-    child-under-parent frames parent child x tree at_child child_path))
+  pub aborts-child : (frames : List (Frame (List ℕ))) (frame : Frame (List ℕ)) → IsTree frames → frame_at frames child ≡ Some frame →
+      parent_of frame.path ≡ Some parent → aborted parent (frames_without child frames) ≡ aborted parent frames
+  aborts-child frames frame tree found path =
+      dropped frames (found-each (IsBelow parent child) frames (tree-rising frames tree) (λ serial x at same.
+      let is : serial ≡ child = grind (arith, nat_tests, found-serial frames serial x at, same) in
+      let at_child : frame_at frames child ≡ Some x = rw (← is) at in
+      let child_path : is_child_of parent x.path ≡ true = rw (some-is x frame (sym at_child ∙ found), path) (eq-eqb parent parent refl) in
+      child-under-parent frames parent child x tree at_child child_path))
 
 -- after that the parent's words are stored, the step is counted, and the parent is woken or not
 module _ {I A : Type 0} {functions : Functions I A} {shared : CoreState} {worker : ℕ} {name above : FrameId} {tenant : Tenant} {frame : Frame (List ℕ)} {act : InletAct} {out : CoreState}
@@ -185,7 +182,7 @@ module _ {I A : Type 0} {functions : Functions I A} {shared : CoreState} {worker
 
     -- a step is left to it
     pub stored-left : TenantHasStepLeft next name.tenant
-    stored-left = step-left _ _ _ _ stored-is o.takes.passes.1.0
+    stored-left = step-left stored-is o.takes.passes.1.0
 
     module _ {now : CoreState} (counts : now ≡ on_tenant name.tenant counted next) where
       -- and with the step counted

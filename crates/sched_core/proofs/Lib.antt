@@ -1,5 +1,5 @@
 pub mod Changing
-mod Common
+pub mod Common
 pub mod Looking
 pub mod Deciding
 pub mod Parents

@@ -10,20 +10,20 @@ pub record IsRaising {I A : Type 0} (functions : Functions I A) (shared : CoreSt
   pub room : is_beyond (reservations_in shared) (reserved_by (tenant_in shared.tenants number)) quota ≡ false
   pub among : step_result functions shared (AdmitMore number quota) ≡ Ok (raised tenant quota)
 
-pub raise-going : {I A : Type 0} (functions : Functions I A) (shared : CoreState) (number : ℕ) (quota : Quota) → None ≡ shared_refusal functions shared (AdmitMore number quota) → IsRaising functions shared number quota
-raise-going functions shared number quota none = by-owner (tenant_in shared.tenants number) refl
-  where
-    by-owner : (owner : Option Tenant) → tenant_in shared.tenants number ≡ owner → IsRaising functions shared number quota
-    by-owner None lost = absurd (let no : None ≡ Some NoTenant = rw lost at none in cc)
-    by-owner (Some tenant) owner = elim (cases_Bool (is_lower tenant.reserve quota)) [
-      | inl low ↦ absurd (let no : None ≡ Some Lower = rw (owner, low) at none in cc)
-      | inr high ↦ grind arith
-    ]
+module _ {I A : Type 0} (functions : Functions I A) (shared : CoreState) (number : ℕ) (quota : Quota) where
+  pub raise-going : None ≡ shared_refusal functions shared (AdmitMore number quota) → IsRaising functions shared number quota
+  raise-going none = by-owner (tenant_in shared.tenants number) refl
+    where
+      by-owner : (owner : Option Tenant) → tenant_in shared.tenants number ≡ owner → IsRaising functions shared number quota
+      by-owner None lost = absurd (let no : None ≡ Some NoTenant = rw lost at none in cc)
+      by-owner (Some tenant) owner = elim (cases_Bool (is_lower tenant.reserve quota)) [
+        | inl low ↦ absurd (let no : None ≡ Some Lower = rw (owner, low) at none in cc)
+        | inr high ↦ grind arith
+      ]
 
-pub raise-taken : {I A : Type 0} (functions : Functions I A) (shared after : CoreState) (number : ℕ) (quota : Quota) → None ≡ shared_refusal functions shared (AdmitMore number quota) →
-    after ≡ on_tenant number (with_reserve quota) shared → FollowsResult functions shared (AdmitMore number quota) (Ok AdmittedMore) after
-raise-taken functions shared after number quota none is =
-    let r = raise-going functions shared number quota none in
-    let w = begins shared number r.tenant r.owner in
-    let w1 = then-changed _ _ _ _ after (with_reserve quota) w is in
-    step_result-taken functions shared (AdmitMore number quota) _ _ _ r.among refl w1.is
+  pub raise-taken : (after : CoreState) → None ≡ shared_refusal functions shared (AdmitMore number quota) →
+      after ≡ on_tenant number (with_reserve quota) shared → FollowsResult functions shared (AdmitMore number quota) (Ok AdmittedMore) after
+  raise-taken after none is =
+      let r = raise-going none in
+      let w1 = then-changed _ _ _ _ after (with_reserve quota) (begins number r.tenant shared r.owner) is in
+      step_result-taken functions shared (AdmitMore number quota) _ _ _ r.among refl w1.is

@@ -4,25 +4,26 @@ use Rattle.sched_core.proofs.Changing.{with_change-there}
 use Rattle.sched_core.proofs.Deciding.{some-is}
 
 -- a step that is refused, as it is judged
-pub step_result-refused : {I A : Type 0} (functions : Functions I A) (before : CoreState) (step : StepOf A) (answer : Result (DidOf I) Refusal) (after : CoreState) (told refusal : Refusal) →
-    answer ≡ Err told → told ≡ refusal → Some refusal ≡ shared_refusal functions before step → after ≡ before → FollowsResult functions before step answer after
-step_result-refused functions before step answer after told refusal is same right stays = refused (step_result functions before step) refl
-  where
-    refused : (judgement : Result (Outcome _) Refusal) → step_result functions before step ≡ judgement → FollowsResult functions before step answer after
-    refused (Ok outcome) at = absurd (let no : Some refusal ≡ None = rw at at right in cc)
-    refused (Err other) at = let own : Some refusal ≡ Some other = rw at at right in record { told = rw at cc; left = rw at stays }
+module _ {I A : Type 0} (functions : Functions I A) (before : CoreState) (step : StepOf A) (answer : Result (DidOf I) Refusal) (after : CoreState) where
+  pub step_result-refused : (told refusal : Refusal) → answer ≡ Err told → told ≡ refusal → Some refusal ≡ shared_refusal functions before step →
+      after ≡ before → FollowsResult functions before step answer after
+  step_result-refused told refusal is same right stays = refused (step_result functions before step) refl
+    where
+      refused : (judgement : Result (Outcome _) Refusal) → step_result functions before step ≡ judgement → FollowsResult functions before step answer after
+      refused (Ok outcome) at = absurd (let no : Some refusal ≡ None = rw at at right in cc)
+      refused (Err other) at = let own : Some refusal ≡ Some other = rw at at right in record { told = rw at cc; left = rw at stays }
 
--- and one that is taken
-pub step_result-taken : {I A : Type 0} (functions : Functions I A) (before : CoreState) (step : StepOf A) (outcome : Outcome I) (answer : Result (DidOf I) Refusal) (after : CoreState) →
-    step_result functions before step ≡ Ok outcome → answer ≡ Ok outcome.1 → after ≡ shared_with before step outcome.0 → FollowsResult functions before step answer after
-step_result-taken functions before step outcome answer after at is stays = record { told = rw at is; left = rw at stays }
+  -- and one that is taken
+  pub step_result-taken : (outcome : Outcome I) → step_result functions before step ≡ Ok outcome → answer ≡ Ok outcome.1 →
+      after ≡ shared_with before step outcome.0 → FollowsResult functions before step answer after
+  step_result-taken outcome at is stays = record { told = rw at is; left = rw at stays }
 
--- an admission that isn't refused, as its memory was there or not
-pub step_result-admission : {I A M E Done : Type 0} (functions : Functions I A) (before after : CoreState) (step : StepOf A) (did : DidOf I) (answer : Result (DidOf I) Refusal) (taken : Result M E) →
-    None ≡ shared_refusal functions before step → MatchResult taken (λ _. answer ≡ Ok did) (λ _. answer ≡ Err OutOfMemory) → OnOk taken Done → OnErr taken (after ≡ before) →
-    (Done → FollowsResult functions before step (Ok did) after) → IsAdmitted functions before step answer after
-step_result-admission functions before after step did answer (Ok memory) none told done stays step_result = inl (rw told (step_result done))
-step_result-admission functions before after step did answer (Err refused) none told done stays step_result = inr (sym none, told, stays)
+  -- an admission that isn't refused, as its memory was there or not
+  pub step_result-admission : {M E Done : Type 0} (did : DidOf I) (taken : Result M E) → None ≡ shared_refusal functions before step →
+      MatchResult taken (λ _. answer ≡ Ok did) (λ _. answer ≡ Err OutOfMemory) → OnOk taken Done → OnErr taken (after ≡ before) →
+      (Done → FollowsResult functions before step (Ok did) after) → IsAdmitted functions before step answer after
+  step_result-admission did (Ok memory) none told done stays step_result = inl (rw told (step_result done))
+  step_result-admission did (Err refused) none told done stays step_result = inr (sym none, told, stays)
 
 -- where it is taken no test of the list applies
 pub all-pass : {I : Type 0} (busy : Bool) (tests : List (Bool × Refusal)) (effect : Outcome I) → refusal_in (unless_busy busy (unless tests effect)) ≡ None →
@@ -77,27 +78,29 @@ with_tenant-twice n s t [] = grind (arith, nat_tests)
 with_tenant-twice n s t (e ∷ es) = grind (arith, with_tenant-twice n s t es, nat_tests)
 
 -- a tenant that is there
-pub begins : (shared : CoreState) (number : ℕ) (tenant : Tenant) → tenant_in shared.tenants number ≡ Some tenant → IsWith shared number tenant shared
-begins shared number tenant owner = record { is = rw (with_tenant-same number tenant shared.tenants owner) refl; there = owner }
+module _ (number : ℕ) (tenant : Tenant) where
+  pub begins : (shared : CoreState) → tenant_in shared.tenants number ≡ Some tenant → IsWith shared number tenant shared
+  begins shared owner = record { is = rw (with_tenant-same number tenant shared.tenants owner) refl; there = owner }
 
--- and one more change
-pub then-changed : (before : CoreState) (number : ℕ) (tenant : Tenant) (now next : CoreState) (change : Tenant → Tenant) → IsWith before number tenant now → next ≡ on_tenant number change now → IsWith before number (change tenant) next
-then-changed before number tenant now next change is at =
-    let there : with_change number change now.tenants ≡ with_tenant number (change tenant) now.tenants = with_change-there number change now.tenants tenant is.there in
-    let tenants : with_tenant number (change tenant) now.tenants ≡ with_tenant number (change tenant) before.tenants = rw is.is (with_tenant-twice number tenant (change tenant) before.tenants) in
-    record {
-      is = at ∙ rw (there, tenants, is.is) refl;
-      there = rw (at, there) (tenant_in-with_tenant number (change tenant) now.tenants);
-    }
+  -- and one more change
+  pub then-changed : (before now next : CoreState) (change : Tenant → Tenant) → IsWith before number tenant now → next ≡ on_tenant number change now → IsWith before number (change tenant) next
+  then-changed before now next change is at =
+      let there : with_change number change now.tenants ≡ with_tenant number (change tenant) now.tenants = with_change-there number change _ tenant is.there in
+      let tenants : with_tenant number (change tenant) now.tenants ≡ with_tenant number (change tenant) before.tenants = rw is.is (with_tenant-twice number tenant (change tenant) before.tenants) in
+      record {
+        is = at ∙ rw (there, tenants, is.is) refl;
+        there = rw (at, there) (tenant_in-with_tenant number (change tenant) now.tenants);
+      }
 
 -- and a worker that runs its frame, which is counted
-pub then-run : (before : CoreState) (number serial worker : ℕ) (tenant : Tenant) (now next : CoreState) → IsWith before number tenant now → next ≡ on_tenant number counted (on_tenant number (in_state serial (Running worker)) now) →
-    IsWith before number (counted (in_state serial (Running worker) tenant)) next
-then-run before number serial worker tenant now next is ran = then-changed _ _ _ _ next counted (then-changed _ _ _ now _ (in_state serial (Running worker)) is refl) ran
+module _ {before : CoreState} {number : ℕ} {tenant : Tenant} {now : CoreState} (is : IsWith before number tenant now) where
+  pub then-run : (serial worker : ℕ) (next : CoreState) → next ≡ on_tenant number counted (on_tenant number (in_state serial (Running worker)) now) →
+      IsWith before number (counted (in_state serial (Running worker) tenant)) next
+  then-run serial worker next ran = then-changed _ _ _ _ next counted (then-changed _ _ _ now _ (in_state serial (Running worker)) is refl) ran
 
--- a step is left to it
-pub step-left : (before : CoreState) (number : ℕ) (tenant : Tenant) (now : CoreState) → IsWith before number tenant now → ((left tenant).steps == 0) ≡ false → TenantHasStepLeft now number
-step-left before number tenant now is some = rw is.there (grind (arith, nat_tests, some))
+  -- a step is left to it
+  pub step-left : ((left tenant).steps == 0) ≡ false → TenantHasStepLeft now number
+  step-left some = rw is.there (grind (arith, nat_tests, some))
 
 -- and still is where a frame of it has another state
 pub left-still : (shared : CoreState) (number serial : ℕ) (state : State) (next : CoreState) → TenantHasStepLeft shared number → next ≡ on_tenant number (in_state serial state) shared → TenantHasStepLeft next number
@@ -106,14 +109,14 @@ left-still shared number serial state next left is = by-owner (tenant_in shared.
     by-owner : (owner : Option Tenant) → tenant_in shared.tenants number ≡ owner → TenantHasStepLeft next number
     by-owner None lost = absurd (rw lost at left)
     by-owner (Some tenant) owner =
-        let w = then-changed _ _ _ shared next (in_state serial state) (begins shared number tenant owner) is in
-        rw w.there (rw owner at left)
+        rw (then-changed _ _ _ shared next (in_state serial state) (begins number tenant shared owner) is).there (rw owner at left)
 
 -- Take and Steal
-pub take-going : {I A : Type 0} (functions : Functions I A) (shared : CoreState) (worker : ℕ) (name : FrameId) → None ≡ shared_refusal functions shared (Take worker name) →
-    IsGoing functions shared (Take worker name) name (λ tenant. take_tests tenant worker) (λ tenant. taken_by tenant worker)
-take-going functions shared worker name none = going functions shared (Take worker name) name _ (λ tenant. take_tests tenant worker) (λ tenant. taken_by tenant worker) refl refl (λ tenant. refl) none
+module _ {I A : Type 0} (functions : Functions I A) (shared : CoreState) (worker : ℕ) (name : FrameId) where
+  pub take-going : None ≡ shared_refusal functions shared (Take worker name) →
+      IsGoing functions shared (Take worker name) name (λ tenant. take_tests tenant worker) (λ tenant. taken_by tenant worker)
+  take-going none = going functions shared _ name _ (λ tenant. take_tests tenant worker) (λ tenant. taken_by tenant worker) refl refl (λ tenant. refl) none
 
-pub steal-going : {I A : Type 0} (functions : Functions I A) (shared : CoreState) (worker from : ℕ) (name : FrameId) → None ≡ shared_refusal functions shared (Steal worker from name) →
-    IsGoing functions shared (Steal worker from name) name (λ tenant. steal_tests tenant worker from) (λ tenant. taken_by tenant worker)
-steal-going functions shared worker from name none = going functions shared (Steal worker from name) name _ (λ tenant. steal_tests tenant worker from) (λ tenant. taken_by tenant worker) refl refl (λ tenant. refl) none
+  pub steal-going : (from : ℕ) → None ≡ shared_refusal functions shared (Steal worker from name) →
+      IsGoing functions shared (Steal worker from name) name (λ tenant. steal_tests tenant worker from) (λ tenant. taken_by tenant worker)
+  steal-going from none = going functions shared (Steal worker from name) name _ (λ tenant. steal_tests tenant worker from) (λ tenant. taken_by tenant worker) refl refl (λ tenant. refl) none

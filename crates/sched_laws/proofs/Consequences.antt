@@ -3,11 +3,12 @@ use Rattle.sched_laws.proofs.Common.{◌≡◌, ℕ, suc, ◌+◌, ◌-◌, ◌�
 use Rattle.sched_laws.proofs.Shaped.{returned-childless, LeftShaped, unless-passed, step-shaped, admitted-shaped, came, by-kinds}
 
 -- a frame that has returned or computes has no child
-pub returned-leaf : (tenant : Tenant) (s : ℕ) (f : Frame (List ℕ)) → IsShaped tenant → frame_at tenant.frames s ≡ Some f → f.state ≡ Returned → children_of tenant.frames s ≡ []
-returned-leaf tenant s f shape at is = returned-childless tenant s f shape at (λ e. let k = ap mark_of_state is in absurd cc)
+module _ (tenant : Tenant) (s : ℕ) (f : Frame (List ℕ)) (shape : IsShaped tenant) where
+  pub returned-leaf : frame_at tenant.frames s ≡ Some f → f.state ≡ Returned → children_of tenant.frames s ≡ []
+  returned-leaf at is = returned-childless tenant s f shape at (λ e. let k = ap mark_of_state is in absurd cc)
 
-pub computing-leaf : (tenant : Tenant) (s worker : ℕ) (f : Frame (List ℕ)) → IsShaped tenant → frame_at tenant.frames s ≡ Some f → f.state ≡ Computing worker → children_of tenant.frames s ≡ []
-computing-leaf tenant s worker f shape at is = returned-childless tenant s f shape at (λ e. let k = ap mark_of_state is in absurd cc)
+  pub computing-leaf : (worker : ℕ) → frame_at tenant.frames s ≡ Some f → f.state ≡ Computing worker → children_of tenant.frames s ≡ []
+  computing-leaf worker at is = returned-childless tenant s f shape at (λ e. let k = ap mark_of_state is in absurd cc)
 
 -- the root of a live job is there
 job-there : (tree : Tree) (jobs : List Job) (number root : ℕ) → AreLiveRootsThere tree jobs → job_at jobs number ≡ Some (Live root) → path_in tree root ≡ root ∷ []
@@ -41,10 +42,9 @@ job-found root (job ∷ jobs) some = elim (cases_Bool (is_live_at root job)) [
 
     later : 1 ≤ live_count root jobs → job_at jobs (number_from 1 root jobs) ≡ Some (Live root) → job_at (job ∷ jobs) (number_from (1 + 1) root jobs) ≡ Some (Live root)
     later rest found =
-        let shift = number-shift 1 root jobs rest in
         let above = number-above 1 root jobs rest in
         let n = number_from 1 root jobs in
-        ap (job_at (job ∷ jobs)) shift ∙ (rw (ne_eqb (n + 1) 1 (λ e. omega (arith, e, above))) (ap (job_at jobs) (minus n) ∙ found))
+        ap (job_at (job ∷ jobs)) (number-shift 1 root jobs rest) ∙ (rw (ne_eqb (n + 1) 1 (λ e. omega (arith, e, above))) (ap (job_at jobs) (minus n) ∙ found))
 
 pub root-counted : (jobs : List Job) (xs : Tree) (s : ℕ) (f : Frame (List ℕ)) → AreRootsLive jobs xs → frame_at xs s ≡ Some f → is_root f.path ≡ true → live_count s jobs ≡ 1
 root-counted jobs [] s f roots at root = absurd cc
@@ -66,9 +66,8 @@ within-reserve tenant limits shape = grind arith
 frames-charged : (xs : Tree) → HaveWords xs → length xs ≤ charged_for xs
 frames-charged [] words = omega arith
 frames-charged (x ∷ xs) words =
-    let rest = frames-charged xs words.1 in
     let own = sum_by-cons (λ (frame : Frame (List ℕ)). charge (length frame.value)) x xs in
-    more (length xs) (charged_for xs) (charged_for (x ∷ xs)) (charge (length x.value)) rest own (some (length x.value) words.0.0)
+    more (length xs) (charged_for xs) (charged_for (x ∷ xs)) (charge (length x.value)) (frames-charged xs words.1) own (some (length x.value) words.0.0)
   where
     some : (n : ℕ) → 1 ≤ n → 1 ≤ charge n
     some n le = omega arith
@@ -112,32 +111,34 @@ lone-shaped {I} functions None (Admit number quota) outcome is s = grind (arith,
 lone-shaped functions None _ outcome is s = refused NoTenant outcome is
 
 -- a step among several tenants
-pub not-busy : {I : Type 0} (busy : Bool) (alone : Result (Outcome I) Refusal) (outcome : Outcome I) → unless_busy busy alone ≡ Ok outcome → alone ≡ Ok outcome
-not-busy busy alone outcome is = grind arith
+module _ {I : Type 0} (alone : Result (Outcome I) Refusal) (outcome : Outcome I) where
+  pub not-busy : (busy : Bool) → unless_busy busy alone ≡ Ok outcome → alone ≡ Ok outcome
+  not-busy busy is = grind arith
 
--- so is an admission of more, where the totals allow it
-pub not-beyond : {I : Type 0} (beyond : Bool) (alone : Result (Outcome I) Refusal) (outcome : Outcome I) → unless_beyond beyond alone ≡ Ok outcome → (beyond ≡ false) × (alone ≡ Ok outcome)
-not-beyond beyond alone outcome is = grind arith
+  -- so is an admission of more, where the totals allow it
+  pub not-beyond : (beyond : Bool) → unless_beyond beyond alone ≡ Ok outcome → (beyond ≡ false) × (alone ≡ Ok outcome)
+  not-beyond beyond is = grind arith
 
 -- what was taken of an admission of more
 pub more-taken : {I A : Type 0} (functions : Functions I A) (before : CoreState) (number : ℕ) (quota : Quota) (outcome : Outcome I) → step_result {A = A} functions before (AdmitMore number quota) ≡ Ok outcome →
     (is_beyond (reservations_in before) (reserved_by (tenant_in before.tenants number)) quota ≡ false) × (lone {A = A} functions (tenant_in before.tenants number) (AdmitMore number quota) ≡ Ok outcome)
 more-taken {A = A} functions before number quota outcome is =
     let own = tenant_in before.tenants number in
-    not-beyond (is_beyond (reservations_in before) (reserved_by own) quota) (lone {A = A} functions own (AdmitMore number quota)) outcome is
+    not-beyond (lone {A = A} functions own (AdmitMore number quota)) outcome (is_beyond (reservations_in before) (reserved_by own) quota) is
 
 pub own-shaped : (n : ℕ) (es : Entries) → AreShaped es → LeftShaped (tenant_in es n)
 own-shaped n es all = grind (arith, shaped-in)
 
-among-shaped : {I A : Type 0} (functions : Functions I A) (before : CoreState) (step : StepOf A) (outcome : Outcome I) → step_among functions before step ≡ Ok outcome → AreShaped before.tenants → LeftShaped outcome.0
-among-shaped functions before step outcome is all =
-    lone-shaped functions (tenant_in before.tenants (tenant_of step)) step outcome
-    (not-busy (meets_busy step before.tenants) (lone functions (tenant_in before.tenants (tenant_of step)) step) outcome is) (own-shaped (tenant_of step) before.tenants all)
+module _ {I A : Type 0} (functions : Functions I A) (before : CoreState) (outcome : Outcome I) (all : AreShaped before.tenants) where
+  among-shaped : (step : StepOf A) → step_among functions before step ≡ Ok outcome → LeftShaped outcome.0
+  among-shaped step is =
+      lone-shaped functions (tenant_in before.tenants (tenant_of step)) step outcome
+      (not-busy _ outcome (meets_busy step before.tenants) is) (own-shaped (tenant_of step) before.tenants all)
 
-pub step_result-shaped : {I A : Type 0} (functions : Functions I A) (before : CoreState) (step : StepOf A) (outcome : Outcome I) → step_result functions before step ≡ Ok outcome → AreShaped before.tenants → LeftShaped outcome.0
-step_result-shaped {I} functions before (Admit number quota) outcome is all = grind (arith, unless-passed, came, admitted-shaped)
-step_result-shaped {A = A} functions before (AdmitMore number quota) outcome is all = grind (arith, lone-shaped, more-taken, own-shaped)
-step_result-shaped functions before step outcome is all = among-shaped functions before step outcome is all
+  pub step_result-shaped : (step : StepOf A) → step_result functions before step ≡ Ok outcome → LeftShaped outcome.0
+  step_result-shaped (Admit number quota) is = grind (arith, unless-passed, came, admitted-shaped)
+  step_result-shaped (AdmitMore number quota) is = grind (arith, lone-shaped, more-taken, own-shaped)
+  step_result-shaped step is = among-shaped step is
 
 module _ {I A : Type 0} (functions : Functions I A) where
   after-shaped : (before : CoreState) (step : StepOf A) (came_to : Result (Outcome I) Refusal) → step_result functions before step ≡ came_to → AreShaped before.tenants → AreShaped (shared_after before step came_to).tenants
@@ -159,23 +160,24 @@ at-append [] more number job at = absurd cc
 at-append (x ∷ xs) more number job at = grind (arith, at-append xs more)
 
 -- nor does one that ends
-not-live : (root : ℕ) (job : Job) → HasEnded job → is_live_at root job ≡ false
-not-live root job has = grind arith
+module _ (root : ℕ) (job : Job) (has : HasEnded job) where
+  not-live : is_live_at root job ≡ false
+  not-live = grind arith
 
-at-ended : (root : ℕ) (end : Job) (jobs : List Job) (number : ℕ) (job : Job) → HasEnded job → job_at jobs number ≡ Some job → job_at (with_ended root end jobs) number ≡ Some job
-at-ended root end [] number job has at = absurd cc
-at-ended root end (x ∷ xs) number job has at = elim (cases_Bool (eqb number 1)) [
-  | inl first ↦ grind (arith, not-live)
-  | inr later ↦ rw later (at-ended root end xs (number - 1) job has (rw later at at))
-]
+  at-ended : (end : Job) (jobs : List Job) (number : ℕ) → job_at jobs number ≡ Some job → job_at (with_ended root end jobs) number ≡ Some job
+  at-ended end [] number at = absurd cc
+  at-ended end (x ∷ xs) number at = elim (cases_Bool (eqb number 1)) [
+    | inl first ↦ grind (arith, not-live)
+    | inr later ↦ rw later (at-ended end xs (number - 1) (rw later at at))
+  ]
 
 pub step-ended : {I A : Type 0} (functions : Functions I A) (tenant : Tenant) (step : StepOf A) (outcome : Outcome I) → lone_step functions tenant step ≡ Ok outcome → KeepsEnded tenant.jobs outcome.0
 step-ended functions tenant step outcome is = by-kinds functions tenant step outcome (KeepsEnded tenant.jobs) is (record {
   at_raise = λ number quota raises k job has at. at;
   at_submit = λ serials root frames k job has at. at-append tenant.jobs _ k job at;
   at_work = λ serials frames k job has at. at;
-  at_finish = λ root words k job has at. at-ended root _ tenant.jobs k job has at;
-  at_spend = λ serial f found k job has at. at-ended (root_of f.path) _ tenant.jobs k job has at;
-  at_cancel = λ number root found k job has at. at-ended root CancelledJob tenant.jobs k job has at;
+  at_finish = λ root words k job has at. at-ended root job has _ tenant.jobs k at;
+  at_spend = λ serial f found k job has at. at-ended (root_of f.path) job has _ tenant.jobs k at;
+  at_cancel = λ number root found k job has at. at-ended root job has CancelledJob tenant.jobs k at;
   at_leave = λ number leaves. tt;
 })

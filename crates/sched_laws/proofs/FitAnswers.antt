@@ -11,17 +11,18 @@ same-origins : (fits : Fitting) (rooted : Rooting) (origins : Lists) (o : Option
 same-origins fits rooted origins o left = let P : Lists → Type 0 = λ os. LeftFits fits rooted os o in subst P (sym (append-nil origins)) left
 
 -- the number of an admission that was taken is above all
-admitted-above : {I A : Type 0} (functions : Functions I A) (before : CoreState) (number : ℕ) (quota : Quota) (outcome : Outcome I) → step_result {A = A} functions before (Admit number quota) ≡ Ok outcome → (before.newest < number) × ((Some (admitted_with quota), Admitted) ≡ outcome)
-admitted-above {I} functions before number quota outcome is = grind (arith, unless-passed, above)
+module _ {I A : Type 0} (functions : Functions I A) (before : CoreState) (outcome : Outcome I) where
+  admitted-above : (number : ℕ) (quota : Quota) → step_result {A = A} functions before (Admit number quota) ≡ Ok outcome → (before.newest < number) × ((Some (admitted_with quota), Admitted) ≡ outcome)
+  admitted-above number quota is = grind (arith, unless-passed, above)
 
--- a taken step that is no admission is taken alone
-pub taken-alone : {I A : Type 0} (functions : Functions I A) (before : CoreState) (step : StepOf A) (outcome : Outcome I) → is_admission step ≡ false → step_result functions before step ≡ Ok outcome → lone functions (tenant_in before.tenants (tenant_of step)) step ≡ Ok outcome
-taken-alone functions before step outcome no_admission is =
-    not-busy (meets_busy step before.tenants) (lone functions (tenant_in before.tenants (tenant_of step)) step) outcome (sym (step_result-step functions before step no_admission) ∙ is)
+  -- a taken step that is no admission is taken alone
+  pub taken-alone : (step : StepOf A) → is_admission step ≡ false → step_result functions before step ≡ Ok outcome → lone functions (tenant_in before.tenants (tenant_of step)) step ≡ Ok outcome
+  taken-alone step no_admission is =
+      not-busy _ outcome (meets_busy step before.tenants) (sym (step_result-step functions before step no_admission) ∙ is)
 
--- so is an admission of more, of a tenant that is there
-pub taken-more-there : {I A : Type 0} (functions : Functions I A) (before : CoreState) (number : ℕ) (quota : Quota) (outcome : Outcome I) → step_result {A = A} functions before (AdmitMore number quota) ≡ Ok outcome → tenant_in before.tenants number ≢ None
-taken-more-there {A = A} functions before number quota outcome is = more-there {A = A} functions (tenant_in before.tenants number) number quota outcome (more-taken {A = A} functions before number quota outcome is).1
+  -- so is an admission of more, of a tenant that is there
+  pub taken-more-there : (number : ℕ) (quota : Quota) → step_result {A = A} functions before (AdmitMore number quota) ≡ Ok outcome → tenant_in before.tenants number ≢ None
+  taken-more-there number quota is = more-there {A = A} functions _ number quota outcome (more-taken {A = A} functions before number quota outcome is).1
 
 -- the greatest number after a taken step: the step's tenant has one that is no greater, and it is no less than before
 module _ {I A : Type 0} (functions : Functions I A) (before : CoreState) (step : StepOf A) where
@@ -64,10 +65,10 @@ module _ {I A : Type 0} (functions : Functions I A) (fits : Fitting) (rooted : R
     at_take = λ worker serial f at ready some. taken-fits I fits rooted origins tenant worker serial f shape fitting at ready;
     at_advance = λ worker name f at passed. advanced-fits functions fits rooted origins tenant worker name f lawful shape fitting at passed;
     at_answer = λ worker serial f answer at passed. answered-fits functions fits rooted origins tenant worker serial f answer lawful shape fitting at passed;
-    at_inlet = λ worker name f parent at named passed. inlet-fits functions fits rooted origins tenant worker name f parent lawful shape fitting at named passed;
+    at_inlet = λ worker name f parent at named passed. inlet-fits _ fits rooted origins tenant worker name f parent lawful shape fitting at named passed;
     at_finish = λ worker serial f at passed. finished-fits I fits rooted origins tenant worker serial f shape fitting at passed;
-    at_spend = λ serial f at. ended-fits fits rooted origins tenant (root_of f.path) SpentJob shape fitting (root-above tenant serial f shape at) (λ origin was. tt);
-    at_cancel = λ number root at. ended-fits fits rooted origins tenant root CancelledJob shape fitting (live-root tenant number root shape at) (λ origin was. tt);
+    at_spend = λ serial f at. ended-fits fits rooted origins tenant _ SpentJob shape fitting (root-above tenant serial f shape at) (λ origin was. tt);
+    at_cancel = λ number root at. ended-fits fits rooted _ tenant root CancelledJob shape fitting (live-root tenant number root shape at) (λ origin was. tt);
     at_leave = λ number leaves. tt;
   })
 
@@ -89,7 +90,7 @@ module _ {I A : Type 0} (functions : Functions I A) (fits : Fitting) (rooted : R
       by : (own : Option Tenant) → tenant_in before.tenants (tenant_of step) ≡ own → LeftFits fits rooted (origins (tenant_of step) ++ submits step) outcome.0
       by None e = absurd (there e)
       by (Some tenant) e =
-          step-fits (origins (tenant_of step)) tenant step outcome lawful (shaped-in (tenant_of step) before.tenants tenant shaped e) (core.tenants (tenant_of step) tenant e) root
+          step-fits _ tenant step outcome lawful (shaped-in (tenant_of step) before.tenants tenant shaped e) (core.tenants (tenant_of step) tenant e) root
           (ap (λ o. lone functions o step) (sym e) ∙ is)
 
   -- a taken step: what its tenant comes to
@@ -100,14 +101,14 @@ module _ {I A : Type 0} (functions : Functions I A) (fits : Fitting) (rooted : R
   more-left : (origins : ℕ → Lists) (before : CoreState) (number : ℕ) (quota : Quota) (outcome : Outcome I) → IsLawful functions fits rooted → AreShaped before.tenants → CoreFits fits rooted origins before →
       step_result {A = A} functions before (AdmitMore number quota) ≡ Ok outcome → LeftFits fits rooted (origins number ++ []) outcome.0
   more-left origins before number quota outcome lawful shaped core is =
-      among-fits origins before (AdmitMore number quota) outcome lawful shaped core tt (taken-more-there {A = A} functions before number quota outcome is) (more-taken {A = A} functions before number quota outcome is).1
+      among-fits origins before (AdmitMore number quota) outcome lawful shaped core tt (taken-more-there {A = A} functions before outcome number quota is) (more-taken {A = A} functions before number quota outcome is).1
 
   taken-left : (origins : ℕ → Lists) (before : CoreState) (step : StepOf A) (outcome : Outcome I) → IsLawful functions fits rooted → AreShaped before.tenants → CoreFits fits rooted origins before →
       RootFits fits rooted step → step_result functions before step ≡ Ok outcome → LeftFits fits rooted (origins (tenant_of step) ++ submits step) outcome.0
   taken-left origins before (Admit number quota) outcome lawful shaped core root is = admit-left origins before number quota outcome core is
   taken-left origins before (AdmitMore number quota) outcome lawful shaped core root is = more-left origins before number quota outcome lawful shaped core is
   taken-left origins before step outcome lawful shaped core root is =
-      let alone = taken-alone functions before step outcome refl is in among-fits origins before step outcome lawful shaped core root (there functions _ step outcome refl alone) alone
+      let alone = taken-alone functions before outcome step refl is in among-fits _ before step _ lawful shaped core root (there functions _ step outcome refl alone) alone
 
   -- a core after a taken step
   core-after : (origins : ℕ → Lists) (before : CoreState) (step : StepOf A) (did : DidOf I) (outcome : Outcome I) → IsLawful functions fits rooted → AreNumbersGiven before → AreShaped before.tenants → CoreFits fits rooted origins before →
@@ -123,10 +124,9 @@ module _ {I A : Type 0} (functions : Functions I A) (fits : Fitting) (rooted : R
       tenants : (number : ℕ) (tenant : Tenant) → tenant_in (with_outcome (tenant_of step) outcome.0 before.tenants) number ≡ Some tenant → TenantFits fits rooted (origins_after origins step (Ok did) number) tenant
       tenants number tenant at = elim (cases_eq (tenant_of step) number) [
         | inl same ↦ (let own : outcome.0 ≡ Some tenant = sym (tenant_in-with_outcome (tenant_of step) outcome.0 before.tenants) ∙ ap (tenant_in (with_outcome (tenant_of step) outcome.0 before.tenants)) same ∙ at in
-            let left = taken-left origins before step outcome lawful shaped core root is in
             let P : Option Tenant → Type 0 = λ o. LeftFits fits rooted (origins (tenant_of step) ++ submits step) o in
             let Q : ℕ → Type 0 = λ n. TenantFits fits rooted (origins n ++ submits step) tenant in
-            rw (eq-eqb (tenant_of step) number same) (subst Q same (subst P own left)))
+            rw (eq-eqb (tenant_of step) number same) (subst Q same (subst P own (taken-left origins before step outcome lawful shaped core root is))))
         | inr ne ↦ (let P : Lists → Type 0 = λ os. TenantFits fits rooted os tenant in
             subst P (sym (other number ne)) (core.tenants number tenant (sym (tenant_in_other-with_outcome number (tenant_of step) outcome.0 before.tenants ne) ∙ at)))
       ]
@@ -151,32 +151,33 @@ module _ {I A : Type 0} (functions : Functions I A) (fits : Fitting) (rooted : R
   stays-fitting origins before (step ∷ steps) (answer ∷ answers) lawful known shaped core right = (
     core,
     λ root. let next = answer-keeps origins before step answer lawful known shaped core root right.0 in
-        stays-fitting (origins_after origins step answer) (after_answer functions before step answer) steps answers lawful next.0 (shaped_answer functions before step answer shaped) next.1 right.1,
+        stays-fitting (origins_after origins step answer) _ steps answers lawful next.0 (shaped_answer functions before step answer shaped) next.1 right.1,
   )
   stays-fitting origins before steps answers lawful known shaped core right = grind arith
 
   pub run-fits : (origins : ℕ → Lists) (before : CoreState) (steps : List (StepOf A)) (answers : List (Result (DidOf I) Refusal)) → IsLawful functions fits rooted → AreNumbersGiven before → AreShaped before.tenants → CoreFits fits rooted origins before →
       AreAnswersTo functions before steps answers → RootsFit fits rooted (taken_steps steps answers) → CoreFits fits rooted (λ number. origins number ++ origins_of (only number (taken_steps steps answers))) (after_answers functions before steps answers)
-  run-fits origins before [] answers lawful known shaped core right roots = same-core fits rooted origins _ before (λ number. sym (append-nil (origins number))) core
+  run-fits origins before [] answers lawful known shaped core right roots = same-core fits rooted _ _ before (λ number. sym (append-nil (origins number))) core
   run-fits origins before (step ∷ steps) [] lawful known shaped core right roots = absurd right
   run-fits origins before (step ∷ steps) (Err refusal ∷ answers) lawful known shaped core right roots = grind (arith, run-fits origins before steps answers lawful known shaped core right.1 roots)
   run-fits origins before (step ∷ steps) (Ok did ∷ answers) lawful known shaped core right roots =
       let answer : Result (DidOf I) Refusal = Ok did in
       let next = answer-keeps origins before step answer lawful known shaped core (λ is. roots.0) right.0 in
       same-core fits rooted _ _ (after_answers functions (after_answer functions before step answer) steps answers) (λ number. origins-on origins step did (taken_steps steps answers) number)
-      (run-fits (origins_after origins step answer) (after_answer functions before step answer) steps answers lawful next.0 (shaped_answer functions before step answer shaped) next.1 right.1 roots.1)
+      (run-fits (origins_after origins step answer) _ steps answers lawful next.0 (shaped_answer functions before step answer shaped) next.1 right.1 roots.1)
 
 -- Lists of steps in parts, and the numbers of jobs.
 
 -- a list of steps in two parts
-pub alone_from-append : {I A : Type 0} (functions : Functions I A) (before : Option Tenant) (steps more : List (StepOf A)) → alone_from functions before (steps ++ more) ≡ alone_from functions (alone_from functions before steps) more
-alone_from-append functions before [] more = refl
-alone_from-append functions before (step ∷ steps) more = alone_from-append functions (state_after before (lone functions before step)) steps more
+module _ {I A : Type 0} (functions : Functions I A) where
+  pub alone_from-append : (before : Option Tenant) (steps more : List (StepOf A)) → alone_from functions before (steps ++ more) ≡ alone_from functions (alone_from functions before steps) more
+  alone_from-append before [] more = refl
+  alone_from-append before (step ∷ steps) more = alone_from-append (state_after before (lone functions before step)) steps more
 
-pub answers_from-append : {I A : Type 0} (functions : Functions I A) (before : Option Tenant) (steps more : List (StepOf A)) →
-    answers_from functions before (steps ++ more) ≡ answers_from functions before steps ++ answers_from functions (alone_from functions before steps) more
-answers_from-append functions before [] more = refl
-answers_from-append {I} functions before (step ∷ steps) more = ap (λ (rest : List (Result (DidOf I) Refusal)). answer_of (lone functions before step) ∷ rest) (answers_from-append functions (state_after before (lone functions before step)) steps more)
+  pub answers_from-append : (before : Option Tenant) (steps more : List (StepOf A)) →
+      answers_from functions before (steps ++ more) ≡ answers_from functions before steps ++ answers_from functions (alone_from functions before steps) more
+  answers_from-append before [] more = refl
+  answers_from-append before (step ∷ steps) more = ap (λ (rest : List (Result (DidOf I) Refusal)). answer_of (lone functions before step) ∷ rest) (answers_from-append (state_after before (lone functions before step)) steps more)
 
 pub only-append : {A : Type 0} (number : ℕ) (steps more : List (StepOf A)) → only number (steps ++ more) ≡ only number steps ++ only number more
 only-append {A} number steps more = filter-append (λ (step : StepOf A). tenant_of step == number) steps more
@@ -215,19 +216,22 @@ as-many : (fits : Fitting) (rooted : Rooting) (tree : Tree) (origins : List (Lis
 as-many fits rooted tree (origin ∷ origins) (job ∷ jobs) all = ap (λ (n : ℕ). suc n) (as-many fits rooted tree origins jobs all.1)
 as-many fits rooted tree origins jobs all = grind arith
 
-pub jobs_counted : {I A : Type 0} (functions : Functions I A) (totals : Quota) (steps : List (StepOf A)) (answers : List (Result (DidOf I) Refusal)) (number : ℕ) (tenant : Tenant) → AreAnswersTo functions (shared_by_nobody totals) steps answers →
-    tenant_in (after_answers functions (shared_by_nobody totals) steps answers).tenants number ≡ Some tenant → length tenant.jobs ≡ length (origins_of (only number (taken_steps steps answers)))
-jobs_counted functions totals steps answers number tenant right at =
-    let core = run-fits functions AlwaysFits AlwaysRooted (λ n. []) (shared_by_nobody totals) steps answers (always-lawful functions) tt tt (nobody-fits AlwaysFits AlwaysRooted totals) right (roots-always (taken_steps steps answers)) in
-    as-many AlwaysFits AlwaysRooted tenant.frames _ tenant.jobs (core.tenants number tenant at).jobs
+module _ {I A : Type 0} (functions : Functions I A) (number : ℕ) (tenant : Tenant) where
+  pub jobs_counted : (totals : Quota) (steps : List (StepOf A)) (answers : List (Result (DidOf I) Refusal)) →
+      AreAnswersTo functions (shared_by_nobody totals) steps answers →
+      tenant_in (after_answers functions (shared_by_nobody totals) steps answers).tenants number ≡ Some tenant →
+      length tenant.jobs ≡ length (origins_of (only number (taken_steps steps answers)))
+  jobs_counted totals steps answers right at =
+      let core = run-fits functions AlwaysFits AlwaysRooted (λ n. []) (shared_by_nobody totals) steps answers (always-lawful functions) tt tt (nobody-fits AlwaysFits AlwaysRooted totals) right (roots-always (taken_steps steps answers)) in
+      as-many AlwaysFits AlwaysRooted tenant.frames _ tenant.jobs (core.tenants number tenant at).jobs
 
--- the number that a taken Submit is answered
-pub submit_numbered : {I A : Type 0} (functions : Functions I A) (before : CoreState) (number : ℕ) (words : List ℕ) (size : ℕ) (did : DidOf I) (tenant : Tenant) → IsAnswerTo functions before (Submit number words size) (Ok did) → tenant_in before.tenants number ≡ Some tenant →
-    did ≡ Submitted (length tenant.jobs + 1) (record { tenant = number; serial = tenant.serials + 1 })
-submit_numbered {I} {A} functions before number words size did tenant right at =
-    let step : StepOf A = Submit number words size in
-    let own = right.1 refl in
-    let f = found (meets_busy step before.tenants) (lone functions (tenant_in before.tenants number) step) did own.own_state own.busy_worker own.else_taken in
-    let alone : lone functions (Some tenant) step ≡ Ok f.0 = ap (λ o. lone functions o step) (sym at) ∙ f.2 in
-    let p = unless-passed (submit_tests tenant words size) (submitted {I = I} tenant number words size) f.0 alone in
-    sym f.3 ∙ sym (ap (λ (o : Outcome I). o.1) p.1)
+  -- the number that a taken Submit is answered
+  pub submit_numbered : (before : CoreState) (words : List ℕ) (size : ℕ) (did : DidOf I) → IsAnswerTo functions before (Submit number words size) (Ok did) →
+      tenant_in before.tenants number ≡ Some tenant → did ≡ Submitted (length tenant.jobs + 1) (record { tenant = number; serial = tenant.serials + 1 })
+  submit_numbered before words size did right at =
+      let step : StepOf A = Submit number words size in
+      let own = right.1 refl in
+      let f = found (meets_busy step before.tenants) (lone functions (tenant_in before.tenants number) step) did own.own_state own.busy_worker own.else_taken in
+      let alone : lone functions (Some tenant) step ≡ Ok f.0 = ap (λ o. lone functions o step) (sym at) ∙ f.2 in
+      let p = unless-passed (submit_tests tenant words size) (submitted {I = I} tenant number words size) f.0 alone in
+      sym f.3 ∙ sym (ap (λ (o : Outcome I). o.1) p.1)

@@ -27,9 +27,8 @@ module _ (fits : Fitting) (rooted : Rooting) (origins : Lists) (tenant : Tenant)
       TenantFits fits rooted origins (counted (holding f.serial words tenant))
   words-fits shape fitting at free kept own =
       let tree = tenant.frames in
-      let R : Mark → Type 0 = λ m. fits words (kids tree f.serial) m in
       record {
-        frames = fits-words fits rooted tenant f.serial f words shape fitting.frames at kept (subst R (sym free) own);
+        frames = fits-words fits rooted tenant f.serial f words shape fitting.frames at kept (subst (λ m. fits words (kids tree f.serial) m) (sym free) own);
         jobs = jobs-kept fits rooted tree (with_frame_words f.serial words tree) origins tenant.jobs (roots-with_frame_words fits rooted tree f.serial f words at kept) shape.live fitting.jobs;
       }
 
@@ -67,14 +66,12 @@ module _ {I A : Type 0} (functions : Functions I A) (fits : Fitting) (rooted : R
           OwnFits fits (stored act.stores f.value) children act.after × ParentFits fits rooted origin above older (grown act.after (stored act.stores f.value)) younger
       law at_own origin above older younger seen parent =
           let e : act ≡ functions.next (f.value ∷ above) = ap functions.next seen in
-          let R : Mark → Type 0 = λ m. fits f.value children m in
-          let fit = subst R free (fits-holds fits tenant.frames fitting.frames f.serial f at_own) in
+          let fit = subst (λ m. fits f.value children m) free (fits-holds fits tenant.frames fitting.frames f.serial f at_own) in
           let all = all-fit fits tenant.frames f.serial shape.tree fitting.frames in
           let not_bad : is_bad_act f.value (has_one children) (functions.next (f.value ∷ above)) ≡ false =
           ap (λ (b : Bool). is_bad_act f.value b (functions.next (f.value ∷ above))) (has-one tenant.frames f.serial) ∙ ap (is_bad_act f.value (has_child tenant.frames f.serial)) (sym e) ∙ good in
-          let got = lawful.next origin f.value above older younger children fit parent all not_bad in
           let P : Act → Type 0 = λ a. ActFits fits rooted origin f.value above older younger children a in
-          let got_act = subst P (sym e) got in
+          let got_act = subst P (sym e) (lawful.next origin f.value above older younger children fit parent all not_bad) in
           ((got_act.0, got_act.2), got_act.1)
 
   -- Answer
@@ -99,8 +96,7 @@ module _ {I A : Type 0} (functions : Functions I A) (fits : Fitting) (rooted : R
           fits (stored (functions.accept f.value answer) f.value) [] Neither × ParentFits fits rooted origin above older (stored (functions.accept f.value answer) f.value) younger
       law none at_own origin above older younger parent =
           let R : Mark → Type 0 = λ m. fits f.value (kids tenant.frames f.serial) m in
-          let P : Lists → Type 0 = λ k. fits f.value k Computes in
-          let fit = subst P none (subst R computing (fits-holds fits tenant.frames fitting.frames f.serial f at_own)) in
+          let fit = subst (λ k. fits f.value k Computes) none (subst R computing (fits-holds fits tenant.frames fitting.frames f.serial f at_own)) in
           lawful.accept origin f.value above older younger answer fit parent same inside
 
 -- Every step of a tenant leaves its frames fitting, and its jobs holding what they were asked: Inlet, Finish, Spend, Cancel and Submit.
@@ -124,7 +120,7 @@ ended-fits fits rooted origins tenant root job shape fitting is end =
     let tree = tenant.frames in
     record {
       frames = holds-fits fits (without_job root tree) (tree-without_job root tree shape.tree)
-          (holds-without_job (λ s w k m. fits w k m) root tree shape.tree (λ s f at other. fits-holds fits tree fitting.frames s f at) (λ f at. root-top tree root f at is));
+          (holds-without_job root tree shape.tree (λ s w k m. fits w k m) (λ s f at other. fits-holds fits tree fitting.frames s f at) (λ f at. root-top tree root f at is));
       jobs = jobs-ended fits rooted tree (without_job root tree) root job origins tenant.jobs end (λ r other there. ap frame_words (root-without_job root tree r shape.tree other there)) shape.live fitting.jobs;
     }
 
@@ -140,8 +136,7 @@ module _ (fits : Fitting) (rooted : Rooting) (origins : Lists) (tenant : Tenant)
       TenantFits fits rooted origins (ended f.serial (Done (kept_words f.value)) tenant)
   finish-fits s f shape fitting at returned leaf is =
       let tree = tenant.frames in
-      let own = found-serial tree s f at in
-      let at_own : frame_at tree f.serial ≡ Some f = ap (frame_at tree) own ∙ at in
+      let at_own : frame_at tree f.serial ≡ Some f = ap (frame_at tree) (found-serial tree s f at) ∙ at in
       let path : path_in tree f.serial ≡ f.serial ∷ [] = found-path tree f.serial f at_own ∙ top-path tree f.serial f shape.tree at_own (root-path f.path is) in
       let R : Mark → Type 0 = λ m. fits f.value (kids tree s) m in
       let P : Lists → Type 0 = λ k. fits f.value k HasReturned in
@@ -197,7 +192,7 @@ staying-fits fits rooted tenant n p f g words true shape every at_n at_p u named
     let R : Mark → Type 0 = λ m. fits words [] m in
     let a = among-kids tree p n f shape.tree at_n (ap (is_that p) u.named ∙ eq-eqb u.parent p named) in
     holds-fits fits (aborted p (with_frame_words p words tree)) (tree-aborted p (with_frame_words p words tree) t1)
-    (holds-aborted (λ s w k m. fits w k m) p (with_frame_words p words tree) t1
+    (holds-aborted p (with_frame_words p words tree) t1 (λ s w k m. fits w k m)
     (holds-after-words (BeforeAbort (λ s w k m. fits w k m) p) fits rooted tree p g words shape.tree shape.childless every at_p kept
     ((λ is. subst R (sym free) (own a.older a.younger a.all)), (λ other. absurd (other refl)))
     (λ s w k m other fit. ((λ is. absurd (other is)), (λ ne. fit)))))
@@ -206,11 +201,10 @@ staying-fits fits rooted tenant n p f g words false shape every at_n at_p u name
     let t1 = tree-with_frame_words p words tree shape.tree in
     let below : p < n = let low = u.below in let e = found-serial tree n f at_n in omega (arith, low, named, e) in
     let apart : p ≢ n = λ e. omega (arith, e, below) in
-    let at1 : frame_at (with_frame_words p words tree) n ≡ Some f = frame_at_other-with_frame_words p words tree n apart ∙ at_n in
     let leaf1 : children_of (with_frame_words p words tree) n ≡ [] = children_of-with_frame_words p words tree n shape.tree ∙ ap (with_frame_words p words) leaf in
     let child : is_child_of p f.path ≡ true = ap (is_that p) u.named ∙ eq-eqb u.parent p named in
     holds-fits fits (frames_without n (with_frame_words p words tree)) (tree-without n (with_frame_words p words tree) t1 leaf1)
-    (holds-without (λ s w k m. fits w k m) n f (with_frame_words p words tree) t1 at1 leaf1
+    (holds-without (λ s w k m. fits w k m) n f (with_frame_words p words tree) t1 (frame_at_other-with_frame_words p words tree n apart ∙ at_n) leaf1
     (holds-after-words (BeforeWithout (λ s w k m. fits w k m) n f) fits rooted tree p g words shape.tree shape.childless every at_p kept
     (λ other. ((λ is older younger split. marked older younger (own older younger split)), (λ none. absurd (false≢true (sym none ∙ child)))))
     (λ s w k m ne fit other. ((λ is older younger split. absurd (ne (only s is))), (λ none. fit)))))
@@ -225,58 +219,57 @@ staying-root : (n p : ℕ) (tree : Tree) (root : ℕ) (abort : Bool) → IsTree 
 staying-root n p tree root abort h6 h7 h8 = grind (arith, root-aborted, frame_at_other-without)
 
 -- the tenant without the frames that go, with what the inlet stored
-pub taken-in-fits : (fits : Fitting) (rooted : Rooting) (origins : Lists) (tenant : Tenant) (n p : ℕ) (f g : F) (words : List ℕ) (abort : Bool) → IsShaped tenant → TenantFits fits rooted origins tenant → frame_at tenant.frames n ≡ Some f → frame_at tenant.frames p ≡ Some g →
-    (u : IsUnder tenant.frames f) → u.parent ≡ p → children_of tenant.frames n ≡ [] → mark_of_state g.state ≡ Neither → IsKeptAbove fits rooted tenant.frames g words → InletFits fits tenant.frames p f.value words abort →
-    TenantFits fits rooted origins (holding p words (record tenant { frames = staying tenant.frames n p abort }))
-taken-in-fits fits rooted origins tenant n p f g words abort shape fitting at_n at_p u named leaf free kept own =
-    let tree = tenant.frames in
-    let swap = staying-words n p words tree abort in
-    let P : Tree → Type 0 = λ ys. EveryFrameFits fits ys in
-    let Q : Tree → Type 0 = λ ys. JobsFit fits rooted ys origins tenant.jobs in
-    record {
-      frames = subst P swap (staying-fits fits rooted tenant n p f g words abort shape fitting.frames at_n at_p u named leaf free kept own);
-      jobs = subst Q swap (jobs-kept fits rooted tree (staying (with_frame_words p words tree) n p abort) origins tenant.jobs (λ root origin is was. let R : List ℕ → Type 0 = λ w. rooted origin w in
-          subst R (sym (stays root is)) (roots-with_frame_words fits rooted tree p g words at_p kept root origin is was)) shape.live fitting.jobs);
-    }
-  where
-    apart : (root : ℕ) → path_in tenant.frames root ≡ root ∷ [] → root ≢ n
-    apart root is e =
-        let none = root-top tenant.frames root f (ap (frame_at tenant.frames) e ∙ at_n) is in
-        let both : ◌≡◌ {A = Option ℕ} None (Some u.parent) = sym none ∙ u.named in absurd cc
+module _ (fits : Fitting) (rooted : Rooting) (origins : Lists) {tenant : Tenant} (n p : ℕ) (f g : F) (shape : IsShaped tenant) where
+  pub taken-in-fits : (words : List ℕ) (abort : Bool) → TenantFits fits rooted origins tenant → frame_at tenant.frames n ≡ Some f →
+      frame_at tenant.frames p ≡ Some g → (u : IsUnder tenant.frames f) → u.parent ≡ p → children_of tenant.frames n ≡ [] → mark_of_state g.state ≡ Neither →
+      IsKeptAbove fits rooted tenant.frames g words → InletFits fits tenant.frames p f.value words abort →
+      TenantFits fits rooted origins (holding p words (record tenant { frames = staying tenant.frames n p abort }))
+  taken-in-fits words abort fitting at_n at_p u named leaf free kept own =
+      let tree = tenant.frames in
+      let swap = staying-words n p words tree abort in
+      let P : Tree → Type 0 = λ ys. EveryFrameFits fits ys in
+      let Q : Tree → Type 0 = λ ys. JobsFit fits rooted ys origins tenant.jobs in
+      record {
+        frames = subst P swap (staying-fits fits rooted tenant n p f g words abort shape fitting.frames at_n at_p u named leaf free kept own);
+        jobs = subst Q swap (jobs-kept fits rooted tree (staying (with_frame_words p words tree) n p abort) origins tenant.jobs (λ root origin is was. let R : List ℕ → Type 0 = λ w. rooted origin w in
+            subst R (sym (stays root is)) (roots-with_frame_words fits rooted tree p g words at_p kept root origin is was)) shape.live fitting.jobs);
+      }
+    where
+      apart : (root : ℕ) → path_in tenant.frames root ≡ root ∷ [] → root ≢ n
+      apart root is e =
+          let none = root-top tenant.frames root f (ap (frame_at tenant.frames) e ∙ at_n) is in
+          let both : ◌≡◌ {A = Option ℕ} None (Some u.parent) = sym none ∙ u.named in absurd cc
 
-    stays : (root : ℕ) → path_in tenant.frames root ≡ root ∷ [] → words_in (staying (with_frame_words p words tenant.frames) n p abort) root ≡ words_in (with_frame_words p words tenant.frames) root
-    stays root is = ap frame_words (staying-root n p (with_frame_words p words tenant.frames) root abort (tree-with_frame_words p words tenant.frames shape.tree) (apart root is)
-        (path_in-alike tenant.frames (with_frame_words p words tenant.frames) root (with_frame_words-alike p words tenant.frames) ∙ is))
+      stays : (root : ℕ) → path_in tenant.frames root ≡ root ∷ [] → words_in (staying (with_frame_words p words tenant.frames) n p abort) root ≡ words_in (with_frame_words p words tenant.frames) root
+      stays root is = ap frame_words (staying-root n p (with_frame_words p words tenant.frames) root abort (tree-with_frame_words p words tenant.frames shape.tree) (apart root is)
+          (path_in-alike tenant.frames (with_frame_words p words tenant.frames) root (with_frame_words-alike p words tenant.frames) ∙ is))
 
--- what the inlet of a procedure leaves
-pub inlet-law : {I A : Type 0} (functions : Functions I A) (fits : Fitting) (rooted : Rooting) (origins : Lists) (tenant : Tenant) (n p : ℕ) (f g : F) → IsLawful functions fits rooted → IsShaped tenant → TenantFits fits rooted origins tenant →
-    frame_at tenant.frames n ≡ Some f → frame_at tenant.frames p ≡ Some g → (u : IsUnder tenant.frames f) → u.parent ≡ p → children_of tenant.frames n ≡ [] → mark_of_state f.state ≡ HasReturned → mark_of_state g.state ≡ Neither →
-    is_outside (functions.inlet g.value f.value).stores g.value ≡ false →
-    InletFits fits tenant.frames p f.value (stored (functions.inlet g.value f.value).stores g.value) (functions.inlet g.value f.value).abort × IsKeptAbove fits rooted tenant.frames g (stored (functions.inlet g.value f.value).stores g.value)
-inlet-law functions fits rooted origins tenant n p f g lawful shape fitting at_n at_p u named leaf returned free inside =
-    kept-above (InletFits fits tenant.frames p f.value (stored (functions.inlet g.value f.value).stores g.value) (functions.inlet g.value f.value).abort) fits rooted tenant.frames p g (stored (functions.inlet g.value f.value).stores g.value)
-    shape.tree shape.childless fitting.frames at_p (has-origin fits rooted origins tenant p g shape fitting at_p)
-    (λ origin above older younger seen parent. (
-      (λ before behind split. (law origin above older younger parent before behind split).0),
-      (let a = among-kids tenant.frames p n f shape.tree at_n (ap (is_that p) u.named ∙ eq-eqb u.parent p named) in (law origin above older younger parent a.older a.younger a.all).1),
-    ))
-  where
-    whole : fits f.value [] HasReturned
-    whole =
-        let R : Mark → Type 0 = λ m. fits f.value (kids tenant.frames n) m in
-        let P : Lists → Type 0 = λ k. fits f.value k HasReturned in
-        subst P (ap values_of leaf) (subst R returned (fits-holds fits tenant.frames fitting.frames n f at_n))
+  -- what the inlet of a procedure leaves
+  pub inlet-law : {I A : Type 0} (functions : Functions I A) → IsLawful functions fits rooted → TenantFits fits rooted origins tenant →
+      frame_at tenant.frames n ≡ Some f → frame_at tenant.frames p ≡ Some g → (u : IsUnder tenant.frames f) → u.parent ≡ p → children_of tenant.frames n ≡ [] →
+      mark_of_state f.state ≡ HasReturned → mark_of_state g.state ≡ Neither → is_outside (functions.inlet g.value f.value).stores g.value ≡ false →
+      InletFits fits tenant.frames p f.value (stored (functions.inlet g.value f.value).stores g.value) (functions.inlet g.value f.value).abort × IsKeptAbove fits rooted tenant.frames g (stored (functions.inlet g.value f.value).stores g.value)
+  inlet-law functions lawful fitting at_n at_p u named leaf returned free inside =
+      kept-above (InletFits fits tenant.frames p f.value (stored (functions.inlet g.value f.value).stores g.value) (functions.inlet g.value f.value).abort) fits rooted tenant.frames p g (stored (functions.inlet g.value f.value).stores g.value)
+      shape.tree shape.childless fitting.frames at_p (has-origin fits rooted origins tenant p g shape fitting at_p)
+      (λ origin above older younger seen parent. (
+        (λ before behind split. (law origin above older younger parent before behind split).0),
+        (let a = among-kids tenant.frames p n f shape.tree at_n (ap (is_that p) u.named ∙ eq-eqb u.parent p named) in (law origin above older younger parent a.older a.younger a.all).1),
+      ))
+    where
+      whole : fits f.value [] HasReturned
+      whole =
+          let P : Lists → Type 0 = λ k. fits f.value k HasReturned in
+          subst P (ap values_of leaf) (subst (λ m. fits f.value (kids tenant.frames n) m) returned (fits-holds fits tenant.frames fitting.frames n f at_n))
 
-    law : (origin : List ℕ) (above older younger : Lists) → ParentFits fits rooted origin above older g.value younger → (before behind : Lists) → kids tenant.frames p ≡ before ++ f.value ∷ behind →
-        fits (stored (functions.inlet g.value f.value).stores g.value) (children_left (functions.inlet g.value f.value).abort (before ++ behind)) Neither
-        × ParentFits fits rooted origin above older (stored (functions.inlet g.value f.value).stores g.value) younger
-    law origin above older younger parent before behind split =
-        let R : Mark → Type 0 = λ m. fits g.value (kids tenant.frames p) m in
-        let P : Lists → Type 0 = λ k. fits g.value k Neither in
-        let Q : Lists → Type 0 = λ k. AllFit fits k in
-        let fit = subst P split (subst R free (fits-holds fits tenant.frames fitting.frames p g at_p)) in
-        let all = parts-fit fits before f.value behind (subst Q split (all-fit fits tenant.frames p shape.tree fitting.frames)) in
-        lawful.inlet origin g.value f.value above older younger before behind fit parent all.0 whole all.1 inside
+      law : (origin : List ℕ) (above older younger : Lists) → ParentFits fits rooted origin above older g.value younger → (before behind : Lists) → kids tenant.frames p ≡ before ++ f.value ∷ behind →
+          fits (stored (functions.inlet g.value f.value).stores g.value) (children_left (functions.inlet g.value f.value).abort (before ++ behind)) Neither
+          × ParentFits fits rooted origin above older (stored (functions.inlet g.value f.value).stores g.value) younger
+      law origin above older younger parent before behind split =
+          let P : Lists → Type 0 = λ k. fits g.value k Neither in
+          let fit = subst P split (subst (λ m. fits g.value (kids tenant.frames p) m) free (fits-holds fits tenant.frames fitting.frames p g at_p)) in
+          let all = parts-fit fits before f.value behind (subst (λ k. AllFit fits k) split (all-fit fits tenant.frames p shape.tree fitting.frames)) in
+          lawful.inlet origin g.value f.value above older younger before behind fit parent all.0 whole all.1 inside
 
 -- Every answer leaves a core fitting, and so does every list of them.
 
@@ -296,7 +289,7 @@ pub taken-fits : (I : Type 0) (fits : Fitting) (rooted : Rooting) (origins : Lis
 taken-fits I fits rooted origins tenant worker s f shape fitting at ready =
     let at_own : frame_at tenant.frames f.serial ≡ Some f = ap (frame_at tenant.frames) (found-serial tenant.frames s f at) ∙ at in
     let free = ready-free f.state (not-false (is_ready f.state) ready) in
-    fits-counted fits rooted origins (in_state f.serial (Running worker) tenant) (fits-same-mark fits rooted origins tenant f.serial (Running worker) shape fitting
+    fits-counted fits rooted origins (in_state f.serial (Running worker) tenant) (fits-same-mark fits rooted _ tenant f.serial (Running worker) shape fitting
     (λ g at_g. ap (λ (y : F). mark_of_state y.state) (found-same tenant.frames f.serial f.serial g f refl at_g at_own) ∙ free))
 
 -- Advance
@@ -333,8 +326,8 @@ module _ {I A : Type 0} (functions : Functions I A) (fits : Fitting) (rooted : R
       let own : words_in tree parent ≡ g.0.value = words-found tree parent g.0 g.1 in
       let same : act ≡ functions.inlet g.0.value f.value = ap (λ (w : List ℕ). functions.inlet w f.value) own in
       let inside : is_outside (functions.inlet g.0.value f.value).stores g.0.value ≡ false = sym (ap (λ (w : List ℕ). is_outside (functions.inlet w f.value).stores w) own) ∙ passed.1.1.0 in
-      let got = inlet-law functions fits rooted origins tenant name.serial parent f g.0 lawful shape fitting at g.1 u.0 u.1 leaf (has-returned f.state returned) free inside in
-      let fit = taken-in-fits fits rooted origins tenant name.serial parent f g.0 (stored (functions.inlet g.0.value f.value).stores g.0.value) (functions.inlet g.0.value f.value).abort shape fitting at g.1 u.0 u.1 leaf free got.1 got.0 in
+      let got = inlet-law fits rooted origins name.serial parent f g.0 shape _ lawful fitting at g.1 u.0 u.1 leaf (has-returned f.state returned) free inside in
+      let fit = taken-in-fits fits rooted origins name.serial parent f g.0 shape (stored (functions.inlet g.0.value f.value).stores g.0.value) (functions.inlet g.0.value f.value).abort fitting at g.1 u.0 u.1 leaf free got.1 got.0 in
       let W : List ℕ → Type 0 = λ w. TenantFits fits rooted origins (holding parent (stored (functions.inlet g.0.value f.value).stores w) (record tenant { frames = staying tree name.serial parent (functions.inlet g.0.value f.value).abort })) in
       let A : InletAct → Type 0 = λ a. TenantFits fits rooted origins (holding parent (stored a.stores (words_in (staying tree name.serial parent a.abort) parent)) (record tenant { frames = staying tree name.serial parent a.abort })) in
       let there : (abort : Bool) → words_in (staying tree name.serial parent abort) parent ≡ g.0.value = λ abort. words-found (staying tree name.serial parent abort) parent g.0 (staying-parent tenant name.serial parent f g.0 abort at named g.1 shape) in

@@ -84,7 +84,7 @@ kept-above C fits rooted tree s f words t all every at has law = elim (placed tr
 pub holds-after-words : (Q : Fact) (fits : Fitting) (rooted : Rooting) (tree : Tree) (n : ℕ) (f : F) (words : List ℕ) → IsTree tree → AreMarkedChildless tree tree → EveryFrameFits fits tree → frame_at tree n ≡ Some f →
     IsKeptAbove fits rooted tree f words → Q n words (kids tree n) (mark_of_state f.state) → ((s : ℕ) (w : List ℕ) (k : Lists) (m : Mark) → s ≢ n → fits w k m → Q s w k m) → Holds Q (with_frame_words n words tree)
 holds-after-words Q fits rooted tree n f words t all every at kept own up =
-    holds-with_frame_words Q n f words tree t at (not-own-child tree n f t at) (λ s h at_s. (
+    holds-with_frame_words n f tree t Q words at (not-own-child n f tree t at) (λ s h at_s. (
       (λ is. (let e : f ≡ h = found-same tree n s f h (sym is) at at_s in
           let P : ℕ → Type 0 = λ i. Q i words (kids tree i) (mark_of_state h.state) in
           let R : F → Type 0 = λ y. Q n words (kids tree n) (mark_of_state y.state) in subst P (sym is) (subst R e own))),
@@ -142,11 +142,12 @@ module _ (fits : Fitting) (rooted : Rooting) where
 -- Every step of a tenant leaves its frames fitting, and its jobs holding what they were asked.
 
 -- the words of another frame, and of the frame itself
-pub words-other : (n : ℕ) (words : List ℕ) (tree : Tree) (s : ℕ) → n ≢ s → words_in (with_frame_words n words tree) s ≡ words_in tree s
-words-other n words tree s other = ap frame_words (frame_at_other-with_frame_words n words tree s other)
+module _ (n : ℕ) (words : List ℕ) (tree : Tree) where
+  pub words-other : (s : ℕ) → n ≢ s → words_in (with_frame_words n words tree) s ≡ words_in tree s
+  words-other s other = ap frame_words (frame_at_other-with_frame_words n words tree s other)
 
-pub words-own : (n : ℕ) (words : List ℕ) (tree : Tree) (f : F) → frame_at tree n ≡ Some f → words_in (with_frame_words n words tree) n ≡ words
-words-own n words tree f at = ap frame_words (frame_at-with_frame_words n words tree f at)
+  pub words-own : (f : F) → frame_at tree n ≡ Some f → words_in (with_frame_words n words tree) n ≡ words
+  words-own f at = ap frame_words (frame_at-with_frame_words n words tree f at)
 
 pub words-with_state : (n : ℕ) (state : State) (tree : Tree) (s : ℕ) → words_in (with_state n state tree) s ≡ words_in tree s
 words-with_state n state tree s = elim (cases_eq n s) [
@@ -177,13 +178,15 @@ pub root-top : (tree : Tree) (root : ℕ) (f : F) → frame_at tree root ≡ Som
 root-top tree root f at is = ap parent_of (sym (found-path tree root f at) ∙ is)
 
 -- where the words of a frame are kept above, so are the roots
-pub roots-with_frame_words : (fits : Fitting) (rooted : Rooting) (tree : Tree) (n : ℕ) (f : F) (words : List ℕ) → frame_at tree n ≡ Some f → IsKeptAbove fits rooted tree f words →
-    (root : ℕ) (origin : List ℕ) → path_in tree root ≡ root ∷ [] → rooted origin (words_in tree root) → rooted origin (words_in (with_frame_words n words tree) root)
-roots-with_frame_words fits rooted tree n f words at kept root origin is was = grind (arith, root-top, words-found, words-own, words-other)
+module _ (fits : Fitting) (rooted : Rooting) where
+  pub roots-with_frame_words : (tree : Tree) (n : ℕ) (f : F) (words : List ℕ) → frame_at tree n ≡ Some f → IsKeptAbove fits rooted tree f words →
+      (root : ℕ) (origin : List ℕ) → path_in tree root ≡ root ∷ [] → rooted origin (words_in tree root) →
+      rooted origin (words_in (with_frame_words n words tree) root)
+  roots-with_frame_words tree n f words at kept root origin is was = grind (arith, root-top, words-found, words-own, words-other)
 
--- a tenant, by its parts
-pub fits-counted : (fits : Fitting) (rooted : Rooting) (origins : Lists) (tenant : Tenant) → TenantFits fits rooted origins tenant → TenantFits fits rooted origins (counted tenant)
-fits-counted fits rooted origins tenant fitting = record { frames = fitting.frames; jobs = fitting.jobs }
+  -- a tenant, by its parts
+  pub fits-counted : (origins : Lists) (tenant : Tenant) → TenantFits fits rooted origins tenant → TenantFits fits rooted origins (counted tenant)
+  fits-counted origins tenant fitting = record { frames = fitting.frames; jobs = fitting.jobs }
 
 -- a frame comes to another state, in which it fits
 module _ (fits : Fitting) (rooted : Rooting) (origins : Lists) (tenant : Tenant) (n : ℕ) (state : State) (shape : IsShaped tenant)
@@ -263,7 +266,7 @@ pub fits-spawned : (fits : Fitting) (rooted : Rooting) (origins : Lists) (tenant
     TenantFits fits rooted origins (opened (Some f.serial) given size worker (counted (holding f.serial words tenant)))
 fits-spawned fits rooted origins tenant f words given size worker shape fitting at free kept own newborn = record {
   frames = holds-fits fits (tree1 ++ new ∷ []) (tree-new_frame tree1 serial (Some n) worker (padded given size) t1 below1 there1)
-      (holds-push Q tree1 new t1 next (other serial apart) (ap (λ o. children_under o tree1) (missing tree1 serial (has_frame-above tree1 serial below1))) newborn
+      (holds-push Q _ new t1 next (other serial apart) (ap (λ o. children_under o tree1) (missing tree1 serial (has_frame-above tree1 serial below1))) newborn
       (holds-after-words (BeforePush Q new) fits rooted tree n f words shape.tree shape.childless fitting.frames at kept
       ((λ child. own_marked), (λ none. absurd (false≢true (sym none ∙ child_of_n))))
       (λ s w k m ne fits_old. ((λ child. absurd (ne (only s child))), (λ none. fits_old)))));
@@ -320,4 +323,4 @@ fits-spawned fits rooted origins tenant f words given size worker shape fitting 
     own_marked = grind (arith, kids)
 
     left : (root : ℕ) → path_in tree root ≡ root ∷ [] → words_in (tree1 ++ new ∷ []) root ≡ words_in tree1 root
-    left root is = ap frame_words (frame_at-left tree1 (new ∷ []) root (path-there tree1 root (path_in-alike tree tree1 root (with_frame_words-alike n words tree) ∙ is)))
+    left root is = ap frame_words (frame_at-left _ (new ∷ []) root (path-there _ _ (path_in-alike tree tree1 root (with_frame_words-alike n words tree) ∙ is)))

@@ -42,21 +42,23 @@ module _ (n : ℕ) (words : List ℕ) where
   with_frame_words-missing (x ∷ xs) lacks = grind (arith, with_frame_words-missing xs)
 
 -- what is charged, frame by frame
-charged-cons : (x : Frame (List ℕ)) (xs : Tree) → charged_for (x ∷ xs) ≡ charge (length x.value) + charged_for xs
-charged-cons x xs = sum_by-cons (λ frame. charge (length frame.value)) x xs
+module _ (x : Frame (List ℕ)) where
+  charged-cons : (xs : Tree) → charged_for (x ∷ xs) ≡ charge (length x.value) + charged_for xs
+  charged-cons xs = sum_by-cons (λ frame. charge (length frame.value)) x xs
 
-pub charged-one : (x : Frame (List ℕ)) → charged_for (x ∷ []) ≡ charge (length x.value)
-charged-one x = charged-cons x [] ∙ omega arith
+  pub charged-one : charged_for (x ∷ []) ≡ charge (length x.value)
+  charged-one = charged-cons [] ∙ omega arith
 
 -- that of the new words in place of the old
-charged-here : (n : ℕ) (words : List ℕ) (x : Frame (List ℕ)) (xs : Tree) → x.serial ≡ n → AreSerialsRising (x ∷ xs) →
-    charged_for (with_frame_words n words (x ∷ xs)) + charge (length x.value) ≡ charged_for (x ∷ xs) + charge (length words)
-charged-here n words x xs serial rising = grind (arith, with_frame_words-missing, above-missing, charged-cons)
+module _ (n : ℕ) (words : List ℕ) where
+  charged-here : (x : Frame (List ℕ)) (xs : Tree) → x.serial ≡ n → AreSerialsRising (x ∷ xs) →
+      charged_for (with_frame_words n words (x ∷ xs)) + charge (length x.value) ≡ charged_for (x ∷ xs) + charge (length words)
+  charged-here x xs serial rising = grind (arith, with_frame_words-missing, above-missing, charged-cons)
 
-pub charged-with_frame_words : (n : ℕ) (words : List ℕ) (xs : Tree) (f : Frame (List ℕ)) → AreSerialsRising xs → frame_at xs n ≡ Some f →
-    charged_for (with_frame_words n words xs) + charge (length f.value) ≡ charged_for xs + charge (length words)
-charged-with_frame_words n words [] f rising at = absurd cc
-charged-with_frame_words n words (x ∷ xs) f rising at = grind (arith, charged-with_frame_words n words xs f, charged-here, eqb-true, charged-cons)
+  pub charged-with_frame_words : (xs : Tree) (f : Frame (List ℕ)) → AreSerialsRising xs → frame_at xs n ≡ Some f →
+      charged_for (with_frame_words n words xs) + charge (length f.value) ≡ charged_for xs + charge (length words)
+  charged-with_frame_words [] f rising at = absurd cc
+  charged-with_frame_words (x ∷ xs) f rising at = grind (arith, charged-with_frame_words xs f, charged-here, eqb-true, charged-cons)
 
 -- what is charged for some frames and some more
 pub charged-append : (xs ys : Tree) → charged_for (xs ++ ys) ≡ charged_for xs + charged_for ys
@@ -121,8 +123,7 @@ BeforeState Q n state s w k m = (s ≡ n → Q s w k (mark_of_state state)) × (
 pub holds-with_state : (Q : Fact) (n : ℕ) (state : State) (tree : Tree) → IsTree tree → Holds (BeforeState Q n state) tree → Holds Q (with_state n state tree)
 holds-with_state Q n state tree t all s f at = elim (cases_eq s n) [
   | inr other ↦ (let old : frame_at tree s ≡ Some f = sym (frame_at_other-with_state n state tree s (λ e. other (sym e))) ∙ at in
-      let P : Lists → Type 0 = λ k. Q s f.value k (mark_of_state f.state) in
-      subst P (sym same) ((all s f old).1 other))
+      subst (λ k. Q s f.value k (mark_of_state f.state)) (sym same) ((all s f old).1 other))
   | inl is ↦ here is (has_frame tree n) refl
 ]
   where
@@ -139,11 +140,9 @@ holds-with_state Q n state tree t all s f at = elim (cases_eq s n) [
     here : s ≡ n → (there : Bool) → has_frame tree n ≡ there → Q s f.value (kids (with_state n state tree) s) (mark_of_state f.state)
     here is true there =
         let g = there-found tree n there in
-        let e : record g.0 { state = state } ≡ f = found-same (with_state n state tree) n s (record g.0 { state = state }) f (sym is) (frame_at-with_state n state tree g.0 g.1) at in
-        let own = (all s g.0 (ap (frame_at tree) is ∙ g.1)).0 is in
+        let e : record g.0 { state = state } ≡ f = found-same (with_state n state tree) n s _ f (sym is) (frame_at-with_state n state tree g.0 g.1) at in
         let P : F → Type 0 = λ h. Q s h.value (kids (with_state n state tree) s) (mark_of_state h.state) in
-        let R : Lists → Type 0 = λ k. Q s g.0.value k (mark_of_state state) in
-        subst P e (subst R (sym same) own)
+        subst P e (subst (λ k. Q s g.0.value k (mark_of_state state)) (sym same) ((all s g.0 (ap (frame_at tree) is ∙ g.1)).0 is))
     here is false lacks =
         let none : frame_at (with_state n state tree) n ≡ None = missing (with_state n state tree) n (lacking tree lacks) in
         let both : ◌≡◌ {A = Option F} None (Some f) = sym none ∙ ap (frame_at (with_state n state tree)) (sym is) ∙ at in absurd cc
@@ -218,30 +217,30 @@ BeforeWords Q n f words s w k m =
     × (s ≢ n → is_child_of s f.path ≡ true → (older younger : Lists) → k ≡ older ++ f.value ∷ younger → Q s w (older ++ words ∷ younger) m)
     × (s ≢ n → is_child_of s f.path ≡ false → Q s w k m)
 
-pub holds-with_frame_words : (Q : Fact) (n : ℕ) (f : F) (words : List ℕ) (tree : Tree) → IsTree tree → frame_at tree n ≡ Some f → is_child_of n f.path ≡ false → Holds (BeforeWords Q n f words) tree → Holds Q (with_frame_words n words tree)
-holds-with_frame_words Q n f words tree t at_n apart all s h at = elim (cases_eq s n) [
-  | inl is ↦ (let e : record f { value = words } ≡ h = found-same (with_frame_words n words tree) n s (record f { value = words }) h (sym is) (frame_at-with_frame_words n words tree f at_n) at in
-      let own = (all s f (ap (frame_at tree) is ∙ at_n)).0 is in
-      let P : F → Type 0 = λ y. Q s y.value (kids (with_frame_words n words tree) s) (mark_of_state y.state) in
-      let R : Lists → Type 0 = λ k. Q s words k (mark_of_state f.state) in
-      subst P e (subst R (sym (same (ap (λ (i : ℕ). is_child_of i f.path) is ∙ apart))) own))
-  | inr other ↦ (let old : frame_at tree s ≡ Some h = sym (frame_at_other-with_frame_words n words tree s (λ e. other (sym e))) ∙ at in
-      let P : Lists → Type 0 = λ k. Q s h.value k (mark_of_state h.state) in
-      elim (cases_Bool (is_child_of s f.path)) [
-        | inl child ↦ (let a = among-kids tree s n f t at_n child in subst P (sym (a.stored words)) ((all s h old).1 other child a.older a.younger a.all))
-        | inr none ↦ subst P (sym (same none)) ((all s h old).2 other none)
-      ])
-]
-  where
-    same : is_child_of s f.path ≡ false → kids (with_frame_words n words tree) s ≡ kids tree s
-    same none = ap values_of (children_of-with_frame_words n words tree s t ∙ with_frame_words-missing n words (children_of tree s) (not-among tree s n f t at_n none))
+module _ (n : ℕ) (f : F) (tree : Tree) (t : IsTree tree) where
+  pub holds-with_frame_words : (Q : Fact) (words : List ℕ) → frame_at tree n ≡ Some f → is_child_of n f.path ≡ false → Holds (BeforeWords Q n f words) tree → Holds Q (with_frame_words n words tree)
+  holds-with_frame_words Q words at_n apart all s h at = elim (cases_eq s n) [
+    | inl is ↦ (let e : record f { value = words } ≡ h = found-same _ n s _ h (sym is) (frame_at-with_frame_words n words tree f at_n) at in
+        let P : F → Type 0 = λ y. Q s y.value (kids (with_frame_words n words tree) s) (mark_of_state y.state) in
+        let R : Lists → Type 0 = λ k. Q s words k (mark_of_state f.state) in
+        subst P e (subst R (sym (same (ap (λ (i : ℕ). is_child_of i f.path) is ∙ apart))) ((all s f (ap (frame_at tree) is ∙ at_n)).0 is)))
+    | inr other ↦ (let old : frame_at tree s ≡ Some h = sym (frame_at_other-with_frame_words n words tree s (λ e. other (sym e))) ∙ at in
+        let P : Lists → Type 0 = λ k. Q s h.value k (mark_of_state h.state) in
+        elim (cases_Bool (is_child_of s f.path)) [
+          | inl child ↦ (let a = among-kids tree s n f t at_n child in subst P (sym (a.stored words)) ((all s h old).1 other child a.older a.younger a.all))
+          | inr none ↦ subst P (sym (same none)) ((all s h old).2 other none)
+        ])
+  ]
+    where
+      same : is_child_of s f.path ≡ false → kids (with_frame_words n words tree) s ≡ kids tree s
+      same none = ap values_of (children_of-with_frame_words n words tree s t ∙ with_frame_words-missing n words (children_of tree s) (not-among tree s n f t at_n none))
 
--- no frame is its own child
-pub not-own-child : (tree : Tree) (n : ℕ) (f : F) → IsTree tree → frame_at tree n ≡ Some f → is_child_of n f.path ≡ false
-not-own-child tree n f t at = elim (placed tree n f t at) [
-  | inl top ↦ ap (is_that n) top.0
-  | inr u ↦ (let below = u.below in let e = found-serial tree n f at in ap (is_that n) u.named ∙ ne_eqb u.parent n (λ is. omega (arith, below, e, is)))
-]
+  -- no frame is its own child
+  pub not-own-child : frame_at tree n ≡ Some f → is_child_of n f.path ≡ false
+  not-own-child at = elim (placed tree n f t at) [
+    | inl top ↦ ap (is_that n) top.0
+    | inr u ↦ (let below = u.below in let e = found-serial tree n f at in ap (is_that n) u.named ∙ ne_eqb u.parent n (λ is. omega (arith, below, e, is)))
+  ]
 
 -- a frame more
 abbrev pub BeforePush : Fact → F → Fact
@@ -251,10 +250,9 @@ pub holds-push : (Q : Fact) (tree : Tree) (y : F) → IsTree tree → IsNextFram
     Holds (BeforePush Q y) tree → Holds Q (tree ++ y ∷ [])
 holds-push Q tree y t next apart leaf new all s f at = elim (cases_eq y.serial s) [
   | inl is ↦ (let e : y ≡ f = found-same (tree ++ y ∷ []) y.serial s y f is (frame_at-push tree y next.above) at in
-      let P : F → Type 0 = λ h. Q s h.value (kids (tree ++ y ∷ []) s) (mark_of_state h.state) in
       let R : Lists → Type 0 = λ k. Q s y.value k (mark_of_state y.state) in
       let S : ℕ → Type 0 = λ n. Q n y.value [] (mark_of_state y.state) in
-      subst P e (subst R (sym (none is)) (subst S is new)))
+      subst (λ h. Q s h.value (kids (tree ++ y ∷ []) s) (mark_of_state h.state)) e (subst R (sym (none is)) (subst S is new)))
   | inr other ↦ (let old : frame_at tree s ≡ Some f = sym (frame_at_other-push tree y s other) ∙ at in
       let P : Lists → Type 0 = λ k. Q s f.value k (mark_of_state f.state) in
       elim (cases_Bool (is_child_of s y.path)) [
@@ -318,44 +316,44 @@ filter-all : (keep : F → Bool) (xs : Tree) → Each (λ x. keep x ≡ true) xs
 filter-all keep [] all = refl
 filter-all keep (x ∷ xs) all = rw all.0 (ap (λ (ys : Tree). x ∷ ys) (filter-all keep xs all.1))
 
-children-stay : (p s : ℕ) (h : F) (tree : Tree) → IsTree tree → frame_at tree s ≡ Some h → goes_under p h.path ≡ false → s ≢ p → filter (λ x. not (goes_under p x.path)) (children_of tree s) ≡ children_of tree s
-children-stay p s h tree t at stays other =
-    let is = children-by-paths tree s t in
-    let list = filter (λ x. is_child_of s x.path) tree in
-    let P : F → Type 0 = λ x. not (goes_under p x.path) ≡ true in
-    let rising = rising-filter (λ x. is_child_of s x.path) tree (tree-rising tree t) in
-    ap (filter (λ x. not (goes_under p x.path))) is ∙ filter-all (λ x. not (goes_under p x.path)) list (found-each P list rising (λ c x at_c. one c x (filter-found (λ x. is_child_of s x.path) tree c x (tree-rising tree t) at_c))) ∙ sym is
-  where
-    one : (c : ℕ) (x : F) → (frame_at tree c ≡ Some x) × (is_child_of s x.path ≡ true) → not (goes_under p x.path) ≡ true
-    one c x found = elim (placed tree c x t found.0) [
-      | inl top ↦ absurd (false≢true (sym (ap (is_that s) top.0) ∙ found.1))
-      | inr u ↦ (let parent : u.parent ≡ s = eqb-true u.parent s (sym (ap (is_that s) u.named) ∙ found.1) in
-          let e : h ≡ u.above = found-same tree s u.parent h u.above (sym parent) at u.there in
-          not_from_false (goes_under p x.path) (under-through tree x p t u ∙ (rw (parent, ne_eqb s p other) (ap (λ (y : F). goes_under p y.path) (sym e) ∙ stays))))
-    ]
+module _ (p : ℕ) (tree : Tree) (t : IsTree tree) where
+  children-stay : (s : ℕ) (h : F) → frame_at tree s ≡ Some h → goes_under p h.path ≡ false → s ≢ p → filter (λ x. not (goes_under p x.path)) (children_of tree s) ≡ children_of tree s
+  children-stay s h at stays other =
+      let is = children-by-paths tree s t in
+      let list = filter (λ x. is_child_of s x.path) tree in
+      let P : F → Type 0 = λ x. not (goes_under p x.path) ≡ true in
+      let rising = rising-filter (λ x. is_child_of s x.path) tree (tree-rising tree t) in
+      ap (filter (λ x. not (goes_under p x.path))) is ∙ filter-all (λ x. not (goes_under p x.path)) list (found-each P list rising (λ c x at_c. one c x (filter-found (λ x. is_child_of s x.path) tree c x (tree-rising tree t) at_c))) ∙ sym is
+    where
+      one : (c : ℕ) (x : F) → (frame_at tree c ≡ Some x) × (is_child_of s x.path ≡ true) → not (goes_under p x.path) ≡ true
+      one c x found = elim (placed tree c x t found.0) [
+        | inl top ↦ absurd (false≢true (sym (ap (is_that s) top.0) ∙ found.1))
+        | inr u ↦ (let parent : u.parent ≡ s = eqb-true u.parent s (sym (ap (is_that s) u.named) ∙ found.1) in
+            let e : h ≡ u.above = found-same tree s u.parent h u.above (sym parent) at u.there in
+            not_from_false (goes_under p x.path) (under-through tree x p t u ∙ (rw (parent, ne_eqb s p other) (ap (λ (y : F). goes_under p y.path) (sym e) ∙ stays))))
+      ]
 
-pub holds-aborted : (Q : Fact) (p : ℕ) (tree : Tree) → IsTree tree → Holds (BeforeAbort Q p) tree → Holds Q (aborted p tree)
-holds-aborted Q p tree t all s h at = grind (arith, filter-found, tree-rising, not-true, aborted-leaf, children-filter, tree-aborted, children-stay)
+  pub holds-aborted : (Q : Fact) → Holds (BeforeAbort Q p) tree → Holds Q (aborted p tree)
+  holds-aborted Q all s h at = grind (arith, filter-found, tree-rising, not-true, aborted-leaf, children-filter, tree-aborted, children-stay)
 
--- a root and all that is below it removed
-pub holds-without_job : (Q : Fact) (p : ℕ) (tree : Tree) → IsTree tree → Holds (λ s w k m. s ≢ p → Q s w k m) tree → (parent_of_root : (f : F) → frame_at tree p ≡ Some f → parent_of f.path ≡ None) → Holds Q (frames_without p (aborted p tree))
-holds-without_job Q p tree t all top = by (has_frame tree p) refl
-  where
-    cut : Tree
-    cut = aborted p tree
+  -- a root and all that is below it removed
+  pub holds-without_job : (Q : Fact) → Holds (λ s w k m. s ≢ p → Q s w k m) tree → (parent_of_root : (f : F) → frame_at tree p ≡ Some f → parent_of f.path ≡ None) → Holds Q (frames_without p (aborted p tree))
+  holds-without_job Q all top = by (has_frame tree p) refl
+    where
+      cut : Tree
+      cut = aborted p tree
 
-    kept : Holds (λ s w k m. s ≢ p → Q s w k m) (aborted p tree)
-    kept = holds-aborted (λ s w k m. s ≢ p → Q s w k m) p tree t (λ s f at. ((λ is other. absurd (other is)), λ other. all s f at))
+      kept : Holds (λ s w k m. s ≢ p → Q s w k m) (aborted p tree)
+      kept = holds-aborted (λ s w k m. s ≢ p → Q s w k m) (λ s f at. ((λ is other. absurd (other is)), λ other. all s f at))
 
-    by : (there : Bool) → has_frame tree p ≡ there → Holds Q (frames_without p (aborted p tree))
-    by true there =
-        let f = there-found tree p there in
-        let none : (s : ℕ) → is_child_of s f.0.path ≡ false = λ s. ap (is_that s) (top f.0 f.1) in
-        holds-without Q p f.0 (aborted p tree) (tree-aborted p tree t) (aborted-itself p tree f.0 t f.1) (aborted-leaf p tree t)
-        (λ s h at other. ((λ child older younger e. absurd (false≢true (sym (none s) ∙ child))), λ no_child. kept s h at other))
-    by false lacks = λ s h at.
-        let apart : s ≢ p = λ e. (let both : ◌≡◌ {A = Option F} None (Some h) = sym (frame_at-without p (aborted p tree)) ∙ ap (frame_at (frames_without p (aborted p tree))) (sym e) ∙ at in absurd cc) in
-        let cut_lacks : has_frame (aborted p tree) p ≡ false = no-frame (aborted p tree) p (frame_at-filter (λ x. not (goes_under p x.path)) tree p (tree-rising tree t) ∙ ap (if_kept (λ x. not (goes_under p x.path))) (missing tree p lacks)) in
-        let same = without-missing p (aborted p tree) cut_lacks in
-        let P : Tree → Type 0 = λ ys. Q s h.value (kids ys s) (mark_of_state h.state) in
-        subst P (sym same) (kept s h (ap (λ (ys : Tree). frame_at ys s) (sym same) ∙ at) apart)
+      by : (there : Bool) → has_frame tree p ≡ there → Holds Q (frames_without p (aborted p tree))
+      by true there =
+          let f = there-found tree p there in
+          let none : (s : ℕ) → is_child_of s f.0.path ≡ false = λ s. ap (is_that s) (top f.0 f.1) in
+          holds-without Q p f.0 (aborted p tree) (tree-aborted p tree t) (aborted-itself p tree f.0 t f.1) (aborted-leaf p tree t)
+          (λ s h at other. ((λ child older younger e. absurd (false≢true (sym (none s) ∙ child))), λ no_child. kept s h at other))
+      by false lacks = λ s h at.
+          let apart : s ≢ p = λ e. (let both : ◌≡◌ {A = Option F} None (Some h) = sym (frame_at-without p (aborted p tree)) ∙ ap (frame_at (frames_without p (aborted p tree))) (sym e) ∙ at in absurd cc) in
+          let cut_lacks : has_frame (aborted p tree) p ≡ false = no-frame (aborted p tree) p (frame_at-filter (λ x. not (goes_under p x.path)) tree p (tree-rising tree t) ∙ ap (if_kept (λ x. not (goes_under p x.path))) (missing tree p lacks)) in
+          let same = without-missing p (aborted p tree) cut_lacks in
+          subst (λ ys. Q s h.value (kids ys s) (mark_of_state h.state)) (sym same) (kept s h (ap (λ (ys : Tree). frame_at ys s) (sym same) ∙ at) apart)

@@ -14,11 +14,12 @@ Answers tenant frames None = NoneReady frames
 Answers tenant frames (Some found) = IsNewestReady tenant frames found.0 found.1
 
 -- a frame behind the first is found as in the rest
-behind : (x : F) (xs : Tree) (s : ℕ) → x.serial ≢ s → frame_at (x ∷ xs) s ≡ frame_at xs s
-behind x xs s other = rw (ne_eqb x.serial s other) refl
+module _ (x : F) (xs : Tree) (s : ℕ) where
+  behind : x.serial ≢ s → frame_at (x ∷ xs) s ≡ frame_at xs s
+  behind other = rw (ne_eqb x.serial s other) refl
 
-at-first : (x : F) (xs : Tree) (s : ℕ) (f : F) → x.serial ≡ s → frame_at (x ∷ xs) s ≡ Some f → x ≡ f
-at-first x xs s f same at = let both : ◌≡◌ {A = Option F} (Some x) (Some f) = rw (eq-eqb x.serial s same) at at in cc
+  at-first : (f : F) → x.serial ≡ s → frame_at (x ∷ xs) s ≡ Some f → x ≡ f
+  at-first f same at = let both : ◌≡◌ {A = Option F} (Some x) (Some f) = rw (eq-eqb x.serial s same) at at in cc
 
 above-found : (low : ℕ) (xs : Tree) (s : ℕ) → AllAboveSerial low xs → has_frame xs s ≡ true → low < s
 above-found low [] s above there = absurd (false≢true there)
@@ -28,12 +29,13 @@ ready-there : (o : Option F) (home : ℕ) → IsReadyAt o home → o ≢ None
 ready-there o home h3 = grind arith
 
 -- the first frame is not ready
-not-first : (tenant : ℕ) (x : F) (xs : Tree) → is_ready x.state ≡ false → ready_name tenant x.serial x.state ≡ None → NoneReady xs → Answers tenant (x ∷ xs) (ready_name tenant x.serial x.state)
-not-first tenant x xs idle none rest = grind (arith, at-first, behind)
+module _ (tenant : ℕ) (x : F) (xs : Tree) (rest : NoneReady xs) where
+  not-first : is_ready x.state ≡ false → ready_name tenant x.serial x.state ≡ None → Answers tenant (x ∷ xs) (ready_name tenant x.serial x.state)
+  not-first idle none = grind (arith, at-first, behind)
 
--- the last that is ready
-by-first : (tenant : ℕ) (x : F) (xs : Tree) → NoneReady xs → (state : State) → x.state ≡ state → Answers tenant (x ∷ xs) (ready_name tenant x.serial x.state)
-by-first tenant x xs h4 state h6 = grind (arith, behind, not-first)
+  -- the last that is ready
+  by-first : (state : State) → x.state ≡ state → Answers tenant (x ∷ xs) (ready_name tenant x.serial x.state)
+  by-first state h6 = grind (arith, behind, not-first)
 
 pub newest-answers : (tenant : ℕ) (frames : Tree) → AreSerialsRising frames → Answers tenant frames (newest_ready_of tenant frames)
 newest-answers tenant [] rising = λ s f at. absurd cc
@@ -42,28 +44,25 @@ newest-answers tenant (x ∷ xs) rising = by (newest_ready_of tenant xs) refl (n
     by : (o : Option (FrameId × ℕ)) → newest_ready_of tenant xs ≡ o → Answers tenant xs (newest_ready_of tenant xs) → Answers tenant (x ∷ xs) (newest_ready_of tenant (x ∷ xs))
     by None e rest =
         let P : Option (FrameId × ℕ) → Type 0 = λ p. Answers tenant xs p in
-        let Q : Option (FrameId × ℕ) → Type 0 = λ p. Answers tenant (x ∷ xs) (first_of_two p (ready_name tenant x.serial x.state)) in
-        subst Q (sym e) (by-first tenant x xs (subst P e rest) x.state refl)
+        subst (λ p. Answers tenant (x ∷ xs) (first_of_two p (ready_name tenant x.serial x.state))) (sym e) (by-first tenant x xs (subst P e rest) x.state refl)
     by (Some found) e rest =
         let P : Option (FrameId × ℕ) → Type 0 = λ p. Answers tenant xs p in
-        let Q : Option (FrameId × ℕ) → Type 0 = λ p. Answers tenant (x ∷ xs) (first_of_two p (ready_name tenant x.serial x.state)) in
-        let n = subst P e rest in
-        subst Q (sym e) (further found n)
+        subst (λ p. Answers tenant (x ∷ xs) (first_of_two p (ready_name tenant x.serial x.state))) (sym e) (further found (subst P e rest))
       where
         further : (found : FrameId × ℕ) → IsNewestReady tenant xs found.0 found.1 → IsNewestReady tenant (x ∷ xs) found.0 found.1
         further found n =
             let serial = found.0.serial in
             let there : has_frame xs serial ≡ true = elim (cases_Bool (has_frame xs serial)) [ inl is ↦ is | inr lacks ↦ absurd (ready-there (frame_at xs serial) found.1 n.ready (missing xs serial lacks)) ] in
             let low = above-found x.serial xs serial rising.0 there in
-            let R : Option F → Type 0 = λ o. IsReadyAt o found.1 in
             record {
               own = n.own;
-              ready = subst R (sym (behind x xs serial (λ e. omega (arith, e, low)))) n.ready;
+              ready = subst (λ o. IsReadyAt o found.1) (sym (behind x xs serial (λ e. omega (arith, e, low)))) n.ready;
               greatest = λ s f at ready. grind (arith, behind);
             }
 
-pub newest-found : (tenant : ℕ) (frames : Tree) (name : FrameId) (home : ℕ) → AreSerialsRising frames → newest_ready_of tenant frames ≡ Some (name, home) → IsNewestReady tenant frames name home
-newest-found tenant frames name home rising is = let P : Option (FrameId × ℕ) → Type 0 = λ o. Answers tenant frames o in subst P is (newest-answers tenant frames rising)
+module _ (tenant : ℕ) (frames : Tree) where
+  pub newest-found : (name : FrameId) (home : ℕ) → AreSerialsRising frames → newest_ready_of tenant frames ≡ Some (name, home) → IsNewestReady tenant frames name home
+  newest-found name home rising is = let P : Option (FrameId × ℕ) → Type 0 = λ o. Answers tenant frames o in subst P is (newest-answers tenant frames rising)
 
-pub newest-none : (tenant : ℕ) (frames : Tree) → AreSerialsRising frames → newest_ready_of tenant frames ≡ None → NoneReady frames
-newest-none tenant frames rising is = let P : Option (FrameId × ℕ) → Type 0 = λ o. Answers tenant frames o in subst P is (newest-answers tenant frames rising)
+  pub newest-none : AreSerialsRising frames → newest_ready_of tenant frames ≡ None → NoneReady frames
+  newest-none rising is = let P : Option (FrameId × ℕ) → Type 0 = λ o. Answers tenant frames o in subst P is (newest-answers tenant frames rising)

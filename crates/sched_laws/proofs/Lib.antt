@@ -1,4 +1,4 @@
-mod Common
+pub mod Common
 pub mod Parts
 pub mod Shaped
 pub mod Consequences

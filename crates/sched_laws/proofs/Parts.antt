@@ -1,6 +1,6 @@
 -- Each part of a tenant's shape, under each change of the tree and of the jobs.
 use Rattle.sched_laws.proofs.Common.{◌≡◌, ◌≢◌, ℕ, suc, ◌+◌, ◌≤◌, ◌⊎◌, inl, inr, Bool, true, false, eqb, ltb, List, [], ◌∷◌, ◌++◌, Option, Some, None, length, refl, ap, sym, ◌∙◌, arith, length-append, ◌-◌, ◌*◌, ◌<◌, not, replicate, filter, filter-append, cases_Bool, cases_eq, false≢true, eq-eqb, ne_eqb, eqb-false, ltb-false, not_from_false, State, Frame, frame_at, has_frame, path_in, AllBelow, parent_of, with_state, children_of, values_of, IsNextFrame, IsTree, goes_under, aborted, frames_without, new_frame, is_child_of, Each, AreAlike, there-found, found-serial, found-path, missing, frame_at-push, frame_at_other-push, tree-rising, each-found, found-each, children-by-paths, found-there, found-ends, filter-found, frame_at-stays, AllBelow-filter, tree-aborted, tree-without, tree-without_job, tree-push, children_of-push, tree-with_state, frame_at-with_state, frame_at_other-with_state, children_of-with_state, tree-new_frame, new-frame-next, parent_of-path_under, AllBelow-alike, path_in-alike, with_state-alike, values_of-with_state, Job, Live, Tree, has_child, is_live_at, with_frame_words, with_ended, Tenant, charged_for, is_root, Neither, mark_of_state, AreMarkedChildless, live_count, AreRootsLive, IsRootThere, AreLiveRootsThere, HaveWords, IsShaped, length-replicate, charge, padded, EndsIn, AllBelow-append, has_frame-above, path_in-left, path_in-right, counted, in_state, holding, opened, ended}
-use Rattle.sched_laws.proofs.Holds.{children_of-with_frame_words, length-with_frame_words, with_frame_words-alike, tree-with_frame_words, charged-one, charged-with_frame_words, charged-append, charged-filter, charged-values}
+use Rattle.sched_laws.proofs.Holds.{found-same, children_of-with_frame_words, length-with_frame_words, with_frame_words-alike, tree-with_frame_words, charged-one, charged-with_frame_words, charged-append, charged-filter, charged-values}
 
 -- a frame that computes or has returned has no child in this tree
 abbrev pub IsMarkedChildless : Tree → Frame (List ℕ) → Type 0
@@ -14,65 +14,67 @@ pub each-childless : (tree frames : Tree) → Each (IsMarkedChildless tree) fram
 each-childless tree [] each = tt
 each-childless tree (x ∷ xs) each = (each.0, each-childless tree xs each.1)
 
-pub childless-at : (tree : Tree) (s : ℕ) (f : Frame (List ℕ)) → AreMarkedChildless tree tree → frame_at tree s ≡ Some f → IsMarkedChildless tree f
-childless-at tree s f all at = each-found (IsMarkedChildless tree) tree s f (childless-each tree tree all) at
+module _ (tree : Tree) (s : ℕ) where
+  pub childless-at : (f : Frame (List ℕ)) → AreMarkedChildless tree tree → frame_at tree s ≡ Some f → IsMarkedChildless tree f
+  childless-at f all at = each-found (IsMarkedChildless tree) tree s f (childless-each tree tree all) at
 
--- no child, as a fact of lists
-pub no-child : (tree : Tree) (s : ℕ) → has_child tree s ≡ false → children_of tree s ≡ []
-no-child tree s none = empty (children_of tree s) none
-  where
-    empty : (xs : Tree) → ltb 0 (length xs) ≡ false → xs ≡ []
-    empty [] e = refl
-    empty (x ∷ xs) e = absurd (omega (arith, ltb-false 0 (length (x ∷ xs)) e))
+  -- no child, as a fact of lists
+  pub no-child : has_child tree s ≡ false → children_of tree s ≡ []
+  no-child none = empty (children_of tree s) none
+    where
+      empty : (xs : Tree) → ltb 0 (length xs) ≡ false → xs ≡ []
+      empty [] e = refl
+      empty (x ∷ xs) e = absurd (omega (arith, ltb-false 0 (length (x ∷ xs)) e))
 
-pub none-has_child : (tree : Tree) (s : ℕ) → children_of tree s ≡ [] → has_child tree s ≡ false
-none-has_child tree s none = rw none refl
+  pub none-has_child : children_of tree s ≡ [] → has_child tree s ≡ false
+  none-has_child none = rw none refl
 
--- as many children: the same answer
-has_child-length : (tree other : Tree) (s : ℕ) → length (children_of other s) ≡ length (children_of tree s) → has_child other s ≡ has_child tree s
-has_child-length tree other s e = ap (λ (n : ℕ). ltb 0 n) e
+  -- as many children: the same answer
+  has_child-length : (other : Tree) → length (children_of other s) ≡ length (children_of tree s) → has_child other s ≡ has_child tree s
+  has_child-length other e = ap (λ (n : ℕ). ltb 0 n) e
 
 -- another state in a frame
 length-with_state : (n : ℕ) (state : State) (xs : Tree) → length (with_state n state xs) ≡ length xs
 length-with_state n state [] = refl
 length-with_state n state (x ∷ xs) = ap (λ (k : ℕ). suc k) (length-with_state n state xs)
 
-pub has_child-with_state : (n : ℕ) (state : State) (tree : Tree) (s : ℕ) → IsTree tree → has_child (with_state n state tree) s ≡ has_child tree s
-has_child-with_state n state tree s t = grind (arith, has_child-length, children_of-with_state, length-with_state)
+module _ (n : ℕ) (state : State) (tree : Tree) (t : IsTree tree) where
+  pub has_child-with_state : (s : ℕ) → has_child (with_state n state tree) s ≡ has_child tree s
+  has_child-with_state s = grind (arith, has_child-length, children_of-with_state, length-with_state)
 
-pub childless-with_state : (n : ℕ) (state : State) (tree : Tree) → IsTree tree → (mark_of_state state ≡ Neither) ⊎ (has_child tree n ≡ false) → AreMarkedChildless tree tree → AreMarkedChildless (with_state n state tree) (with_state n state tree)
-childless-with_state n state tree t ok all =
-    let new = with_state n state tree in
-    each-childless new new (found-each (IsMarkedChildless new) new (tree-rising new (tree-with_state n state tree t)) at)
-  where
-    keep : (f : Frame (List ℕ)) → IsMarkedChildless tree f → IsMarkedChildless (with_state n state tree) f
-    keep f (inl neither) = inl neither
-    keep f (inr none) = inr (has_child-with_state n state tree f.serial t ∙ none)
+  pub childless-with_state : (mark_of_state state ≡ Neither) ⊎ (has_child tree n ≡ false) → AreMarkedChildless tree tree → AreMarkedChildless (with_state n state tree) (with_state n state tree)
+  childless-with_state ok all =
+      let new = with_state n state tree in
+      each-childless new new (found-each (IsMarkedChildless new) new (tree-rising new (tree-with_state n state tree t)) at)
+    where
+      keep : (f : Frame (List ℕ)) → IsMarkedChildless tree f → IsMarkedChildless (with_state n state tree) f
+      keep f (inl neither) = inl neither
+      keep f (inr none) = inr (has_child-with_state f.serial ∙ none)
 
-    own : (f : Frame (List ℕ)) → f.serial ≡ n → f.state ≡ state → (mark_of_state state ≡ Neither) ⊎ (has_child tree n ≡ false) → IsMarkedChildless (with_state n state tree) f
-    own f e is (inl neither) = inl (ap mark_of_state is ∙ neither)
-    own f e is (inr none) = inr (ap (has_child (with_state n state tree)) e ∙ has_child-with_state n state tree n t ∙ none)
+      own : (f : Frame (List ℕ)) → f.serial ≡ n → f.state ≡ state → (mark_of_state state ≡ Neither) ⊎ (has_child tree n ≡ false) → IsMarkedChildless (with_state n state tree) f
+      own f e is (inl neither) = inl (ap mark_of_state is ∙ neither)
+      own f e is (inr none) = inr (ap (has_child (with_state n state tree)) e ∙ has_child-with_state n ∙ none)
 
-    found : (s : ℕ) (f g : Frame (List ℕ)) → n ≡ s → frame_at tree n ≡ Some g → frame_at (with_state n state tree) s ≡ Some f → f.state ≡ state
-    found s f g e was is =
-        let both : ◌≡◌ {A = Option (Frame (List ℕ))} (Some (record g { state = state })) (Some f) = sym (frame_at-with_state n state tree g was) ∙ ap (frame_at (with_state n state tree)) e ∙ is in
-        let same : record g { state = state } ≡ f = cc in sym (ap (λ (y : Frame (List ℕ)). y.state) same)
+      found : (s : ℕ) (f g : Frame (List ℕ)) → n ≡ s → frame_at tree n ≡ Some g → frame_at (with_state n state tree) s ≡ Some f → f.state ≡ state
+      found s f g e was is =
+          let both : ◌≡◌ {A = Option (Frame (List ℕ))} (Some (record g { state = state })) (Some f) = sym (frame_at-with_state n state tree g was) ∙ ap (frame_at (with_state n state tree)) e ∙ is in
+          let same : record g { state = state } ≡ f = cc in sym (ap (λ (y : Frame (List ℕ)). y.state) same)
 
-    at : (s : ℕ) (f : Frame (List ℕ)) → frame_at (with_state n state tree) s ≡ Some f → IsMarkedChildless (with_state n state tree) f
-    at s f is = elim (cases_eq n s) [
-      | inl same ↦ elim (cases_Bool (has_frame tree n)) [
-        | inl there ↦ (let g = there-found tree n there in own f (found-serial (with_state n state tree) s f is ∙ sym same) (found s f g.0 same g.1 is) ok)
-        | inr lacks ↦ (let e : frame_at (with_state n state tree) n ≡ None = missing (with_state n state tree) n (lacking n state tree lacks) in absurd cc)
-      ]
-      | inr other ↦ keep f (childless-at tree s f all (sym (frame_at_other-with_state n state tree s other) ∙ is))
-    ]
-      where
-        lacking : (n : ℕ) (state : State) (xs : Tree) → has_frame xs n ≡ false → has_frame (with_state n state xs) n ≡ false
-        lacking n state [] lacks = refl
-        lacking n state (x ∷ xs) lacks = elim (cases_Bool (eqb x.serial n)) [
-          | inl same ↦ absurd (false≢true (sym lacks ∙ (rw same refl)))
-          | inr other ↦ rw (other, other) (lacking n state xs (rw other at lacks))
+      at : (s : ℕ) (f : Frame (List ℕ)) → frame_at (with_state n state tree) s ≡ Some f → IsMarkedChildless (with_state n state tree) f
+      at s f is = elim (cases_eq n s) [
+        | inl same ↦ elim (cases_Bool (has_frame tree n)) [
+          | inl there ↦ (let g = there-found tree n there in own f (found-serial (with_state n state tree) s f is ∙ sym same) (found s f g.0 same g.1 is) ok)
+          | inr lacks ↦ (let e : frame_at (with_state n state tree) n ≡ None = missing (with_state n state tree) n (lacking n state tree lacks) in absurd cc)
         ]
+        | inr other ↦ keep f (childless-at tree s f all (sym (frame_at_other-with_state n state tree s other) ∙ is))
+      ]
+        where
+          lacking : (n : ℕ) (state : State) (xs : Tree) → has_frame xs n ≡ false → has_frame (with_state n state xs) n ≡ false
+          lacking n state [] lacks = refl
+          lacking n state (x ∷ xs) lacks = elim (cases_Bool (eqb x.serial n)) [
+            | inl same ↦ absurd (false≢true (sym lacks ∙ (rw same refl)))
+            | inr other ↦ rw (other, other) (lacking n state xs (rw other at lacks))
+          ]
 
 pub childless-from : (new : Tree) → IsTree new → ((s : ℕ) (f : Frame (List ℕ)) → frame_at new s ≡ Some f → IsMarkedChildless new f) → AreMarkedChildless new new
 childless-from new t at = each-childless new new (found-each (IsMarkedChildless new) new (tree-rising new t) at)
@@ -97,7 +99,7 @@ childless-push tree y t next new free all = childless-from (tree ++ y ∷ []) (t
   where
     stays : (f : Frame (List ℕ)) → is_child_of f.serial y.path ≡ false → IsMarkedChildless tree f → IsMarkedChildless (tree ++ y ∷ []) f
     stays f other (inl neither) = inl neither
-    stays f other (inr none) = inr (none-has_child (tree ++ y ∷ []) f.serial (children_of-push tree y f.serial t next ∙ (rw (no-child tree f.serial none, other) refl)))
+    stays f other (inr none) = inr (none-has_child _ f.serial (children_of-push tree y f.serial t next ∙ (rw (no-child tree f.serial none, other) refl)))
 
     old : (s : ℕ) (f : Frame (List ℕ)) → frame_at tree s ≡ Some f → IsMarkedChildless (tree ++ y ∷ []) f
     old s f is = by (parent_of y.path) refl
@@ -120,28 +122,30 @@ none-filter : (p q : Frame (List ℕ) → Bool) (xs : Tree) → filter q xs ≡ 
 none-filter p q [] none = refl
 none-filter p q (x ∷ xs) none = grind (arith, none-filter p q xs)
 
-pub no-child-filter : (keep : Frame (List ℕ) → Bool) (tree : Tree) (s : ℕ) → IsTree tree → IsTree (filter keep tree) → has_child tree s ≡ false → has_child (filter keep tree) s ≡ false
-no-child-filter keep tree s t left none = grind (arith, none-has_child, children-by-paths, none-filter, no-child)
+module _ (keep : Frame (List ℕ) → Bool) (tree : Tree) (t : IsTree tree) (left : IsTree (filter keep tree)) where
+  pub no-child-filter : (s : ℕ) → has_child tree s ≡ false → has_child (filter keep tree) s ≡ false
+  no-child-filter s none = grind (arith, none-has_child, children-by-paths, none-filter, no-child)
 
-pub childless-filter : (keep : Frame (List ℕ) → Bool) (tree : Tree) → IsTree tree → IsTree (filter keep tree) → AreMarkedChildless tree tree → AreMarkedChildless (filter keep tree) (filter keep tree)
-childless-filter keep tree t left all = grind (arith, childless-from, childless-at, filter-found, tree-rising, no-child-filter)
+  pub childless-filter : AreMarkedChildless tree tree → AreMarkedChildless (filter keep tree) (filter keep tree)
+  childless-filter all = grind (arith, childless-from, childless-at, filter-found, tree-rising, no-child-filter)
 
 -- the root frames, where serials and paths stay
-pub roots-alike : (jobs : List Job) (xs ys : Tree) → AreAlike xs ys → AreRootsLive jobs xs → AreRootsLive jobs ys
-roots-alike jobs (x ∷ xs) (y ∷ ys) alike roots = grind (arith, roots-alike jobs xs ys)
-roots-alike jobs xs ys alike roots = grind arith
+module _ (jobs : List Job) where
+  pub roots-alike : (xs ys : Tree) → AreAlike xs ys → AreRootsLive jobs xs → AreRootsLive jobs ys
+  roots-alike (x ∷ xs) (y ∷ ys) alike roots = grind (arith, roots-alike xs ys)
+  roots-alike xs ys alike roots = grind arith
 
-pub roots-append : (jobs : List Job) (xs ys : Tree) → AreRootsLive jobs xs → AreRootsLive jobs ys → AreRootsLive jobs (xs ++ ys)
-roots-append jobs [] ys p q = q
-roots-append jobs (x ∷ xs) ys p q = (p.0, roots-append jobs xs ys p.1 q)
+  pub roots-append : (xs ys : Tree) → AreRootsLive jobs xs → AreRootsLive jobs ys → AreRootsLive jobs (xs ++ ys)
+  roots-append [] ys p q = q
+  roots-append (x ∷ xs) ys p q = (p.0, roots-append xs ys p.1 q)
 
-pub roots-filter : (keep : Frame (List ℕ) → Bool) (jobs : List Job) (xs : Tree) → AreRootsLive jobs xs → AreRootsLive jobs (filter keep xs)
-roots-filter keep jobs [] roots = tt
-roots-filter keep jobs (x ∷ xs) roots = grind (arith, roots-filter keep jobs xs)
+  pub roots-filter : (keep : Frame (List ℕ) → Bool) (xs : Tree) → AreRootsLive jobs xs → AreRootsLive jobs (filter keep xs)
+  roots-filter keep [] roots = tt
+  roots-filter keep (x ∷ xs) roots = grind (arith, roots-filter keep xs)
 
--- a job more, under a root above all
-pub live_count-append : (root : ℕ) (jobs more : List Job) → live_count root (jobs ++ more) ≡ live_count root jobs + live_count root more
-live_count-append root jobs more = grind (arith, filter-append, length-append)
+  -- a job more, under a root above all
+  pub live_count-append : (root : ℕ) (more : List Job) → live_count root (jobs ++ more) ≡ live_count root jobs + live_count root more
+  live_count-append root more = grind (arith, filter-append, length-append)
 
 pub one-live : (root : ℕ) → live_count root (Live root ∷ []) ≡ 1
 one-live root = rw (eq-eqb root root refl) refl
@@ -175,13 +179,14 @@ length-with_ended root job (x ∷ xs) = ap (λ (n : ℕ). suc n) (length-with_en
 live-one : (job : Job) (a b : ℕ) → is_live_at a job ≡ true → is_live_at b job ≡ true → a ≡ b
 live-one job a b h4 h5 = grind arith
 
-pub live_count-with_ended : (s root : ℕ) (job : Job) (jobs : List Job) → IsEnd job → s ≢ root → live_count s (with_ended root job jobs) ≡ live_count s jobs
-live_count-with_ended s root job [] end other = refl
-live_count-with_ended s root job (x ∷ xs) end other = grind (arith, live_count-with_ended s root job xs end other, live-one)
+module _ (root : ℕ) (job : Job) (end : IsEnd job) where
+  pub live_count-with_ended : (s : ℕ) (jobs : List Job) → s ≢ root → live_count s (with_ended root job jobs) ≡ live_count s jobs
+  live_count-with_ended s [] other = refl
+  live_count-with_ended s (x ∷ xs) other = grind (arith, live_count-with_ended s xs other, live-one)
 
-pub roots-with_ended : (root : ℕ) (job : Job) (jobs : List Job) (xs : Tree) → IsEnd job → has_frame xs root ≡ false → AreRootsLive jobs xs → AreRootsLive (with_ended root job jobs) xs
-roots-with_ended root job jobs [] end gone roots = tt
-roots-with_ended root job jobs (x ∷ xs) end gone roots = grind (arith, roots-with_ended root job jobs xs end, live_count-with_ended)
+  pub roots-with_ended : (jobs : List Job) (xs : Tree) → has_frame xs root ≡ false → AreRootsLive jobs xs → AreRootsLive (with_ended root job jobs) xs
+  roots-with_ended jobs [] gone roots = tt
+  roots-with_ended jobs (x ∷ xs) gone roots = grind (arith, roots-with_ended jobs xs, live_count-with_ended)
 
 -- the roots of the live jobs, by their paths
 abbrev pub KeepsRoots : Tree → Tree → Type 0
@@ -210,12 +215,11 @@ module _ (old new : Tree) (root : ℕ) (job : Job) where
   live-with_ended (x ∷ xs) end kept live = grind (arith, live-with_ended xs end kept, end-there, other-there)
 
 -- the roots that pass a test are still there
-pub roots-stay : (keep : Frame (List ℕ) → Bool) (tree : Tree) (s : ℕ) → IsTree tree → ((f : Frame (List ℕ)) → f.serial ≡ s → f.path ≡ s ∷ [] → keep f ≡ true) → path_in tree s ≡ s ∷ [] → path_in (filter keep tree) s ≡ s ∷ []
+pub roots-stay : (keep : Frame (List ℕ) → Bool) (tree : Tree) (s : ℕ) → IsTree tree → ((f : Frame (List ℕ)) → frame_at tree s ≡ Some f → f.path ≡ s ∷ [] → keep f ≡ true) → path_in tree s ≡ s ∷ [] → path_in (filter keep tree) s ≡ s ∷ []
 roots-stay keep tree s t stays is =
     let f = there-found tree s (path-there tree s is) in
     let path = sym (found-path tree s f.0 f.1) ∙ is in
-    let kept = frame_at-stays keep tree s f.0 (tree-rising tree t) f.1 (stays f.0 (found-serial tree s f.0 f.1) path) in
-    found-path (filter keep tree) s f.0 kept ∙ path
+    found-path (filter keep tree) s f.0 (frame_at-stays keep tree s f.0 (tree-rising tree t) f.1 (stays f.0 f.1 path)) ∙ path
 
 -- the numbers of words
 pub words-values : (xs ys : Tree) → values_of ys ≡ values_of xs → HaveWords xs → HaveWords ys
@@ -243,26 +247,27 @@ words-at (x ∷ xs) s f all at = grind (arith, words-at xs s f)
 -- What a step does to a tenant, move by move: each move keeps the shape.
 
 -- one more step is counted, where one was left
-pub shaped-counted : (tenant : Tenant) → tenant.steps < 16 * tenant.reserve.nodes → IsShaped tenant → IsShaped (counted tenant)
-shaped-counted tenant left s = grind arith
+module _ {tenant : Tenant} (s : IsShaped tenant) where
+  pub shaped-counted : tenant.steps < 16 * tenant.reserve.nodes → IsShaped (counted tenant)
+  shaped-counted left = grind arith
 
--- another state in a frame: one that neither computes nor has returned, or of a frame without a child
-pub shaped-in_state : (n : ℕ) (state : State) (tenant : Tenant) → (mark_of_state state ≡ Neither) ⊎ (has_child tenant.frames n ≡ false) → IsShaped tenant → IsShaped (in_state n state tenant)
-shaped-in_state n state tenant ok s =
-    let alike = with_state-alike n state tenant.frames in
-    let values = values_of-with_state n state tenant.frames in
-    record {
-      tree = tree-with_state n state tenant.frames s.tree;
-      given = AllBelow-alike tenant.frames (with_state n state tenant.frames) (tenant.serials + 1) alike s.given;
-      childless = childless-with_state n state tenant.frames s.tree ok s.childless;
-      roots = roots-alike tenant.jobs tenant.frames (with_state n state tenant.frames) alike s.roots;
-      live = live-kept tenant.frames (with_state n state tenant.frames) tenant.jobs (λ root is. path_in-alike tenant.frames (with_state n state tenant.frames) root alike ∙ is) s.live;
-      few_jobs = s.few_jobs;
-      words = words-values tenant.frames (with_state n state tenant.frames) values s.words;
-      charged = (let e = charged-values tenant.frames (with_state n state tenant.frames) values in let c = s.charged in omega (arith, e, c));
-      opened = s.opened;
-      ticks = s.ticks;
-    }
+  -- another state in a frame: one that neither computes nor has returned, or of a frame without a child
+  pub shaped-in_state : (n : ℕ) (state : State) → (mark_of_state state ≡ Neither) ⊎ (has_child tenant.frames n ≡ false) → IsShaped (in_state n state tenant)
+  shaped-in_state n state ok =
+      let alike = with_state-alike n state tenant.frames in
+      let values = values_of-with_state n state tenant.frames in
+      record {
+        tree = tree-with_state n state tenant.frames s.tree;
+        given = AllBelow-alike tenant.frames (with_state n state tenant.frames) (tenant.serials + 1) alike s.given;
+        childless = childless-with_state n state tenant.frames s.tree ok s.childless;
+        roots = roots-alike tenant.jobs tenant.frames (with_state n state tenant.frames) alike s.roots;
+        live = live-kept tenant.frames (with_state n state tenant.frames) tenant.jobs (λ root is. path_in-alike tenant.frames (with_state n state tenant.frames) root alike ∙ is) s.live;
+        few_jobs = s.few_jobs;
+        words = words-values tenant.frames (with_state n state tenant.frames) values s.words;
+        charged = (let e = charged-values tenant.frames (with_state n state tenant.frames) values in let c = s.charged in omega (arith, e, c));
+        opened = s.opened;
+        ticks = s.ticks;
+      }
 
 -- other words in a frame: 1 to 128, charged within what is reserved
 pub shaped-holding : (n : ℕ) (words : List ℕ) (tenant : Tenant) (f : Frame (List ℕ)) → frame_at tenant.frames n ≡ Some f → (1 ≤ length words) × (length words ≤ 128) →
@@ -286,61 +291,43 @@ shaped-holding n words tenant f at fit room s =
     within a b c d r e le = omega arith
 
 -- fewer frames: those that stay are a tree, and the root frames are among them
-pub shaped-fewer : (keep : Frame (List ℕ) → Bool) (tenant : Tenant) → IsTree (filter keep tenant.frames) → ((root : ℕ) (f : Frame (List ℕ)) → f.serial ≡ root → f.path ≡ root ∷ [] → keep f ≡ true) →
-    IsShaped tenant → IsShaped (record tenant { frames = filter keep tenant.frames })
-shaped-fewer keep tenant left stays s = grind (arith, AllBelow-filter, childless-filter, roots-filter, live-kept, roots-stay, words-filter, charged-filter)
+module _ {tenant : Tenant} (s : IsShaped tenant) where
+  pub shaped-fewer : (keep : Frame (List ℕ) → Bool) → IsTree (filter keep tenant.frames) →
+      ((root : ℕ) (f : Frame (List ℕ)) → frame_at tenant.frames root ≡ Some f → f.path ≡ root ∷ [] → keep f ≡ true) → IsShaped (record tenant { frames = filter keep tenant.frames })
+  shaped-fewer keep left stays = grind (arith, AllBelow-filter, childless-filter, roots-filter, live-kept, roots-stay, words-filter, charged-filter)
 
--- an abort
-pub shaped-aborted : (p : ℕ) (tenant : Tenant) → IsShaped tenant → IsShaped (record tenant { frames = aborted p tenant.frames })
-shaped-aborted p tenant s = shaped-fewer (λ x. not (goes_under p x.path)) tenant (tree-aborted p tenant.frames s.tree) (λ root f serial path. rw path refl) s
+  -- an abort
+  pub shaped-aborted : (p : ℕ) → IsShaped (record tenant { frames = aborted p tenant.frames })
+  shaped-aborted p = shaped-fewer (λ x. not (goes_under p x.path)) (tree-aborted p tenant.frames s.tree) (λ root f at path. rw path refl)
 
 -- a leaf that is no root
 module _ (p : ℕ) where
   pub shaped-without : (tenant : Tenant) (f : Frame (List ℕ)) (q : ℕ) → frame_at tenant.frames p ≡ Some f → parent_of f.path ≡ Some q →
       children_of tenant.frames p ≡ [] → IsShaped tenant → IsShaped (record tenant { frames = frames_without p tenant.frames })
-  shaped-without tenant f q at named leaf s = by
+  shaped-without tenant f q at named leaf s =
+      shaped-fewer s (λ x. not (eqb x.serial p)) (tree-without p tenant.frames s.tree leaf) (λ root x at_x path. not_from_false (eqb x.serial p) (ne_eqb x.serial p (apart root x at_x path)))
     where
-      apart : (root : ℕ) → path_in tenant.frames root ≡ root ∷ [] → root ≢ p
-      apart root path e =
-          let both : f.path ≡ root ∷ [] = sym (found-path tenant.frames p f at) ∙ ap (path_in tenant.frames) (sym e) ∙ path in
-          let none : parent_of f.path ≡ None = rw both refl in
-          absurd cc
-
-      left : IsTree (frames_without p tenant.frames)
-      left = tree-without p tenant.frames s.tree leaf
-
-      by : IsShaped (record tenant { frames = frames_without p tenant.frames })
-      by = record {
-        tree = left;
-        given = AllBelow-filter (λ x. not (eqb x.serial p)) (tenant.serials + 1) tenant.frames s.given;
-        childless = childless-filter (λ x. not (eqb x.serial p)) tenant.frames s.tree left s.childless;
-        roots = roots-filter (λ x. not (eqb x.serial p)) tenant.jobs tenant.frames s.roots;
-        live = live-kept tenant.frames (frames_without p tenant.frames) tenant.jobs
-            (λ root is. roots-stay (λ x. not (eqb x.serial p)) tenant.frames root s.tree (λ x serial path. not_from_false (eqb x.serial p) (ne_eqb x.serial p (λ e. apart root is (sym serial ∙ e)))) is) s.live;
-        few_jobs = s.few_jobs;
-        words = words-filter (λ x. not (eqb x.serial p)) tenant.frames s.words;
-        charged = (let e = charged-filter (λ x. not (eqb x.serial p)) tenant.frames in let c = s.charged in omega (arith, e, c));
-        opened = s.opened;
-        ticks = s.ticks;
-      }
+      apart : (root : ℕ) (x : Frame (List ℕ)) → frame_at tenant.frames root ≡ Some x → x.path ≡ root ∷ [] → x.serial ≢ p
+      apart root x at_x path e =
+          let same = found-same tenant.frames root p x f (sym (found-serial tenant.frames root x at_x) ∙ e) at_x at in
+          let both : ◌≡◌ {A = Option ℕ} None (Some q) = sym (ap parent_of path) ∙ ap (λ (y : Frame (List ℕ)). parent_of y.path) same ∙ named in absurd cc
 
   -- a job that ends, with all its frames
   pub shaped-ended : (job : Job) (tenant : Tenant) → IsEnd job → IsShaped tenant → IsShaped (ended p job tenant)
   shaped-ended job tenant end s =
       let cut = aborted p tenant.frames in
       let left = tree-without_job p tenant.frames s.tree in
-      let cut_tree = tree-aborted p tenant.frames s.tree in
+      let c = shaped-aborted s p in
       record {
         tree = left;
-        given = AllBelow-filter (λ x. not (eqb x.serial p)) (tenant.serials + 1) cut (AllBelow-filter (λ x. not (goes_under p x.path)) (tenant.serials + 1) tenant.frames s.given);
-        childless = childless-filter (λ x. not (eqb x.serial p)) cut cut_tree left (childless-filter (λ x. not (goes_under p x.path)) tenant.frames s.tree cut_tree s.childless);
-        roots = roots-with_ended p job tenant.jobs (frames_without p cut) end (gone cut) (roots-filter (λ x. not (eqb x.serial p)) tenant.jobs cut (roots-filter (λ x. not (goes_under p x.path)) tenant.jobs tenant.frames s.roots));
-        live = live-with_ended tenant.frames (frames_without p cut) p job tenant.jobs end (λ r other is.
-            roots-stay (λ x. not (eqb x.serial p)) cut r cut_tree (λ x serial path. not_from_false (eqb x.serial p) (ne_eqb x.serial p (λ e. other (sym serial ∙ e))))
-            (roots-stay (λ x. not (goes_under p x.path)) tenant.frames r s.tree (λ x serial path. rw path refl) is)) s.live;
+        given = AllBelow-filter (λ x. not (eqb x.serial p)) (tenant.serials + 1) cut c.given;
+        childless = childless-filter (λ x. not (eqb x.serial p)) cut c.tree left c.childless;
+        roots = roots-with_ended p job end tenant.jobs (frames_without p cut) (gone cut) (roots-filter tenant.jobs (λ x. not (eqb x.serial p)) cut c.roots);
+        live = live-with_ended cut (frames_without p cut) p job tenant.jobs end (λ r other is.
+            roots-stay (λ x. not (eqb x.serial p)) cut r c.tree (λ x at path. not_from_false (eqb x.serial p) (ne_eqb x.serial p (λ e. other (sym (found-serial cut r x at) ∙ e)))) is) c.live;
         few_jobs = (let e = length-with_ended p job tenant.jobs in let few = s.few_jobs in omega (arith, e, few));
-        words = words-filter (λ x. not (eqb x.serial p)) cut (words-filter (λ x. not (goes_under p x.path)) tenant.frames s.words);
-        charged = (let e = charged-filter (λ x. not (goes_under p x.path)) tenant.frames in let d = charged-filter (λ x. not (eqb x.serial p)) cut in let c = s.charged in omega (arith, e, d, c));
+        words = words-filter (λ x. not (eqb x.serial p)) cut c.words;
+        charged = (let d = charged-filter (λ x. not (eqb x.serial p)) cut in let e = c.charged in omega (arith, d, e));
         opened = s.opened;
         ticks = s.ticks;
       }
@@ -368,11 +355,12 @@ below-more bound more (x ∷ xs) le below = (omega (arith, le, below.0), below-m
 given-push : (tenant : Tenant) (y : Frame (List ℕ)) → y.serial ≡ tenant.serials + 1 → AllBelow (tenant.serials + 1) tenant.frames → AllBelow (tenant.serials + 1 + 1) (tenant.frames ++ y ∷ [])
 given-push tenant y e below = AllBelow-append (tenant.serials + 1 + 1) tenant.frames (y ∷ []) (below-more (tenant.serials + 1) (tenant.serials + 1 + 1) tenant.frames (omega arith) below) (omega (arith, e), tt)
 
-charged-push : (xs : Tree) (y : Frame (List ℕ)) (size segments : ℕ) → length y.value ≡ size → charged_for xs + charge size ≤ segments → charged_for (xs ++ y ∷ []) ≤ segments
-charged-push xs y size segments is room = grind (arith, charged-append, charged-one)
+module _ (y : Frame (List ℕ)) (size : ℕ) (is : length y.value ≡ size) where
+  charged-push : (xs : Tree) (segments : ℕ) → charged_for xs + charge size ≤ segments → charged_for (xs ++ y ∷ []) ≤ segments
+  charged-push xs segments room = grind (arith, charged-append, charged-one)
 
-words-new : (y : Frame (List ℕ)) (size : ℕ) → length y.value ≡ size → 1 ≤ size → size ≤ 128 → HaveWords (y ∷ [])
-words-new y size is some few = ((omega (arith, is), omega (arith, is)), tt)
+  words-new : 1 ≤ size → size ≤ 128 → HaveWords (y ∷ [])
+  words-new some few = ((omega (arith, is), omega (arith, is)), tt)
 
 -- a path of two serials or more is no root's
 no-root : (path : List ℕ) (last s : ℕ) → EndsIn path last → is_root (path ++ s ∷ []) ≡ false
@@ -380,54 +368,55 @@ no-root [] last s ends = absurd ends
 no-root (x ∷ path) last s ends = ne_eqb (length (x ∷ path ++ s ∷ [])) 1 (λ e. let long = length-append path (s ∷ []) in omega (arith, e, long))
 
 -- a child opened under a frame that neither computes nor has returned
-pub shaped-child : (p home : ℕ) (words : List ℕ) (size : ℕ) (tenant : Tenant) (f : Frame (List ℕ)) → frame_at tenant.frames p ≡ Some f → mark_of_state f.state ≡ Neither → HasRoomFor words size tenant →
-    IsShaped tenant → IsShaped (opened (Some p) words size home tenant)
-shaped-child p home words size tenant f at free room s =
-    let new = new_frame tenant.frames (tenant.serials + 1) (Some p) home (padded words size) in
-    let there = found-there tenant.frames p f at in
-    let next = new-frame-next tenant.frames (tenant.serials + 1) (Some p) home (padded words size) s.tree s.given there in
-    let long = length-padded words size room.fewer in
-    let ends : EndsIn (path_in tenant.frames p) p = rw (found-path tenant.frames p f at) (found-ends tenant.frames p f s.tree at) in
-    let named : parent_of new.path ≡ Some p = parent_of-path_under tenant.frames (Some p) (tenant.serials + 1) s.tree there in
-    record {
-      tree = tree-new_frame tenant.frames (tenant.serials + 1) (Some p) home (padded words size) s.tree s.given there;
-      given = given-push tenant new refl s.given;
-      childless = childless-push tenant.frames new s.tree next refl (λ q g is at_q. parent-free q g (sym named ∙ is) at_q) s.childless;
-      roots = roots-append tenant.jobs tenant.frames (new ∷ []) s.roots ((λ is. absurd (false≢true (sym (no-root (path_in tenant.frames p) p (tenant.serials + 1) ends) ∙ is))), tt);
-      live = live-kept tenant.frames (tenant.frames ++ new ∷ []) tenant.jobs (λ root is. path_in-left tenant.frames (new ∷ []) root (path-there tenant.frames root is) ∙ is) s.live;
-      few_jobs = s.few_jobs;
-      words = words-append tenant.frames (new ∷ []) s.words (words-new new size long room.some room.few);
-      charged = charged-push tenant.frames new size tenant.reserve.segments long room.segments;
-      opened = (let node = room.node in omega (arith, node));
-      ticks = s.ticks;
-    }
-  where
-    parent-free : (q : ℕ) (g : Frame (List ℕ)) → Some p ≡ Some q → frame_at tenant.frames q ≡ Some g → mark_of_state g.state ≡ Neither
-    parent-free q g e at_q =
-        let same : p ≡ q = cc in
-        let both : ◌≡◌ {A = Option (Frame (List ℕ))} (Some f) (Some g) = sym at ∙ ap (frame_at tenant.frames) same ∙ at_q in
-        let is : f ≡ g = cc in ap (λ (y : Frame (List ℕ)). mark_of_state y.state) (sym is) ∙ free
+module _ (home : ℕ) (words : List ℕ) (size : ℕ) (tenant : Tenant) where
+  pub shaped-child : (p : ℕ) (f : Frame (List ℕ)) → frame_at tenant.frames p ≡ Some f → mark_of_state f.state ≡ Neither → HasRoomFor words size tenant →
+      IsShaped tenant → IsShaped (opened (Some p) words size home tenant)
+  shaped-child p f at free room s =
+      let new = new_frame tenant.frames (tenant.serials + 1) (Some p) home (padded words size) in
+      let there = found-there tenant.frames p f at in
+      let next = new-frame-next tenant.frames (tenant.serials + 1) (Some p) home (padded words size) s.tree s.given there in
+      let long = length-padded words size room.fewer in
+      let ends : EndsIn (path_in tenant.frames p) p = rw (found-path tenant.frames p f at) (found-ends tenant.frames p f s.tree at) in
+      let named : parent_of new.path ≡ Some p = parent_of-path_under tenant.frames (Some p) (tenant.serials + 1) s.tree there in
+      record {
+        tree = tree-new_frame tenant.frames (tenant.serials + 1) (Some p) home (padded words size) s.tree s.given there;
+        given = given-push tenant new refl s.given;
+        childless = childless-push tenant.frames new s.tree next refl (λ q g is at_q. parent-free q g (sym named ∙ is) at_q) s.childless;
+        roots = roots-append tenant.jobs tenant.frames (new ∷ []) s.roots ((λ is. absurd (false≢true (sym (no-root (path_in tenant.frames p) p (tenant.serials + 1) ends) ∙ is))), tt);
+        live = live-kept tenant.frames (tenant.frames ++ new ∷ []) tenant.jobs (λ root is. path_in-left _ (new ∷ []) root (path-there _ root is) ∙ is) s.live;
+        few_jobs = s.few_jobs;
+        words = words-append tenant.frames (new ∷ []) s.words (words-new new size long room.some room.few);
+        charged = charged-push new size long tenant.frames tenant.reserve.segments room.segments;
+        opened = (let node = room.node in omega (arith, node));
+        ticks = s.ticks;
+      }
+    where
+      parent-free : (q : ℕ) (g : Frame (List ℕ)) → Some p ≡ Some q → frame_at tenant.frames q ≡ Some g → mark_of_state g.state ≡ Neither
+      parent-free q g e at_q =
+          let same : p ≡ q = cc in
+          let both : ◌≡◌ {A = Option (Frame (List ℕ))} (Some f) (Some g) = sym at ∙ ap (frame_at tenant.frames) same ∙ at_q in
+          let is : f ≡ g = cc in ap (λ (y : Frame (List ℕ)). mark_of_state y.state) (sym is) ∙ free
 
--- a root opened, with the job that lives under it
-pub shaped-root : (words : List ℕ) (size home : ℕ) (tenant : Tenant) → length tenant.jobs < 256 → HasRoomFor words size tenant →
-    IsShaped tenant → IsShaped (record (opened None words size home tenant) { jobs = tenant.jobs ++ Live (tenant.serials + 1) ∷ [] })
-shaped-root words size home tenant few room s =
-    let root = tenant.serials + 1 in
-    let new = new_frame tenant.frames root None home (padded words size) in
-    let next = new-frame-next tenant.frames root None home (padded words size) s.tree s.given refl in
-    let long = length-padded words size room.fewer in
-    let lacks = has_frame-above tenant.frames root s.given in
-    let one : live_count root (tenant.jobs ++ Live root ∷ []) ≡ 1 = live_count-append root tenant.jobs (Live root ∷ []) ∙ (rw (no-live tenant.frames root tenant.jobs lacks s.live, one-live root) refl) in
-    let own : path_in (tenant.frames ++ new ∷ []) root ≡ root ∷ [] = path_in-right tenant.frames (new ∷ []) root lacks ∙ (rw (eq-eqb root root refl) refl) in
-    record {
-      tree = tree-new_frame tenant.frames root None home (padded words size) s.tree s.given refl;
-      given = given-push tenant new refl s.given;
-      childless = childless-push tenant.frames new s.tree next refl (λ q g is at_q. absurd cc) s.childless;
-      roots = roots-append (tenant.jobs ++ Live root ∷ []) tenant.frames (new ∷ []) (roots-more root tenant.jobs tenant.frames s.given s.roots) ((λ is. one), tt);
-      live = live-append (tenant.frames ++ new ∷ []) tenant.jobs (Live root ∷ []) (live-kept tenant.frames (tenant.frames ++ new ∷ []) tenant.jobs (λ r is. path_in-left tenant.frames (new ∷ []) r (path-there tenant.frames r is) ∙ is) s.live) (own, tt);
-      few_jobs = (let more = length-append tenant.jobs (Live root ∷ []) in omega (arith, more, few));
-      words = words-append tenant.frames (new ∷ []) s.words (words-new new size long room.some room.few);
-      charged = charged-push tenant.frames new size tenant.reserve.segments long room.segments;
-      opened = (let node = room.node in omega (arith, node));
-      ticks = s.ticks;
-    }
+  -- a root opened, with the job that lives under it
+  pub shaped-root : length tenant.jobs < 256 → HasRoomFor words size tenant → IsShaped tenant →
+      IsShaped (record (opened None words size home tenant) { jobs = tenant.jobs ++ Live (tenant.serials + 1) ∷ [] })
+  shaped-root few room s =
+      let root = tenant.serials + 1 in
+      let new = new_frame tenant.frames root None home (padded words size) in
+      let next = new-frame-next tenant.frames root None home (padded words size) s.tree s.given refl in
+      let long = length-padded words size room.fewer in
+      let lacks = has_frame-above tenant.frames root s.given in
+      let one : live_count root (tenant.jobs ++ Live root ∷ []) ≡ 1 = live_count-append tenant.jobs root (Live root ∷ []) ∙ (rw (no-live tenant.frames root tenant.jobs lacks s.live, one-live root) refl) in
+      let own : path_in (tenant.frames ++ new ∷ []) root ≡ root ∷ [] = path_in-right tenant.frames (new ∷ []) root lacks ∙ (rw (eq-eqb root root refl) refl) in
+      record {
+        tree = tree-new_frame tenant.frames root None home (padded words size) s.tree s.given refl;
+        given = given-push tenant new refl s.given;
+        childless = childless-push tenant.frames new s.tree next refl (λ q g is at_q. absurd cc) s.childless;
+        roots = roots-append (tenant.jobs ++ Live root ∷ []) tenant.frames (new ∷ []) (roots-more root tenant.jobs tenant.frames s.given s.roots) ((λ is. one), tt);
+        live = live-append (tenant.frames ++ new ∷ []) tenant.jobs (Live root ∷ []) (live-kept tenant.frames (tenant.frames ++ new ∷ []) tenant.jobs (λ r is. path_in-left tenant.frames (new ∷ []) r (path-there tenant.frames r is) ∙ is) s.live) (own, tt);
+        few_jobs = (let more = length-append tenant.jobs (Live root ∷ []) in omega (arith, more, few));
+        words = words-append tenant.frames (new ∷ []) s.words (words-new new size long room.some room.few);
+        charged = charged-push new size long tenant.frames tenant.reserve.segments room.segments;
+        opened = (let node = room.node in omega (arith, node));
+        ticks = s.ticks;
+      }

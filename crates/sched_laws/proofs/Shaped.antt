@@ -27,6 +27,17 @@ frame-found frames s step outcome is = grind arith
 pub came : {I : Type 0} (P : Option Tenant → Type 0) (effect outcome : Outcome I) → effect ≡ outcome → P effect.0 → P outcome.0
 came {I} P effect outcome is holds = let Q : Outcome I → Type 0 = λ o. P o.0 in subst Q is holds
 
+module _ {I : Type 0} (P : Option Tenant → Type 0) where
+  -- what a taken step left, where it holds of what its effect leaves
+  passed : (tests : List (Bool × Refusal)) (effect outcome : Outcome I) → unless tests effect ≡ Ok outcome → (AllPass tests → P effect.0) → P outcome.0
+  passed tests effect outcome is holds = let p = unless-passed tests effect outcome is in came P effect outcome p.1 (holds p.0)
+
+  -- the same of a step at a frame
+  passed-at : (frames : Tree) (s : ℕ) (tests : Frame (List ℕ) → List (Bool × Refusal)) (effect : Frame (List ℕ) → Outcome I) (outcome : Outcome I) →
+      at_frame (frame_at frames s) (λ f. unless (tests f) (effect f)) ≡ Ok outcome → ((f : Frame (List ℕ)) → frame_at frames s ≡ Some f → AllPass (tests f) → P (effect f).0) → P outcome.0
+  passed-at frames s tests effect outcome is holds =
+      let f = frame-found frames s (λ frame. unless (tests frame) (effect frame)) outcome is in passed (tests f.0) (effect f.0) outcome f.2 (holds f.0 f.1)
+
 -- P holds of what each effect of a step leaves, where its tests passed
 pub record HoldsOfEach {I A : Type 0} (functions : Functions I A) (tenant : Tenant) (step : StepOf A) (P : Option Tenant → Type 0) : Type 0 where
   pub at_raise : (number : ℕ) (quota : Quota) → step ≡ AdmitMore number quota → is_lower tenant.reserve quota ≡ false → P (raised {I = I} tenant quota).0
@@ -45,29 +56,16 @@ pub record HoldsOfEach {I A : Type 0} (functions : Functions I A) (tenant : Tena
 -- so it holds of what a step of a tenant that has the core to itself leaves
 pub by-effects : {I A : Type 0} (functions : Functions I A) (tenant : Tenant) (step : StepOf A) (outcome : Outcome I) (P : Option Tenant → Type 0) → lone_step functions tenant step ≡ Ok outcome → HoldsOfEach functions tenant step P → P outcome.0
 by-effects {I} functions tenant (Admit number quota) outcome P is each = (let e : ◌≡◌ {A = Result (Outcome I) Refusal} (Err OldTenant) (Ok outcome) = is in absurd cc)
-by-effects {I} functions tenant (AdmitMore number quota) outcome P is each =
-    let p = unless-passed ((is_lower tenant.reserve quota, Lower) ∷ []) (raised {I = I} tenant quota) outcome is in
-    came P (raised tenant quota) outcome p.1 (each.at_raise number quota refl p.0.0)
-by-effects {I} functions tenant (Submit number words size) outcome P is each =
-    let p = unless-passed (submit_tests tenant words size) (submitted {I = I} tenant number words size) outcome is in
-    came P (submitted tenant number words size) outcome p.1 (each.at_submit number words size refl p.0)
-by-effects {I} functions tenant (Take worker name) outcome P is each =
-    let f = frame-found tenant.frames name.serial (λ frame. unless (take_tests tenant worker frame) (taken_by tenant worker frame)) outcome is in
-    let p = unless-passed (take_tests tenant worker f.0) (taken_by {I = I} tenant worker f.0) outcome f.2 in
-    came P (taken_by tenant worker f.0) outcome p.1 (each.at_take worker name.serial f.0 f.1 p.0.0 p.0.1.1.0)
-by-effects {I} functions tenant (Steal worker from name) outcome P is each =
-    let f = frame-found tenant.frames name.serial (λ frame. unless (steal_tests tenant worker from frame) (taken_by tenant worker frame)) outcome is in
-    let p = unless-passed (steal_tests tenant worker from f.0) (taken_by {I = I} tenant worker f.0) outcome f.2 in
-    came P (taken_by tenant worker f.0) outcome p.1 (each.at_take worker name.serial f.0 f.1 p.0.0 p.0.1.1.0)
-by-effects {I} functions tenant (Advance worker name) outcome P is each =
-    let f = frame-found tenant.frames name.serial (λ frame. unless (advance_tests tenant worker frame (act_by_sight functions tenant frame)) (advanced functions tenant worker name frame (act_by_sight functions tenant frame))) outcome is in
-    let act = act_by_sight functions tenant f.0 in
-    let p = unless-passed (advance_tests tenant worker f.0 act) (advanced functions tenant worker name f.0 act) outcome f.2 in
-    came P (advanced functions tenant worker name f.0 act) outcome p.1 (each.at_advance worker name f.0 f.1 p.0)
-by-effects {I} functions tenant (Answer worker name answer) outcome P is each =
-    let f = frame-found tenant.frames name.serial (λ frame. unless (answer_tests functions tenant worker frame answer) (answered functions tenant worker frame answer)) outcome is in
-    let p = unless-passed (answer_tests functions tenant worker f.0 answer) (answered functions tenant worker f.0 answer) outcome f.2 in
-    came P (answered functions tenant worker f.0 answer) outcome p.1 (each.at_answer worker name.serial f.0 answer f.1 p.0)
+by-effects functions tenant (AdmitMore number quota) outcome P is each = passed P ((is_lower tenant.reserve quota, Lower) ∷ []) (raised tenant quota) outcome is (λ p. each.at_raise number quota refl p.0)
+by-effects functions tenant (Submit number words size) outcome P is each = passed P (submit_tests tenant words size) (submitted tenant number words size) outcome is (λ p. each.at_submit number words size refl p)
+by-effects functions tenant (Take worker name) outcome P is each =
+    passed-at P tenant.frames name.serial (take_tests tenant worker) (taken_by tenant worker) outcome is (λ f at p. each.at_take worker name.serial f at p.0 p.1.1.0)
+by-effects functions tenant (Steal worker from name) outcome P is each =
+    passed-at P tenant.frames name.serial (steal_tests tenant worker from) (taken_by tenant worker) outcome is (λ f at p. each.at_take worker name.serial f at p.0 p.1.1.0)
+by-effects functions tenant (Advance worker name) outcome P is each =
+    passed-at P tenant.frames name.serial (λ f. advance_tests tenant worker f (act_by_sight functions tenant f)) (λ f. advanced functions tenant worker name f (act_by_sight functions tenant f)) outcome is (λ f at p. each.at_advance worker name f at p)
+by-effects functions tenant (Answer worker name answer) outcome P is each =
+    passed-at P tenant.frames name.serial (λ f. answer_tests functions tenant worker f answer) (λ f. answered functions tenant worker f answer) outcome is (λ f at p. each.at_answer worker name.serial f answer at p)
 by-effects {I} functions tenant (Inlet worker name) outcome P is each =
     let f = frame-found tenant.frames name.serial (λ frame. inlet_under functions tenant worker name frame (parent_of frame.path)) outcome is in
     by f.0 f.1 (parent_of f.0.path) refl f.2
@@ -76,16 +74,11 @@ by-effects {I} functions tenant (Inlet worker name) outcome P is each =
     by f at None named e = (let no : ◌≡◌ {A = Result (Outcome I) Refusal} (Err NotReturned) (Ok outcome) = e in absurd cc)
     by f at (Some parent) named e =
         let act = functions.inlet (words_in tenant.frames parent) f.value in
-        let p = unless-passed (inlet_tests tenant worker f parent act) (taken_in {I = I} tenant worker name parent act) outcome e in
-        came P (taken_in tenant worker name parent act) outcome p.1 (each.at_inlet worker name f parent at named p.0)
-by-effects {I} functions tenant (Finish worker name) outcome P is each =
-    let f = frame-found tenant.frames name.serial (λ frame. unless (finish_tests tenant worker frame) (finished tenant frame)) outcome is in
-    let p = unless-passed (finish_tests tenant worker f.0) (finished {I = I} tenant f.0) outcome f.2 in
-    came P (finished tenant f.0) outcome p.1 (each.at_finish worker name.serial f.0 f.1 p.0)
-by-effects {I} functions tenant (Spend name) outcome P is each =
-    let f = frame-found tenant.frames name.serial (λ frame. unless ((not (is_spendable functions tenant frame), NotSpent) ∷ []) (spent tenant frame)) outcome is in
-    let p = unless-passed ((not (is_spendable functions tenant f.0), NotSpent) ∷ []) (spent {I = I} tenant f.0) outcome f.2 in
-    came P (spent tenant f.0) outcome p.1 (each.at_spend name.serial f.0 f.1)
+        passed P (inlet_tests tenant worker f parent act) (taken_in tenant worker name parent act) outcome e (λ p. each.at_inlet worker name f parent at named p)
+by-effects functions tenant (Finish worker name) outcome P is each =
+    passed-at P tenant.frames name.serial (finish_tests tenant worker) (finished tenant) outcome is (λ f at p. each.at_finish worker name.serial f at p)
+by-effects functions tenant (Spend name) outcome P is each =
+    passed-at P tenant.frames name.serial (λ f. (not (is_spendable functions tenant f), NotSpent) ∷ []) (spent tenant) outcome is (λ f at p. each.at_spend name.serial f at)
 by-effects {I} functions tenant (Cancel number job) outcome P is each = grind (arith, came)
 by-effects {I} functions tenant (Leave number) outcome P is each =
     let e : ◌≡◌ {A = Result (Outcome I) Refusal} (Ok (None, Left)) (Ok outcome) = is in
@@ -102,56 +95,59 @@ pub record HoldsOfKinds {A : Type 0} (tenant : Tenant) (step : StepOf A) (P : Op
   pub at_leave : (number : ℕ) → step ≡ Leave number → P None
 
 -- what an act leaves
-then-works : {I A : Type 0} (functions : Functions I A) (t : Tenant) (worker : ℕ) (name : FrameId) (path words : List ℕ) (after : Continuation) (P : Option Tenant → Type 0) →
-    ((serials : ℕ) (frames : Tree) → P (Some (record t { serials = serials; frames = frames }))) → P (then_done functions t worker name path words after).0
-then-works functions t worker name path words Wait P each = elim (cases_Bool (has_child t.frames name.serial)) [ inl some ↦ rw some (each _ _) | inr none ↦ rw none (each _ _) ]
-then-works functions t worker name path words Return P each = elim (cases_Bool (has_child t.frames name.serial)) [ inl some ↦ rw some (each _ _) | inr none ↦ rw none (each _ _) ]
-then-works functions t worker name path words _ P each = each _ _
+module _ {I A : Type 0} (functions : Functions I A) where
+  then-works : (t : Tenant) (worker : ℕ) (name : FrameId) (path words : List ℕ) (after : Continuation) (P : Option Tenant → Type 0) →
+      ((serials : ℕ) (frames : Tree) → P (Some (record t { serials = serials; frames = frames }))) → P (then_done functions t worker name path words after).0
+  then-works t worker name path words Wait P each = elim (cases_Bool (has_child t.frames name.serial)) [ inl some ↦ rw some (each _ _) | inr none ↦ rw none (each _ _) ]
+  then-works t worker name path words Return P each = elim (cases_Bool (has_child t.frames name.serial)) [ inl some ↦ rw some (each _ _) | inr none ↦ rw none (each _ _) ]
+  then-works t worker name path words _ P each = each _ _
 
--- so it holds of what a step leaves
-pub by-kinds : {I A : Type 0} (functions : Functions I A) (tenant : Tenant) (step : StepOf A) (outcome : Outcome I) (P : Option Tenant → Type 0) → lone_step functions tenant step ≡ Ok outcome → HoldsOfKinds tenant step P → P outcome.0
-by-kinds functions tenant step outcome P is each = by-effects functions tenant step outcome P is (record {
-  at_raise = λ number quota raises enough. each.at_raise number quota raises;
-  at_submit = λ number words size submits passed. each.at_submit _ _ _;
-  at_take = λ worker s f at ready some. each.at_work _ _;
-  at_advance = λ worker name f at passed. then-works functions (counted (holding f.serial _ tenant)) worker name f.path _ (act_by_sight functions tenant f).after P (λ serials frames. each.at_work serials frames);
-  at_answer = λ worker s f answer at passed. each.at_work _ _;
-  at_inlet = λ worker name f parent at named passed.
-      let act = functions.inlet (words_in tenant.frames parent) f.value in
-      let frames = staying tenant.frames name.serial parent act.abort in
-      elim (cases_Bool (does_wait (frame_at frames parent) && (act.abort || act.wake || not (has_child frames parent)))) [ inl woken ↦ rw woken (each.at_work _ _) | inr sleeps ↦ rw sleeps (each.at_work _ _) ];
-  at_finish = λ worker s f at passed. each.at_finish f.serial _;
-  at_spend = each.at_spend;
-  at_cancel = each.at_cancel;
-  at_leave = each.at_leave;
-})
+  -- so it holds of what a step leaves
+  pub by-kinds : (tenant : Tenant) (step : StepOf A) (outcome : Outcome I) (P : Option Tenant → Type 0) → lone_step functions tenant step ≡ Ok outcome → HoldsOfKinds tenant step P → P outcome.0
+  by-kinds tenant step outcome P is each = by-effects functions tenant step outcome P is (record {
+    at_raise = λ number quota raises enough. each.at_raise number quota raises;
+    at_submit = λ number words size submits passed. each.at_submit _ _ _;
+    at_take = λ worker s f at ready some. each.at_work _ _;
+    at_advance = λ worker name f at passed. then-works (counted (holding f.serial _ tenant)) worker name f.path _ (act_by_sight functions tenant f).after P (λ serials frames. each.at_work serials frames);
+    at_answer = λ worker s f answer at passed. each.at_work _ _;
+    at_inlet = λ worker name f parent at named passed.
+        let act = functions.inlet (words_in tenant.frames parent) f.value in
+        let frames = staying tenant.frames name.serial parent act.abort in
+        elim (cases_Bool (does_wait (frame_at frames parent) && (act.abort || act.wake || not (has_child frames parent)))) [ inl woken ↦ rw woken (each.at_work _ _) | inr sleeps ↦ rw sleeps (each.at_work _ _) ];
+    at_finish = λ worker s f at passed. each.at_finish f.serial _;
+    at_spend = each.at_spend;
+    at_cancel = each.at_cancel;
+    at_leave = each.at_leave;
+  })
 
 -- a step that is left
-step-left : (tenant : Tenant) → (eqb (left tenant).steps 0) ≡ false → tenant.steps < 16 * tenant.reserve.nodes
-step-left tenant is = let some = eqb-false (left tenant).steps 0 is in omega (arith, some)
+module _ (tenant : Tenant) where
+  step-left : (eqb (left tenant).steps 0) ≡ false → tenant.steps < 16 * tenant.reserve.nodes
+  step-left is = let some = eqb-false (left tenant).steps 0 is in omega (arith, some)
 
--- a node that is left, and segments
-node-left : (tenant : Tenant) → (eqb (left tenant).nodes 0) ≡ false → tenant.serials < tenant.reserve.nodes
-node-left tenant is = let some = eqb-false (left tenant).nodes 0 is in omega (arith, some)
+  -- a node that is left, and segments
+  node-left : (eqb (left tenant).nodes 0) ≡ false → tenant.serials < tenant.reserve.nodes
+  node-left is = let some = eqb-false (left tenant).nodes 0 is in omega (arith, some)
 
-segments-left : (tenant : Tenant) (n : ℕ) → charged_for tenant.frames ≤ tenant.reserve.segments → ltb (left tenant).segments n ≡ false → charged_for tenant.frames + n ≤ tenant.reserve.segments
-segments-left tenant n within is = let enough = ltb-false (left tenant).segments n is in omega (arith, enough, within)
+  segments-left : (n : ℕ) → charged_for tenant.frames ≤ tenant.reserve.segments → ltb (left tenant).segments n ≡ false → charged_for tenant.frames + n ≤ tenant.reserve.segments
+  segments-left n within is = let enough = ltb-false (left tenant).segments n is in omega (arith, enough, within)
 
 -- a frame of a size that can be opened
 size-parts : (words : List ℕ) (size : ℕ) → not (is_frame_size words size) ≡ false → (1 ≤ size) × (size ≤ 128) × (length words ≤ size)
 size-parts words size is = grind (arith, and_parts, not-false, leb-true)
 
 -- Submit
-submit-shaped : (I : Type 0) (tenant : Tenant) (number : ℕ) (words : List ℕ) (size : ℕ) → AllPass (submit_tests tenant words size) → IsShaped tenant → LeftShaped (submitted {I = I} tenant number words size).0
-submit-shaped I tenant number words size passed s =
-    let fits = size-parts words size passed.0 in
-    shaped-root words size 0 tenant (leb-false 256 (length tenant.jobs) passed.1.0)
-    (record { some = fits.0; few = fits.1; fewer = fits.2; node = node-left tenant passed.1.1.0; segments = segments-left tenant (charge size) s.charged passed.1.1.1.0 }) s
+module _ (I : Type 0) {tenant : Tenant} (s : IsShaped tenant) where
+  submit-shaped : (number : ℕ) (words : List ℕ) (size : ℕ) → AllPass (submit_tests tenant words size) → LeftShaped (submitted {I = I} tenant number words size).0
+  submit-shaped number words size passed =
+      let fits = size-parts words size passed.0 in
+      shaped-root 0 words size tenant (leb-false 256 (length tenant.jobs) passed.1.0)
+      (record { some = fits.0; few = fits.1; fewer = fits.2; node = node-left tenant passed.1.1.0; segments = segments-left tenant (charge size) s.charged passed.1.1.1.0 }) s
 
--- Take and Steal
-taken-shaped : (I : Type 0) (tenant : Tenant) (worker : ℕ) (f : Frame (List ℕ)) → eqb (left tenant).steps 0 ≡ false → IsShaped tenant → LeftShaped (taken_by {I = I} tenant worker f).0
-taken-shaped I tenant worker f some s =
-    shaped-counted (in_state f.serial (Running worker) tenant) (step-left tenant some) (shaped-in_state f.serial (Running worker) tenant (inl refl) s)
+  -- Take and Steal
+  taken-shaped : (worker : ℕ) (f : Frame (List ℕ)) → eqb (left tenant).steps 0 ≡ false → LeftShaped (taken_by {I = I} tenant worker f).0
+  taken-shaped worker f some =
+      shaped-counted (shaped-in_state s f.serial (Running worker) (inl refl)) (step-left tenant some)
 
 -- a frame that a worker runs or computes, and one that has returned
 pub run-free : (worker : ℕ) (state : State) → is_run_by worker state ≡ true → mark_of_state state ≡ Neither
@@ -187,20 +183,19 @@ module _ {I A : Type 0} (functions : Functions I A) where
   then-shaped t worker name path words (Grow more) g at is free good node room s =
       let whole = length-append words (replicate more 0) in let zeros = length-replicate {A = ℕ} more 0 in
       let fits = words-at t.frames name.serial g s.words at in
-      let few = grow-fits (length words) more good in
       let long : length (words ++ replicate more 0) ≡ length words + more = omega (arith, whole, zeros) in
       let own : length g.value ≡ length words = ap length is in
-      shaped-holding name.serial (words ++ replicate more 0) t g at (omega (arith, fits.0, long, own), omega (arith, long, few))
+      shaped-holding name.serial (words ++ replicate more 0) t g at (omega (arith, fits.0, long, own), omega (arith, long, grow-fits (length words) more good))
       (grown (charged_for t.frames) (length (words ++ replicate more 0)) (length g.value) t.reserve.segments (length words) more long own room) s
     where
       grown : (c n o r w m : ℕ) → n ≡ w + m → o ≡ w → c + growth_charge o m ≤ r → c + charge n ≤ r + charge o
       grown c n o r w m long own le = grow-room c (charge n) (charge o) r (let P : ℕ → Type 0 = λ k. c + (charge k - charge o) ≤ r in subst P (ap (λ (k : ℕ). k + m) own ∙ sym long) le)
   then-shaped t worker name path words (Spawn given size) g at is free good node room s =
       let fits = size-parts given size good in
-      shaped-child name.serial worker given size t g at free (record { some = fits.0; few = fits.1; fewer = fits.2; node = node refl; segments = room }) s
+      shaped-child worker given size t name.serial g at free (record { some = fits.0; few = fits.1; fewer = fits.2; node = node refl; segments = room }) s
   then-shaped t worker name path words Go g at is free good node room s = s
   then-shaped t worker name path words Wait g at is free good node room s = grind (arith, shaped-in_state)
-  then-shaped t worker name path words Compute g at is free good node room s = shaped-in_state name.serial (Computing worker) t (inr good) s
+  then-shaped t worker name path words Compute g at is free good node room s = shaped-in_state s name.serial (Computing worker) (inr good)
   then-shaped t worker name path words Return g at is free good node room s = grind (arith, shaped-in_state)
 
   -- Advance
@@ -213,7 +208,6 @@ module _ {I A : Type 0} (functions : Functions I A) where
       let long : length words ≡ length f.value = length-stored act.stores f.value in
       let t = holding f.serial words tenant in
       let at_own : frame_at tenant.frames f.serial ≡ Some f = ap (frame_at tenant.frames) own ∙ at in
-      let st = shaped-counted t (step-left tenant passed.1.0) (shaped-stored f.serial words tenant f at_own long s) in
       let g : Frame (List ℕ) = record f { value = words } in
       let at_g : frame_at t.frames name.serial ≡ Some g = ap (frame_at t.frames) (sym own) ∙ frame_at-with_frame_words f.serial words tenant.frames f at_own in
       let child : has_child t.frames name.serial ≡ has_child tenant.frames f.serial = ap (has_child t.frames) (sym own) ∙ has_child-with_frame_words f.serial words tenant.frames f.serial s.tree in
@@ -222,7 +216,7 @@ module _ {I A : Type 0} (functions : Functions I A) where
       (λ spawn. node-left tenant (node (is_spawn act.after) (eqb (left tenant).nodes 0) spawn passed.1.1.1.0))
       (room act.after (segments-left tenant (segments_for f act.after) s.charged passed.1.1.1.1.0)
       (same (charged_for t.frames) (charge (length f.value)) (charged_for tenant.frames) (charge (length words)) (ap charge long) (charged-with_frame_words f.serial words tenant.frames f (tree-rising tenant.frames s.tree) at_own)) g long)
-      st
+      (shaped-counted (shaped-stored f.serial words tenant f at_own long s) (step-left tenant passed.1.0))
     where
       node : (spawn none : Bool) → spawn ≡ true → (spawn && none) ≡ false → none ≡ false
       node true none is both = both
@@ -244,15 +238,13 @@ module _ {I A : Type 0} (functions : Functions I A) where
   answer-shaped tenant worker s f answer at passed shape =
       let at_own : frame_at tenant.frames f.serial ≡ Some f = ap (frame_at tenant.frames) (found-serial tenant.frames s f at) ∙ at in
       let words = stored (functions.accept f.value answer) f.value in
-      let t = holding f.serial words tenant in
-      shaped-counted (in_state f.serial (Running worker) t) (step-left tenant passed.1.1.0)
-      (shaped-in_state f.serial (Running worker) t (inl refl) (shaped-stored f.serial words tenant f at_own (length-stored (functions.accept f.value answer) f.value) shape))
+      shaped-counted (shaped-in_state (shaped-stored f.serial words tenant f at_own (length-stored (functions.accept f.value answer) f.value) shape) f.serial (Running worker) (inl refl)) (step-left tenant passed.1.1.0)
 
 -- Inlet: the frames that stay, with the parent among them
 module _ (tenant : Tenant) where
   staying-shaped : (n parent : ℕ) (f : Frame (List ℕ)) (abort : Bool) → frame_at tenant.frames n ≡ Some f → parent_of f.path ≡ Some parent →
       children_of tenant.frames n ≡ [] → IsShaped tenant → IsShaped (record tenant { frames = staying tenant.frames n parent abort })
-  staying-shaped n parent f true at named leaf s = shaped-aborted parent tenant s
+  staying-shaped n parent f true at named leaf s = shaped-aborted s parent
   staying-shaped n parent f false at named leaf s = shaped-without n tenant f parent at named leaf s
 
   pub staying-parent : (n parent : ℕ) (f g : Frame (List ℕ)) (abort : Bool) → frame_at tenant.frames n ≡ Some f → parent_of f.path ≡ Some parent →
@@ -269,42 +261,43 @@ module _ (tenant : Tenant) where
       let at_g : frame_at frames parent ≡ Some g.0 = staying-parent n parent f g.0 act.abort at named g.1 s in
       let words = stored act.stores (words_in frames parent) in
       let long : length words ≡ length g.0.value = length-stored act.stores (words_in frames parent) ∙ ap (λ o. length (frame_words o)) at_g in
-      shaped-counted (holding parent words (record tenant { frames = frames })) (step-left tenant passed.1.0) (shaped-stored parent words (record tenant { frames = frames }) g.0 at_g long (staying-shaped n parent f act.abort at named leaf s))
+      shaped-counted (shaped-stored parent words _ g.0 at_g long (staying-shaped n parent f act.abort at named leaf s)) (step-left tenant passed.1.0)
 
-inlet-shaped : (I : Type 0) (tenant : Tenant) (worker : ℕ) (name : FrameId) (f : Frame (List ℕ)) (parent : ℕ) (act : InletAct) → frame_at tenant.frames name.serial ≡ Some f → parent_of f.path ≡ Some parent →
-    AllPass (inlet_tests tenant worker f parent act) → IsShaped tenant → LeftShaped (taken_in {I = I} tenant worker name parent act).0
-inlet-shaped I tenant worker name f parent act at named passed s =
-    let frames = staying tenant.frames name.serial parent act.abort in
-    let after = counted (holding parent (stored act.stores (words_in frames parent)) (record tenant { frames = frames })) in
-    let sa = inlet-stored-shaped tenant worker name.serial f parent act at named passed s in
-    elim (cases_Bool (does_wait (frame_at frames parent) && (act.abort || act.wake || not (has_child frames parent)))) [
-      | inl woken ↦ rw woken (shaped-in_state parent (Ready worker) after (inl refl) sa)
-      | inr sleeps ↦ rw sleeps sa
-    ]
+module _ (I : Type 0) (tenant : Tenant) (worker : ℕ) (f : Frame (List ℕ)) where
+  inlet-shaped : (name : FrameId) (parent : ℕ) (act : InletAct) → frame_at tenant.frames name.serial ≡ Some f → parent_of f.path ≡ Some parent →
+      AllPass (inlet_tests tenant worker f parent act) → IsShaped tenant → LeftShaped (taken_in {I = I} tenant worker name parent act).0
+  inlet-shaped name parent act at named passed s =
+      let frames = staying tenant.frames name.serial parent act.abort in
+      let sa = inlet-stored-shaped tenant worker name.serial f parent act at named passed s in
+      elim (cases_Bool (does_wait (frame_at frames parent) && (act.abort || act.wake || not (has_child frames parent)))) [
+        | inl woken ↦ rw woken (shaped-in_state sa parent (Ready worker) (inl refl))
+        | inr sleeps ↦ rw sleeps sa
+      ]
 
--- Finish and Spend
-finish-shaped : (I : Type 0) (tenant : Tenant) (worker : ℕ) (f : Frame (List ℕ)) → AllPass (finish_tests tenant worker f) → IsShaped tenant → LeftShaped (finished {I = I} tenant f).0
-finish-shaped I tenant worker f passed s =
-    shaped-counted (ended f.serial (Done (kept_words f.value)) tenant) (step-left tenant passed.1.0) (shaped-ended f.serial (Done (kept_words f.value)) tenant (λ root. refl) s)
+  -- Finish and Spend
+  finish-shaped : AllPass (finish_tests tenant worker f) → IsShaped tenant → LeftShaped (finished {I = I} tenant f).0
+  finish-shaped passed s =
+      shaped-counted (shaped-ended f.serial (Done (kept_words f.value)) tenant (λ root. refl) s) (step-left tenant passed.1.0)
 
-spend-shaped : (I : Type 0) (tenant : Tenant) (f : Frame (List ℕ)) → IsShaped tenant → LeftShaped (spent {I = I} tenant f).0
-spend-shaped I tenant f s = shaped-ended (root_of f.path) SpentJob tenant (λ root. refl) s
+module _ (I : Type 0) {tenant : Tenant} (s : IsShaped tenant) where
+  spend-shaped : (f : Frame (List ℕ)) → LeftShaped (spent {I = I} tenant f).0
+  spend-shaped f = shaped-ended (root_of f.path) SpentJob tenant (λ root. refl) s
 
--- AdmitMore: what is used stays within the greater reservation
-raised-shaped : (I : Type 0) (tenant : Tenant) (quota : Quota) → is_lower tenant.reserve quota ≡ false → IsShaped tenant → LeftShaped (raised {I = I} tenant quota).0
-raised-shaped I tenant quota enough s = grind (arith, or_parts, ltb-false)
+  -- AdmitMore: what is used stays within the greater reservation
+  raised-shaped : (quota : Quota) → is_lower tenant.reserve quota ≡ false → LeftShaped (raised {I = I} tenant quota).0
+  raised-shaped quota enough = grind (arith, or_parts, ltb-false)
 
 -- every step of a tenant that has the core to itself
 pub step-shaped : {I A : Type 0} (functions : Functions I A) (tenant : Tenant) (step : StepOf A) (outcome : Outcome I) → lone_step functions tenant step ≡ Ok outcome → IsShaped tenant → LeftShaped outcome.0
 step-shaped {I} functions tenant step outcome is s = by-effects functions tenant step outcome LeftShaped is (record {
-  at_raise = λ number quota _ enough. raised-shaped I tenant quota enough s;
-  at_submit = λ number words size _ passed. submit-shaped I tenant number words size passed s;
-  at_take = λ worker serial f at ready some. taken-shaped I tenant worker f some s;
+  at_raise = λ number quota _ enough. raised-shaped I s quota enough;
+  at_submit = λ number words size _ passed. submit-shaped I s number words size passed;
+  at_take = λ worker serial f at ready some. taken-shaped I s worker f some;
   at_advance = λ worker name f at passed. advance-shaped functions tenant worker name f (act_by_sight functions tenant f) at passed s;
   at_answer = λ worker serial f answer at passed. answer-shaped functions tenant worker serial f answer at passed s;
-  at_inlet = λ worker name f parent at named passed. inlet-shaped I tenant worker name f parent (functions.inlet (words_in tenant.frames parent) f.value) at named passed s;
+  at_inlet = λ worker name f parent at named passed. inlet-shaped I tenant worker f name parent (functions.inlet (words_in tenant.frames parent) f.value) at named passed s;
   at_finish = λ worker serial f at passed. finish-shaped I tenant worker f passed s;
-  at_spend = λ serial f at. spend-shaped I tenant f s;
+  at_spend = λ serial f at. spend-shaped I s f;
   at_cancel = λ number root at. shaped-ended root CancelledJob tenant (λ r. refl) s;
   at_leave = λ number leaves. tt;
 })

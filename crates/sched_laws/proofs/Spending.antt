@@ -40,11 +40,12 @@ module _ {I A : Type 0} (functions : Functions I A) (tenant : Tenant) (worker : 
 abbrev InletTests : Bool → Bool → Bool → Bool → List (Bool × Refusal)
 InletTests returned steps outside busy = (returned, NotReturned) ∷ (steps, NoSteps) ∷ (outside, BadAct) ∷ (busy, Busy) ∷ []
 
-bad-inlet : {X : Type 0} (returned outside busy : Bool) (effect : X) → returned ≡ true → outside ≡ true → refusal_in (unless (InletTests (not returned) false outside busy) effect) ≡ Some BadAct
-bad-inlet returned outside busy effect h5 h6 = grind arith
+module _ {X : Type 0} (returned outside busy : Bool) (effect : X) where
+  bad-inlet : returned ≡ true → outside ≡ true → refusal_in (unless (InletTests (not returned) false outside busy) effect) ≡ Some BadAct
+  bad-inlet h5 h6 = grind arith
 
-good-inlet : {X : Type 0} (returned steps outside busy : Bool) (effect : X) → refusal_in (unless (InletTests (not returned) steps outside busy) effect) ≡ Some BadAct → (returned ≡ true) × (outside ≡ true)
-good-inlet returned steps outside busy effect is = grind arith
+  good-inlet : (steps : Bool) → refusal_in (unless (InletTests (not returned) steps outside busy) effect) ≡ Some BadAct → (returned ≡ true) × (outside ≡ true)
+  good-inlet steps is = grind arith
 
 module _ {I A : Type 0} (functions : Functions I A) (tenant : Tenant) (name : FrameId) (frame : Frame (List ℕ))
     (at : frame_at tenant.frames name.serial ≡ Some frame) where
@@ -92,7 +93,7 @@ module _ {I A : Type 0} (functions : Functions I A) (tenant : Tenant) (name : Fr
       let bad = is_bad_act frame.value (has_child tenant.frames frame.serial) act in
       let nodes = is_spawn act.after && eqb (left tenant).nodes 0 in
       let segments = ltb (left tenant).segments (segments_for frame act.after) in
-      let u = unstuck (not (is_run_by s.0 frame.state)) (eqb (left tenant).steps 0) bad nodes segments effect s.1 s.2 (sym (advance-refusal functions tenant s.0 name frame at) ∙ s.3) in
+      let u = unstuck _ (eqb (left tenant).steps 0) bad nodes segments effect s.1 s.2 (sym (advance-refusal functions tenant s.0 name frame at) ∙ s.3) in
       let run = run-by s.0 frame.state (not-false (is_run_by s.0 frame.state) u.0) in
       let runs = is_run frame.state && applies (act_tests tenant frame act) in
       or_left (eqb (left tenant).steps 0 || runs) (is_returned frame.state && is_bad_inlet functions tenant frame (parent_of frame.path))
@@ -106,9 +107,7 @@ module _ {I A : Type 0} (functions : Functions I A) (tenant : Tenant) (name : Fr
       by None named = (let e : Some NotReturned ≡ Some BadAct = sym (ap (λ o. refusal_in (inlet_under functions tenant 1 name frame o)) named) ∙ refused in absurd cc)
       by (Some parent) named =
           let act = functions.inlet (words_in tenant.frames parent) frame.value in
-          let effect = taken_in {I = I} tenant 1 name parent act in
-          let outside = is_outside act.stores (words_in tenant.frames parent) in
-          let g = good-inlet (is_returned frame.state) (eqb (left tenant).steps 0) outside (is_busy_in 1 tenant.frames) effect (sym (ap (λ o. refusal_in (inlet_under functions tenant 1 name frame o)) named) ∙ refused) in
+          let g = good-inlet (is_returned frame.state) _ _ _ _ (sym (ap (λ o. refusal_in (inlet_under functions tenant 1 name frame o)) named) ∙ refused) in
           let bad : is_bad_inlet functions tenant frame (parent_of frame.path) ≡ true = ap (is_bad_inlet functions tenant frame) named ∙ g.1 in
           or_right (eqb (left tenant).steps 0 || (is_run frame.state && applies (act_tests tenant frame (act_by_sight functions tenant frame)))) (is_returned frame.state && is_bad_inlet functions tenant frame (parent_of frame.path))
           (and_from (is_returned frame.state) (is_bad_inlet functions tenant frame (parent_of frame.path)) g.0 bad)

@@ -57,20 +57,19 @@ step-reserve functions tenant step outcome no_admission is = by-kinds functions 
 })
 
 -- a number that goes by what is reserved, after a tenant came to this
-outcome-total : (m : Quota → ℕ) (n : ℕ) (old : Tenant) (o : Option Tenant) (es : Entries) → tenant_in es n ≡ Some old → KeepsReserve old.reserve o → total (λ t. m t.reserve) (with_outcome n o es) ≤ total (λ t. m t.reserve) es
-outcome-total m n old o es at keeps = grind (arith, total-less, total-changed)
+module _ (m : Quota → ℕ) (es : Entries) where
+  outcome-total : (n : ℕ) (old : Tenant) (o : Option Tenant) → tenant_in es n ≡ Some old → KeepsReserve old.reserve o → total (λ t. m t.reserve) (with_outcome n o es) ≤ total (λ t. m t.reserve) es
+  outcome-total n old o at keeps = grind (arith, total-less, total-changed)
 
--- a taken step keeps the reservations within the totals
-room : (m : Quota → ℕ) (number : ℕ) (quota : Quota) (es : Entries) (most : ℕ) → total (λ t. m t.reserve) es + m quota ≤ most → total (λ t. m t.reserve) (with_tenant number (admitted_with quota) es) ≤ most
-room m number quota es most le = let more = total-more (λ t. m t.reserve) number (admitted_with quota) es in omega (arith, more, le)
+  -- a taken step keeps the reservations within the totals
+  room : (number : ℕ) (quota : Quota) (most : ℕ) → total (λ t. m t.reserve) es + m quota ≤ most → total (λ t. m t.reserve) (with_tenant number (admitted_with quota) es) ≤ most
+  room number quota most le = let more = total-more (λ t. m t.reserve) number (admitted_with quota) es in omega (arith, more, le)
 
 admit-within : {I A : Type 0} (functions : Functions I A) (before : CoreState) (number : ℕ) (quota : Quota) (outcome : Outcome I) → step_result {A = A} functions before (Admit number quota) ≡ Ok outcome → IsReservedWithin before → WithinAfter before number outcome.0
 admit-within {I} functions before number quota outcome is within =
-    let effect : Outcome I = (Some (admitted_with quota), Admitted) in
     let book = reservations_in before in
-    let full = is_full book quota in
-    let p = unless-passed (admit_tests before number quota) effect outcome is in
-    let none : full ≡ false = p.0.1.0 in
+    let p = unless-passed (admit_tests before number quota) (Some (admitted_with quota), Admitted) outcome is in
+    let none : (is_full book quota) ≡ false = p.0.1.0 in
     let first = or_parts (leb 64 (length book.accounts) || ltb book.segments (reserved_segments book.accounts + quota.segments)) (ltb book.nodes (reserved_nodes book.accounts + quota.nodes)) none in
     let inner = or_parts (leb 64 (length book.accounts)) (ltb book.segments (reserved_segments book.accounts + quota.segments)) first.0 in
     let segments = ltb-false book.segments (reserved_segments book.accounts + quota.segments) inner.1 in
@@ -78,7 +77,7 @@ admit-within {I} functions before number quota outcome is within =
     let all_segments = segments-total before.tenants in
     let all_nodes = nodes-total before.tenants in
     let P : Outcome I → Type 0 = λ o. WithinAfter before number o.0 in
-    subst P p.1 (room (λ q. q.segments) number quota before.tenants before.totals.segments (omega (arith, segments, all_segments)), room (λ q. q.nodes) number quota before.tenants before.totals.nodes (omega (arith, nodes, all_nodes)))
+    subst P p.1 (room (λ q. q.segments) before.tenants number quota before.totals.segments (omega (arith, segments, all_segments)), room (λ q. q.nodes) before.tenants number quota before.totals.nodes (omega (arith, nodes, all_nodes)))
 
 -- the totals with a further reservation in the place of the tenant's own
 further : (m : Quota → ℕ) (number : ℕ) (old : Tenant) (quota : Quota) (es : Entries) → tenant_in es number ≡ Some old →
@@ -96,12 +95,11 @@ further-within before number quota old at enough =
     let own = old.reserve in
     let p = or_parts (ltb (book.segments + own.segments) (reserved_segments book.accounts + quota.segments)) (ltb (book.nodes + own.nodes) (reserved_nodes book.accounts + quota.nodes)) enough in
     let segments = allowed book.segments own.segments (reserved_segments book.accounts) quota.segments p.0 in
-    let nodes = allowed book.nodes own.nodes (reserved_nodes book.accounts) quota.nodes p.1 in
     let all_segments = segments-total before.tenants in
     let all_nodes = nodes-total before.tenants in
     let a = further (λ q. q.segments) number old quota before.tenants at in
     let b = further (λ q. q.nodes) number old quota before.tenants at in
-    (omega (arith, segments, all_segments, a), omega (arith, nodes, all_nodes, b))
+    (omega (arith, segments, all_segments, a), omega (arith, allowed book.nodes own.nodes (reserved_nodes book.accounts) quota.nodes p.1, all_nodes, b))
 
 -- and it does only there
 no-further : (most own all asked now : ℕ) → now + own ≡ all + asked → now ≤ most → ltb (most + own) (all + asked) ≡ false
@@ -117,9 +115,7 @@ beyond-exactly before number old quota at = (forth, back)
     forth : is_beyond (reservations_in before) old.reserve quota ≡ false → IsReservedWithin (record before { tenants = after })
     forth enough =
         let both = further-within before number quota old at enough in
-        let e = segments-total after in
-        let f = nodes-total after in
-        record { segments = omega (arith, both.0, e); nodes = omega (arith, both.1, f) }
+        record { segments = omega (arith, both.0, segments-total after); nodes = omega (arith, both.1, nodes-total after) }
 
     back : IsReservedWithin (record before { tenants = after }) → is_beyond (reservations_in before) old.reserve quota ≡ false
     back within =
@@ -152,24 +148,22 @@ module _ {I A : Type 0} (functions : Functions I A) (before : CoreState) where
       by (Some old) at =
           let p = unless-passed ((is_lower old.reserve quota, Lower) ∷ []) (raised {I = I} old quota) outcome (alone (Some old) at) in
           let P : Outcome I → Type 0 = λ o. WithinAfter before number o.0 in
-          let enough = ap (λ o. is_beyond (reservations_in before) (reserved_by o) quota) (sym at) ∙ found.0 in
-          subst P p.1 (further-within before number quota old at enough)
+          subst P p.1 (further-within before number quota old at (ap (λ o. is_beyond (reservations_in before) (reserved_by o) quota) (sym at) ∙ found.0))
 
   step-within : (step : StepOf A) (outcome : Outcome I) → is_admission step ≡ false → step_result functions before step ≡ Ok outcome → IsReservedWithin before → WithinAfter before (tenant_of step) outcome.0
   step-within step outcome no_admission is within = by (tenant_in before.tenants (tenant_of step)) refl
     where
       alone : lone functions (tenant_in before.tenants (tenant_of step)) step ≡ Ok outcome
-      alone = taken-alone functions before step outcome no_admission is
+      alone = taken-alone functions before outcome step no_admission is
 
       by : (own : Option Tenant) → tenant_in before.tenants (tenant_of step) ≡ own → WithinAfter before (tenant_of step) outcome.0
       by None at = absurd (there functions None step outcome no_admission (ap (λ o. lone functions o step) (sym at) ∙ alone) refl)
       by (Some tenant) at =
           let keeps = step-reserve functions tenant step outcome no_admission (ap (λ o. lone functions o step) (sym at) ∙ alone) in
-          let a = outcome-total (λ q. q.segments) (tenant_of step) tenant outcome.0 before.tenants at keeps in
-          let b = outcome-total (λ q. q.nodes) (tenant_of step) tenant outcome.0 before.tenants at keeps in
+          let a = outcome-total (λ q. q.segments) before.tenants (tenant_of step) tenant outcome.0 at keeps in
           let c = within.segments in let d = within.nodes in
           let e = segments-total before.tenants in let f = nodes-total before.tenants in
-          (omega (arith, a, c, e), omega (arith, b, d, f))
+          (omega (arith, a, c, e), omega (arith, outcome-total (λ q. q.nodes) before.tenants (tenant_of step) tenant outcome.0 at keeps, d, f))
 
   taken-within : (step : StepOf A) (outcome : Outcome I) → step_result functions before step ≡ Ok outcome → IsReservedWithin before → WithinAfter before (tenant_of step) outcome.0
   taken-within (Admit number quota) outcome is within = admit-within functions before number quota outcome is within
@@ -180,9 +174,8 @@ module _ {I A : Type 0} (functions : Functions I A) (before : CoreState) where
   after-within step (Err refusal) is within = within
   after-within step (Ok outcome) is within =
       let both = taken-within step outcome is within in
-      let e = segments-total (with_outcome (tenant_of step) outcome.0 before.tenants) in
       let f = nodes-total (with_outcome (tenant_of step) outcome.0 before.tenants) in
-      record { segments = omega (arith, both.0, e); nodes = omega (arith, both.1, f) }
+      record { segments = omega (arith, both.0, segments-total (with_outcome (tenant_of step) outcome.0 before.tenants)); nodes = omega (arith, both.1, f) }
 
   pub reserved-answer : (step : StepOf A) (answer : Result (DidOf I) Refusal) → IsReservedWithin before → IsReservedWithin (after_answer functions before step answer)
   reserved-answer step (Err refusal) within = within

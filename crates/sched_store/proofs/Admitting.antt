@@ -1,33 +1,33 @@
 -- A tenant is admitted: an account, places and a ledger of its own, after all others, and nothing else.
-use Rattle.std.proofs.Common.{◌≡◌, ◌≢◌, ℕ, ◌+◌, ◌^◌, ◌<◌, ◌≤◌, inl, inr, false, List, [], ◌∷◌, ◌++◌, length, Some, None, refl, ap, sym, ◌∙◌, subst, arith, Option, option_map, zero, suc, replicate, sum_by, IsSome}
-use Rattle.sched_store.proofs.Common.{Account, FrameId, ltb, leb, inserted, IsAboveOwn, sum_by-cons, with_admitted, AllEntries-of, Quota, IsAbove}
-use Rattle.sched_store.proofs.Common.{length-replicate, on_tenant, with_reserve, Tenant, admitted_with, charged_for, Nodes, node_at, charge_of, total_charge}
-use Rattle.sched_store.proofs.Common.{Frame, frame_at, AllBelow, TenantTree, IsTree, frames_of, places_of, tenant_count, KeepsOtherTenants, JobLedger}
+use Rattle.std.proofs.Common.{◌≡◌, ◌≢◌, ℕ, ◌+◌, ◌^◌, ◌<◌, ◌≤◌, inl, inr, false, List, [], ◌∷◌, ◌++◌, length, Some, None, refl, ap, sym, ◌∙◌, subst, arith, Option, zero, suc, replicate, sum_by, IsSome}
+use Rattle.sched_store.proofs.Common.{Account, FrameId, ltb, leb, inserted, IsAboveOwn, with_admitted, Quota, IsAbove}
+use Rattle.sched_store.proofs.Common.{length-replicate, with_reserve, Tenant, admitted_with, charged_for, Nodes, node_at, charge_of, total_charge}
+use Rattle.sched_store.proofs.Common.{frame_at, AllBelow, IsTree, frames_of, places_of, tenant_count, KeepsOtherTenants, JobLedger}
 use Rattle.sched_store.proofs.Common.{owner_of_ledger, jobs_of, numbers_of, is_there, Parts, with_words_of_nodes, tenant_from, tenants_from, shared_of}
 use Rattle.sched_store.proofs.Common.{cases_eq, ne_eqb, leb-false, ltb-false, or_parts, lt-ltb, false≢true, CoreState, is_full, reservations_in, tenant_in}
-use Rattle.sched_store.proofs.Common.{reserved_by, is_beyond, owner_of_account, account_of, fresh, with_new, raised_to, IsWithinReserve, IsStored, IsAccountFor}
-use Rattle.sched_store.proofs.Common.{AreFramesNodes, IsFrameNode, numbers_in, AreAtMost, frame_in_trees, node_of, Reservations, IsSoundBook, HasRoom, Admits}
+use Rattle.sched_store.proofs.Common.{reserved_by, is_beyond, owner_of_account, account_of, fresh, with_new, raised_to, IsStored, IsAccountFor}
+use Rattle.sched_store.proofs.Common.{AreFramesNodes, numbers_in, AreAtMost, frame_in_trees, node_of, Reservations, IsSoundBook, HasRoom, Admits}
 use Rattle.sched_store.proofs.Common.{KeepsOtherAccounts, HasRoomFor, CanRaise, Raises, empty_of}
 use Rattle.number_index.proofs.Edits.{said-inserted_own, said-inserted_other}
-use Rattle.sched_store.proofs.Lookups.{reservations-found, tenant-found, length-numbers, numbers-inserted, no-ledger}
+use Rattle.sched_store.proofs.Lookups.{within-reserve, Frames, Trees, Owns, none_or_some, Entries, reservations-found, tenant-found, length-numbers, numbers-inserted, no-ledger}
 use Rattle.std.proofs.lemmas.Bool.Decides.{nat_tests}
+use Rattle.std.proofs.lemmas.List.Folds.{sum_by-replicate}
 use Rattle.sched_rules.specs.Lone.{is_lower}
-use Rattle.sched_store.proofs.Steps.{TenantStep, step-stored, step-shared}
-
-abbrev Entries : Type 0
-Entries = List (ℕ × Account)
+use Rattle.sched_store.proofs.Steps.{SameOthers, TenantStep, Stepped, stepped}
+use Rattle.sched_store.proofs.States.{like-nodes}
 
 -- a number above all is nobody's yet
 pub newer-missing : (newest number : ℕ) (entries : Entries) → AreAtMost newest entries → newest < number → account_of number entries ≡ None
 newer-missing newest number [] most newer = refl
 newer-missing newest number (entry ∷ entries) most newer = grind (arith, newer-missing newest number entries most.1 newer, ne_eqb)
 
-pub many-ledgers : (parts : Parts) → IsStored parts → length parts.ledgers ≡ length parts.book.accounts
-many-ledgers parts stored = sym (length-numbers owner_of_ledger parts.ledgers) ∙ ap length stored.ledgers ∙ length-numbers owner_of_account parts.book.accounts
+module _ (parts : Parts) (stored : IsStored parts) where
+  pub many-ledgers : length parts.ledgers ≡ length parts.book.accounts
+  many-ledgers = sym (length-numbers owner_of_ledger parts.ledgers) ∙ ap length stored.ledgers ∙ length-numbers owner_of_account parts.book.accounts
 
--- what a core that isn't full has room for
-pub room-found : (parts : Parts) → IsStored parts → (quota : Quota) → is_full (reservations_in (shared_of parts)) quota ≡ false → HasRoom parts.book quota
-room-found parts stored quota not_full = grind (arith, reservations-found, leb, ltb, or_parts, leb-false, ltb-false)
+  -- what a core that isn't full has room for
+  pub room-found : (quota : Quota) → is_full (reservations_in (shared_of parts)) quota ≡ false → HasRoom parts.book quota
+  room-found quota not_full = grind (arith, reservations-found, leb, ltb, or_parts, leb-false, ltb-false)
 
 -- what can be admitted
 pub record CanBeAdmitted (parts : Parts) (number : ℕ) (quota : Quota) : Type 0 where
@@ -43,7 +43,7 @@ pub can-be-admitted : (parts : Parts) (number : ℕ) (quota : Quota) {core : Cor
 can-be-admitted parts number quota stored is above not_full = grind (arith, room-found, newer-missing, many-ledgers, no-ledger)
 
 -- what an admission was told by the table and the book
-pub record IsAdmitted (parts : Parts) (trees : List (TenantTree ℕ)) (ledger : JobLedger) (book : Reservations) (number : ℕ) (quota : Quota) : Type 0 where
+pub record IsAdmitted (parts : Parts) (trees : Trees) (ledger : JobLedger) (book : Reservations) (number : ℕ) (quota : Quota) : Type 0 where
   pub newer : parts.newest < number
   pub within : number ≤ 2 ^ 62
   pub places : places_of trees number ≡ quota.segments
@@ -56,7 +56,7 @@ pub record IsAdmitted (parts : Parts) (trees : List (TenantTree ℕ)) (ledger : 
   pub sound : IsSoundBook book
 
 -- the parts after it
-abbrev pub with_one_more : Parts → List (TenantTree ℕ) → JobLedger → Reservations → ℕ → Parts
+abbrev pub with_one_more : Parts → Trees → JobLedger → Reservations → ℕ → Parts
 with_one_more parts trees ledger book number = record parts { trees = trees; ledgers = inserted owner_of_ledger ledger parts.ledgers; book = book; newest = number }
 
 -- a new account that is above all stands last
@@ -64,7 +64,26 @@ new-last : (newest number : ℕ) (account : Account) (entries : Entries) → Are
 new-last newest number account [] most newer = refl
 new-last newest number account (entry ∷ entries) most newer = grind (arith, new-last newest number account entries most.1 newer, lt-ltb)
 
-module _ (parts : Parts) (trees : List (TenantTree ℕ)) (ledger : JobLedger) (book : Reservations) (number : ℕ) (quota : Quota) (stored : IsStored parts)
+pub same-belongs : (nodes : Nodes) (trees after : Trees) → ((other : ℕ) → frames_of after other ≡ frames_of trees other) → AreFramesNodes nodes trees → AreFramesNodes nodes after
+same-belongs nodes trees after same belong = like-nodes nodes trees after belong (record {
+  nodes = λ owner serial. rw (same owner) refl;
+  frames = λ owner serial frame at. record { was = frame; there = rw (same owner) at at; value = refl; path = refl };
+})
+
+most-pushed : (newest number : ℕ) (entries : Entries) (account : Account) → AreAtMost newest entries → newest < number → AreAtMost number (entries ++ (number, account) ∷ [])
+most-pushed newest number [] account most newer = (omega arith, tt)
+most-pushed newest number (entry ∷ entries) account most newer = (let low : entry.0 ≤ newest = most.0 in omega (arith, low, newer), most-pushed newest number entries account most.1 newer)
+
+tenants-pushed : (parts after : Parts) (newest number : ℕ) (account : Account) (entries : Entries) → AreAtMost newest entries → newest < number →
+    SameOthers parts after number →
+    tenants_from after (entries ++ (number, account) ∷ []) ≡ tenants_from parts entries ++ (number, tenant_from after number account) ∷ []
+tenants-pushed parts after newest number account [] most newer others = refl
+tenants-pushed parts after newest number account (entry ∷ entries) most newer others =
+    let low : entry.0 ≤ newest = most.0 in
+    let differs : entry.0 ≢ number = λ e. omega (arith, e, low, newer) in
+    rw (others entry.0 entry.1 differs, tenants-pushed parts after newest number account entries most.1 newer others) refl
+
+module _ (parts : Parts) (trees : Trees) (ledger : JobLedger) (book : Reservations) (number : ℕ) (quota : Quota) (stored : IsStored parts)
     (is : IsAdmitted parts trees ledger book number quota) where
   accounts-after : book.accounts ≡ parts.book.accounts ++ (number, fresh quota) ∷ []
   accounts-after = grind (arith, new-last)
@@ -73,91 +92,66 @@ module _ (parts : Parts) (trees : List (TenantTree ℕ)) (ledger : JobLedger) (b
   same-frames : (other : ℕ) → frames_of trees other ≡ frames_of parts.trees other
   same-frames other = grind (arith, newer-missing)
 
-pub same-belongs : (nodes : Nodes) (trees after : List (TenantTree ℕ)) → ((other : ℕ) → frames_of after other ≡ frames_of trees other) → AreFramesNodes nodes trees → AreFramesNodes nodes after
-same-belongs nodes trees after same belong = record {
-  nodes_of_frames = λ owner serial frame at. subst (λ (xs : List (Frame ℕ)). IsFrameNode nodes xs frame) (sym (same owner)) (belong.nodes_of_frames owner serial frame (sym (found owner serial) ∙ at));
-  once = λ owner serial other_owner other_serial node these those. belong.once owner serial other_owner other_serial node (sym (ap node_of (found owner serial)) ∙ these) (sym (ap node_of (found other_owner other_serial)) ∙ those);
-  no_other = λ node is. (let has = belong.no_other node is in record { number = has.number; serial = has.serial; there = ap node_of (found has.number has.serial) ∙ has.there });
-}
-  where
-    found : (owner serial : ℕ) → frame_in_trees after owner serial ≡ frame_in_trees trees owner serial
-    found owner serial = ap (λ (xs : List (Frame ℕ)). frame_at xs serial) (same owner)
+  -- what a store keeps true is true after it
+  pub admit-stored : IsStored (with_one_more parts trees ledger book number)
+  admit-stored =
+      let frames = same-frames in
+      let accounts = accounts-after in
+      let tenants = stored.tenants in
+      let more = is.count in
+      let longer = is.admits.tenants in
+      record {
+        book = is.sound;
+        frames_nodes = same-belongs parts.nodes parts.trees trees frames stored.frames_nodes;
+        sized = stored.sized;
+        accounts = λ other a found. elim (cases_eq other number) [
+          | inl here ↦ (let mine : account_of number book.accounts ≡ Some a = rw (← here) found in let e : fresh quota ≡ a = cc (is.admits.account, mine) in rw (here, ← e) own)
+          | inr differs ↦ others other a differs found
+        ];
+        nobody = λ other none. grind arith;
+        nothing = λ other none. grind arith;
+        forest = λ other. rw (frames other) (stored.forest other);
+        tenants = omega (arith, tenants, more, longer);
+        charges = stored.charges ∙ sym is.admits.charged;
+        segments = stored.segments ∙ sym is.others.segments;
+        ledgers = numbers-inserted owner_of_ledger ledger parts.ledgers ∙ ap (λ (l : JobLedger). inserted (λ k. k) l.0 (numbers_of parts.ledgers)) is.ledger_is ∙ ap (inserted (λ k. k) number) stored.ledgers ∙ sym (ap (λ (b : Reservations). numbers_in b.accounts) is.admits.whole ∙ numbers-inserted owner_of_account (number, fresh quota) parts.book.accounts);
+        workers = stored.workers;
+        places = λ worker owner serial frame at held. stored.places worker owner serial frame (sym (ap (λ (xs : Frames). frame_at xs serial) (frames owner)) ∙ at) held;
+        taken = rw accounts (most-pushed parts.newest number parts.book.accounts (fresh quota) stored.taken is.newer);
+        newest = is.within;
+      }
+    where
+      own : IsAccountFor parts.nodes trees number (fresh quota)
+      own = grind arith
 
-most-pushed : (newest number : ℕ) (entries : Entries) (account : Account) → AreAtMost newest entries → newest < number → AreAtMost number (entries ++ (number, account) ∷ [])
-most-pushed newest number [] account most newer = (omega arith, tt)
-most-pushed newest number (entry ∷ entries) account most newer = (let low : entry.0 ≤ newest = most.0 in omega (arith, low, newer), most-pushed newest number entries account most.1 newer)
+      others : (other : ℕ) (a : Account) → other ≢ number → account_of other book.accounts ≡ Some a → IsAccountFor parts.nodes trees other a
+      others other a differs found =
+          let was = stored.accounts other a (sym (is.others.others other differs) ∙ found) in
+          let frames = same-frames other in
+          record {
+            charged = was.charged ∙ sym (ap (λ (xs : Frames). charged_for (with_words_of_nodes parts.nodes xs)) frames);
+            places = is.kept.places other differs ∙ was.places;
+            serials = subst (λ (xs : Frames). AllBelow (a.opened + 1) xs) (sym frames) was.serials;
+          }
 
--- what a store keeps true is true after it
-pub admit-stored : (parts : Parts) (trees : List (TenantTree ℕ)) (ledger : JobLedger) (book : Reservations) (number : ℕ) (quota : Quota) → IsStored parts → IsAdmitted parts trees ledger book number quota →
-    IsStored (with_one_more parts trees ledger book number)
-admit-stored parts trees ledger book number quota stored is =
-    let frames = same-frames parts trees ledger book number quota stored is in
-    let accounts = accounts-after parts trees ledger book number quota stored is in
-    let tenants = stored.tenants in
-    let more = is.count in
-    let longer = is.admits.tenants in
-    record {
-      book = is.sound;
-      frames_nodes = same-belongs parts.nodes parts.trees trees frames stored.frames_nodes;
-      sized = stored.sized;
-      accounts = λ other a found. elim (cases_eq other number) [
-        | inl here ↦ (let mine : account_of number book.accounts ≡ Some a = rw (← here) found in let e : fresh quota ≡ a = cc (is.admits.account, mine) in rw (here, ← e) own)
-        | inr differs ↦ others other a differs found
-      ];
-      nobody = λ other none. grind arith;
-      nothing = λ other none. grind arith;
-      forest = λ other. rw (frames other) (stored.forest other);
-      tenants = omega (arith, tenants, more, longer);
-      charges = stored.charges ∙ sym is.admits.charged;
-      segments = stored.segments ∙ sym is.others.segments;
-      ledgers = numbers-inserted owner_of_ledger ledger parts.ledgers ∙ ap (λ (l : JobLedger). inserted (λ k. k) l.0 (numbers_of parts.ledgers)) is.ledger_is ∙ ap (inserted (λ k. k) number) stored.ledgers ∙ sym (ap (λ (b : Reservations). numbers_in b.accounts) is.admits.whole ∙ numbers-inserted owner_of_account (number, fresh quota) parts.book.accounts);
-      workers = stored.workers;
-      places = λ worker owner serial frame at held. stored.places worker owner serial frame (sym (ap (λ (xs : List (Frame ℕ)). frame_at xs serial) (frames owner)) ∙ at) held;
-      taken = rw accounts (most-pushed parts.newest number parts.book.accounts (fresh quota) stored.taken is.newer);
-      newest = is.within;
-    }
-  where
-    own : IsAccountFor parts.nodes trees number (fresh quota)
-    own = grind arith
-
-    others : (other : ℕ) (a : Account) → other ≢ number → account_of other book.accounts ≡ Some a → IsAccountFor parts.nodes trees other a
-    others other a differs found =
-        let was = stored.accounts other a (sym (is.others.others other differs) ∙ found) in
-        let frames = same-frames parts trees ledger book number quota stored is other in
-        record {
-          charged = was.charged ∙ sym (ap (λ (xs : List (Frame ℕ)). charged_for (with_words_of_nodes parts.nodes xs)) frames);
-          places = is.kept.places other differs ∙ was.places;
-          serials = subst (λ (xs : List (Frame ℕ)). AllBelow (a.opened + 1) xs) (sym frames) was.serials;
-        }
-
-tenants-pushed : (parts after : Parts) (newest number : ℕ) (account : Account) (entries : Entries) → AreAtMost newest entries → newest < number →
-    ((other : ℕ) (a : Account) → other ≢ number → tenant_from after other a ≡ tenant_from parts other a) →
-    tenants_from after (entries ++ (number, account) ∷ []) ≡ tenants_from parts entries ++ (number, tenant_from after number account) ∷ []
-tenants-pushed parts after newest number account [] most newer others = refl
-tenants-pushed parts after newest number account (entry ∷ entries) most newer others =
-    let low : entry.0 ≤ newest = most.0 in
-    let differs : entry.0 ≢ number = λ e. omega (arith, e, low, newer) in
-    rw (others entry.0 entry.1 differs, tenants-pushed parts after newest number account entries most.1 newer others) refl
-
--- and the core is the one before with that tenant after all others
-pub admit-shared : (parts : Parts) (trees : List (TenantTree ℕ)) (ledger : JobLedger) (book : Reservations) (number : ℕ) (quota : Quota) → IsStored parts → IsAdmitted parts trees ledger book number quota →
-    shared_of (with_one_more parts trees ledger book number) ≡ with_admitted number quota (shared_of parts)
-admit-shared parts trees ledger book number quota stored is =
-    let after = with_one_more parts trees ledger book number in
-    let frames = same-frames parts trees ledger book number quota stored is in
-    let first : ledger.0 ≡ number = ap (λ (l : JobLedger). l.0) is.ledger_is in
-    let none : ledger.1 ≡ [] = ap (λ (l : JobLedger). l.1) is.ledger_is in
-    let others : (other : ℕ) (a : Account) → other ≢ number → tenant_from after other a ≡ tenant_from parts other a =
-    λ other a differs. rw (said-inserted_other owner_of_ledger (λ (l : JobLedger). l.1) [] other ledger parts.ledgers (λ e. differs (sym e ∙ first)), frames other) refl in
-    let missing = no-ledger number parts.ledgers parts.book.accounts stored.ledgers (newer-missing parts.newest number parts.book.accounts stored.taken is.newer) in
-    let jobs : jobs_of (inserted owner_of_ledger ledger parts.ledgers) number ≡ [] = ap (jobs_of (inserted owner_of_ledger ledger parts.ledgers)) (sym first) ∙ said-inserted_own owner_of_ledger (λ (l : JobLedger). l.1) [] ledger parts.ledgers (ap (λ (n : ℕ). is_there n parts.ledgers) first ∙ missing) ∙ none in
-    let mine : tenant_from after number (fresh quota) ≡ admitted_with quota = rw (jobs, is.frames) refl in
-    let tenants = tenants-pushed parts after parts.newest number (fresh quota) parts.book.accounts stored.taken is.newer others ∙ ap (λ (t : Tenant). tenants_from parts parts.book.accounts ++ (number, t) ∷ []) mine in
-    let whole = ap (tenants_from after) (accounts-after parts trees ledger book number quota stored is) ∙ tenants in
-    rw (is.others.segments, is.others.nodes) (ap (λ (entries : List (ℕ × Tenant)). with-entries entries) whole)
-  where
-    with-entries : List (ℕ × Tenant) → CoreState
-    with-entries entries = record { totals = record { segments = parts.book.segments; nodes = parts.book.nodes }; newest = number; tenants = entries }
+  -- and the core is the one before with that tenant after all others
+  pub admit-shared : shared_of (with_one_more parts trees ledger book number) ≡ with_admitted number quota (shared_of parts)
+  admit-shared =
+      let after = with_one_more parts trees ledger book number in
+      let frames = same-frames in
+      let first : ledger.0 ≡ number = ap (λ (l : JobLedger). l.0) is.ledger_is in
+      let none : ledger.1 ≡ [] = ap (λ (l : JobLedger). l.1) is.ledger_is in
+      let others : SameOthers parts after number =
+      λ other a differs. rw (said-inserted_other owner_of_ledger (λ (l : JobLedger). l.1) [] other ledger parts.ledgers (λ e. differs (sym e ∙ first)), frames other) refl in
+      let missing = no-ledger number parts.ledgers parts.book.accounts stored.ledgers (newer-missing parts.newest number parts.book.accounts stored.taken is.newer) in
+      let jobs : jobs_of (inserted owner_of_ledger ledger parts.ledgers) number ≡ [] = ap (jobs_of (inserted owner_of_ledger ledger parts.ledgers)) (sym first) ∙ said-inserted_own owner_of_ledger (λ (l : JobLedger). l.1) [] ledger parts.ledgers (ap (λ (n : ℕ). is_there n parts.ledgers) first ∙ missing) ∙ none in
+      let mine : tenant_from after number (fresh quota) ≡ admitted_with quota = rw (jobs, is.frames) refl in
+      let tenants = tenants-pushed parts after parts.newest number (fresh quota) parts.book.accounts stored.taken is.newer others ∙ ap (λ (t : Tenant). tenants_from parts parts.book.accounts ++ (number, t) ∷ []) mine in
+      let whole = ap (tenants_from after) accounts-after ∙ tenants in
+      rw (is.others.segments, is.others.nodes) (ap (λ (entries : List (ℕ × Tenant)). with-entries entries) whole)
+    where
+      with-entries : List (ℕ × Tenant) → CoreState
+      with-entries entries = record { totals = record { segments = parts.book.segments; nodes = parts.book.nodes }; newest = number; tenants = entries }
 
 -- A tenant's reservation is raised: its account and its places, and nothing else.
 
@@ -172,7 +166,7 @@ not-beyond book own quota is = grind (arith, nat_tests)
 -- what can be raised
 pub record CanBeRaised (parts : Parts) (number : ℕ) (quota : Quota) : Type 0 where
   pub account : Account
-  pub there : account_of number parts.book.accounts ≡ Some account
+  pub there : Owns parts number account
   pub above : IsAbove account.reserve quota
   pub room : HasRoomFor parts.book account.reserve quota
   pub places : places_of parts.trees number ≡ account.reserve.segments
@@ -180,37 +174,14 @@ pub record CanBeRaised (parts : Parts) (number : ℕ) (quota : Quota) : Type 0 w
 
 pub can-be-raised : (parts : Parts) (number : ℕ) (quota : Quota) {core : CoreState} → IsStored parts → shared_of parts ≡ core → IsAboveOwn (tenant_in core.tenants number) quota →
     is_beyond (reservations_in core) (reserved_by (tenant_in core.tenants number)) quota ≡ false → CanBeRaised parts number quota
-can-be-raised parts number quota stored is own_above own_room = by (account_of number parts.book.accounts) refl
-  where
-    above : IsAboveOwn (tenant_in (shared_of parts).tenants number) quota
-    above = grind arith
-
-    room : is_beyond (reservations_in (shared_of parts)) (reserved_by (tenant_in (shared_of parts).tenants number)) quota ≡ false
-    room = grind arith
-
-    by : (own : Option Account) → account_of number parts.book.accounts ≡ own → CanBeRaised parts number quota
-    by None none = absurd (let nobody = tenant-found parts number ∙ ap (λ (o : Option Account). option_map (tenant_from parts number) o) none in rw nobody at above)
-    by (Some account) there =
-        let found = tenant-found parts number ∙ ap (λ (o : Option Account). option_map (tenant_from parts number) o) there in
-        let not_lower : is_lower account.reserve quota ≡ false = rw found at above in
-        let few : is_beyond (reservations_in (shared_of parts)) account.reserve quota ≡ false = rw found at room in
-        let enough : is_beyond parts.book account.reserve quota ≡ false = subst (λ (b : Reservations). is_beyond b account.reserve quota ≡ false) (reservations-found parts stored) few in
-        let within : IsWithinReserve account = AllEntries-of (λ (e : ℕ × Account). IsWithinReserve e.1) number account parts.book.accounts there (IsSoundBook.within stored.book) in
-        record {
-          account = account;
-          there = there;
-          above = not-lower account.reserve quota not_lower;
-          room = not-beyond parts.book account.reserve quota enough;
-          places = (stored.accounts number account there).places;
-          some = within.some_segments;
-        }
+can-be-raised parts number quota stored is own_above own_room = grind (arith, none_or_some (account_of number parts.book.accounts), tenant-found, not-lower, not-beyond, reservations-found, within-reserve)
 
 -- so the book allows it
 pub book-raises : (parts : Parts) (number : ℕ) (quota : Quota) → CanBeRaised parts number quota → CanRaise parts.book number quota
 book-raises parts number quota can = rw can.there (can.above, can.room)
 
 -- what was told by the table and the book
-pub record IsRaised (parts : Parts) (trees : List (TenantTree ℕ)) (book : Reservations) (number : ℕ) (quota : Quota) : Type 0 where
+pub record IsRaised (parts : Parts) (trees : Trees) (book : Reservations) (number : ℕ) (quota : Quota) : Type 0 where
   pub can : CanBeRaised parts number quota
   pub places : places_of trees number ≡ quota.segments
   pub frames : frames_of trees number ≡ frames_of parts.trees number
@@ -220,14 +191,21 @@ pub record IsRaised (parts : Parts) (trees : List (TenantTree ℕ)) (book : Rese
   pub sound : IsSoundBook book
 
 -- the parts after it
-abbrev pub with_more : Parts → List (TenantTree ℕ) → Reservations → Parts
+abbrev pub with_more : Parts → Trees → Reservations → Parts
 with_more parts trees book = record parts { trees = trees; book = book }
 
-module _ (parts : Parts) (trees : List (TenantTree ℕ)) (book : Reservations) (number : ℕ) (quota : Quota) (stored : IsStored parts) where
+module _ (parts : Parts) (trees : Trees) (book : Reservations) (number : ℕ) (quota : Quota) (stored : IsStored parts) where
+  raised-frames : IsRaised parts trees book number quota → (other : ℕ) → frames_of trees other ≡ frames_of parts.trees other
+  raised-frames is other = elim (cases_eq other number) [
+    | inl here ↦ rw here is.frames
+    | inr differs ↦ is.kept.frames other differs
+  ]
+
   raise-step : (is : IsRaised parts trees book number quota) → TenantStep parts (with_more parts trees book) number (raised_to quota) is.can.account
   raise-step is =
       let account = is.can.account in
       let own = stored.accounts number account is.can.there in
+      let frames = raised-frames is in
       record {
         there = is.can.there;
         sound = is.sound;
@@ -244,25 +222,13 @@ module _ (parts : Parts) (trees : List (TenantTree ℕ)) (book : Reservations) (
         ledgers = refl;
         jobs = λ other differs. refl;
         workers = stored.workers;
-        places = λ worker owner serial frame at held. stored.places worker owner serial frame (sym (ap (λ (xs : List (Frame ℕ)). frame_at xs serial) (frames owner)) ∙ at) held;
+        places = λ worker owner serial frame at held. stored.places worker owner serial frame (sym (ap (λ (xs : Frames). frame_at xs serial) (frames owner)) ∙ at) held;
         newest = refl;
       }
-    where
-      frames : (other : ℕ) → frames_of trees other ≡ frames_of parts.trees other
-      frames other = elim (cases_eq other number) [
-        | inl here ↦ rw here is.frames
-        | inr differs ↦ is.kept.frames other differs
-      ]
 
-  -- what a store keeps true is true after it
-  pub raise-stored : IsRaised parts trees book number quota → IsStored (with_more parts trees book)
-  raise-stored is =
-      step-stored parts (with_more parts trees book) number (raised_to quota) is.can.account stored (raise-step is)
-
-  -- and the core is the one before with more reserved by that tenant
-  pub raise-shared : IsRaised parts trees book number quota → shared_of (with_more parts trees book) ≡ on_tenant number (with_reserve quota) (shared_of parts)
-  raise-shared is =
-      step-shared parts (with_more parts trees book) number (raised_to quota) is.can.account (with_reserve quota) stored (raise-step is) (rw is.frames refl)
+  -- what a store keeps true is true after it, and the core is the one before with more reserved by that tenant
+  pub raised : IsRaised parts trees book number quota → Stepped parts (with_more parts trees book) number (with_reserve quota)
+  raised is = stepped (with_reserve quota) stored (raise-step is) (rw is.frames refl)
 
 -- A new store: no tenant, no frame, no open node.
 
@@ -271,12 +237,8 @@ none-open zero node = refl
 none-open (suc count) zero = refl
 none-open (suc count) (suc node) = none-open count node
 
-none-charged : (count : ℕ) → total_charge (replicate count None) ≡ 0
-none-charged zero = refl
-none-charged (suc count) = omega (arith, sum_by-cons charge_of None (replicate count None), none-charged count)
-
 -- the parts of a new store
-pub record AreNew (nodes : Nodes) (trees : List (TenantTree ℕ)) (ledgers : List JobLedger) (book : Reservations) (segments nodes_in_all : ℕ) : Type 0 where
+pub record AreNew (nodes : Nodes) (trees : Trees) (ledgers : List JobLedger) (book : Reservations) (segments nodes_in_all : ℕ) : Type 0 where
   pub stack : nodes ≡ replicate segments None
   pub empty : book ≡ empty_of segments nodes_in_all
   pub sound : IsSoundBook book
@@ -285,7 +247,7 @@ pub record AreNew (nodes : Nodes) (trees : List (TenantTree ℕ)) (ledgers : Lis
   pub places : (tenant : ℕ) → places_of trees tenant ≡ 0
   pub jobs : ledgers ≡ []
 
-pub new-stored : (nodes : Nodes) (trees : List (TenantTree ℕ)) (ledgers : List JobLedger) (book : Reservations) (places : List (Option FrameId)) (segments nodes_in_all : ℕ) → AreNew nodes trees ledgers book segments nodes_in_all → length places ≡ 33 →
+pub new-stored : (nodes : Nodes) (trees : Trees) (ledgers : List JobLedger) (book : Reservations) (places : List (Option FrameId)) (segments nodes_in_all : ℕ) → AreNew nodes trees ledgers book segments nodes_in_all → length places ≡ 33 →
     IsStored (record { nodes = nodes; book = book; trees = trees; ledgers = ledgers; places = places; newest = 0 })
 new-stored nodes trees ledgers book places segments nodes_in_all is workers =
     let no_accounts : book.accounts ≡ [] = ap (λ (b : Reservations). b.accounts) is.empty in
@@ -302,9 +264,9 @@ new-stored nodes trees ledgers book places segments nodes_in_all is workers =
       accounts = λ number account there. absurd (let none : ◌≡◌ {A = Option Account} None (Some account) = rw no_accounts at there in cc none);
       nobody = λ number none. is.places number;
       nothing = λ number none. is.frames number;
-      forest = λ number. subst (λ (xs : List (Frame ℕ)). IsTree xs) (sym (is.frames number)) tt;
+      forest = λ number. subst (λ (xs : Frames). IsTree xs) (sym (is.frames number)) tt;
       tenants = omega (arith, count, many);
-      charges = ap total_charge is.stack ∙ none-charged segments ∙ sym (ap (λ (b : Reservations). sum_by (λ (e : ℕ × Account). Account.charged e.1) b.accounts) is.empty);
+      charges = ap total_charge is.stack ∙ (sum_by-replicate charge_of segments None ∙ omega arith) ∙ sym (ap (λ (b : Reservations). sum_by (λ (e : ℕ × Account). Account.charged e.1) b.accounts) is.empty);
       segments = ap length is.stack ∙ length-replicate segments None ∙ sym (ap (λ (b : Reservations). b.segments) is.empty);
       ledgers = ap numbers_of is.jobs ∙ sym (ap numbers_in no_accounts);
       workers = workers;
@@ -314,7 +276,7 @@ new-stored nodes trees ledgers book places segments nodes_in_all is workers =
     }
   where
     missing : (owner serial : ℕ) → frame_in_trees trees owner serial ≡ None
-    missing owner serial = ap (λ (xs : List (Frame ℕ)). frame_at xs serial) (is.frames owner)
+    missing owner serial = ap (λ (xs : Frames). frame_at xs serial) (is.frames owner)
 
     closed : (node : ℕ) → IsSome (node_at nodes node) → ⊥
     closed node open_one = false≢true (subst IsSome (ap (λ (ns : Nodes). node_at ns node) is.stack ∙ none-open segments node) open_one)

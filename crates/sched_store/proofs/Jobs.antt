@@ -1,7 +1,7 @@
 -- The jobs of one tenant: found by number, begun and ended.
 use Rattle.sched_store.proofs.Common.{◌≡◌, ◌≢◌, ℕ, zero, suc, ◌<◌, ◌≤◌, ◌+◌, ◌-◌, true, false, List, [], ◌∷◌, ◌++◌, length, get_or, drop, Some, None, refl, ap}
-use Rattle.sched_store.proofs.Common.{sym, ◌∙◌, arith, inl, inr, set, cases_Bool, false≢true, true≢false, ne_eqb, or_parts, or_from, Job, Live, Done, Spent}
-use Rattle.sched_store.proofs.Common.{Cancelled, is_live_at, job_at, number_from, job_under, with_ended, is_live, is_live_in, AreLiveOnce, JobLedger}
+use Rattle.sched_store.proofs.Common.{sym, ◌∙◌, arith, inl, inr, set, cases_Bool, false≢true, true≢false, ne_eqb, or_parts, or_from, Job, Live}
+use Rattle.sched_store.proofs.Common.{is_live_at, job_at, number_from, job_under, with_ended, is_live, is_live_in, AreLiveOnce, JobLedger}
 use Rattle.sched_store.proofs.Common.{owner_of_ledger, jobs_of, with_jobs, find_by_number, change_by_number, AreRising}
 use Rattle.std.proofs.Math.Bool.{or-true}
 use Rattle.std.specs.Prelude.{Option, IfSome, IfNone, option_copied}
@@ -32,17 +32,11 @@ job_at-there (job ∷ jobs) (suc at) d within =
 
 pub number_from-none : (first root : ℕ) (jobs : Jobs) → is_live_in root jobs ≡ false → number_from first root jobs ≡ 0
 number_from-none first root [] none = refl
-number_from-none first root (job ∷ jobs) none =
-    let parts = or_parts (is_live_at root job) (is_live_in root jobs) none in
-    rw parts.0 (number_from-none (first + 1) root jobs parts.1)
+number_from-none first root (job ∷ jobs) none = grind (arith, or_parts, number_from-none (first + 1) root jobs)
 
 pub none-number_from : (first root : ℕ) (jobs : Jobs) → 0 < first → number_from first root jobs ≡ 0 → is_live_in root jobs ≡ false
 none-number_from first root [] some is = refl
-none-number_from first root (job ∷ jobs) some is =
-    elim (cases_Bool (is_live_at root job)) [
-      | inl live ↦ (let zero_is : first ≡ 0 = rw live at is in absurd (omega arith))
-      | inr other ↦ or_from (is_live_at root job) (is_live_in root jobs) other (none-number_from (first + 1) root jobs (omega arith) (rw other at is))
-    ]
+none-number_from first root (job ∷ jobs) some is = grind (arith, or_from, none-number_from (first + 1) root jobs)
 
 live-there : (root at : ℕ) (jobs : Jobs) (d : Job) → at < length jobs → is_live_at root (get_or jobs at d) ≡ true → is_live_in root jobs ≡ true
 live-there root at [] d within live = absurd (omega arith)
@@ -69,9 +63,7 @@ none-from root (suc at) (job ∷ jobs) d within other none = let next : suc at +
 
 pub ended-none : (root : ℕ) (ended : Job) (jobs : Jobs) → is_live_in root jobs ≡ false → with_ended root ended jobs ≡ jobs
 ended-none root ended [] none = refl
-ended-none root ended (job ∷ jobs) none =
-    let parts = or_parts (is_live_at root job) (is_live_in root jobs) none in
-    rw (parts.0, ended-none root ended jobs parts.1) refl
+ended-none root ended (job ∷ jobs) none = grind (arith, or_parts, ended-none root ended jobs)
 
 ended-from : (first at root : ℕ) (ended : Job) (jobs : Jobs) → AreLiveOnce jobs → 0 < first → number_from first root jobs ≡ first + at → with_ended root ended jobs ≡ set jobs at ended
 ended-from first at root ended [] once some is = absurd (omega arith)
@@ -95,26 +87,22 @@ ended-from first (suc at) root ended (job ∷ jobs) once some is =
       | inr other ↦ rw other (ap (λ (rest : Jobs). job ∷ rest) (ended-from (first + 1) at root ended jobs once.1 (omega arith) (let found : number_from (first + 1) root jobs ≡ first + suc at = rw other at is in found ∙ omega arith)))
     ]
 
-pub ended-one : (root number : ℕ) (ended : Job) (jobs : Jobs) → AreLiveOnce jobs → 0 < number → number ≡ job_under root jobs → with_ended root ended jobs ≡ set jobs (number - 1) ended
-ended-one root number ended jobs once some is = ended-from 1 (number - 1) root ended jobs once (omega arith) (sym is ∙ omega arith)
+module _ (root number : ℕ) (ended : Job) (jobs : Jobs) where
+  pub ended-one : AreLiveOnce jobs → 0 < number → number ≡ job_under root jobs → with_ended root ended jobs ≡ set jobs (number - 1) ended
+  ended-one once some is = ended-from 1 (number - 1) root ended jobs once (omega arith) (sym is ∙ omega arith)
 
-pub ended-nobody : (root number : ℕ) (ended : Job) (jobs : Jobs) → number ≤ 0 → number ≡ job_under root jobs → with_ended root ended jobs ≡ jobs
-ended-nobody root number ended jobs none is = ended-none root ended jobs (none-number_from 1 root jobs (omega arith) (sym is ∙ omega arith))
+  pub ended-nobody : number ≤ 0 → number ≡ job_under root jobs → with_ended root ended jobs ≡ jobs
+  ended-nobody none is = ended-none root ended jobs (none-number_from 1 root jobs (omega arith) (sym is ∙ omega arith))
 
 -- no two jobs live under one root
 
 not-live : (job : Job) (root : ℕ) → is_live job ≡ false → is_live_at root job ≡ false
-not-live (Live serial) root ends = absurd (true≢false ends)
-not-live (Done words) root ends = refl
-not-live Spent root ends = refl
-not-live Cancelled root ends = refl
+not-live job root ends = grind arith
 
 live-before : (jobs : Jobs) (at root : ℕ) (ended : Job) → is_live ended ≡ false → is_live_in root jobs ≡ false → is_live_in root (set jobs at ended) ≡ false
 live-before [] at root ended ends none = none
 live-before (job ∷ jobs) zero root ended ends none = grind (arith, or_parts, or_from, not-live)
-live-before (job ∷ jobs) (suc at) root ended ends none =
-    let parts = or_parts (is_live_at root job) (is_live_in root jobs) none in
-    or_from (is_live_at root job) (is_live_in root (set jobs at ended)) parts.0 (live-before jobs at root ended ends parts.1)
+live-before (job ∷ jobs) (suc at) root ended ends none = grind (arith, or_parts, or_from, live-before jobs at root ended ends)
 
 pub once-ended : (jobs : Jobs) (at : ℕ) (ended : Job) → is_live ended ≡ false → AreLiveOnce jobs → AreLiveOnce (set jobs at ended)
 once-ended [] at ended ends once = once
@@ -123,9 +111,7 @@ once-ended (job ∷ jobs) (suc at) ended ends once = (λ root live. live-before 
 
 live-push : (jobs : Jobs) (root other : ℕ) → root ≢ other → is_live_in other jobs ≡ false → is_live_in other (jobs ++ Live root ∷ []) ≡ false
 live-push [] root other differs none = rw (ne_eqb root other differs) refl
-live-push (job ∷ jobs) root other differs none =
-    let parts = or_parts (is_live_at other job) (is_live_in other jobs) none in
-    or_from (is_live_at other job) (is_live_in other (jobs ++ Live root ∷ [])) parts.0 (live-push jobs root other differs parts.1)
+live-push (job ∷ jobs) root other differs none = grind (arith, or_parts, or_from, live-push jobs root other differs)
 
 once-push : (jobs : Jobs) (root : ℕ) → is_live_in root jobs ≡ false → AreLiveOnce jobs → AreLiveOnce (jobs ++ Live root ∷ [])
 once-push [] root none once = (λ other live. refl, tt)
@@ -148,12 +134,13 @@ job-past jobs number some past = sym (job_at-past jobs number (omega arith))
 abbrev All : Type 0
 All = List JobLedger
 
--- the ledger that was found, with other jobs
-pub found-changed : (n : ℕ) (ledgers : All) (ledger changed : JobLedger) (change : List Job → List Job) → find_by_number owner_of_ledger n ledgers ≡ Some ledger → changed ≡ (ledger.0, change ledger.1) → change_by_number owner_of_ledger n (λ was. changed) ledgers ≡ with_jobs n change ledgers
-found-changed n ledgers ledger changed change is new = put-changed owner_of_ledger n (λ (l : JobLedger). (l.0, change l.1)) ledgers ledger changed is new
+module _ (n : ℕ) (ledgers : All) (ledger : JobLedger) where
+  -- the ledger that was found, with other jobs
+  pub found-changed : (changed : JobLedger) (change : List Job → List Job) → find_by_number owner_of_ledger n ledgers ≡ Some ledger → changed ≡ (ledger.0, change ledger.1) → change_by_number owner_of_ledger n (λ was. changed) ledgers ≡ with_jobs n change ledgers
+  found-changed changed change is new = put-changed owner_of_ledger n (λ (l : JobLedger). (l.0, change l.1)) ledgers ledger changed is new
 
-pub jobs-found : (n : ℕ) (ledgers : All) (ledger : JobLedger) → find_by_number owner_of_ledger n ledgers ≡ Some ledger → jobs_of ledgers n ≡ ledger.1
-jobs-found n ledgers ledger is = said-found owner_of_ledger (λ (l : JobLedger). l.1) [] n ledgers ledger is
+  pub jobs-found : find_by_number owner_of_ledger n ledgers ≡ Some ledger → jobs_of ledgers n ≡ ledger.1
+  jobs-found is = said-found owner_of_ledger (λ (l : JobLedger). l.1) [] n ledgers ledger is
 
 -- ledgers still rise
 pub rising-with_jobs : (n : ℕ) (change : List Job → List Job) (ledgers : All) → AreRising owner_of_ledger ledgers → AreRising owner_of_ledger (with_jobs n change ledgers)

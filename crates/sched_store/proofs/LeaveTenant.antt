@@ -1,13 +1,14 @@
 -- A tenant leaves: its frames go with their nodes, its places, its jobs and its account, and nothing of any other tenant.
 use Rattle.sched_store.proofs.Common.{◌≡◌, ◌≢◌, ℕ, ◌+◌, ◌<◌, ◌≤◌, inl, inr, Bool, false, eqb, List, [], ◌∷◌, length, Some, refl, ap, sym, ◌∙◌, subst, arith}
 use Rattle.sched_store.proofs.Common.{filter, cases_Bool, ne_eqb, eqb-true, eqb-false, Nodes, without, total_charge, Reservations, IsSoundBook, Releases}
-use Rattle.sched_store.proofs.Common.{KeepsOtherAccounts, Account, AllEntries-of, Frame, values_of, AllBelow, TenantTree, frames_of, places_of, tenant_count}
+use Rattle.sched_store.proofs.Common.{KeepsOtherAccounts, Account, Frame, values_of, AllBelow, frames_of, places_of, tenant_count}
 use Rattle.sched_store.proofs.Common.{Tenant, charged_for, CoreState, without_tenant, with_departed, JobLedger, owner_of_ledger, jobs_of, numbers_of}
-use Rattle.sched_store.proofs.Common.{without_ledger, Parts, with_words_of_nodes, tenant_from, tenants_from, shared_of, IsStored, IsAccountFor, numbers_in}
+use Rattle.sched_store.proofs.Common.{without_ledger, Parts, with_words_of_nodes, tenants_from, shared_of, IsStored, IsAccountFor, numbers_in}
 use Rattle.sched_store.proofs.Common.{AreAtMost, remove_by_number}
-use Rattle.tenant_quota.specs.Accounts.{owner_of_account, account_of, without as without_account, AllEntries, IsRising, IsWithinReserve, charged_segments}
+use Rattle.tenant_quota.specs.Accounts.{owner_of_account, account_of, without as without_account, AllEntries, IsRising, charged_segments}
 use Rattle.number_index.proofs.Edits.{said-without_other, all-without}
-use Rattle.sched_store.proofs.Lookups.{numbers-without}
+use Rattle.sched_store.proofs.Steps.{SameOthers}
+use Rattle.sched_store.proofs.Lookups.{within-reserve, Frames, Trees, tree_in, Owns, numbers-without}
 use Rattle.sched_store.proofs.Closing.{IsCut, closed, closing, cut-belongs, cut-sized, cut-places, cut-words, cut-trees, TakesChildren, closing-open, closing-once, closing-children, cut-frees}
 use Rattle.sched_store.proofs.Removing.{length-without, AreClosable}
 
@@ -15,18 +16,18 @@ use Rattle.sched_store.proofs.Removing.{length-without, AreClosable}
 abbrev pub none_stays : Frame ℕ → Bool
 none_stays frame = false
 
-filter-none : (xs : List (Frame ℕ)) → filter none_stays xs ≡ []
+filter-none : (xs : Frames) → filter none_stays xs ≡ []
 filter-none [] = refl
 filter-none (x ∷ xs) = filter-none xs
 
-closed-whole : (xs : List (Frame ℕ)) → closed none_stays xs ≡ values_of xs
+closed-whole : (xs : Frames) → closed none_stays xs ≡ values_of xs
 closed-whole [] = refl
 closed-whole (x ∷ xs) = ap (λ (ns : List ℕ). x.value ∷ ns) (closed-whole xs)
 
 -- a tenant that is there has a place at least
-pub has-places : (parts : Parts) → IsStored parts → (number : ℕ) (account : Account) → account_of number parts.book.accounts ≡ Some account → 0 < places_of parts.trees number
+pub has-places : (parts : Parts) → IsStored parts → (number : ℕ) (account : Account) → Owns parts number account → 0 < places_of parts.trees number
 has-places parts stored number account there =
-    let within : IsWithinReserve account = AllEntries-of (λ (e : ℕ × Account). IsWithinReserve e.1) number account parts.book.accounts there (IsSoundBook.within stored.book) in
+    let within = within-reserve parts stored number account there in
     omega (arith, within.some_segments, IsAccountFor.places (stored.accounts number account there))
 
 -- the nodes of all frames of a tenant: open, once, with their children
@@ -42,8 +43,8 @@ leave-closes parts number numbers stored is =
     })
 
 -- what a departure was told by the table, the stack, the ledgers and the book
-pub record IsDeparture (parts : Parts) (nodes : Nodes) (trees : List (TenantTree ℕ)) (ledgers : List JobLedger) (book : Reservations) (number : ℕ) (numbers : List ℕ) (account : Account) : Type 0 where
-  pub there : account_of number parts.book.accounts ≡ Some account
+pub record IsDeparture (parts : Parts) (nodes : Nodes) (trees : Trees) (ledgers : List JobLedger) (book : Reservations) (number : ℕ) (numbers : List ℕ) (account : Account) : Type 0 where
+  pub there : Owns parts number account
   pub values : numbers ≡ values_of (frames_of parts.trees number)
   pub closed_all : nodes ≡ without parts.nodes numbers
   pub frames : frames_of trees number ≡ []
@@ -57,78 +58,15 @@ pub record IsDeparture (parts : Parts) (nodes : Nodes) (trees : List (TenantTree
   pub sound : IsSoundBook book
 
 -- the parts after it
-abbrev pub departed : Parts → Nodes → List (TenantTree ℕ) → List JobLedger → Reservations → Parts
+abbrev pub departed : Parts → Nodes → Trees → List JobLedger → Reservations → Parts
 departed parts nodes trees ledgers book = record parts { nodes = nodes; trees = trees; ledgers = ledgers; book = book }
-
--- the cut that takes all frames
-leave-cut : (parts : Parts) (nodes : Nodes) (trees : List (TenantTree ℕ)) (ledgers : List JobLedger) (book : Reservations) (number : ℕ) (numbers : List ℕ) (account : Account) → IsStored parts →
-    IsDeparture parts nodes trees ledgers book number numbers account → IsCut parts.trees trees number none_stays
-leave-cut parts nodes trees ledgers book number numbers account stored is = grind (arith, filter-none)
 
 closed-same : (parts : Parts) (nodes : Nodes) (number : ℕ) (numbers : List ℕ) → numbers ≡ values_of (frames_of parts.trees number) → nodes ≡ without parts.nodes numbers → without parts.nodes (closing parts.trees number none_stays) ≡ nodes
 closed-same parts nodes number numbers values closed_all = ap (without parts.nodes) (closed-whole (frames_of parts.trees number) ∙ sym values) ∙ sym closed_all
 
--- another tenant's words
-module _ (parts : Parts) (nodes : Nodes) (trees : List (TenantTree ℕ)) (ledgers : List JobLedger) (book : Reservations) (number : ℕ) (numbers : List ℕ)
-    (account : Account) (stored : IsStored parts) (is : IsDeparture parts nodes trees ledgers book number numbers account) where
-  leave-words : (other : ℕ) → other ≢ number → with_words_of_nodes nodes (frames_of trees other) ≡ with_words_of_nodes parts.nodes (frames_of parts.trees other)
-  leave-words other differs =
-      let cut = leave-cut parts nodes trees ledgers book number numbers account stored is in
-      ap (λ (n : Nodes). with_words_of_nodes n (frames_of trees other)) (sym (closed-same parts nodes number numbers is.values is.closed_all))
-      ∙ cut-words parts.nodes parts.trees trees number none_stays stored.frames_nodes cut other (cut-trees parts.trees trees number none_stays cut other)
-      ∙ ap (with_words_of_nodes parts.nodes) (is.other_frames other differs)
-
-  leave-charges : total_charge nodes ≡ charged_segments book.accounts
-  leave-charges =
-      let frees = cut-frees parts.nodes parts.trees number none_stays stored.frames_nodes (stored.forest number) in
-      let none : charged_for (with_words_of_nodes parts.nodes (filter none_stays (frames_of parts.trees number))) ≡ 0 = ap (λ (xs : List (Frame ℕ)). charged_for (with_words_of_nodes parts.nodes xs)) (filter-none (frames_of parts.trees number)) in
-      let same = ap total_charge (closed-same parts nodes number numbers is.values is.closed_all) in
-      let charged = IsAccountFor.charged (stored.accounts number account is.there) in
-      omega (arith, frees, none, same, charged, stored.charges, is.released.charged)
-
--- what a store keeps true is true after it
-pub leave-stored : (parts : Parts) (nodes : Nodes) (trees : List (TenantTree ℕ)) (ledgers : List JobLedger) (book : Reservations) (number : ℕ) (numbers : List ℕ) (account : Account) → IsStored parts →
-    IsDeparture parts nodes trees ledgers book number numbers account → IsStored (departed parts nodes trees ledgers book)
-leave-stored parts nodes trees ledgers book number numbers account stored is =
-    let cut = leave-cut parts nodes trees ledgers book number numbers account stored is in
-    let same = closed-same parts nodes number numbers is.values is.closed_all in
-    let tenants = stored.tenants in
-    let fewer = is.count in
-    let left = is.released.tenants in
-    record {
-      book = is.sound;
-      frames_nodes = rw (← same) (cut-belongs parts.nodes parts.trees trees number none_stays stored.frames_nodes cut);
-      sized = rw (← same) (cut-sized parts.nodes (closing parts.trees number none_stays) stored.sized);
-      accounts = λ other a found. other-account other a (differs other a found) found;
-      nobody = λ other none. grind arith;
-      nothing = λ other none. grind arith;
-      forest = cut-trees parts.trees trees number none_stays cut;
-      tenants = omega (arith, tenants, fewer, left);
-      charges = leave-charges parts nodes trees ledgers book number numbers account stored is;
-      segments = ap length (sym same) ∙ length-without parts.nodes (closing parts.trees number none_stays) ∙ stored.segments ∙ sym is.others.segments;
-      ledgers = ap numbers_of is.jobs ∙ (numbers-without owner_of_ledger number parts.ledgers ∙ ap (remove_by_number (λ k. k) number) stored.ledgers) ∙ sym (ap (λ (b : Reservations). numbers_in b.accounts) is.released.whole ∙ numbers-without owner_of_account number parts.book.accounts);
-      workers = stored.workers;
-      places = cut-places parts.nodes parts.trees trees parts.places number none_stays stored.frames_nodes cut stored.places;
-      taken = subst (λ (b : Reservations). AreAtMost parts.newest b.accounts) (sym is.released.whole) (all-without (λ (e : ℕ × Account). e.0 ≤ parts.newest) owner_of_account number parts.book.accounts stored.taken);
-      newest = stored.newest;
-    }
-  where
-    differs : (other : ℕ) (a : Account) → account_of other book.accounts ≡ Some a → other ≢ number
-    differs other a found e = (let here : account_of number book.accounts ≡ Some a = subst (λ (n : ℕ). account_of n book.accounts ≡ Some a) e found in let gone = is.released.account in absurd cc)
-
-    other-account : (other : ℕ) (a : Account) → other ≢ number → account_of other book.accounts ≡ Some a → IsAccountFor nodes trees other a
-    other-account other a not_it found =
-        let was = stored.accounts other a (sym (is.others.others other not_it) ∙ found) in
-        record {
-          charged = was.charged ∙ sym (ap charged_for (leave-words parts nodes trees ledgers book number numbers account stored is other not_it));
-          places = is.other_places other not_it ∙ was.places;
-          serials = subst (λ (xs : List (Frame ℕ)). AllBelow (a.opened + 1) xs) (sym (is.other_frames other not_it)) was.serials;
-        }
-
 -- the tenants of accounts above the one that leaves
 module _ (parts after : Parts) (number : ℕ) where
-  above-stay : (entries : List (ℕ × Account)) → AllEntries (λ later. number < later.0) entries →
-      ((other : ℕ) (a : Account) → other ≢ number → tenant_from after other a ≡ tenant_from parts other a) →
+  above-stay : (entries : List (ℕ × Account)) → AllEntries (λ later. number < later.0) entries → SameOthers parts after number →
       tenants_from after entries ≡ without_tenant number (tenants_from parts entries)
   above-stay [] above others = refl
   above-stay (entry ∷ entries) above others =
@@ -136,8 +74,7 @@ module _ (parts after : Parts) (number : ℕ) where
       let differs : entry.0 ≢ number = λ e. omega (arith, e, low) in
       rw (ne_eqb entry.0 number differs, others entry.0 entry.1 differs, above-stay entries above.1 others) refl
 
-  tenants-without : (entries : List (ℕ × Account)) → IsRising entries →
-      ((other : ℕ) (a : Account) → other ≢ number → tenant_from after other a ≡ tenant_from parts other a) →
+  tenants-without : (entries : List (ℕ × Account)) → IsRising entries → SameOthers parts after number →
       tenants_from after (without_account number entries) ≡ without_tenant number (tenants_from parts entries)
   tenants-without [] rising others = refl
   tenants-without (entry ∷ entries) rising others =
@@ -146,17 +83,76 @@ module _ (parts after : Parts) (number : ℕ) where
         | inr other ↦ rw (other, others entry.0 entry.1 (eqb-false entry.0 number other), tenants-without entries rising.1 others) refl
       ]
 
--- and the core is the one before without that tenant
-pub leave-shared : (parts : Parts) (nodes : Nodes) (trees : List (TenantTree ℕ)) (ledgers : List JobLedger) (book : Reservations) (number : ℕ) (numbers : List ℕ) (account : Account) → IsStored parts →
-    IsDeparture parts nodes trees ledgers book number numbers account → shared_of (departed parts nodes trees ledgers book) ≡ with_departed number (shared_of parts)
-leave-shared parts nodes trees ledgers book number numbers account stored is =
-    let after = departed parts nodes trees ledgers book in
-    let others : (other : ℕ) (a : Account) → other ≢ number → tenant_from after other a ≡ tenant_from parts other a =
-    λ other a differs. (
-    let jobs : jobs_of ledgers other ≡ jobs_of parts.ledgers other = ap (λ (ls : List JobLedger). jobs_of ls other) is.jobs ∙ said-without_other owner_of_ledger (λ (l : JobLedger). l.1) [] other number parts.ledgers (λ e. differs (sym e)) in
-    rw (jobs, leave-words parts nodes trees ledgers book number numbers account stored is other differs) refl) in
-    let tenants = tenants-without parts after number parts.book.accounts stored.book.rising others in
-    rw is.released.whole (ap (λ (entries : List (ℕ × Tenant)). with-entries entries) tenants)
-  where
-    with-entries : List (ℕ × Tenant) → CoreState
-    with-entries entries = record { totals = record { segments = parts.book.segments; nodes = parts.book.nodes }; newest = parts.newest; tenants = entries }
+module _ (parts : Parts) (nodes : Nodes) (trees : Trees) (ledgers : List JobLedger) (book : Reservations) (number : ℕ) (numbers : List ℕ)
+    (account : Account) (stored : IsStored parts) (is : IsDeparture parts nodes trees ledgers book number numbers account) where
+  -- the cut that takes all frames
+  leave-cut : IsCut parts.trees trees number none_stays
+  leave-cut = grind (arith, filter-none)
+
+  -- another tenant's words
+  leave-words : (other : ℕ) → other ≢ number → with_words_of_nodes nodes (frames_of trees other) ≡ tree_in parts other
+  leave-words other differs =
+      let cut = leave-cut in
+      ap (λ (n : Nodes). with_words_of_nodes n (frames_of trees other)) (sym (closed-same parts nodes number numbers is.values is.closed_all))
+      ∙ cut-words parts.nodes parts.trees trees number none_stays stored.frames_nodes cut other (cut-trees parts.trees trees number none_stays cut other)
+      ∙ ap (with_words_of_nodes parts.nodes) (is.other_frames other differs)
+
+  leave-charges : total_charge nodes ≡ charged_segments book.accounts
+  leave-charges =
+      let frees = cut-frees parts.nodes parts.trees number none_stays stored.frames_nodes (stored.forest number) in
+      let none : charged_for (with_words_of_nodes parts.nodes (filter none_stays (frames_of parts.trees number))) ≡ 0 = ap (λ (xs : Frames). charged_for (with_words_of_nodes parts.nodes xs)) (filter-none (frames_of parts.trees number)) in
+      let same = ap total_charge (closed-same parts nodes number numbers is.values is.closed_all) in
+      let charged = IsAccountFor.charged (stored.accounts number account is.there) in
+      omega (arith, frees, none, same, charged, stored.charges, is.released.charged)
+
+  -- what a store keeps true is true after it
+  pub leave-stored : IsStored (departed parts nodes trees ledgers book)
+  leave-stored =
+      let cut = leave-cut in
+      let same = closed-same parts nodes number numbers is.values is.closed_all in
+      let tenants = stored.tenants in
+      let fewer = is.count in
+      let left = is.released.tenants in
+      record {
+        book = is.sound;
+        frames_nodes = rw (← same) (cut-belongs parts.nodes parts.trees trees number none_stays stored.frames_nodes cut);
+        sized = rw (← same) (cut-sized parts.nodes (closing parts.trees number none_stays) stored.sized);
+        accounts = λ other a found. other-account other a (differs other a found) found;
+        nobody = λ other none. grind arith;
+        nothing = λ other none. grind arith;
+        forest = cut-trees parts.trees trees number none_stays cut;
+        tenants = omega (arith, tenants, fewer, left);
+        charges = leave-charges;
+        segments = ap length (sym same) ∙ length-without parts.nodes (closing parts.trees number none_stays) ∙ stored.segments ∙ sym is.others.segments;
+        ledgers = ap numbers_of is.jobs ∙ (numbers-without owner_of_ledger number parts.ledgers ∙ ap (remove_by_number (λ k. k) number) stored.ledgers) ∙ sym (ap (λ (b : Reservations). numbers_in b.accounts) is.released.whole ∙ numbers-without owner_of_account number parts.book.accounts);
+        workers = stored.workers;
+        places = cut-places parts.nodes parts.trees trees number none_stays stored.frames_nodes cut parts.places stored.places;
+        taken = subst (λ (b : Reservations). AreAtMost parts.newest b.accounts) (sym is.released.whole) (all-without (λ (e : ℕ × Account). e.0 ≤ parts.newest) owner_of_account number parts.book.accounts stored.taken);
+        newest = stored.newest;
+      }
+    where
+      differs : (other : ℕ) (a : Account) → account_of other book.accounts ≡ Some a → other ≢ number
+      differs other a found e = (let here : account_of number book.accounts ≡ Some a = subst (λ (n : ℕ). account_of n book.accounts ≡ Some a) e found in let gone = is.released.account in absurd cc)
+
+      other-account : (other : ℕ) (a : Account) → other ≢ number → account_of other book.accounts ≡ Some a → IsAccountFor nodes trees other a
+      other-account other a not_it found =
+          let was = stored.accounts other a (sym (is.others.others other not_it) ∙ found) in
+          record {
+            charged = was.charged ∙ sym (ap charged_for (leave-words other not_it));
+            places = is.other_places other not_it ∙ was.places;
+            serials = subst (λ (xs : Frames). AllBelow (a.opened + 1) xs) (sym (is.other_frames other not_it)) was.serials;
+          }
+
+  -- and the core is the one before without that tenant
+  pub leave-shared : shared_of (departed parts nodes trees ledgers book) ≡ with_departed number (shared_of parts)
+  leave-shared =
+      let after = departed parts nodes trees ledgers book in
+      let others : SameOthers parts after number =
+      λ other a differs. (
+      let jobs : jobs_of ledgers other ≡ jobs_of parts.ledgers other = ap (λ (ls : List JobLedger). jobs_of ls other) is.jobs ∙ said-without_other owner_of_ledger (λ (l : JobLedger). l.1) [] other number parts.ledgers (λ e. differs (sym e)) in
+      rw (jobs, leave-words other differs) refl) in
+      let tenants = tenants-without parts after number parts.book.accounts stored.book.rising others in
+      rw is.released.whole (ap (λ (entries : List (ℕ × Tenant)). with-entries entries) tenants)
+    where
+      with-entries : List (ℕ × Tenant) → CoreState
+      with-entries entries = record { totals = record { segments = parts.book.segments; nodes = parts.book.nodes }; newest = parts.newest; tenants = entries }

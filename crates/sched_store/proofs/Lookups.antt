@@ -1,15 +1,15 @@
 -- What is found in the core that a store stands for: tenants, jobs, frames and what they see.
-use Rattle.std.proofs.Common.{◌≡◌, ℕ, ◌<◌, eqb, List, [], ◌∷◌, Some, None, refl, subst, arith, inl, inr, suc, true, false, ◌||◌, Bool, length, ap, sym, ◌∙◌, ◌≤◌, ◌+◌, Option, IfSome, is_some, option_map, option_and_then, ◌-◌, ltb, IsSome, ◌++◌, map, reverse}
+use Rattle.std.proofs.Common.{◌≡◌, ℕ, ◌<◌, eqb, List, [], ◌∷◌, Some, None, ◌⊎◌, refl, subst, arith, inl, inr, suc, true, false, ◌||◌, Bool, length, ap, sym, ◌∙◌, ◌≤◌, ◌+◌, Option, IfSome, is_some, option_map, option_and_then, ◌-◌, ltb, IsSome, ◌++◌, map, reverse}
 use Rattle.sched_store.proofs.Common.{cases_Bool, eq-eqb, eqb-true, le-leb, lt-leb, lt-ltb, le-ltb, ltb-true, ltb-false, or_left, or_right, false≢true}
 use Rattle.sched_store.proofs.Common.{owner_of_account, account_of, AllEntries, IsRising, charged_segments, Account, has_by_number, change_by_number}
 use Rattle.sched_store.proofs.Common.{remove_by_number, inserted, JobLedger, owner_of_ledger, numbers_by, numbers_of, is_there, jobs_of, numbers_in, IsStored}
 use Rattle.sched_store.proofs.Common.{frame_in_trees, AreAtMost, node_above, sum_by-cons, node_words, total_charge, Nodes, IsOpen, IsSight, node_parent, Left}
 use Rattle.sched_store.proofs.Common.{left_in_book, Reservations, IsSoundBook, unreserved_of, FrameId, frame_at, Frame, has_frame, parent_of, name_of}
-use Rattle.sched_store.proofs.Common.{entry_of_frame, ready_name, first_of_two, newest_ready_of, IsTree, map_value, frames_of, Job, Tenant, charged_for}
+use Rattle.sched_store.proofs.Common.{entry_of_frame, ready_name, first_of_two, newest_ready_of, IsTree, map_value, frames_of, Job, Tenant, Tree, TenantTree, charged_for}
 use Rattle.sched_store.proofs.Common.{account_in, job_at, sight, words_in, tenant_in, accounts_in, charged_in, reservations_in, is_full, is_beyond, Parts}
 use Rattle.sched_store.proofs.Common.{with_words_of_nodes, tenant_from, tenants_from, shared_of, tree_of, jobs_kept, frames_in_core, jobs_in, AreAfter}
 use Rattle.sched_store.proofs.Common.{AreTenantsRising, path_of, sight_of, Quota, Entry, found-there, IsTop, IsUnder, tree-induction, found-serial}
-use Rattle.sched_store.proofs.Common.{reverse-append, map-append}
+use Rattle.sched_store.proofs.Common.{AllEntries-of, IsWithinReserve, reverse-append, map-append, Each, found-each, tree-rising}
 use Rattle.number_index.proofs.Edits.{said-lacks, has-above, has-found, lacks-said}
 use Rattle.tenant_quota.proofs.Places.{entry-of}
 use Rattle.frame_tree.proofs.TreeValues.{frame_at-map_values, tree-map_values}
@@ -17,6 +17,42 @@ use Rattle.sched_rules.specs.Headline.{AreNumbersTaken, AreNumbersGiven}
 use Rattle.sched_rules.specs.Views.{left_in_core, job_of, named, free_in, frame_in_core, newest_ready_in}
 use Rattle.tenant_quota.specs.declared.book.Rest.{Rest}
 use Rattle.cactus_stack.proofs.LawFacts.{one-sight}
+
+abbrev pub Entries : Type 0
+Entries = List (ℕ × Account)
+
+-- frames, and trees of frames by tenant
+abbrev pub Frames : Type 0
+Frames = List (Frame ℕ)
+
+abbrev pub Trees : Type 0
+Trees = List (TenantTree ℕ)
+
+-- the frames of the tenant of this name
+abbrev pub family : Parts → FrameId → Frames
+family parts name = frames_of parts.trees name.tenant
+
+-- the frame of this name in the table, and what the table tells of it
+abbrev pub framed : Parts → FrameId → Option (Frame ℕ)
+framed parts name = frame_in_trees parts.trees name.tenant name.serial
+
+abbrev pub entry_in : Parts → FrameId → Option (Entry ℕ)
+entry_in parts name = entry_of_frame name.tenant (framed parts name)
+
+-- the frames of a tenant, and one frame, with words
+abbrev pub tree_in : Parts → ℕ → Tree
+tree_in parts number = with_words_of_nodes parts.nodes (frames_of parts.trees number)
+
+abbrev pub with_words : Parts → Option (Frame ℕ) → Option (Frame (List ℕ))
+with_words parts o = option_map (map_value (node_words parts.nodes)) o
+
+-- the account of a tenant
+abbrev pub Owns : Parts → ℕ → Account → Type 0
+Owns parts number account = account_of number parts.book.accounts ≡ Some account
+
+pub none_or_some : {A : Type 0} (o : Option A) → (o ≡ None) ⊎ ((a : A) × (o ≡ Some a))
+none_or_some None = inl refl
+none_or_some (Some a) = inr (a, refl)
 
 -- what is true of each account, along the list of accounts
 pub lower-missing : (number : ℕ) (entries : List (ℕ × Account)) → AllEntries (λ later. number < later.0) entries → account_of number entries ≡ None
@@ -74,47 +110,52 @@ module _ (n : ℕ) (ledgers : List JobLedger) (entries : List (ℕ × Account)) 
 
 -- What is found in the core that a store stands for.
 
-abbrev Entries : Type 0
-Entries = List (ℕ × Account)
-
 tenant_in-tenants_from : (parts : Parts) (entries : Entries) (number : ℕ) → tenant_in (tenants_from parts entries) number ≡ option_map (tenant_from parts number) (account_of number entries)
 tenant_in-tenants_from parts [] number = refl
 tenant_in-tenants_from parts (entry ∷ entries) number = grind (arith, tenant_in-tenants_from parts entries number, eqb-true)
 
--- a tenant is what its account stands for
-pub tenant-found : (parts : Parts) (number : ℕ) → tenant_in (shared_of parts).tenants number ≡ option_map (tenant_from parts number) (account_of number parts.book.accounts)
-tenant-found parts number = tenant_in-tenants_from parts parts.book.accounts number
+-- what is true of each frame that is found is true of each frame
+pub each-frame : (parts : Parts) → IsStored parts → (number : ℕ) (P : Frame ℕ → Type 0) → ((serial : ℕ) (x : Frame ℕ) → frame_in_trees parts.trees number serial ≡ Some x → P x) → Each P (frames_of parts.trees number)
+each-frame parts stored number P all = found-each P (frames_of parts.trees number) (tree-rising (frames_of parts.trees number) (stored.forest number)) all
 
-pub tenant-there : (parts : Parts) (number : ℕ) → is_some (tenant_in (shared_of parts).tenants number) ≡ is_some (account_of number parts.book.accounts)
-tenant-there parts number = grind (arith, tenant-found)
+module _ (parts : Parts) (number : ℕ) where
+  -- a tenant is what its account stands for
+  pub tenant-found : tenant_in (shared_of parts).tenants number ≡ option_map (tenant_from parts number) (account_of number parts.book.accounts)
+  tenant-found = tenant_in-tenants_from parts parts.book.accounts number
 
--- its frames are those of the table, each with the words of its node
-pub frames-found : (parts : Parts) → IsStored parts → (number : ℕ) → frames_in_core (shared_of parts) number ≡ with_words_of_nodes parts.nodes (frames_of parts.trees number)
-frames-found parts stored number = grind (arith, tenant-found)
+  pub tenant-there : is_some (tenant_in (shared_of parts).tenants number) ≡ is_some (account_of number parts.book.accounts)
+  tenant-there = grind (arith, tenant-found)
 
 named-frames : (parts : Parts) (name : FrameId) → named (shared_of parts) name ≡ frame_at (frames_in_core (shared_of parts) name.tenant) name.serial
 named-frames parts name = grind arith
 
--- a frame is that of the table, with the words of its node
-pub named-found : (parts : Parts) → IsStored parts → (name : FrameId) → named (shared_of parts) name ≡ option_map (map_value (node_words parts.nodes)) (frame_in_trees parts.trees name.tenant name.serial)
-named-found parts stored name = grind (arith, named-frames, frames-found, frame_at-map_values)
+module _ (parts : Parts) (stored : IsStored parts) where
+  -- its frames are those of the table, each with the words of its node
+  pub frames-found : (number : ℕ) → frames_in_core (shared_of parts) number ≡ tree_in parts number
+  frames-found number = grind (arith, tenant-found)
 
--- its jobs are those of its ledger
+  -- a frame is that of the table, with the words of its node
+  pub named-found : (name : FrameId) → named (shared_of parts) name ≡ with_words parts (framed parts name)
+  named-found name = grind (arith, named-frames, frames-found, frame_at-map_values)
 
-pub jobs-found : (parts : Parts) → IsStored parts → (number : ℕ) → jobs_in (shared_of parts) number ≡ jobs_of parts.ledgers number
-jobs-found parts stored number = ap jobs_kept (tenant-found parts number) ∙ by (account_of number parts.book.accounts) refl
-  where
-    by : (account : Option Account) → account_of number parts.book.accounts ≡ account → jobs_kept (option_map (tenant_from parts number) account) ≡ jobs_of parts.ledgers number
-    by None is = sym (said-lacks owner_of_ledger (λ (l : JobLedger). l.1) [] number parts.ledgers (no-ledger number parts.ledgers parts.book.accounts stored.ledgers is))
-    by (Some account) is = refl
+  -- its jobs are those of its ledger
 
--- its account is the book's
+  pub jobs-found : (number : ℕ) → jobs_in (shared_of parts) number ≡ jobs_of parts.ledgers number
+  jobs-found number = ap jobs_kept (tenant-found parts number) ∙ elim (none_or_some (account_of number parts.book.accounts)) [
+    | inl none ↦ rw none (sym (said-lacks owner_of_ledger (λ (l : JobLedger). l.1) [] number parts.ledgers (no-ledger number parts.ledgers parts.book.accounts stored.ledgers none)))
+    | inr own ↦ rw own.1 refl
+  ]
 
-pub account-found : (parts : Parts) → IsStored parts → (number : ℕ) (account : Account) → account_of number parts.book.accounts ≡ Some account → account_in (tenant_from parts number account) ≡ account
-account-found parts stored number account is = rw (← (stored.accounts number account is).charged) refl
+  -- its account is the book's
 
-pub left-found : (parts : Parts) → IsStored parts → (number : ℕ) → left_in_core (shared_of parts) number ≡ left_in_book number parts.book
-left-found parts stored number = grind (arith, tenant-found, account-found)
+  pub account-found : (number : ℕ) (account : Account) → Owns parts number account → account_in (tenant_from parts number account) ≡ account
+  account-found number account is = rw (← (stored.accounts number account is).charged) refl
+
+  pub within-reserve : (number : ℕ) (account : Account) → Owns parts number account → IsWithinReserve account
+  within-reserve number account is = AllEntries-of (λ (e : ℕ × Account). IsWithinReserve e.1) number account parts.book.accounts is stored.book.within
+
+  pub left-found : (number : ℕ) → left_in_core (shared_of parts) number ≡ left_in_book number parts.book
+  left-found number = grind (arith, tenant-found, account-found)
 
 abbrev ChargesFrames : Parts → ℕ → Account → Type 0
 ChargesFrames parts number account = account_in (tenant_from parts number account) ≡ account
@@ -134,7 +175,7 @@ module _ (parts : Parts) where
   charged_in-tenants_from : (entries : Entries) → AllEntries (λ entry. ChargesFrames parts entry.0 entry.1) entries → charged_in (tenants_from parts entries) ≡ charged_segments entries
   charged_in-tenants_from [] all = refl
   charged_in-tenants_from (entry ∷ entries) all =
-      let own : charged_for (with_words_of_nodes parts.nodes (frames_of parts.trees entry.0)) ≡ entry.1.charged = ap (λ (a : Account). a.charged) all.0 in
+      let own : charged_for (tree_in parts entry.0) ≡ entry.1.charged = ap (λ (a : Account). a.charged) all.0 in
       rw (own, charged_in-tenants_from entries all.1) (sym (sum_by-cons (λ (e : ℕ × Account). e.1.charged) entry entries))
 
   pub charged-found : IsStored parts → charged_in (shared_of parts).tenants ≡ charged_segments parts.book.accounts
@@ -218,12 +259,12 @@ entry-none tenant (Some f) is = absurd (cc is)
 -- the frame that the table found
 pub record HasFound (parts : Parts) (name : FrameId) (entry : Entry ℕ) : Type 0 where
   pub frame : Frame ℕ
-  pub there : frame_in_trees parts.trees name.tenant name.serial ≡ Some frame
+  pub there : framed parts name ≡ Some frame
   pub named : named (shared_of parts) name ≡ Some (map_value (node_words parts.nodes) frame)
   pub is : entry ≡ record { parent = name_of name.tenant (parent_of frame.path); state = frame.state; value = frame.value }
 
 module _ (parts : Parts) (stored : IsStored parts) (name : FrameId) (entry : Entry ℕ)
-    (is : Some entry ≡ entry_of_frame name.tenant (frame_in_trees parts.trees name.tenant name.serial)) where
+    (is : Some entry ≡ entry_in parts name) where
   pub found : HasFound parts name entry
   found = grind (arith, entry-is, named-found)
 
@@ -234,60 +275,56 @@ module _ (parts : Parts) (stored : IsStored parts) (name : FrameId) (entry : Ent
       ∙ sym (ap (λ (o : Option (Frame (List ℕ))). option_map (λ (frame : Frame (List ℕ)). (name_of name.tenant (parent_of frame.path), frame.state)) o) f.named)
 
 module _ (parts : Parts) (stored : IsStored parts) (name : FrameId)
-    (is : None ≡ entry_of_frame name.tenant (frame_in_trees parts.trees name.tenant name.serial)) where
+    (is : None ≡ entry_in parts name) where
   pub nothing-found : named (shared_of parts) name ≡ None
   nothing-found = grind (arith, entry-none, named-found)
 
   pub no-frame-found : None ≡ frame_in_core (shared_of parts) name
   no-frame-found = rw nothing-found refl
 
-pub tree-found : (parts : Parts) → IsStored parts → (number : ℕ) → IsTree (frames_in_core (shared_of parts) number)
-tree-found parts stored number = rw (frames-found parts stored number) (tree-map_values (node_words parts.nodes) (frames_of parts.trees number) (stored.forest number))
-
--- the newest ready frame
-
-newest-with_words_of_nodes : (nodes : Nodes) (tenant : ℕ) (frames : List (Frame ℕ)) → newest_ready_of tenant (with_words_of_nodes nodes frames) ≡ newest_ready_of tenant frames
+newest-with_words_of_nodes : (nodes : Nodes) (tenant : ℕ) (frames : Frames) → newest_ready_of tenant (with_words_of_nodes nodes frames) ≡ newest_ready_of tenant frames
 newest-with_words_of_nodes nodes tenant [] = refl
 newest-with_words_of_nodes nodes tenant (frame ∷ frames) = ap (λ (o : Option (FrameId × ℕ)). first_of_two o (ready_name tenant frame.serial frame.state)) (newest-with_words_of_nodes nodes tenant frames)
 
-pub newest-ready-found : (parts : Parts) → IsStored parts → (number : ℕ) → newest_ready_in (shared_of parts) number ≡ newest_ready_of number (frames_of parts.trees number)
-newest-ready-found parts stored number =
-    by (tenant_in (shared_of parts).tenants number)
-    ∙ ap (newest_ready_of number) (frames-found parts stored number)
-    ∙ newest-with_words_of_nodes parts.nodes number (frames_of parts.trees number)
-  where
-    by : (tenant : Option Tenant) → option_and_then (λ (t : Tenant). newest_ready_of number t.frames) tenant ≡ newest_ready_of number (tree_of tenant)
-    by None = refl
-    by (Some tenant) = refl
+module _ (parts : Parts) (stored : IsStored parts) where
+  pub tree-found : (number : ℕ) → IsTree (frames_in_core (shared_of parts) number)
+  tree-found number = rw (frames-found parts stored number) (tree-map_values (node_words parts.nodes) (frames_of parts.trees number) (stored.forest number))
+
+  pub newest-ready-found : (number : ℕ) → newest_ready_in (shared_of parts) number ≡ newest_ready_of number (frames_of parts.trees number)
+  newest-ready-found number =
+      by (tenant_in (shared_of parts).tenants number)
+      ∙ ap (newest_ready_of number) (frames-found parts stored number)
+      ∙ newest-with_words_of_nodes parts.nodes number (frames_of parts.trees number)
+    where
+      by : (tenant : Option Tenant) → option_and_then (λ (t : Tenant). newest_ready_of number t.frames) tenant ≡ newest_ready_of number (tree_of tenant)
+      by None = refl
+      by (Some tenant) = refl
 
 -- a frame that is there
 module _ (parts : Parts) (stored : IsStored parts) (name : FrameId) (is : IsSome (named (shared_of parts) name)) where
-  pub there-frame : (frame : Frame ℕ) × (frame_in_trees parts.trees name.tenant name.serial ≡ Some frame)
-  there-frame = by (frame_in_trees parts.trees name.tenant name.serial) refl
-    where
-      by : (frame : Option (Frame ℕ)) → frame_in_trees parts.trees name.tenant name.serial ≡ frame → (f : Frame ℕ) × (frame_in_trees parts.trees name.tenant name.serial ≡ Some f)
-      by None none = absurd (
-          let there : IsSome (named (shared_of parts) name) = is in
-          cc (rw (named-found parts stored name ∙ ap (λ (o : Option (Frame ℕ)). option_map (map_value (node_words parts.nodes)) o) none) at there))
-      by (Some frame) found = (frame, found)
+  pub there-frame : (frame : Frame ℕ) × (framed parts name ≡ Some frame)
+  there-frame = elim (none_or_some (framed parts name)) [
+    | inl none ↦ absurd (false≢true (rw (named-found parts stored name ∙ ap (with_words parts) none) at is))
+    | inr found ↦ found
+  ]
 
-  pub there-has : has_frame (frames_of parts.trees name.tenant) name.serial ≡ true
+  pub there-has : has_frame (family parts name) name.serial ≡ true
   there-has = grind (arith, there-frame, found-there)
 
 -- What a frame sees: the stack's way from node to node is the frame's path.
 
 -- the words that a serial stands for are those of its frame's node
-words-at : (parts : Parts) (number serial : ℕ) (frame : Frame ℕ) → frame_in_trees parts.trees number serial ≡ Some frame → words_in (with_words_of_nodes parts.nodes (frames_of parts.trees number)) serial ≡ node_words parts.nodes frame.value
+words-at : (parts : Parts) (number serial : ℕ) (frame : Frame ℕ) → frame_in_trees parts.trees number serial ≡ Some frame → words_in (tree_in parts number) serial ≡ node_words parts.nodes frame.value
 words-at parts number serial frame at = grind (arith, frame_at-map_values)
 
 -- the stack's sight of a node is the sight along its frame's path
 abbrev Sees : Parts → ℕ → Frame ℕ → Type 0
-Sees parts number frame = (serial : ℕ) → frame_in_trees parts.trees number serial ≡ Some frame → IsSight parts.nodes (Some frame.value) (sight (with_words_of_nodes parts.nodes (frames_of parts.trees number)) frame.path)
+Sees parts number frame = (serial : ℕ) → frame_in_trees parts.trees number serial ≡ Some frame → IsSight parts.nodes (Some frame.value) (sight (tree_in parts number) frame.path)
 
 module _ (parts : Parts) (stored : IsStored parts) (number : ℕ) where
   top-sees : (frame : Frame ℕ) → IsTop frame → Sees parts number frame
   top-sees frame top serial at =
-      let T = with_words_of_nodes parts.nodes (frames_of parts.trees number) in
+      let T = tree_in parts number in
       let belongs = stored.frames_nodes.nodes_of_frames number serial frame at in
       let here = found-serial (frames_of parts.trees number) serial frame at in
       let words : node_words parts.nodes frame.value ≡ words_in T frame.serial = sym (words-at parts number serial frame at) ∙ ap (words_in T) (sym here) in
@@ -312,26 +349,26 @@ module _ (parts : Parts) (stored : IsStored parts) (number : ℕ) where
       above-node : (p : ℕ) (f : Frame ℕ) → frame_at (frames_of parts.trees number) p ≡ Some f → node_above (frames_of parts.trees number) (Some p) ≡ Some f.value
       above-node p f there = rw there refl
 
-  sees : (serial : ℕ) (frame : Frame ℕ) → frame_in_trees parts.trees number serial ≡ Some frame → IsSight parts.nodes (Some frame.value) (sight (with_words_of_nodes parts.nodes (frames_of parts.trees number)) frame.path)
+  sees : (serial : ℕ) (frame : Frame ℕ) → frame_in_trees parts.trees number serial ≡ Some frame → IsSight parts.nodes (Some frame.value) (sight (tree_in parts number) frame.path)
   sees serial frame at =
       tree-induction (Sees parts number) (frames_of parts.trees number) (stored.forest number) top-sees under-sees serial frame at serial at
 
 -- so what the stack shows is what the frame sees
 module _ (parts : Parts) (stored : IsStored parts) (name : FrameId) where
-  pub sight-found : (entry : Entry ℕ) (levels : List (List ℕ)) → Some entry ≡ entry_of_frame name.tenant (frame_in_trees parts.trees name.tenant name.serial) → IsSight parts.nodes (Some entry.value) levels → levels ≡ sight_of (shared_of parts) name
+  pub sight-found : (entry : Entry ℕ) (levels : List (List ℕ)) → Some entry ≡ entry_in parts name → IsSight parts.nodes (Some entry.value) levels → levels ≡ sight_of (shared_of parts) name
   sight-found entry levels is seen =
       let f = found parts stored name entry is in
       let value : entry.value ≡ f.frame.value = ap (λ (e : Entry ℕ). e.value) f.is in
       let own = sees parts stored name.tenant name.serial f.frame f.there in
-      let same = one-sight parts.nodes (Some f.frame.value) levels (sight (with_words_of_nodes parts.nodes (frames_of parts.trees name.tenant)) f.frame.path) (subst (λ (v : ℕ). IsSight parts.nodes (Some v) levels) value seen) own in
+      let same = one-sight parts.nodes (Some f.frame.value) levels (sight (tree_in parts name.tenant) f.frame.path) (subst (λ (v : ℕ). IsSight parts.nodes (Some v) levels) value seen) own in
       let path : path_of (named (shared_of parts) name) ≡ f.frame.path = ap path_of f.named in
-      same ∙ sym (ap (λ (fs : List (Frame (List ℕ))). sight fs (path_of (named (shared_of parts) name))) (frames-found parts stored name.tenant) ∙ ap (sight (with_words_of_nodes parts.nodes (frames_of parts.trees name.tenant))) path)
+      same ∙ sym (ap (λ (fs : List (Frame (List ℕ))). sight fs (path_of (named (shared_of parts) name))) (frames-found parts stored name.tenant) ∙ ap (sight (tree_in parts name.tenant)) path)
 
-  pub entry-open : (entry : Entry ℕ) → Some entry ≡ entry_of_frame name.tenant (frame_in_trees parts.trees name.tenant name.serial) → IsOpen parts.nodes entry.value
+  pub entry-open : (entry : Entry ℕ) → Some entry ≡ entry_in parts name → IsOpen parts.nodes entry.value
   entry-open entry is =
       let f = found parts stored name entry is in
       let value : entry.value ≡ f.frame.value = ap (λ (e : Entry ℕ). e.value) f.is in
       subst (λ (n : ℕ). IsOpen parts.nodes n) (sym value) (stored.frames_nodes.nodes_of_frames name.tenant name.serial f.frame f.there).is_open
 
-  pub there-not-missing : IsSome (named (shared_of parts) name) → None ≡ entry_of_frame name.tenant (frame_in_trees parts.trees name.tenant name.serial) → ⊥
+  pub there-not-missing : IsSome (named (shared_of parts) name) → None ≡ entry_in parts name → ⊥
   there-not-missing some is = false≢true (subst IsSome (nothing-found parts stored name is) some)

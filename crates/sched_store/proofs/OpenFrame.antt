@@ -1,23 +1,24 @@
 -- A frame is opened.
-use Rattle.std.proofs.Common.{◌≡◌, ◌≢◌, ℕ, ◌<◌, ◌≤◌, ◌+◌, ◌-◌, true, false, List, [], ◌∷◌, ◌++◌, length, replicate, Option, Some, None, refl, ap, sym, subst, ◌∙◌, arith, inl, inr, ◌⊎◌, get_or-set_other, get_or-set_same, IfSome}
-use Rattle.sched_store.proofs.Common.{Ready, Account, FrameId, on_tenant, CoreState, map_value, Each, Tree, charged_for, is_held_by, Parts, with_words_of_nodes}
+use Rattle.std.proofs.Common.{◌≡◌, ◌≢◌, ℕ, ◌<◌, ◌≤◌, ◌+◌, ◌-◌, true, List, [], ◌∷◌, ◌++◌, length, replicate, Option, Some, None, refl, ap, sym, subst, ◌∙◌, arith, inl, inr, ◌⊎◌, get_or-set_other, get_or-set_same, IfSome}
+use Rattle.sched_store.proofs.Common.{Ready, Account, FrameId, CoreState, map_value, Each, Tree, charged_for, Parts, with_words_of_nodes}
 use Rattle.sched_store.proofs.Common.{shared_of, cases_eq, false≢true, and_parts, leb-true, frames_in_core, serials_in, TenantHasLeft, length-set}
-use Rattle.sched_store.proofs.Common.{length-append, length-replicate, account_of, charged_by, charged_segments, left_in, Reservations, ChangesOnly}
+use Rattle.sched_store.proofs.Common.{length-append, length-replicate, charged_by, charged_segments, left_in, Reservations, ChangesOnly}
 use Rattle.sched_store.proofs.Common.{IsSoundBook, opened_of, frames_of, KeepsOtherFrames, places_of, IsParentIn, serial_of, IsStored, AreFramesNodes, AreSized}
-use Rattle.sched_store.proofs.Common.{frame_in_trees, node_of, node_above, Frame, frame_at, has_parent, parent_of, path_under, AllBelow, IsTree, TenantTree}
-use Rattle.sched_store.proofs.Common.{new_frame, name_of, found-each, tree-rising, found-there, below-found, frame_at-push, frame_at_other-push, frame_at-left}
+use Rattle.sched_store.proofs.Common.{frame_in_trees, node_of, node_above, Frame, frame_at, has_parent, parent_of, path_under, AllBelow, IsTree}
+use Rattle.sched_store.proofs.Common.{new_frame, name_of, found-there, below-found, frame_at-push, frame_at_other-push, frame_at-left}
 use Rattle.sched_store.proofs.Common.{under-there, there-found, Nodes, Node, node_at, node_words, words_of_node, parent_of_node as node_parent_of, with_node}
 use Rattle.sched_store.proofs.Common.{IsOpen, IsUnused, padded, charge, charge_of, total_charge}
 use Rattle.frame_tree.proofs.TreeValues.{tree-new_frame, parent_of-path_under, append-map_values, path_in-map_values, has_frame-map_values}
 use Rattle.sched_rules.specs.Lone.{opened, is_frame_size}
-use Rattle.sched_store.proofs.Words.{charge-set, with_words_of_nodes-same}
+use Rattle.std.proofs.lemmas.List.Sums.{sum_by-set}
+use Rattle.sched_store.proofs.Words.{with_words_of_nodes-same}
 use Rattle.sched_store.proofs.States.{charged-cons}
-use Rattle.sched_store.proofs.Steps.{TenantStep, other-tenants, step-stored, step-shared, left-account}
-use Rattle.sched_store.proofs.Lookups.{frames-found, tenant-found}
+use Rattle.sched_store.proofs.Steps.{TenantStep, other-tenants, Stepped, stepped, left-account}
+use Rattle.sched_store.proofs.Lookups.{Frames, Trees, each-frame, tree_in, Owns, none_or_some, frames-found, tenant-found}
 
 -- what is opened: the tenant's next serial, under a parent, with these words
-pub record OpensFrame (old : Parts) (nodes : Nodes) (trees : List (TenantTree ℕ)) (book : Reservations) (number : ℕ) (parent : Option ℕ) (above : Option ℕ) (words : List ℕ) (size home node : ℕ) (account : Account) : Type 0 where
-  pub there : account_of number old.book.accounts ≡ Some account
+pub record OpensFrame (old : Parts) (nodes : Nodes) (trees : Trees) (book : Reservations) (number : ℕ) (parent : Option ℕ) (above : Option ℕ) (words : List ℕ) (size home node : ℕ) (account : Account) : Type 0 where
+  pub there : Owns old number account
   pub parent_there : has_parent (frames_of old.trees number) parent ≡ true
   pub above_is : above ≡ node_above (frames_of old.trees number) parent
   pub some : 1 ≤ size
@@ -45,8 +46,7 @@ module _ (nodes : Nodes) (n : ℕ) where
 
   open-not-unused : (m : ℕ) → IsUnused nodes n → IsOpen nodes m → m ≢ n
   open-not-unused m unused is same =
-      let P : ℕ → Type 0 = λ k. IsOpen nodes k in
-      let here : IsOpen nodes n = subst P same is in cc (unused.1, here)
+      let here : IsOpen nodes n = rw (← same) is in cc (unused.1, here)
 
   still-open : (m : ℕ) (entry : Node) → IsUnused nodes n → IsOpen nodes m → IsOpen (with_node nodes n (Some entry)) m
   still-open m entry unused is = rw (opened-other m entry (open-not-unused m unused is)) is
@@ -56,7 +56,7 @@ module _ (nodes : Nodes) (n : ℕ) where
 
 -- the frames after one was added: either it is the new one, or it was there
 
-module _ (old new : List (TenantTree ℕ)) (added : Frame ℕ) (number : ℕ) (frames : frames_of new number ≡ frames_of old number ++ added ∷ []) where
+module _ (old new : Trees) (added : Frame ℕ) (number : ℕ) (frames : frames_of new number ≡ frames_of old number ++ added ∷ []) where
   added-cases : KeepsOtherFrames old new number → AllBelow added.serial (frames_of old number) → (m s : ℕ) →
       ((m ≡ number) × (s ≡ added.serial)) ⊎ (frame_in_trees new m s ≡ frame_in_trees old m s)
   added-cases kept above m s = grind (arith, frame_at_other-push)
@@ -72,18 +72,17 @@ pub node-frame : (frame : Option (Frame ℕ)) (n : ℕ) → node_of frame ≡ So
 node-frame None n is = absurd (cc is)
 node-frame (Some f) n is = (f, (refl, cc is))
 
-above-kept : (frames others : List (Frame ℕ)) (parent : Option ℕ) → has_parent frames parent ≡ true → node_above (frames ++ others) parent ≡ node_above frames parent
+above-kept : (frames others : Frames) (parent : Option ℕ) → has_parent frames parent ≡ true → node_above (frames ++ others) parent ≡ node_above frames parent
 above-kept frames others None there = refl
 above-kept frames others (Some p) there = ap node_of (frame_at-left frames others p there)
 
-above-there : (frames : List (Frame ℕ)) (serial : ℕ) (frame : Frame ℕ) → IsTree frames → frame_at frames serial ≡ Some frame → has_parent frames (parent_of frame.path) ≡ true
-above-there frames serial frame tree there = by (parent_of frame.path) refl
-  where
-    by : (parent : Option ℕ) → parent_of frame.path ≡ parent → has_parent frames (parent_of frame.path) ≡ true
-    by None is = rw is refl
-    by (Some p) is = rw is (under-there frames serial p frame tree there is)
+above-there : (frames : Frames) (serial : ℕ) (frame : Frame ℕ) → IsTree frames → frame_at frames serial ≡ Some frame → has_parent frames (parent_of frame.path) ≡ true
+above-there frames serial frame tree there = elim (none_or_some (parent_of frame.path)) [
+  | inl none ↦ rw none refl
+  | inr own ↦ rw own.1 (under-there frames serial own.0 frame tree there own.1)
+]
 
-below-push : (low high : ℕ) (frames : List (Frame ℕ)) (frame : Frame ℕ) → low ≤ high → frame.serial < high → AllBelow low frames → AllBelow high (frames ++ frame ∷ [])
+below-push : (low high : ℕ) (frames : Frames) (frame : Frame ℕ) → low ≤ high → frame.serial < high → AllBelow low frames → AllBelow high (frames ++ frame ∷ [])
 below-push low high [] frame le lt below = (lt, tt)
 below-push low high (first ∷ frames) frame le lt below = (omega (arith, below.0), below-push low high frames frame le lt below.1)
 
@@ -92,7 +91,7 @@ charged-push [] frame = charged-cons frame [] ∙ omega arith
 charged-push (first ∷ frames) frame = omega (arith, charged-cons first (frames ++ frame ∷ []), charged-cons first frames, charged-push frames frame)
 
 -- what stood above a frame stands there still
-tree-above : (old new : List (TenantTree ℕ)) (added : Frame ℕ) (number : ℕ) → frames_of new number ≡ frames_of old number ++ added ∷ [] → KeepsOtherFrames old new number → (m : ℕ) (parent : Option ℕ) → has_parent (frames_of old m) parent ≡ true →
+tree-above : (old new : Trees) (added : Frame ℕ) (number : ℕ) → frames_of new number ≡ frames_of old number ++ added ∷ [] → KeepsOtherFrames old new number → (m : ℕ) (parent : Option ℕ) → has_parent (frames_of old m) parent ≡ true →
     node_above (frames_of new m) parent ≡ node_above (frames_of old m) parent
 tree-above old new added number frames kept m parent there = grind (arith, above-kept)
 
@@ -100,14 +99,17 @@ tree-above old new added number frames kept m parent there = grind (arith, above
 unused-apart : (old : Parts) (node number : ℕ) (added : Frame ℕ) (m s n : ℕ) (frame : Option (Frame ℕ)) (other : ℕ) → frame ≡ Some added → added.value ≡ node → node_of frame ≡ Some n → IsOpen old.nodes other → other ≡ n → IsUnused old.nodes node → ⊥
 unused-apart old node number added m s n frame other is value one is_open same unused = grind arith
 
-path_under-with_words_of_nodes : (nodes : Nodes) (frames : List (Frame ℕ)) (parent : Option ℕ) (serial : ℕ) → path_under frames parent serial ≡ path_under (with_words_of_nodes nodes frames) parent serial
+path_under-with_words_of_nodes : (nodes : Nodes) (frames : Frames) (parent : Option ℕ) (serial : ℕ) → path_under frames parent serial ≡ path_under (with_words_of_nodes nodes frames) parent serial
 path_under-with_words_of_nodes nodes frames None serial = refl
 path_under-with_words_of_nodes nodes frames (Some p) serial = ap (λ (path : List ℕ). path ++ serial ∷ []) (sym (path_in-map_values (node_words nodes) frames p))
 
 abbrev added_to : Parts → ℕ → Option ℕ → ℕ → ℕ → Account → Frame ℕ
 added_to old number parent home node account = new_frame (frames_of old.trees number) (account.opened + 1) parent home node
 
-module _ (old : Parts) (nodes : Nodes) (trees : List (TenantTree ℕ)) (book : Reservations) (number : ℕ) (parent above : Option ℕ) (words : List ℕ)
+abbrev pub Opened : Parts → Nodes → Trees → Reservations → ℕ → Option ℕ → List ℕ → ℕ → ℕ → Type 0
+Opened old nodes trees book number parent words size home = Stepped old (record old { nodes = nodes; trees = trees; book = book }) number (opened parent words size home)
+
+module _ (old : Parts) (nodes : Nodes) (trees : Trees) (book : Reservations) (number : ℕ) (parent above : Option ℕ) (words : List ℕ)
     (size home node : ℕ) (account : Account) (stored : IsStored old)
     (opens : OpensFrame old nodes trees book number parent above words size home node account) where
   opened-nodes : AreFramesNodes nodes trees
@@ -116,11 +118,10 @@ module _ (old : Parts) (nodes : Nodes) (trees : List (TenantTree ℕ)) (book : R
       let added = added_to old number parent home node account in
       let entry : Node = record { parent = above; words = padded words size } in
       let below = (stored.accounts number account opens.there).serials in
-      let P : Nodes → Type 0 = λ ns. AreFramesNodes ns trees in
       let here = opened-here old.nodes node entry opens.unused.0 in
       let cases = added-cases old.trees trees added number opens.frames opens.kept below in
       let new_is = added-here old.trees trees added number opens.frames below in
-      subst P (sym opens.nodes_is) (record {
+      rw opens.nodes_is (record {
         nodes_of_frames = λ m s frame is. elim (cases m s) [
           | inl (same, at) ↦ grind (arith, above-kept, parent_of-path_under)
           | inr was ↦
@@ -153,15 +154,15 @@ module _ (old : Parts) (nodes : Nodes) (trees : List (TenantTree ℕ)) (book : R
       })
 
   -- no frame that was there has the new node
-  opened-others : (m : ℕ) → with_words_of_nodes nodes (frames_of old.trees m) ≡ with_words_of_nodes old.nodes (frames_of old.trees m)
+  opened-others : (m : ℕ) → with_words_of_nodes nodes (frames_of old.trees m) ≡ tree_in old m
   opened-others m =
       let entry : Node = record { parent = above; words = padded words size } in
-      with_words_of_nodes-same old.nodes nodes (frames_of old.trees m) (found-each (λ x. node_words nodes x.value ≡ node_words old.nodes x.value) (frames_of old.trees m) (tree-rising (frames_of old.trees m) (stored.forest m))
+      with_words_of_nodes-same old.nodes nodes (frames_of old.trees m) (each-frame old stored m (λ x. node_words nodes x.value ≡ node_words old.nodes x.value)
       (λ s x at.
       let own = stored.frames_nodes.nodes_of_frames m s x at in
       ap (λ (ns : Nodes). node_words ns x.value) opens.nodes_is ∙ ap words_of_node (opened-other old.nodes node x.value entry (open-not-unused old.nodes node x.value opens.unused own.is_open))))
 
-  opened-frames : with_words_of_nodes nodes (frames_of trees number) ≡ with_words_of_nodes old.nodes (frames_of old.trees number) ++ new_frame (with_words_of_nodes old.nodes (frames_of old.trees number)) (account.opened + 1) parent home (padded words size) ∷ []
+  opened-frames : with_words_of_nodes nodes (frames_of trees number) ≡ tree_in old number ++ new_frame (tree_in old number) (account.opened + 1) parent home (padded words size) ∷ []
   opened-frames =
       let frames = frames_of old.trees number in
       let added = added_to old number parent home node account in
@@ -174,112 +175,101 @@ module _ (old : Parts) (nodes : Nodes) (trees : List (TenantTree ℕ)) (book : R
       ∙ ap (λ (fs : Tree). fs ++ map_value (node_words nodes) added ∷ []) (opened-others number)
       ∙ ap (λ (f : Frame (List ℕ)). with_words_of_nodes old.nodes frames ++ f ∷ []) new
 
-pub record Opened (old : Parts) (nodes : Nodes) (trees : List (TenantTree ℕ)) (book : Reservations) (number : ℕ) (parent : Option ℕ) (words : List ℕ) (size home : ℕ) : Type 0 where
-  pub stored : IsStored (record old { nodes = nodes; trees = trees; book = book })
-  pub shared : shared_of (record old { nodes = nodes; trees = trees; book = book }) ≡ on_tenant number (opened parent words size home) (shared_of old)
-
-pub open-step : (old : Parts) (nodes : Nodes) (trees : List (TenantTree ℕ)) (book : Reservations) (number : ℕ) (parent above : Option ℕ) (words : List ℕ) (size home node : ℕ) (account : Account) → IsStored old → OpensFrame old nodes trees book number parent above words size home node account → Opened old nodes trees book number parent words size home
-open-step old nodes trees book number parent above words size home node account stored opens =
-    let frames = frames_of old.trees number in
-    let added = added_to old number parent home node account in
-    let entry : Node = record { parent = above; words = padded words size } in
-    let account_is = stored.accounts number account opens.there in
-    let len = padded-length words size opens.room in
-    let P : Nodes → Type 0 = λ ns. AreSized ns in
-    let total : total_charge nodes + charge_of (node_at old.nodes node) ≡ total_charge old.nodes + charge (length (padded words size)) = rw opens.nodes_is (charge-set old.nodes node (Some entry) opens.unused.0) in
-    let none : charge_of (node_at old.nodes node) ≡ 0 = ap charge_of opens.unused.1 in
-    let size_is : charge (length (padded words size)) ≡ charge size = ap charge len in
-    let own_frames = opened-frames old nodes trees book number parent above words size home node account stored opens in
-    let pushed = charged-push (with_words_of_nodes old.nodes frames) (new_frame (with_words_of_nodes old.nodes frames) (account.opened + 1) parent home (padded words size)) in
-    let step : TenantStep old (record old { nodes = nodes; trees = trees; book = book }) number (charged_by (charge size) 1) account = record {
-      there = opens.there;
-      sound = opens.sound;
-      book = opens.changes.whole;
-      trees = other-tenants opens.kept;
-      count = opens.kept.count;
-      tree = rw opens.frames (tree-new_frame frames (account.opened + 1) parent home node (stored.forest number) account_is.serials opens.parent_there);
-      frames_nodes = opened-nodes old nodes trees book number parent above words size home node account stored opens;
-      sized = subst P (sym opens.nodes_is) (opened-sized old.nodes node entry stored.sized opens.unused (rw len opens.some) (rw len opens.most));
-      segments = ap (λ (ns : Nodes). length ns) opens.nodes_is ∙ length-set old.nodes node (Some entry);
-      charges = omega (arith, total, none, size_is, stored.charges, opens.sum);
-      own = record {
-        charged = rw own_frames (omega (arith, pushed, size_is, account_is.charged));
-        places = opens.kept.places number ∙ account_is.places;
-        serials = rw opens.frames (below-push (account.opened + 1) (account.opened + 1 + 1) frames added (omega arith) (omega arith) account_is.serials);
-      };
-      words = λ other differs. opened-others old nodes trees book number parent above words size home node account stored opens other;
-      ledgers = refl;
-      jobs = λ other differs. refl;
-      workers = stored.workers;
-      places = λ worker m s frame is held. elim (added-cases old.trees trees added number opens.frames opens.kept account_is.serials m s) [
-        | inl (same, at) ↦ absurd (
-            let now : frame_in_trees trees number added.serial ≡ Some frame = rw (← same, ← at) is in
-            let e : added ≡ frame = cc (added-here old.trees trees added number opens.frames account_is.serials, now) in
-            let Q : Frame ℕ → Type 0 = λ f. is_held_by worker f.state ≡ true in
-            let h : false ≡ true = subst Q (sym e) held in
-            false≢true h)
-        | inr was ↦ stored.places worker m s frame (sym was ∙ is) held
-      ];
-      newest = refl;
-    } in
-    record {
-      stored = step-stored old (record old { nodes = nodes; trees = trees; book = book }) number (charged_by (charge size) 1) account stored step;
-      shared = step-shared old (record old { nodes = nodes; trees = trees; book = book }) number (charged_by (charge size) 1) account (opened parent words size home) stored step (rw own_frames refl);
-    }
+  pub open-step : Opened old nodes trees book number parent words size home
+  open-step =
+      let frames = frames_of old.trees number in
+      let added = added_to old number parent home node account in
+      let entry : Node = record { parent = above; words = padded words size } in
+      let account_is = stored.accounts number account opens.there in
+      let len = padded-length words size opens.room in
+      let total : total_charge nodes + charge_of (node_at old.nodes node) ≡ total_charge old.nodes + charge (length (padded words size)) = rw opens.nodes_is (sum_by-set charge_of old.nodes node (Some entry) None opens.unused.0) in
+      let none : charge_of (node_at old.nodes node) ≡ 0 = ap charge_of opens.unused.1 in
+      let size_is : charge (length (padded words size)) ≡ charge size = ap charge len in
+      let own_frames = opened-frames in
+      let pushed = charged-push (with_words_of_nodes old.nodes frames) (new_frame (with_words_of_nodes old.nodes frames) (account.opened + 1) parent home (padded words size)) in
+      let step : TenantStep old (record old { nodes = nodes; trees = trees; book = book }) number (charged_by (charge size) 1) account = record {
+        there = opens.there;
+        sound = opens.sound;
+        book = opens.changes.whole;
+        trees = other-tenants opens.kept;
+        count = opens.kept.count;
+        tree = rw opens.frames (tree-new_frame frames (account.opened + 1) parent home node (stored.forest number) account_is.serials opens.parent_there);
+        frames_nodes = opened-nodes;
+        sized = rw opens.nodes_is (opened-sized old.nodes node entry stored.sized opens.unused (rw len opens.some) (rw len opens.most));
+        segments = ap (λ (ns : Nodes). length ns) opens.nodes_is ∙ length-set old.nodes node (Some entry);
+        charges = omega (arith, total, none, size_is, stored.charges, opens.sum);
+        own = record {
+          charged = rw own_frames (omega (arith, pushed, size_is, account_is.charged));
+          places = opens.kept.places number ∙ account_is.places;
+          serials = rw opens.frames (below-push (account.opened + 1) (account.opened + 1 + 1) frames added (omega arith) (omega arith) account_is.serials);
+        };
+        words = λ other differs. opened-others other;
+        ledgers = refl;
+        jobs = λ other differs. refl;
+        workers = stored.workers;
+        places = λ worker m s frame is held. elim (added-cases old.trees trees added number opens.frames opens.kept account_is.serials m s) [
+          | inl (same, at) ↦ absurd (
+              let now : frame_in_trees trees number added.serial ≡ Some frame = rw (← same, ← at) is in
+              let e : added ≡ frame = cc (added-here old.trees trees added number opens.frames account_is.serials, now) in
+              false≢true (rw (← e) at held))
+          | inr was ↦ stored.places worker m s frame (sym was ∙ is) held
+        ];
+        newest = refl;
+      } in
+      stepped (opened parent words size home) stored step (rw own_frames refl)
 
 -- What an opening asks of the parts of a store.
 
 -- the serials that were given are the nodes that were opened
-pub serials-found : (parts : Parts) (number : ℕ) (account : Account) → account_of number parts.book.accounts ≡ Some account → serials_in (shared_of parts) number ≡ account.opened
+pub serials-found : (parts : Parts) (number : ℕ) (account : Account) → Owns parts number account → serials_in (shared_of parts) number ≡ account.opened
 serials-found parts number account there = rw (tenant-found parts number, there) refl
 
--- the account of a tenant that has left what an opening takes
-pub left-for : (parts : Parts) (number size : ℕ) {core : CoreState} → IsStored parts → shared_of parts ≡ core → TenantHasLeft core number (charge size) 1 →
-    (a : Account) × ((account_of number parts.book.accounts ≡ Some a) × ((charge size ≤ (left_in a).segments) × (1 ≤ (left_in a).nodes)))
-left-for parts number size stored is left = grind (arith, left-account)
-
--- a parent among frames with words is one of the table's
-pub parent-found : (parts : Parts) → IsStored parts → (number : ℕ) (parent : Option ℕ) → has_parent (frames_in_core (shared_of parts) number) parent ≡ true → has_parent (frames_of parts.trees number) parent ≡ true
-parent-found parts stored number None there = refl
-parent-found parts stored number (Some p) there = grind (arith, has_frame-map_values, frames-found)
-
--- the same of a core that the parts show
-pub parent-for : (parts : Parts) (number : ℕ) (parent : Option ℕ) {core : CoreState} → IsStored parts → shared_of parts ≡ core → has_parent (frames_in_core core number) parent ≡ true → has_parent (frames_of parts.trees number) parent ≡ true
-parent-for parts number parent stored is there = parent-found parts stored number parent (subst (λ (s : CoreState). has_parent (frames_in_core s number) parent ≡ true) (sym is) there)
-
-pub parent-open : (parts : Parts) → IsStored parts → (number : ℕ) (parent above : Option ℕ) → has_parent (frames_of parts.trees number) parent ≡ true → above ≡ node_above (frames_of parts.trees number) parent → IfSome above (IsOpen parts.nodes)
-parent-open parts stored number None above there is = let P : Option ℕ → Type 0 = λ o. IfSome o (IsOpen parts.nodes) in subst P (sym is) tt
-parent-open parts stored number (Some p) above there is =
-    let f = there-found (frames_of parts.trees number) p there in
-    let P : Option ℕ → Type 0 = λ o. IfSome o (IsOpen parts.nodes) in
-    let e : node_above (frames_of parts.trees number) (Some p) ≡ Some f.0.value = ap node_of f.1 in
-    subst P (sym (is ∙ e)) (stored.frames_nodes.nodes_of_frames number p f.0 f.1).is_open
-
-pub parent-in : (frames : List (Frame ℕ)) (tenant : ℕ) (parent : Option ℕ) (name : Option FrameId) → has_parent frames parent ≡ true → name ≡ name_of tenant parent → IsParentIn frames tenant name
-parent-in frames tenant None name there is = let P : Option FrameId → Type 0 = λ o. IsParentIn frames tenant o in subst P (sym is) tt
-parent-in frames tenant (Some p) name there is = let P : Option FrameId → Type 0 = λ o. IsParentIn frames tenant o in subst P (sym is) (refl, there)
+pub parent-in : (frames : Frames) (tenant : ℕ) (parent : Option ℕ) (name : Option FrameId) → has_parent frames parent ≡ true → name ≡ name_of tenant parent → IsParentIn frames tenant name
+parent-in frames tenant None name there is = rw is tt
+parent-in frames tenant (Some p) name there is = rw is (refl, there)
 
 pub serial-of-name : (tenant : ℕ) (parent : Option ℕ) (name : Option FrameId) → name ≡ name_of tenant parent → serial_of name ≡ parent
 serial-of-name tenant None name is = ap serial_of is
 serial-of-name tenant (Some p) name is = ap serial_of is
 
--- there are no more frames than segments that they are charged
-
-frames-few : (nodes : Nodes) (frames : List (Frame ℕ)) → Each (λ frame. 1 ≤ length (node_words nodes frame.value)) frames → length frames ≤ charged_for (with_words_of_nodes nodes frames)
+frames-few : (nodes : Nodes) (frames : Frames) → Each (λ frame. 1 ≤ length (node_words nodes frame.value)) frames → length frames ≤ charged_for (with_words_of_nodes nodes frames)
 frames-few nodes [] all = omega arith
 frames-few nodes (frame ∷ frames) all =
     let some : 1 ≤ charge (length (node_words nodes frame.value)) = (let h : 1 ≤ length (node_words nodes frame.value) = all.0 in omega arith) in
     omega (arith, some, charged-cons (map_value (node_words nodes) frame) (with_words_of_nodes nodes frames), frames-few nodes frames all.1)
 
-pub place-left : (parts : Parts) → IsStored parts → (number size : ℕ) (account : Account) → account_of number parts.book.accounts ≡ Some account → 1 ≤ size → charge size ≤ (left_in account).segments → length (frames_of parts.trees number) < places_of parts.trees number
-place-left parts stored number size account there some enough =
-    let is = stored.accounts number account there in
-    let frames = frames_of parts.trees number in
-    let few = frames-few parts.nodes frames (found-each (λ x. 1 ≤ length (node_words parts.nodes x.value)) frames (tree-rising frames (stored.forest number))
-    (λ s x at. stored.sized.some x.value (stored.frames_nodes.nodes_of_frames number s x at).is_open)) in
-    let one : 1 ≤ charge size = omega arith in
-    let left : charge size ≤ account.reserve.segments - account.charged = enough in
-    omega (arith, few, one, left, is.charged, is.places)
+module _ (parts : Parts) (stored : IsStored parts) (number : ℕ) where
+  -- the account of a tenant that has left what an opening takes
+  pub left-for : (size : ℕ) {core : CoreState} → shared_of parts ≡ core → TenantHasLeft core number (charge size) 1 →
+      (a : Account) × ((Owns parts number a) × ((charge size ≤ (left_in a).segments) × (1 ≤ (left_in a).nodes)))
+  left-for size is left = grind (arith, left-account)
+
+  -- a parent among frames with words is one of the table's
+  pub parent-found : (parent : Option ℕ) → has_parent (frames_in_core (shared_of parts) number) parent ≡ true → has_parent (frames_of parts.trees number) parent ≡ true
+  parent-found None there = refl
+  parent-found (Some p) there = grind (arith, has_frame-map_values, frames-found)
+
+  -- the same of a core that the parts show
+  pub parent-for : (parent : Option ℕ) {core : CoreState} → shared_of parts ≡ core → has_parent (frames_in_core core number) parent ≡ true → has_parent (frames_of parts.trees number) parent ≡ true
+  parent-for parent is there = parent-found parent (subst (λ (s : CoreState). has_parent (frames_in_core s number) parent ≡ true) (sym is) there)
+
+  pub parent-open : (parent above : Option ℕ) → has_parent (frames_of parts.trees number) parent ≡ true → above ≡ node_above (frames_of parts.trees number) parent → IfSome above (IsOpen parts.nodes)
+  parent-open None above there is = rw is tt
+  parent-open (Some p) above there is =
+      let f = there-found (frames_of parts.trees number) p there in
+      rw (is ∙ ap node_of f.1) (stored.frames_nodes.nodes_of_frames number p f.0 f.1).is_open
+
+  -- there are no more frames than segments that they are charged
+
+  pub place-left : (size : ℕ) (account : Account) → Owns parts number account → 1 ≤ size → charge size ≤ (left_in account).segments → length (frames_of parts.trees number) < places_of parts.trees number
+  place-left size account there some enough =
+      let is = stored.accounts number account there in
+      let frames = frames_of parts.trees number in
+      let few = frames-few parts.nodes frames (each-frame parts stored number (λ x. 1 ≤ length (node_words parts.nodes x.value))
+      (λ s x at. stored.sized.some x.value (stored.frames_nodes.nodes_of_frames number s x at).is_open)) in
+      let one : 1 ≤ charge size = omega arith in
+      let left : charge size ≤ account.reserve.segments - account.charged = enough in
+      omega (arith, few, one, left, is.charged, is.places)
 
 -- a size that is a frame's
 
@@ -287,5 +277,5 @@ pub size-some : (words : List ℕ) (size : ℕ) → is_frame_size words size ≡
 size-some words size is = grind (arith, and_parts, leb-true)
 
 -- the next serial is one more than the nodes that were opened
-pub opened-next : (parts : Parts) (number before : ℕ) (account : Account) → account_of number parts.book.accounts ≡ Some account → opened_of number parts.book ≡ Some before → before + 1 ≡ account.opened + 1
+pub opened-next : (parts : Parts) (number before : ℕ) (account : Account) → Owns parts number account → opened_of number parts.book ≡ Some before → before + 1 ≡ account.opened + 1
 opened-next parts number before account there is = grind arith

@@ -1,18 +1,20 @@
 -- Frames of one tenant are removed, their nodes closed and their segments given back: what the store keeps true stays so.
-use Rattle.std.proofs.Common.{◌≡◌, ◌≢◌, ℕ, ◌+◌, Bool, List, [], ◌∷◌, length, Some, None, refl, ap, sym, ◌∙◌, subst, arith, ◌≤◌, inl, inr, true, false, not, eqb, nat_lt, Option, ◌-◌, IsSome, All, AllPairs, option_map, suc, ◌<◌, IsTrue, is_some}
+use Rattle.std.proofs.Common.{◌≡◌, ◌≢◌, ℕ, ◌+◌, Bool, List, [], ◌∷◌, length, Some, None, refl, ap, sym, ◌∙◌, subst, arith, ◌≤◌, inl, inr, true, false, not, eqb, nat_lt, Option, ◌-◌, IsSome, All, AllPairs, option_map, ◌<◌, IsTrue, is_some}
 use Rattle.sched_store.proofs.Common.{filter, length-set, length-append, Nodes, with_node, without, total_charge, HasNoChild, node_at, node_words, node_parent}
-use Rattle.sched_store.proofs.Common.{IsOpen, HasAllChildren, account_of, credited_by, charged_segments, Reservations, IsSoundBook, ChangesOnly}
-use Rattle.sched_store.proofs.Common.{KeepsOtherAccounts, HasChargedAtLeast, Account, Frame, AllBelow, TenantTree, frame_at, parent_of, children_of}
-use Rattle.sched_store.proofs.Common.{frames_without, HasValue, has_frame, goes_under, aborted, frames_under, values_of, IsTree, entry_of_frame, path_in}
+use Rattle.sched_store.proofs.Common.{IsOpen, HasAllChildren, credited_by, charged_segments, Reservations, IsSoundBook, ChangesOnly}
+use Rattle.sched_store.proofs.Common.{KeepsOtherAccounts, HasChargedAtLeast, Account, Frame, AllBelow, frame_at, parent_of, children_of}
+use Rattle.sched_store.proofs.Common.{frames_without, HasValue, goes_under, aborted, frames_under, values_of, IsTree, path_in}
 use Rattle.sched_store.proofs.Common.{name_of, frames_of, KeepsOtherFrames, AllBelow-filter, tree-without, frame_at-stays, tree-aborted, child-further-under}
-use Rattle.sched_store.proofs.Common.{Tenant, charged_for, has_child, is_root, frame_words, on_tenant, Parts, with_words_of_nodes, tenant_from, shared_of}
-use Rattle.sched_store.proofs.Common.{IsStored, IsAccountFor, frame_in_trees, node_of, node_above, cases_Bool, eq-eqb, eqb-true, ne_eqb, ltb-false, true≢false}
-use Rattle.sched_store.proofs.Common.{false≢true, lt-ltb, le-ltb, FrameId, map_values, is_child_of, AllAboveSerial, AreSerialsRising, map_value, tree-rising}
-use Rattle.sched_store.proofs.Common.{children-by-paths, found-there, found-path, placed, IsPlaced, frames_in_core, path_of, words_under, jobs_of, ltb, Entry}
-use Rattle.sched_store.proofs.Closing.{IsCut, closing, cut-belongs, cut-sized, cut-places, cut-words, cut-trees, cut-frees, closed, found-node, parent-open, above-found, TakesChildren, closing-open, closing-once, closing-children}
-use Rattle.sched_store.proofs.Steps.{TenantStep, other-tenants, step-stored, step-shared}
+use Rattle.sched_store.proofs.Common.{Tenant, charged_for, has_child, is_root, frame_words, Parts, with_words_of_nodes, shared_of}
+use Rattle.sched_store.proofs.Common.{IsStored, IsAccountFor, frame_in_trees, node_of, node_above, eq-eqb, eqb-true, ne_eqb, ltb-false, true≢false}
+use Rattle.sched_store.proofs.Common.{false≢true, lt-ltb, le-ltb, FrameId, map_values, is_child_of, AllAboveSerial, AreSerialsRising, tree-rising}
+use Rattle.sched_store.proofs.Common.{children-by-paths, found-path, placed, IsPlaced, frames_in_core, path_of, words_under, jobs_of, ltb, Entry}
+use Rattle.sched_store.proofs.Closing.{IsCut, closing, cut-belongs, cut-sized, cut-places, cut-words, cut-trees, cut-frees, closed, parent-open, above-found, TakesChildren, closing-open, closing-once, closing-children}
+use Rattle.sched_store.proofs.OpenFrame.{node-frame}
+use Rattle.sched_store.proofs.States.{frame-account}
+use Rattle.sched_store.proofs.Steps.{TenantStep, Stepped, stepped, other-tenants, length-with_words_of_nodes}
 use Rattle.frame_tree.proofs.TreeValues.{frames_without-map_values, children_of-map_values, aborted-map_values, frames_under-map_values}
-use Rattle.sched_store.proofs.Lookups.{frames-found, named-found, found, nothing-found}
+use Rattle.sched_store.proofs.Lookups.{Frames, Trees, family, there-frame, framed, tree_in, entry_in, Owns, frames-found, named-found, found, nothing-found}
 use Rattle.cactus_stack.proofs.LawFacts.{charge-without}
 use Rattle.sched_rules.specs.Views.{named, words_of_frame}
 use Rattle.std.specs.Option.{is_none}
@@ -22,9 +24,9 @@ length-without nodes [] = refl
 length-without nodes (number ∷ numbers) = length-without (with_node nodes number None) numbers ∙ length-set nodes number None
 
 -- what was done: frames of one tenant went, their nodes were closed, and what they took was given back
-pub record IsRemoval (parts : Parts) (trees : List (TenantTree ℕ)) (book : Reservations) (number freed : ℕ) (keep : Frame ℕ → Bool) : Type 0 where
+pub record IsRemoval (parts : Parts) (trees : Trees) (book : Reservations) (number freed : ℕ) (keep : Frame ℕ → Bool) : Type 0 where
   pub account : Account
-  pub there : account_of number parts.book.accounts ≡ Some account
+  pub there : Owns parts number account
   pub cut : IsCut parts.trees trees number keep
   pub table : KeepsOtherFrames parts.trees trees number
   pub frees : total_charge (without parts.nodes (closing parts.trees number keep)) + freed ≡ total_charge parts.nodes
@@ -34,14 +36,14 @@ pub record IsRemoval (parts : Parts) (trees : List (TenantTree ℕ)) (book : Res
   pub sound : IsSoundBook book
 
 -- the parts after it
-abbrev pub removed : Parts → List (TenantTree ℕ) → Reservations → ℕ → (Frame ℕ → Bool) → Parts
+abbrev pub removed : Parts → Trees → Reservations → ℕ → (Frame ℕ → Bool) → Parts
 removed parts trees book number keep = record parts { nodes = without parts.nodes (closing parts.trees number keep); trees = trees; book = book }
 
 -- the words of a tenant that isn't the one
-module _ (parts : Parts) (trees : List (TenantTree ℕ)) (book : Reservations) (number freed : ℕ) (keep : Frame ℕ → Bool) (stored : IsStored parts)
+module _ (parts : Parts) (trees : Trees) (book : Reservations) (number freed : ℕ) (keep : Frame ℕ → Bool) (stored : IsStored parts)
     (is : IsRemoval parts trees book number freed keep) where
   other-words : (other : ℕ) → other ≢ number →
-      with_words_of_nodes (without parts.nodes (closing parts.trees number keep)) (frames_of trees other) ≡ with_words_of_nodes parts.nodes (frames_of parts.trees other)
+      with_words_of_nodes (without parts.nodes (closing parts.trees number keep)) (frames_of trees other) ≡ tree_in parts other
   other-words other differs =
       cut-words parts.nodes parts.trees trees number keep stored.frames_nodes is.cut other (cut-trees parts.trees trees number keep is.cut other)
       ∙ ap (with_words_of_nodes parts.nodes) (is.cut.others other differs)
@@ -54,7 +56,7 @@ module _ (parts : Parts) (trees : List (TenantTree ℕ)) (book : Reservations) (
 
 -- what the frames that go were charged is what was freed
 module _ (parts : Parts) (number freed : ℕ) (keep : Frame ℕ → Bool) (stored : IsStored parts) (account : Account)
-    (there : account_of number parts.book.accounts ≡ Some account)
+    (there : Owns parts number account)
     (frees : total_charge (without parts.nodes (closing parts.trees number keep)) + freed ≡ total_charge parts.nodes) where
   pub charge-left : account.charged ≡ freed + charged_for (with_words_of_nodes parts.nodes (filter keep (frames_of parts.trees number)))
   charge-left = grind (arith, cut-frees)
@@ -64,7 +66,7 @@ module _ (parts : Parts) (number freed : ℕ) (keep : Frame ℕ → Bool) (store
   can-give-back =
       rw there (omega (arith, charge-left))
 
-module _ (parts : Parts) (trees : List (TenantTree ℕ)) (book : Reservations) (number freed : ℕ) (keep : Frame ℕ → Bool) where
+module _ (parts : Parts) (trees : Trees) (book : Reservations) (number freed : ℕ) (keep : Frame ℕ → Bool) where
   removed-own : IsStored parts → (is : IsRemoval parts trees book number freed keep) →
       IsAccountFor (without parts.nodes (closing parts.trees number keep)) trees number (credited_by freed is.account)
   removed-own stored is =
@@ -73,7 +75,7 @@ module _ (parts : Parts) (trees : List (TenantTree ℕ)) (book : Reservations) (
       record {
         charged = omega (arith, charge-left parts number freed keep stored is.account is.there is.frees, words);
         places = is.table.places number ∙ was.places;
-        serials = subst (λ (xs : List (Frame ℕ)). AllBelow (Account.opened is.account + 1) xs) (sym is.cut.cut) (AllBelow-filter keep (Account.opened is.account + 1) (frames_of parts.trees number) was.serials);
+        serials = subst (λ (xs : Frames). AllBelow (Account.opened is.account + 1) xs) (sym is.cut.cut) (AllBelow-filter keep (Account.opened is.account + 1) (frames_of parts.trees number) was.serials);
       }
 
   -- one tenant changes by it, and no other
@@ -95,21 +97,9 @@ module _ (parts : Parts) (trees : List (TenantTree ℕ)) (book : Reservations) (
     ledgers = refl;
     jobs = λ other differs. refl;
     workers = stored.workers;
-    places = cut-places parts.nodes parts.trees trees parts.places number keep stored.frames_nodes is.cut stored.places;
+    places = cut-places parts.nodes parts.trees trees number keep stored.frames_nodes is.cut parts.places stored.places;
     newest = refl;
   }
-
-  -- what the store keeps true stays so
-  pub removed-stored : IsStored parts → IsRemoval parts trees book number freed keep → IsStored (removed parts trees book number keep)
-  removed-stored stored is =
-      step-stored parts (removed parts trees book number keep) number (credited_by freed) is.account stored (removal-step stored is)
-
-  -- and the core is the one before, that tenant without those frames
-  pub removed-shared : (change : Tenant → Tenant) → IsStored parts → (is : IsRemoval parts trees book number freed keep) →
-      tenant_from (removed parts trees book number keep) number (credited_by freed is.account) ≡ change (tenant_from parts number is.account) →
-      shared_of (removed parts trees book number keep) ≡ on_tenant number change (shared_of parts)
-  removed-shared change stored is changes =
-      step-shared parts (removed parts trees book number keep) number (credited_by freed) is.account change stored (removal-step stored is) changes
 
 -- A frame without a child is removed, with its node and what it was charged.
 
@@ -118,95 +108,81 @@ abbrev pub others_stay : ℕ → Frame ℕ → Bool
 others_stay serial frame = not (eqb frame.serial serial)
 
 -- none of the frames above goes
-nothing-above : (serial : ℕ) (xs : List (Frame ℕ)) → AllAboveSerial serial xs → closed (others_stay serial) xs ≡ []
+nothing-above : (serial : ℕ) (xs : Frames) → AllAboveSerial serial xs → closed (others_stay serial) xs ≡ []
 nothing-above serial [] above = refl
 nothing-above serial (x ∷ xs) above = grind (arith, nothing-above serial xs above.1, ne_eqb)
 
 -- one node is closed: the frame's
-pub closing-one : (serial : ℕ) (xs : List (Frame ℕ)) (frame : Frame ℕ) → AreSerialsRising xs → frame_at xs serial ≡ Some frame → closed (others_stay serial) xs ≡ frame.value ∷ []
+pub closing-one : (serial : ℕ) (xs : Frames) (frame : Frame ℕ) → AreSerialsRising xs → frame_at xs serial ≡ Some frame → closed (others_stay serial) xs ≡ frame.value ∷ []
 closing-one serial [] frame rising at = absurd cc
-closing-one serial (x ∷ xs) frame rising at =
-    elim (cases_Bool (eqb x.serial serial)) [
-      | inl same ↦ grind (arith, eqb-true, nothing-above)
-      | inr other ↦ rw other (closing-one serial xs frame rising.1 (rw other at at))
-    ]
-
--- a frame without a child in the core has none in the table
-pub no-children : (parts : Parts) → IsStored parts → (name : FrameId) → has_child (frames_in_core (shared_of parts) name.tenant) name.serial ≡ false → children_of (frames_of parts.trees name.tenant) name.serial ≡ []
-no-children parts stored name none =
-    let F = frames_of parts.trees name.tenant in
-    let frames = frames-found parts stored name.tenant in
-    let kids = children_of-map_values (node_words parts.nodes) F name.serial in
-    let lacks : nat_lt 0 (length (map_values (node_words parts.nodes) (children_of F name.serial))) ≡ false = sym (ap (λ (fs : List (Frame (List ℕ))). has_child fs name.serial) frames ∙ ap (λ (fs : List (Frame (List ℕ))). nat_lt 0 (length fs)) kids) ∙ none in
-    empty (children_of F name.serial) (ltb-false 0 (length (map_values (node_words parts.nodes) (children_of F name.serial))) lacks)
-  where
-    empty : (xs : List (Frame ℕ)) → length (map_values (node_words parts.nodes) xs) ≤ 0 → xs ≡ []
-    empty [] is = refl
-    empty (x ∷ xs) is = absurd (omega arith)
-
--- so no open node has its node as a parent
-pub leaf-node : (parts : Parts) (name : FrameId) (frame : Frame ℕ) → IsStored parts → frame_in_trees parts.trees name.tenant name.serial ≡ Some frame → children_of (frames_of parts.trees name.tenant) name.serial ≡ [] → HasNoChild parts.nodes frame.value
-leaf-node parts name frame stored at leaf child up =
-    let belong = stored.frames_nodes in
-    let F = frames_of parts.trees name.tenant in
-    let has = belong.no_other child (parent-open parts.nodes child frame.value (node_at parts.nodes child) refl up) in
-    let mine = found-node (frame_in_trees parts.trees has.number has.serial) child has.there in
-    let belongs = belong.nodes_of_frames has.number has.serial mine.0 mine.1 in
-    let above_is : node_above (frames_of parts.trees has.number) (parent_of (Frame.path mine.0)) ≡ Some frame.value = sym belongs.parent ∙ ap (λ (n : ℕ). node_parent parts.nodes n) mine.2 ∙ up in
-    let above = above-found (frames_of parts.trees has.number) (parent_of (Frame.path mine.0)) frame.value above_is in
-    let its : node_of (frame_in_trees parts.trees has.number above.0) ≡ Some frame.value = ap node_of above.3 ∙ ap (λ (v : ℕ). Some v) above.4 in
-    let own : node_of (frame_in_trees parts.trees name.tenant name.serial) ≡ Some frame.value = ap node_of at in
-    let one = belong.once has.number above.0 name.tenant name.serial frame.value its own in
-    let child_here : frame_at F has.serial ≡ Some mine.0 = ap (λ (n : ℕ). frame_in_trees parts.trees n has.serial) (sym one.0) ∙ mine.1 in
-    let is_child : is_child_of name.serial (Frame.path mine.0) ≡ true = rw (above.2, one.1) (eq-eqb name.serial name.serial refl) in
-    let found = frame_at-stays (λ (f : Frame ℕ). is_child_of name.serial f.path) F has.serial mine.0 (tree-rising F (stored.forest name.tenant)) child_here is_child in
-    let none : filter (λ (f : Frame ℕ). is_child_of name.serial f.path) F ≡ [] = sym (children-by-paths F name.serial (stored.forest name.tenant)) ∙ leaf in
-    let gone : frame_at (filter (λ (f : Frame ℕ). is_child_of name.serial f.path) F) has.serial ≡ None = ap (λ (xs : List (Frame ℕ)). frame_at xs has.serial) none in
-    absurd cc
+closing-one serial (x ∷ xs) frame rising at = grind (arith, eqb-true, nothing-above, closing-one serial xs frame)
 
 pub has-value : (o : Option (Frame ℕ)) (node : ℕ) → HasValue o node → (f : Frame ℕ) × (o ≡ Some f) × (f.value ≡ node)
 has-value None node is = absurd is
 has-value (Some f) node is = (f, refl, is)
 
-closes-one : (parts : Parts) (name : FrameId) (node : ℕ) → IsStored parts → HasValue (frame_in_trees parts.trees name.tenant name.serial) node → closing parts.trees name.tenant (others_stay name.serial) ≡ node ∷ []
-closes-one parts name node stored value = grind (arith, has-value, closing-one, tree-rising)
+module _ (parts : Parts) (stored : IsStored parts) (name : FrameId) where
+  -- a frame without a child in the core has none in the table
+  pub no-children : has_child (frames_in_core (shared_of parts) name.tenant) name.serial ≡ false → children_of (family parts name) name.serial ≡ []
+  no-children none =
+      let F = family parts name in
+      let frames = frames-found parts stored name.tenant in
+      let kids = children_of-map_values (node_words parts.nodes) F name.serial in
+      let lacks : nat_lt 0 (length (map_values (node_words parts.nodes) (children_of F name.serial))) ≡ false = sym (ap (λ (fs : List (Frame (List ℕ))). has_child fs name.serial) frames ∙ ap (λ (fs : List (Frame (List ℕ))). nat_lt 0 (length fs)) kids) ∙ none in
+      empty (children_of F name.serial) (ltb-false 0 (length (map_values (node_words parts.nodes) (children_of F name.serial))) lacks)
+    where
+      empty : (xs : Frames) → length (map_values (node_words parts.nodes) xs) ≤ 0 → xs ≡ []
+      empty [] is = refl
+      empty (x ∷ xs) is = absurd (omega arith)
 
--- the node that a removal closes is that of the frame that goes
-pub leaf-gone : (parts : Parts) (nodes : Nodes) (name : FrameId) (node : ℕ) → IsStored parts → HasValue (frame_in_trees parts.trees name.tenant name.serial) node → nodes ≡ with_node parts.nodes node None →
-    without parts.nodes (closing parts.trees name.tenant (others_stay name.serial)) ≡ nodes
-leaf-gone parts nodes name node stored value closed_one = ap (without parts.nodes) (closes-one parts name node stored value) ∙ sym closed_one
+  -- so no open node has its node as a parent
+  pub leaf-node : (frame : Frame ℕ) → framed parts name ≡ Some frame → children_of (family parts name) name.serial ≡ [] → HasNoChild parts.nodes frame.value
+  leaf-node frame at leaf child up =
+      let belong = stored.frames_nodes in
+      let F = family parts name in
+      let has = belong.no_other child (parent-open parts.nodes child frame.value (node_at parts.nodes child) refl up) in
+      let mine = node-frame (frame_in_trees parts.trees has.number has.serial) child has.there in
+      let belongs = belong.nodes_of_frames has.number has.serial mine.0 mine.1.0 in
+      let above_is : node_above (frames_of parts.trees has.number) (parent_of (Frame.path mine.0)) ≡ Some frame.value = sym belongs.parent ∙ ap (λ (n : ℕ). node_parent parts.nodes n) mine.1.1 ∙ up in
+      let above = above-found (frames_of parts.trees has.number) (parent_of (Frame.path mine.0)) frame.value above_is in
+      let its : node_of (frame_in_trees parts.trees has.number above.0) ≡ Some frame.value = ap node_of above.3 ∙ ap (λ (v : ℕ). Some v) above.4 in
+      let own : node_of (framed parts name) ≡ Some frame.value = ap node_of at in
+      let one = belong.once has.number above.0 name.tenant name.serial frame.value its own in
+      let child_here : frame_at F has.serial ≡ Some mine.0 = ap (λ (n : ℕ). frame_in_trees parts.trees n has.serial) (sym one.0) ∙ mine.1.0 in
+      let is_child : is_child_of name.serial (Frame.path mine.0) ≡ true = rw (above.2, one.1) (eq-eqb name.serial name.serial refl) in
+      let found = frame_at-stays (λ (f : Frame ℕ). is_child_of name.serial f.path) F has.serial mine.0 (tree-rising F (stored.forest name.tenant)) child_here is_child in
+      let none : filter (λ (f : Frame ℕ). is_child_of name.serial f.path) F ≡ [] = sym (children-by-paths F name.serial (stored.forest name.tenant)) ∙ leaf in
+      let gone : frame_at (filter (λ (f : Frame ℕ). is_child_of name.serial f.path) F) has.serial ≡ None = ap (λ (xs : Frames). frame_at xs has.serial) none in
+      absurd cc
 
--- the cut that it makes
-pub leaf-cut : (parts : Parts) (trees : List (TenantTree ℕ)) (name : FrameId) → IsStored parts → children_of (frames_of parts.trees name.tenant) name.serial ≡ [] →
-    frames_of trees name.tenant ≡ frames_without name.serial (frames_of parts.trees name.tenant) → KeepsOtherFrames parts.trees trees name.tenant → IsCut parts.trees trees name.tenant (others_stay name.serial)
-leaf-cut parts trees name stored leaf frames keeps = grind (arith, tree-without)
+  closes-one : (node : ℕ) → HasValue (framed parts name) node → closing parts.trees name.tenant (others_stay name.serial) ≡ node ∷ []
+  closes-one node value = grind (arith, has-value, closing-one, tree-rising)
 
-pub leaf-words : (parts : Parts) (name : FrameId) → with_words_of_nodes parts.nodes (filter (others_stay name.serial) (frames_of parts.trees name.tenant)) ≡ frames_without name.serial (with_words_of_nodes parts.nodes (frames_of parts.trees name.tenant))
-leaf-words parts name = sym (frames_without-map_values (node_words parts.nodes) name.serial (frames_of parts.trees name.tenant))
+  -- the node that a removal closes is that of the frame that goes
+  pub leaf-gone : (nodes : Nodes) (node : ℕ) → HasValue (framed parts name) node → nodes ≡ with_node parts.nodes node None →
+      without parts.nodes (closing parts.trees name.tenant (others_stay name.serial)) ≡ nodes
+  leaf-gone nodes node value closed_one = ap (without parts.nodes) (closes-one node value) ∙ sym closed_one
+
+  -- the cut that it makes
+  pub leaf-cut : (trees : Trees) → children_of (family parts name) name.serial ≡ [] →
+      frames_of trees name.tenant ≡ frames_without name.serial (family parts name) → KeepsOtherFrames parts.trees trees name.tenant → IsCut parts.trees trees name.tenant (others_stay name.serial)
+  leaf-cut trees leaf frames keeps = grind (arith, tree-without)
+
+pub leaf-words : (parts : Parts) (name : FrameId) → with_words_of_nodes parts.nodes (filter (others_stay name.serial) (family parts name)) ≡ frames_without name.serial (tree_in parts name.tenant)
+leaf-words parts name = sym (frames_without-map_values (node_words parts.nodes) name.serial (family parts name))
 
 -- An abort at a frame: the frames under it go, with their nodes and what they were charged.
 
 -- a frame that is there
 pub record IsThere (parts : Parts) (name : FrameId) : Type 0 where
   pub frame : Frame ℕ
-  pub at : frame_in_trees parts.trees name.tenant name.serial ≡ Some frame
+  pub at : framed parts name ≡ Some frame
   pub account : Account
-  pub there : account_of name.tenant parts.book.accounts ≡ Some account
-
-mapped-some : (nodes : Nodes) (o : Option (Frame ℕ)) → IsSome (option_map (map_value (node_words nodes)) o) → (f : Frame ℕ) × (o ≡ Some f)
-mapped-some nodes None is = absurd (false≢true is)
-mapped-some nodes (Some f) is = (f, refl)
-
-has-account : (parts : Parts) → IsStored parts → (number serial : ℕ) (frame : Frame ℕ) → frame_in_trees parts.trees number serial ≡ Some frame → (o : Option Account) → account_of number parts.book.accounts ≡ o → (a : Account) × (account_of number parts.book.accounts ≡ Some a)
-has-account parts stored number serial frame at None none = grind arith
-has-account parts stored number serial frame at (Some a) some = (a, some)
+  pub there : Owns parts name.tenant account
 
 module _ (parts : Parts) (stored : IsStored parts) (name : FrameId) (some : IsSome (named (shared_of parts) name)) where
   pub is-there : IsThere parts name
-  is-there = grind (arith, mapped-some, named-found, has-account)
-
-  pub has-frame : has_frame (frames_of parts.trees name.tenant) name.serial ≡ true
-  has-frame = (let is = is-there in found-there (frames_of parts.trees name.tenant) name.serial is.frame is.at)
+  is-there = grind (arith, there-frame, frame-account)
 
 -- what a list of nodes gives back, from what was free before and is free then
 pub freed-is : (nodes : Nodes) (numbers : List ℕ) (before later : ℕ) → AllPairs ◌≢◌ numbers → length (without nodes numbers) ≡ length nodes → before + total_charge nodes ≡ length nodes → later + total_charge (without nodes numbers) ≡ length (without nodes numbers) →
@@ -237,7 +213,7 @@ nodes-free parts nodes name stay before later stored some gone was_free is_free 
     }
 
 -- what the table, the stack and the book told of frames that went
-pub record AreGone (parts : Parts) (nodes : Nodes) (trees : List (TenantTree ℕ)) (book : Reservations) (name : FrameId) (stay : Frame ℕ → Bool) (before later : ℕ) : Type 0 where
+pub record AreGone (parts : Parts) (nodes : Nodes) (trees : Trees) (book : Reservations) (name : FrameId) (stay : Frame ℕ → Bool) (before later : ℕ) : Type 0 where
   pub some : IsSome (named (shared_of parts) name)
   pub gone : without parts.nodes (closing parts.trees name.tenant stay) ≡ nodes
   pub was_free : before + total_charge parts.nodes ≡ length parts.nodes
@@ -249,28 +225,28 @@ pub record AreGone (parts : Parts) (nodes : Nodes) (trees : List (TenantTree ℕ
   pub others : KeepsOtherAccounts parts.book book name.tenant
   pub sound : IsSoundBook book
 
-gone-removal : (parts : Parts) (nodes : Nodes) (trees : List (TenantTree ℕ)) (book : Reservations) (name : FrameId) (stay : Frame ℕ → Bool) (before later : ℕ) → IsStored parts →
+gone-removal : (parts : Parts) (nodes : Nodes) (trees : Trees) (book : Reservations) (name : FrameId) (stay : Frame ℕ → Bool) (before later : ℕ) → IsStored parts →
     AreGone parts nodes trees book name stay before later → IsRemoval parts trees book name.tenant (later - before) stay
 gone-removal parts nodes trees book name stay before later stored is = grind (arith, is-there, nodes-free)
 
 -- the parts after it
-abbrev pub with_parts : Parts → Nodes → List (TenantTree ℕ) → Reservations → Parts
+abbrev pub with_parts : Parts → Nodes → Trees → Reservations → Parts
 with_parts parts nodes trees book = record parts { nodes = nodes; trees = trees; book = book }
 
-module _ (parts : Parts) (nodes : Nodes) (trees : List (TenantTree ℕ)) (book : Reservations) (name : FrameId) (stay : Frame ℕ → Bool) (before later : ℕ) where
-  pub gone-stored : IsStored parts → AreGone parts nodes trees book name stay before later → IsStored (with_parts parts nodes trees book)
-  gone-stored stored is =
-      subst (λ (n : Nodes). IsStored (with_parts parts n trees book)) is.gone
-      (removed-stored parts trees book name.tenant (later - before) stay stored (gone-removal parts nodes trees book name stay before later stored is))
+-- the core after it, where the tenant's frames with their words are changed so
+abbrev with_frames : (List (Frame (List ℕ)) → List (Frame (List ℕ))) → Tenant → Tenant
+with_frames change tenant = record tenant { frames = change tenant.frames }
 
-  -- the core after it, where the tenant's frames with their words are changed so
-  pub gone-shared : (change : List (Frame (List ℕ)) → List (Frame (List ℕ))) → IsStored parts → AreGone parts nodes trees book name stay before later →
-      with_words_of_nodes parts.nodes (filter stay (frames_of parts.trees name.tenant)) ≡ change (with_words_of_nodes parts.nodes (frames_of parts.trees name.tenant)) → shared_of (with_parts parts nodes trees book) ≡ on_tenant name.tenant (λ tenant. record tenant { frames = change tenant.frames }) (shared_of parts)
-  gone-shared change stored is words =
+module _ (parts : Parts) (nodes : Nodes) (trees : Trees) (book : Reservations) (name : FrameId) (stay : Frame ℕ → Bool) (before later : ℕ) where
+  pub gone-step : (change : List (Frame (List ℕ)) → List (Frame (List ℕ))) → IsStored parts → AreGone parts nodes trees book name stay before later →
+      with_words_of_nodes parts.nodes (filter stay (family parts name)) ≡ change (tree_in parts name.tenant) →
+      Stepped parts (with_parts parts nodes trees book) name.tenant (with_frames change)
+  gone-step change stored is words =
       let removal = gone-removal parts nodes trees book name stay before later stored is in
       let frames = own-words parts trees book name.tenant (later - before) stay stored removal ∙ words in
-      subst (λ (n : Nodes). shared_of (with_parts parts n trees book) ≡ on_tenant name.tenant (λ tenant. record tenant { frames = change tenant.frames }) (shared_of parts)) is.gone
-      (removed-shared parts trees book name.tenant (later - before) stay (λ tenant. record tenant { frames = change tenant.frames }) stored removal (ap (with-frames removal.account) frames))
+      let step = removal-step parts trees book name.tenant (later - before) stay stored removal in
+      subst (λ (n : Nodes). Stepped parts (with_parts parts n trees book) name.tenant (with_frames change)) is.gone
+      (stepped (with_frames change) stored step (ap (with-frames removal.account) frames))
     where
       with-frames : Account → List (Frame (List ℕ)) → Tenant
       with-frames account frames = record { reserve = account.reserve; serials = account.opened; steps = account.ticks; jobs = jobs_of parts.ledgers name.tenant; frames = frames }
@@ -279,7 +255,7 @@ module _ (parts : Parts) (nodes : Nodes) (trees : List (TenantTree ℕ)) (book :
 abbrev pub stays : ℕ → Frame ℕ → Bool
 stays serial frame = not (goes_under serial frame.path)
 
-pub closing-under : (serial : ℕ) (frames : List (Frame ℕ)) → closed (stays serial) frames ≡ values_of (frames_under serial frames)
+pub closing-under : (serial : ℕ) (frames : Frames) → closed (stays serial) frames ≡ values_of (frames_under serial frames)
 closing-under serial [] = refl
 closing-under serial (x ∷ xs) = grind (arith, closing-under serial xs)
 
@@ -287,13 +263,8 @@ not-stays : (b : Bool) → not b ≡ false → b ≡ true
 not-stays true is = refl
 not-stays false is = absurd (true≢false is)
 
-pub takes-under : (serial : ℕ) (frames : List (Frame ℕ)) → IsTree frames → TakesChildren frames (stays serial)
+pub takes-under : (serial : ℕ) (frames : Frames) → IsTree frames → TakesChildren frames (stays serial)
 takes-under p frames tree serial parent frame above at up at_above out = grind (arith, not-stays, eq-eqb, child-further-under)
-
--- the cut that an abort makes
-pub abort-cut : (parts : Parts) (trees : List (TenantTree ℕ)) (name : FrameId) → IsStored parts → frames_of trees name.tenant ≡ aborted name.serial (frames_of parts.trees name.tenant) → KeepsOtherFrames parts.trees trees name.tenant →
-    IsCut parts.trees trees name.tenant (stays name.serial)
-abort-cut parts trees name stored frames keeps = grind (arith, tree-aborted)
 
 -- the nodes that an abort closes: open, once, with their children
 pub record AreClosable (nodes : Nodes) (numbers : List ℕ) : Type 0 where
@@ -301,44 +272,46 @@ pub record AreClosable (nodes : Nodes) (numbers : List ℕ) : Type 0 where
   pub once : AllPairs ◌≢◌ numbers
   pub with_children : HasAllChildren nodes numbers
 
-pub abort-closes : (parts : Parts) (name : FrameId) (numbers : List ℕ) → IsStored parts → numbers ≡ values_of (frames_under name.serial (frames_of parts.trees name.tenant)) → AreClosable parts.nodes numbers
-abort-closes parts name numbers stored is =
-    let tree = stored.forest name.tenant in
-    let same : closing parts.trees name.tenant (stays name.serial) ≡ numbers = closing-under name.serial (frames_of parts.trees name.tenant) ∙ sym is in
-    subst (AreClosable parts.nodes) same (record {
-      are_open = closing-open parts.nodes parts.trees name.tenant (stays name.serial) stored.frames_nodes tree;
-      once = closing-once parts.nodes parts.trees name.tenant (stays name.serial) stored.frames_nodes tree;
-      with_children = closing-children parts.nodes parts.trees name.tenant (stays name.serial) stored.frames_nodes tree (takes-under name.serial (frames_of parts.trees name.tenant) tree);
-    })
-
 -- they are those of the frames that go
-pub abort-gone : (parts : Parts) (nodes : Nodes) (name : FrameId) (numbers : List ℕ) → numbers ≡ values_of (frames_under name.serial (frames_of parts.trees name.tenant)) → nodes ≡ without parts.nodes numbers →
+pub abort-gone : (parts : Parts) (nodes : Nodes) (name : FrameId) (numbers : List ℕ) → numbers ≡ values_of (frames_under name.serial (family parts name)) → nodes ≡ without parts.nodes numbers →
     without parts.nodes (closing parts.trees name.tenant (stays name.serial)) ≡ nodes
 abort-gone parts nodes name numbers values closed_all = grind (arith, closing-under)
 
-pub abort-words : (parts : Parts) (name : FrameId) → with_words_of_nodes parts.nodes (filter (stays name.serial) (frames_of parts.trees name.tenant)) ≡ aborted name.serial (with_words_of_nodes parts.nodes (frames_of parts.trees name.tenant))
-abort-words parts name = sym (aborted-map_values (node_words parts.nodes) name.serial (frames_of parts.trees name.tenant))
+pub abort-words : (parts : Parts) (name : FrameId) → with_words_of_nodes parts.nodes (filter (stays name.serial) (family parts name)) ≡ aborted name.serial (tree_in parts name.tenant)
+abort-words parts name = sym (aborted-map_values (node_words parts.nodes) name.serial (family parts name))
 
--- as many go as are under the frame
-pub abort-count : (parts : Parts) → IsStored parts → (name : FrameId) (numbers : List ℕ) → numbers ≡ values_of (frames_under name.serial (frames_of parts.trees name.tenant)) →
-    length numbers ≡ length (frames_under name.serial (frames_in_core (shared_of parts) name.tenant))
-abort-count parts stored name numbers values =
-    let frames = frames-found parts stored name.tenant in
-    let worded_under = ap (frames_under name.serial) frames ∙ frames_under-map_values (node_words parts.nodes) name.serial (frames_of parts.trees name.tenant) in
-    ap length values ∙ length-values (frames_under name.serial (frames_of parts.trees name.tenant)) ∙ sym (ap length worded_under ∙ length-with_words_of_nodes (frames_under name.serial (frames_of parts.trees name.tenant)))
-  where
-    length-values : (xs : List (Frame ℕ)) → length (values_of xs) ≡ length xs
-    length-values [] = refl
-    length-values (x ∷ xs) = omega (arith, length-values xs)
+module _ (parts : Parts) (stored : IsStored parts) (name : FrameId) where
+  -- the cut that an abort makes
+  pub abort-cut : (trees : Trees) → frames_of trees name.tenant ≡ aborted name.serial (family parts name) → KeepsOtherFrames parts.trees trees name.tenant →
+      IsCut parts.trees trees name.tenant (stays name.serial)
+  abort-cut trees frames keeps = grind (arith, tree-aborted)
 
-    length-with_words_of_nodes : (xs : List (Frame ℕ)) → length (map_values (node_words parts.nodes) xs) ≡ length xs
-    length-with_words_of_nodes [] = refl
-    length-with_words_of_nodes (x ∷ xs) = omega (arith, length-with_words_of_nodes xs)
+  pub abort-closes : (numbers : List ℕ) → numbers ≡ values_of (frames_under name.serial (family parts name)) → AreClosable parts.nodes numbers
+  abort-closes numbers is =
+      let tree = stored.forest name.tenant in
+      let same : closing parts.trees name.tenant (stays name.serial) ≡ numbers = closing-under name.serial (family parts name) ∙ sym is in
+      subst (AreClosable parts.nodes) same (record {
+        are_open = closing-open parts.nodes parts.trees name.tenant (stays name.serial) stored.frames_nodes tree;
+        once = closing-once parts.nodes parts.trees name.tenant (stays name.serial) stored.frames_nodes tree;
+        with_children = closing-children parts.nodes parts.trees name.tenant (stays name.serial) stored.frames_nodes tree (takes-under name.serial (family parts name) tree);
+      })
+
+  -- as many go as are under the frame
+  pub abort-count : (numbers : List ℕ) → numbers ≡ values_of (frames_under name.serial (family parts name)) →
+      length numbers ≡ length (frames_under name.serial (frames_in_core (shared_of parts) name.tenant))
+  abort-count numbers values =
+      let frames = frames-found parts stored name.tenant in
+      let worded_under = ap (frames_under name.serial) frames ∙ frames_under-map_values (node_words parts.nodes) name.serial (family parts name) in
+      ap length values ∙ length-values (frames_under name.serial (family parts name)) ∙ sym (ap length worded_under ∙ length-with_words_of_nodes parts.nodes (frames_under name.serial (family parts name)))
+    where
+      length-values : (xs : Frames) → length (values_of xs) ≡ length xs
+      length-values [] = refl
+      length-values (x ∷ xs) = omega (arith, length-values xs)
 
 -- What a frame's words are, seen through its node.
 
 module _ (parts : Parts) (stored : IsStored parts) (name : FrameId) (entry : Entry ℕ) (words : List ℕ)
-    (is : Some entry ≡ entry_of_frame name.tenant (frame_in_trees parts.trees name.tenant name.serial)) (own : words ≡ node_words parts.nodes entry.value) where
+    (is : Some entry ≡ entry_in parts name) (own : words ≡ node_words parts.nodes entry.value) where
   pub words-shown : Some words ≡ words_of_frame (shared_of parts) name
   words-shown =
       let f = found parts stored name entry is in
@@ -352,23 +325,24 @@ module _ (parts : Parts) (stored : IsStored parts) (name : FrameId) (entry : Ent
       let value : entry.value ≡ f.frame.value = ap (λ (e : Entry ℕ). e.value) f.is in
       own ∙ ap (node_words parts.nodes) value ∙ sym (ap frame_words f.named)
 
-pub no-words-shown : (parts : Parts) → IsStored parts → (name : FrameId) → None ≡ entry_of_frame name.tenant (frame_in_trees parts.trees name.tenant name.serial) → None ≡ words_of_frame (shared_of parts) name
-no-words-shown parts stored name is = sym (ap (λ (o : Option (Frame (List ℕ))). option_map (λ (frame : Frame (List ℕ)). frame.value) o) (nothing-found parts stored name is))
+module _ (parts : Parts) (stored : IsStored parts) (name : FrameId) where
+  pub no-words-shown : None ≡ entry_in parts name → None ≡ words_of_frame (shared_of parts) name
+  no-words-shown is = sym (ap (λ (o : Option (Frame (List ℕ))). option_map (λ (frame : Frame (List ℕ)). frame.value) o) (nothing-found parts stored name is))
 
--- the path of a frame that is there
-pub path-shown : (parts : Parts) → IsStored parts → (name : FrameId) → IsSome (named (shared_of parts) name) → path_of (named (shared_of parts) name) ≡ path_in (frames_of parts.trees name.tenant) name.serial
-path-shown parts stored name some = grind (arith, is-there, named-found, found-path)
+  -- the path of a frame that is there
+  pub path-shown : IsSome (named (shared_of parts) name) → path_of (named (shared_of parts) name) ≡ path_in (family parts name) name.serial
+  path-shown some = grind (arith, is-there, named-found, found-path)
 
 nobody-above : (tenant : ℕ) (parent : Option ℕ) → is_none (name_of tenant parent) ≡ is_none parent
 nobody-above tenant None = refl
 nobody-above tenant (Some parent) = refl
 
-some-length : (frames : List (Frame ℕ)) (frame : Frame ℕ) → IsPlaced frames frame → 1 ≤ length frame.path
+some-length : (frames : Frames) (frame : Frame ℕ) → IsPlaced frames frame → 1 ≤ length frame.path
 some-length frames frame (inl top) = (let long = ap length top.1 in omega (arith, long))
 some-length frames frame (inr under) = (let long = ap length under.path ∙ length-append under.above.path (frame.serial ∷ []) in omega (arith, long))
 
 -- a frame has no parent exactly where its path has one serial
-root-by-length : (frames : List (Frame ℕ)) (frame : Frame ℕ) → IsTree frames → IsPlaced frames frame → is_none (parent_of frame.path) ≡ is_root frame.path
+root-by-length : (frames : Frames) (frame : Frame ℕ) → IsTree frames → IsPlaced frames frame → is_none (parent_of frame.path) ≡ is_root frame.path
 root-by-length frames frame tree (inl top) = rw (top.0, top.1) refl
 root-by-length frames frame tree (inr under) =
     let above = some-length frames under.above (placed frames under.parent under.above tree under.there) in
@@ -377,11 +351,11 @@ root-by-length frames frame tree (inr under) =
     rw (under.named, ne_eqb (length frame.path) 1 differs) refl
 
 module _ (parts : Parts) (stored : IsStored parts) (name : FrameId) (entry : Entry ℕ)
-    (is : Some entry ≡ entry_of_frame name.tenant (frame_in_trees parts.trees name.tenant name.serial)) where
+    (is : Some entry ≡ entry_in parts name) where
   pub root-shown : is_none entry.parent ≡ is_root (path_of (named (shared_of parts) name))
   root-shown =
       let f = found parts stored name entry is in
-      let F = frames_of parts.trees name.tenant in
+      let F = family parts name in
       let parent : entry.parent ≡ name_of name.tenant (parent_of f.frame.path) = ap (λ (e : Entry ℕ). e.parent) f.is in
       ap is_none parent ∙ nobody-above name.tenant (parent_of f.frame.path)
       ∙ root-by-length F f.frame (stored.forest name.tenant) (placed F name.serial f.frame (stored.forest name.tenant) f.there)
@@ -396,20 +370,16 @@ module _ (parts : Parts) (stored : IsStored parts) (name : FrameId) (entry : Ent
       some-not-none (Some parent) = refl
 
 -- a frame has a child exactly where it has one in the table
-pub child-shown : (parts : Parts) → IsStored parts → (name : FrameId) (has : Bool) → (IsTrue has → 0 < length (children_of (frames_of parts.trees name.tenant) name.serial)) × (0 < length (children_of (frames_of parts.trees name.tenant) name.serial) → IsTrue has) →
+pub child-shown : (parts : Parts) → IsStored parts → (name : FrameId) (has : Bool) → (IsTrue has → 0 < length (children_of (family parts name) name.serial)) × (0 < length (children_of (family parts name) name.serial) → IsTrue has) →
     has ≡ has_child (frames_in_core (shared_of parts) name.tenant) name.serial
 child-shown parts stored name has is =
-    let F = frames_of parts.trees name.tenant in
+    let F = family parts name in
     let frames = frames-found parts stored name.tenant in
     let kids = children_of-map_values (node_words parts.nodes) F name.serial in
-    let long = count (children_of F name.serial) in
+    let long = length-with_words_of_nodes parts.nodes (children_of F name.serial) in
     let whole = ap (λ (fs : List (Frame (List ℕ))). has_child fs name.serial) frames ∙ ap (λ (fs : List (Frame (List ℕ))). ltb 0 (length fs)) kids ∙ ap (ltb 0) long in
     same has (length (children_of F name.serial)) is ∙ sym whole
   where
-    count : (xs : List (Frame ℕ)) → length (map_values (node_words parts.nodes) xs) ≡ length xs
-    count [] = refl
-    count (x ∷ xs) = ap suc (count xs)
-
     same : (b : Bool) (n : ℕ) → (IsTrue b → 0 < n) × (0 < n → IsTrue b) → b ≡ ltb 0 n
     same true n is = sym (lt-ltb 0 n (is.0 refl))
     same false n is = sym (le-ltb 0 n (let none : ¬ (0 < n) = λ some. false≢true (is.1 some) in omega (arith, none)))

@@ -1,41 +1,50 @@
 -- A change of one tenant: what a store keeps true, and the core that it stands for.
 use Rattle.std.proofs.Common.{◌≡◌, ◌≢◌, ℕ, ◌<◌, ◌≤◌, eqb, List, [], ◌∷◌, length, Some, None, option_map, refl, ap, sym, ◌∙◌, arith, inl, inr, true, Option, IsSome, IsSomeAnd, subst, suc, ◌*◌, sum_by, IfSome, is_some}
-use Rattle.sched_store.proofs.Common.{Job, Left, Account, FrameId, sum_by-cons, AllEntries-of, map_value, Each, CoreState, tenant_in, with_change, on_tenant}
+use Rattle.sched_store.proofs.Common.{Job, Left, Account, FrameId, sum_by-cons, map_value, Each, CoreState, tenant_in, with_change, on_tenant}
 use Rattle.sched_store.proofs.Common.{words_under, IsReadyIn, left_in_core, ready_count, live_of, tree-rising, found-each, found-serial, Tenant, Tree}
 use Rattle.sched_store.proofs.Common.{charged_for, frame_words, total_charge, Nodes, node_words, charge, cases_Bool, cases_eq, eqb-true, eqb-false, false≢true}
-use Rattle.sched_store.proofs.Common.{IsTree, TenantTree, Frame, names_of, ready_frames, IsReadyAt, frames_of, tenant_count, KeepsOtherFrames}
+use Rattle.sched_store.proofs.Common.{IsTree, Frame, names_of, ready_frames, IsReadyAt, frames_of, tenant_count, KeepsOtherFrames}
 use Rattle.sched_store.proofs.Common.{KeepsOtherTenants, Reservations, changed, IsSoundBook, ChangesOnly, left_in_book, Parts, with_words_of_nodes, tenant_from}
 use Rattle.sched_store.proofs.Common.{tenants_from, shared_of, jobs_of, numbers_of, JobLedger, owner_of_ledger, is_there, with_jobs, IsStored, IsAccountFor}
 use Rattle.sched_store.proofs.Common.{AreFramesNodes, AreSized, ArePlaces, numbers_in, frame_in_trees, owner_of_account, account_of, with_changed}
-use Rattle.sched_store.proofs.Common.{charged_segments, AllEntries, IsRising, ticked, left_in, IsWithinReserve}
+use Rattle.sched_store.proofs.Common.{charged_segments, AllEntries, IsRising, ticked, left_in}
 use Rattle.number_index.proofs.Edits.{with-same, said-with_own, said-with_other, length-with, all-with}
-use Rattle.sched_store.proofs.Lookups.{numbers-with, ledger-there, tenant-there, left-found, named-found, tenant-found}
+use Rattle.sched_store.proofs.Lookups.{within-reserve, Frames, Trees, tree_in, with_words, Owns, Entries, none_or_some, numbers-with, ledger-there, tenant-there, left-found, named-found, tenant-found}
 use Rattle.sched_rules.specs.Lone.{counted}
 use Rattle.tenant_quota.proofs.Standing.{some_of}
 use Rattle.frame_tree.proofs.Finds.{none_of_length}
 
-abbrev Entries : Type 0
-Entries = List (ℕ × Account)
+-- a number, and what is beside it changed
+abbrev with_second : {X : Type 0} → (X → X) → ℕ × X → ℕ × X
+with_second f pair = (pair.0, f pair.1)
+
+-- the tenants of all numbers but this are the same
+abbrev pub SameOthers : Parts → Parts → ℕ → Type 0
+SameOthers old new number = (other : ℕ) (a : Account) → other ≢ number → tenant_from new other a ≡ tenant_from old other a
 
 -- accounts after one has changed
 
 account-changed : (n : ℕ) (f : Account → Account) (entries : Entries) → account_of n (with_changed n f entries) ≡ option_map f (account_of n entries)
 account-changed n f entries =
-    said-with_own owner_of_account (λ e. Some e.1) None (option_map f) n (λ (e : ℕ × Account). (e.0, f e.1)) entries (λ e own. own) (λ e. refl) (λ lacks. refl)
+    said-with_own owner_of_account (λ e. Some e.1) None (option_map f) n (with_second f) entries (λ e own. own) (λ e. refl) (λ lacks. refl)
 
 account-changed_other : (m n : ℕ) (f : Account → Account) (entries : Entries) → m ≢ n → account_of m (with_changed n f entries) ≡ account_of m entries
 account-changed_other m n f entries differs = grind (arith, said-with_other)
 
-pub changed-same : (n : ℕ) (entries : Entries) → with_changed n (λ a. a) entries ≡ entries
-changed-same n entries = with-same owner_of_account n entries
+-- a change that changes nothing
+pub changed-nothing : (book : Reservations) (n : ℕ) → book ≡ changed book n (λ a. a)
+changed-nothing book n = ap (λ (entries : Entries). at_entries entries) (sym (with-same owner_of_account n book.accounts))
+  where
+    at_entries : Entries → Reservations
+    at_entries entries = record book { accounts = entries }
 
 -- a table that keeps all places
-pub other-tenants : {old new : List (TenantTree ℕ)} {number : ℕ} → KeepsOtherFrames old new number → KeepsOtherTenants old new number
+pub other-tenants : {old new : Trees} {number : ℕ} → KeepsOtherFrames old new number → KeepsOtherTenants old new number
 other-tenants kept = record { frames = kept.frames; places = λ other differs. kept.places other }
 
 -- one tenant's account, frames, places, words or jobs change, and no other tenant's
 pub record TenantStep (old new : Parts) (number : ℕ) (f : Account → Account) (account : Account) : Type 0 where
-  pub there : account_of number old.book.accounts ≡ Some account
+  pub there : Owns old number account
   pub sound : IsSoundBook new.book
   pub book : new.book ≡ changed old.book number f
   pub trees : KeepsOtherTenants old.trees new.trees number
@@ -46,7 +55,7 @@ pub record TenantStep (old new : Parts) (number : ℕ) (f : Account → Account)
   pub segments : length new.nodes ≡ length old.nodes
   pub charges : total_charge new.nodes ≡ charged_segments new.book.accounts
   pub own : IsAccountFor new.nodes new.trees number (f account)
-  pub words : (other : ℕ) → other ≢ number → with_words_of_nodes new.nodes (frames_of old.trees other) ≡ with_words_of_nodes old.nodes (frames_of old.trees other)
+  pub words : (other : ℕ) → other ≢ number → with_words_of_nodes new.nodes (frames_of old.trees other) ≡ tree_in old other
   pub ledgers : numbers_of new.ledgers ≡ numbers_of old.ledgers
   pub jobs : (other : ℕ) → other ≢ number → jobs_of new.ledgers other ≡ jobs_of old.ledgers other
   pub workers : length new.places ≡ 33
@@ -61,7 +70,7 @@ module _ (old new : Parts) (number : ℕ) where
   other-after f account step other differs = grind (arith, account-changed_other)
 
   keeps-account : (other : ℕ) (account : Account) → KeepsOtherTenants old.trees new.trees number → other ≢ number →
-      with_words_of_nodes new.nodes (frames_of old.trees other) ≡ with_words_of_nodes old.nodes (frames_of old.trees other) →
+      with_words_of_nodes new.nodes (frames_of old.trees other) ≡ tree_in old other →
       IsAccountFor old.nodes old.trees other account → IsAccountFor new.nodes new.trees other account
   keeps-account other account kept differs words is = grind arith
 
@@ -90,27 +99,26 @@ module _ (old new : Parts) (number : ℕ) where
           | inl same ↦ rw same step.tree
           | inr differs ↦ rw (step.trees.frames other differs) (stored.forest other)
         ];
-        tenants = step.count ∙ stored.tenants ∙ sym (ap (λ (book : Reservations). length book.accounts) step.book ∙ length-with owner_of_account number (λ (e : ℕ × Account). (e.0, f e.1)) old.book.accounts);
+        tenants = step.count ∙ stored.tenants ∙ sym (ap (λ (book : Reservations). length book.accounts) step.book ∙ length-with owner_of_account number (with_second f) old.book.accounts);
         charges = step.charges;
         segments = step.segments ∙ stored.segments ∙ sym (ap (λ (book : Reservations). book.segments) step.book);
-        ledgers = step.ledgers ∙ stored.ledgers ∙ sym (ap (λ (book : Reservations). numbers_in book.accounts) step.book ∙ numbers-with owner_of_account number (λ (e : ℕ × Account). (e.0, f e.1)) old.book.accounts (λ e. refl));
+        ledgers = step.ledgers ∙ stored.ledgers ∙ sym (ap (λ (book : Reservations). numbers_in book.accounts) step.book ∙ numbers-with owner_of_account number (with_second f) old.book.accounts (λ e. refl));
         workers = step.workers;
         places = step.places;
-        taken = rw (step.newest, step.book) (all-with (λ (e : ℕ × Account). e.0 ≤ old.newest) owner_of_account number (λ (e : ℕ × Account). (e.0, f e.1)) old.book.accounts stored.taken (λ e le is. le));
+        taken = rw (step.newest, step.book) (all-with (λ (e : ℕ × Account). e.0 ≤ old.newest) owner_of_account number (with_second f) old.book.accounts stored.taken (λ e le is. le));
         newest = rw step.newest stored.newest;
       }
 
 -- the tenants after such a change
 
 module _ (old new : Parts) (number : ℕ) where
-  others-same : (entries : Entries) → ((other : ℕ) (a : Account) → other ≢ number → tenant_from new other a ≡ tenant_from old other a) → AllEntries (λ later. number < later.0) entries → tenants_from new entries ≡ tenants_from old entries
+  others-same : (entries : Entries) → SameOthers old new number → AllEntries (λ later. number < later.0) entries → tenants_from new entries ≡ tenants_from old entries
   others-same [] others all = refl
   others-same (entry ∷ entries) others all =
       let first : tenant_from new entry.0 entry.1 ≡ tenant_from old entry.0 entry.1 = others entry.0 entry.1 (λ e. omega (arith, all.0, e)) in
       rw (first, others-same entries others all.1) refl
 
-  tenants-changed : (f : Account → Account) (change : Tenant → Tenant) (entries : Entries) → IsRising entries →
-      ((other : ℕ) (a : Account) → other ≢ number → tenant_from new other a ≡ tenant_from old other a) →
+  tenants-changed : (f : Account → Account) (change : Tenant → Tenant) (entries : Entries) → IsRising entries → SameOthers old new number →
       ((a : Account) → account_of number entries ≡ Some a → tenant_from new number (f a) ≡ change (tenant_from old number a)) →
       tenants_from new (with_changed number f entries) ≡ with_change number change (tenants_from old entries)
   tenants-changed f change [] rising others own = refl
@@ -130,7 +138,7 @@ module _ (old new : Parts) (number : ℕ) where
 pub step-shared : (old new : Parts) (number : ℕ) (f : Account → Account) (account : Account) (change : Tenant → Tenant) → IsStored old → TenantStep old new number f account →
     tenant_from new number (f account) ≡ change (tenant_from old number account) → shared_of new ≡ on_tenant number change (shared_of old)
 step-shared old new number f account change stored step own =
-    let others : (other : ℕ) (a : Account) → other ≢ number → tenant_from new other a ≡ tenant_from old other a =
+    let others : SameOthers old new number =
     λ other a differs. rw (step.jobs other differs, step.trees.frames other differs, step.words other differs) refl in
     let tenants = tenants-changed old new number f change old.book.accounts stored.book.rising others
     (λ a there. let same : account ≡ a = cc (step.there, there) in rw (← same) own) in
@@ -139,90 +147,76 @@ step-shared old new number f account change stored step own =
     on_entries : List (ℕ × Tenant) → CoreState
     on_entries entries = record { totals = record { segments = old.book.segments; nodes = old.book.nodes }; newest = old.newest; tenants = entries }
 
+-- what such a step comes to
+pub record Stepped (old new : Parts) (number : ℕ) (change : Tenant → Tenant) : Type 0 where
+  pub stored : IsStored new
+  pub shared : shared_of new ≡ on_tenant number change (shared_of old)
+
+pub stepped : {old new : Parts} {number : ℕ} {f : Account → Account} {account : Account} (change : Tenant → Tenant) → IsStored old → TenantStep old new number f account →
+    tenant_from new number (f account) ≡ change (tenant_from old number account) → Stepped old new number change
+stepped change stored step own = record { stored = step-stored _ _ _ _ _ stored step; shared = step-shared _ _ _ _ _ change stored step own }
+
 -- Steps that are counted, and jobs that begin and end: no frame changes.
 
 -- the account of a tenant that is there
 
-pub there-account : (parts : Parts) (number : ℕ) → IsSome (tenant_in (shared_of parts).tenants number) → (a : Account) × (account_of number parts.book.accounts ≡ Some a)
-there-account parts number is = some_of (account_of number parts.book.accounts) (sym (tenant-there parts number) ∙ is)
+module _ (parts : Parts) (number : ℕ) where
+  pub there-account : IsSome (tenant_in (shared_of parts).tenants number) → (a : Account) × (Owns parts number a)
+  there-account is = some_of (account_of number parts.book.accounts) (sym (tenant-there parts number) ∙ is)
 
--- the same of a core that the parts show
-pub there-account-in : (parts : Parts) (number : ℕ) {core : CoreState} → shared_of parts ≡ core → IsSome (tenant_in core.tenants number) → (a : Account) × (account_of number parts.book.accounts ≡ Some a)
-there-account-in parts number is there = there-account parts number (subst (λ (s : CoreState). IsSome (tenant_in s.tenants number)) (sym is) there)
+  -- the same of a core that the parts show
+  pub there-account-in : {core : CoreState} → shared_of parts ≡ core → IsSome (tenant_in core.tenants number) → (a : Account) × (Owns parts number a)
+  there-account-in is there = there-account (subst (λ (s : CoreState). IsSome (tenant_in s.tenants number)) (sym is) there)
 
 module _ (parts : Parts) (stored : IsStored parts) (number : ℕ) (P : Left → Type 0) (is : IsSomeAnd (left_in_core (shared_of parts) number) P) where
-  pub left-account : (a : Account) × ((account_of number parts.book.accounts ≡ Some a) × P (left_in a))
-  left-account =
-      let Q : Option Left → Type 0 = λ left. IsSomeAnd left P in
-      by (account_of number parts.book.accounts) refl (subst Q (left-found parts stored number) is)
-    where
-      by : (account : Option Account) → account_of number parts.book.accounts ≡ account → IsSomeAnd (option_map left_in account) P → (a : Account) × ((account_of number parts.book.accounts ≡ Some a) × P (left_in a))
-      by None e h = absurd h
-      by (Some a) e h = (a, (e, h))
-
   -- what the book says it has left
   pub book-left : IsSomeAnd (left_in_book number parts.book) P
   book-left = let Q : Option Left → Type 0 = λ left. IsSomeAnd left P in subst Q (left-found parts stored number) is
 
+  pub left-account : (a : Account) × ((Owns parts number a) × P (left_in a))
+  left-account = elim (none_or_some (account_of number parts.book.accounts)) [
+    | inl none ↦ absurd (rw none at book-left)
+    | inr own ↦ (own.0, (own.1, rw own.1 at book-left))
+  ]
+
 -- a step that leaves the trees and the nodes as they are
-steady-step : (old : Parts) (book : Reservations) (ledgers : List JobLedger) (number : ℕ) (change : Account → Account) (account : Account) → IsStored old → account_of number old.book.accounts ≡ Some account →
+steady-step : (old : Parts) (book : Reservations) (ledgers : List JobLedger) (number : ℕ) (change : Account → Account) (account : Account) → IsStored old → Owns old number account →
     IsSoundBook book → book ≡ changed old.book number change → charged_segments book.accounts ≡ charged_segments old.book.accounts → IsAccountFor old.nodes old.trees number (change account) →
     numbers_of ledgers ≡ numbers_of old.ledgers → ((other : ℕ) → other ≢ number → jobs_of ledgers other ≡ jobs_of old.ledgers other) → TenantStep old (record old { book = book; ledgers = ledgers }) number change account
 steady-step old book ledgers number change account stored there sound is sum own numbers jobs = grind arith
 
 -- a step is counted
 
-ticked-step : (old : Parts) (book : Reservations) (number : ℕ) (account : Account) → IsStored old → account_of number old.book.accounts ≡ Some account → IsSoundBook book → ChangesOnly old.book book number ticked → charged_segments book.accounts ≡ charged_segments old.book.accounts →
-    TenantStep old (record old { book = book }) number ticked account
-ticked-step old book number account stored there sound changes sum = grind (arith, steady-step)
+module _ (old : Parts) (book : Reservations) (number : ℕ) (account : Account) (stored : IsStored old) (there : Owns old number account) (sound : IsSoundBook book) (changes : ChangesOnly old.book book number ticked) (sum : charged_segments book.accounts ≡ charged_segments old.book.accounts) where
+  ticked-step : TenantStep old (record old { book = book }) number ticked account
+  ticked-step = grind (arith, steady-step)
 
-pub record Counted (old : Parts) (book : Reservations) (number : ℕ) : Type 0 where
-  pub stored : IsStored (record old { book = book })
-  pub shared : shared_of (record old { book = book }) ≡ on_tenant number counted (shared_of old)
-
-pub count-step : (old : Parts) (book : Reservations) (number : ℕ) (account : Account) → IsStored old → account_of number old.book.accounts ≡ Some account → IsSoundBook book → ChangesOnly old.book book number ticked → charged_segments book.accounts ≡ charged_segments old.book.accounts → Counted old book number
-count-step old book number account stored there sound changes sum =
-    let step = ticked-step old book number account stored there sound changes sum in
-    record {
-      stored = step-stored old (record old { book = book }) number ticked account stored step;
-      shared = step-shared old (record old { book = book }) number ticked account counted stored step refl;
-    }
+  pub count-step : Stepped old (record old { book = book }) number counted
+  count-step = stepped counted stored (ticked-step) refl
 
 -- jobs begin and end
 
 jobs-with_jobs : (n : ℕ) (change : List Job → List Job) (ledgers : List JobLedger) → is_there n ledgers ≡ true → jobs_of (with_jobs n change ledgers) n ≡ change (jobs_of ledgers n)
 jobs-with_jobs n change ledgers there =
-    said-with_own owner_of_ledger (λ (l : JobLedger). l.1) [] change n (λ (l : JobLedger). (l.0, change l.1)) ledgers (λ l own. own) (λ l. refl) (λ lacks. absurd (false≢true (sym lacks ∙ there)))
+    said-with_own owner_of_ledger (λ (l : JobLedger). l.1) [] change n (with_second change) ledgers (λ l own. own) (λ l. refl) (λ lacks. absurd (false≢true (sym lacks ∙ there)))
 
 jobs_other-with_jobs : (n m : ℕ) (change : List Job → List Job) (ledgers : List JobLedger) → m ≢ n → jobs_of (with_jobs n change ledgers) m ≡ jobs_of ledgers m
-jobs_other-with_jobs n m change ledgers differs = said-with_other owner_of_ledger (λ (l : JobLedger). l.1) [] m n (λ (l : JobLedger). (l.0, change l.1)) ledgers (λ e. differs (sym e)) (λ l own. own)
+jobs_other-with_jobs n m change ledgers differs = said-with_other owner_of_ledger (λ (l : JobLedger). l.1) [] m n (with_second change) ledgers (λ e. differs (sym e)) (λ l own. own)
 
 -- the tenant with its jobs changed so
 abbrev pub jobs_changed : (List Job → List Job) → Tenant → Tenant
 jobs_changed change tenant = record tenant { jobs = change tenant.jobs }
 
-jobs-step : (old : Parts) (number : ℕ) (account : Account) (change : List Job → List Job) → IsStored old → account_of number old.book.accounts ≡ Some account → TenantStep old (record old { ledgers = with_jobs number change old.ledgers }) number (λ a. a) account
-jobs-step old number account change stored there =
-    steady-step old old.book (with_jobs number change old.ledgers) number (λ a. a) account stored there stored.book (ap (λ (entries : List (ℕ × Account)). at_entries entries) (sym (changed-same number old.book.accounts))) refl
-    (stored.accounts number account there) (numbers-with owner_of_ledger number (λ (l : JobLedger). (l.0, change l.1)) old.ledgers (λ l. refl)) (λ other differs. jobs_other-with_jobs number other change old.ledgers differs)
-  where
-    at_entries : List (ℕ × Account) → Reservations
-    at_entries entries = record old.book { accounts = entries }
+module _ (old : Parts) (number : ℕ) (account : Account) (change : List Job → List Job) (stored : IsStored old) (there : Owns old number account) where
+  jobs-step : TenantStep old (record old { ledgers = with_jobs number change old.ledgers }) number (λ a. a) account
+  jobs-step =
+      steady-step old old.book (with_jobs number change old.ledgers) number (λ a. a) account stored there stored.book (changed-nothing old.book number) refl
+      (stored.accounts number account there) (numbers-with owner_of_ledger number (with_second change) old.ledgers (λ l. refl)) (λ other differs. jobs_other-with_jobs number other change old.ledgers differs)
 
-pub record JobsChanged (old : Parts) (number : ℕ) (change : List Job → List Job) (ledgers : List JobLedger) : Type 0 where
-  pub stored : IsStored (record old { ledgers = ledgers })
-  pub shared : shared_of (record old { ledgers = ledgers }) ≡ on_tenant number (jobs_changed change) (shared_of old)
-
-pub jobs-change : (old : Parts) (number : ℕ) (account : Account) (change : List Job → List Job) (ledgers : List JobLedger) → IsStored old → account_of number old.book.accounts ≡ Some account → ledgers ≡ with_jobs number change old.ledgers → JobsChanged old number change ledgers
-jobs-change old number account change ledgers stored there is =
-    let step = jobs-step old number account change stored there in
-    let new : Parts = record old { ledgers = with_jobs number change old.ledgers } in
-    let jobs = jobs-with_jobs number change old.ledgers (ledger-there number old.ledgers old.book.accounts account stored.ledgers there) in
-    let P : List JobLedger → Type 0 = λ l. JobsChanged old number change l in
-    subst P (sym is) (record {
-      stored = step-stored old new number (λ a. a) account stored step;
-      shared = step-shared old new number (λ a. a) account (jobs_changed change) stored step (rw jobs refl);
-    })
+  pub jobs-change : (ledgers : List JobLedger) → ledgers ≡ with_jobs number change old.ledgers → Stepped old (record old { ledgers = ledgers }) number (jobs_changed change)
+  jobs-change ledgers is =
+      let jobs = jobs-with_jobs number change old.ledgers (ledger-there number old.ledgers old.book.accounts account stored.ledgers there) in
+      rw is (stepped (jobs_changed change) stored (jobs-step) (rw jobs refl))
 
 -- What is counted over a tenant's frames and over all tenants: words, and frames that are ready.
 
@@ -235,7 +229,7 @@ pub ready-found : (parts : Parts) → IsStored parts → (result : Option (Frame
 ready-found parts stored None is = tt
 ready-found parts stored (Some ready) is = grind (arith, named-found, ready-with_words_of_nodes)
 
-count-with_words_of_nodes : (nodes : Nodes) (frames : List (Frame ℕ)) → length (ready_frames (with_words_of_nodes nodes frames)) ≡ length (ready_frames frames)
+count-with_words_of_nodes : (nodes : Nodes) (frames : Frames) → length (ready_frames (with_words_of_nodes nodes frames)) ≡ length (ready_frames frames)
 count-with_words_of_nodes nodes [] = refl
 count-with_words_of_nodes nodes (x ∷ xs) = grind (arith, count-with_words_of_nodes nodes xs)
 
@@ -252,11 +246,10 @@ counted-none parts (entry ∷ entries) none tenant account there = grind (arith,
 
 -- where none is counted no tenant has one
 pub nobody-ready : (parts : Parts) → IsStored parts → ready_count (tenants_from parts parts.book.accounts) ≡ 0 → (tenant : ℕ) → ready_frames (frames_of parts.trees tenant) ≡ []
-nobody-ready parts stored none tenant = by (account_of tenant parts.book.accounts) refl
-  where
-    by : (o : Option Account) → account_of tenant parts.book.accounts ≡ o → ready_frames (frames_of parts.trees tenant) ≡ []
-    by None missing = ap ready_frames (stored.nothing tenant missing)
-    by (Some account) there = none_of_length (ready_frames (frames_of parts.trees tenant)) (counted-none parts parts.book.accounts none tenant account there)
+nobody-ready parts stored none tenant = elim (none_or_some (account_of tenant parts.book.accounts)) [
+  | inl missing ↦ ap ready_frames (stored.nothing tenant missing)
+  | inr own ↦ none_of_length (ready_frames (frames_of parts.trees tenant)) (counted-none parts parts.book.accounts none tenant own.0 own.1)
+]
 
 -- the words of all frames are at most 16 for each segment that is charged
 words-charged : (tree : Tree) → sum_by (λ frame. length frame.value) tree ≤ 16 * charged_for tree
@@ -270,7 +263,7 @@ abbrev pub words_counted : Parts → FrameId → ℕ
 words_counted parts name = length (words_under (shared_of parts) name)
 
 -- the words counted name by name are those of the tree
-named-words : (parts : Parts) (tenant : ℕ) (xs : List (Frame ℕ)) → Each (λ f. words_under (shared_of parts) (record { tenant = tenant; serial = f.serial }) ≡ node_words parts.nodes f.value) xs →
+named-words : (parts : Parts) (tenant : ℕ) (xs : Frames) → Each (λ f. words_under (shared_of parts) (record { tenant = tenant; serial = f.serial }) ≡ node_words parts.nodes f.value) xs →
     sum_by (words_counted parts) (names_of tenant xs) ≡ sum_by (λ frame. length frame.value) (with_words_of_nodes parts.nodes xs)
 named-words parts tenant [] each = refl
 named-words parts tenant (x ∷ xs) each =
@@ -279,39 +272,36 @@ named-words parts tenant (x ∷ xs) each =
     let first = ap length each.0 in
     omega (arith, names, words, first, named-words parts tenant xs each.1)
 
-words-at : (parts : Parts) → IsStored parts → (tenant serial : ℕ) (frame : Frame ℕ) → frame_in_trees parts.trees tenant serial ≡ Some frame → words_under (shared_of parts) (record { tenant = tenant; serial = frame.serial }) ≡ node_words parts.nodes frame.value
-words-at parts stored tenant serial frame at =
-    let here = found-serial (frames_of parts.trees tenant) serial frame at in
-    let found : frame_in_trees parts.trees tenant frame.serial ≡ Some frame = ap (λ (s : ℕ). frame_in_trees parts.trees tenant s) here ∙ at in
-    ap frame_words (named-found parts stored (record { tenant = tenant; serial = frame.serial }) ∙ ap (λ (o : Option (Frame ℕ)). option_map (map_value (node_words parts.nodes)) o) found)
-
-pub words-named : (parts : Parts) → IsStored parts → (tenant : ℕ) → sum_by (words_counted parts) (names_of tenant (frames_of parts.trees tenant)) ≡ sum_by (λ frame. length frame.value) (with_words_of_nodes parts.nodes (frames_of parts.trees tenant))
-words-named parts stored tenant = grind (arith, named-words, found-each, tree-rising, words-at)
-
--- they are few
-pub words-few : (parts : Parts) → IsStored parts → (tenant : ℕ) → sum_by (words_counted parts) (names_of tenant (frames_of parts.trees tenant)) ≤ 65536
-words-few parts stored tenant = by (account_of tenant parts.book.accounts) refl
-  where
-    by : (o : Option Account) → account_of tenant parts.book.accounts ≡ o → sum_by (words_counted parts) (names_of tenant (frames_of parts.trees tenant)) ≤ 65536
-    by None missing = (let none = ap (λ (xs : List (Frame ℕ)). sum_by (words_counted parts) (names_of tenant xs)) (stored.nothing tenant missing) in omega (arith, none))
-    by (Some account) there =
-        let within : IsWithinReserve account = AllEntries-of (λ (e : ℕ × Account). IsWithinReserve e.1) tenant account parts.book.accounts there (IsSoundBook.within stored.book) in
-        let most = within.charged_within in
-        let charged = IsAccountFor.charged (stored.accounts tenant account there) in
-        let words = words-named parts stored tenant in
-        omega (arith, most, within.segments_within, charged, words, words-charged (with_words_of_nodes parts.nodes (frames_of parts.trees tenant)))
-
-length-with_words_of_nodes : (nodes : Nodes) (xs : List (Frame ℕ)) → length (with_words_of_nodes nodes xs) ≡ length xs
+pub length-with_words_of_nodes : (nodes : Nodes) (xs : Frames) → length (with_words_of_nodes nodes xs) ≡ length xs
 length-with_words_of_nodes nodes [] = refl
 length-with_words_of_nodes nodes (x ∷ xs) = ap suc (length-with_words_of_nodes nodes xs)
 
--- what a tenant that is there has alive
-pub live-found : (parts : Parts) → IsStored parts → (tenant count words : ℕ) → is_some (tenant_in (shared_of parts).tenants tenant) ≡ true → count ≡ length (frames_of parts.trees tenant) → words ≡ sum_by (words_counted parts) (names_of tenant (frames_of parts.trees tenant)) → Some (count, words) ≡ live_of (shared_of parts) tenant
-live-found parts stored tenant count words some counted summed = by (account_of tenant parts.book.accounts) refl
-  where
-    by : (o : Option Account) → account_of tenant parts.book.accounts ≡ o → Some (count, words) ≡ live_of (shared_of parts) tenant
-    by None missing = absurd (false≢true (sym (ap is_some missing) ∙ sym (tenant-there parts tenant) ∙ some))
-    by (Some account) there =
-        let found = tenant-found parts tenant ∙ ap (λ (o : Option Account). option_map (tenant_from parts tenant) o) there in
-        let long = counted ∙ sym (length-with_words_of_nodes parts.nodes (frames_of parts.trees tenant)) in
-        rw (found, long, summed ∙ words-named parts stored tenant) refl
+module _ (parts : Parts) (stored : IsStored parts) (tenant : ℕ) where
+  words-at : (serial : ℕ) (frame : Frame ℕ) → frame_in_trees parts.trees tenant serial ≡ Some frame → words_under (shared_of parts) (record { tenant = tenant; serial = frame.serial }) ≡ node_words parts.nodes frame.value
+  words-at serial frame at =
+      let here = found-serial (frames_of parts.trees tenant) serial frame at in
+      let found : frame_in_trees parts.trees tenant frame.serial ≡ Some frame = ap (λ (s : ℕ). frame_in_trees parts.trees tenant s) here ∙ at in
+      ap frame_words (named-found parts stored (record { tenant = tenant; serial = frame.serial }) ∙ ap (with_words parts) found)
+
+  pub words-named : sum_by (words_counted parts) (names_of tenant (frames_of parts.trees tenant)) ≡ sum_by (λ frame. length frame.value) (tree_in parts tenant)
+  words-named = grind (arith, named-words, found-each, tree-rising, words-at)
+
+  -- they are few
+  pub words-few : sum_by (words_counted parts) (names_of tenant (frames_of parts.trees tenant)) ≤ 65536
+  words-few = elim (none_or_some (account_of tenant parts.book.accounts)) [
+    | inl missing ↦ (let none = ap (λ (xs : Frames). sum_by (words_counted parts) (names_of tenant xs)) (stored.nothing tenant missing) in omega (arith, none))
+    | inr own ↦
+        (let within = within-reserve parts stored tenant own.0 own.1 in
+        let most = within.charged_within in
+        let charged = IsAccountFor.charged (stored.accounts tenant own.0 own.1) in
+        let words = words-named in
+        omega (arith, most, within.segments_within, charged, words, words-charged (tree_in parts tenant)))
+  ]
+
+  -- what a tenant that is there has alive
+  pub live-found : (count words : ℕ) → is_some (tenant_in (shared_of parts).tenants tenant) ≡ true → count ≡ length (frames_of parts.trees tenant) → words ≡ sum_by (words_counted parts) (names_of tenant (frames_of parts.trees tenant)) → Some (count, words) ≡ live_of (shared_of parts) tenant
+  live-found count words some counted summed =
+      let own = some_of (account_of tenant parts.book.accounts) (sym (tenant-there parts tenant) ∙ some) in
+      let found = tenant-found parts tenant ∙ ap (λ (o : Option Account). option_map (tenant_from parts tenant) o) own.1 in
+      let long = counted ∙ sym (length-with_words_of_nodes parts.nodes (frames_of parts.trees tenant)) in
+      rw (found, long, summed ∙ words-named) refl

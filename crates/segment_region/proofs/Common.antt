@@ -87,5 +87,6 @@ pub use Rattle.segment_region.specs.Ownership.{fits, place_lent, place_owned, pl
 pub use Rattle.segment_region.specs.Places.{IsFilled}
 pub use Rattle.segment_region.specs.Segments.{IsFree, IsTaken, Segment, Segments, link_at, link_of, segment_at, taken_count, with_link, with_segment_words}
 pub use Rattle.segment_region.specs.Segments.{words_at, words_of_segment}
+pub use Rattle.segment_region.specs.Words.{with_block_words}
 pub use Rattle.segment_region.specs.contracts.cells.Cells.{the_row}
 pub use Rattle.segment_region.specs.declared.block.Link.{Link}

@@ -1,4 +1,5 @@
 mod Common
+pub mod Lists
 pub mod Entries
 pub mod Whole
 pub mod Counts

@@ -13,94 +13,96 @@ IsWhole is_one = (part : Part) → IsPart part → (v w : Who) → is_one v ≡ 
 abbrev pub their_book : (Who → Bool) → BookOf → BookOf
 their_book is_one book = record { plan = book.plan; grants = grants_of is_one book.grants }
 
-part-theirs : (is_one : Who → Bool) (part : Part) (who : Who) (gs : List Held) (test : Amount → Bool) → IsWhole is_one → IsPart part → is_one who ≡ true → (is_in part who && test (used part (grants_of is_one gs))) ≡ (is_in part who && test (used part gs))
-part-theirs is_one part who gs test whole is own = elim (cases_Bool (is_in part who)) [
-  | inl aye ↦ ap (λ (a : Amount). is_in part who && test a) (used-theirs is_one (is_in part) gs (λ w one. whole part is who w own aye one))
-  | inr nay ↦ rw nay refl
-]
+module _ (is_one : Who → Bool) where
+  -- an event that stays
 
-over-theirs : (is_one : Who → Bool) (plan : PlanOf) (who : Who) (ask : Quota) (gs : List Held) → IsWhole is_one → is_one who ≡ true → why_over plan who ask (grants_of is_one gs) ≡ why_over plan who ask gs
-over-theirs is_one plan who ask gs whole own =
-    let one = part-theirs is_one (Own who) who gs (λ a. not (is_amount_within (plus (of_one ask) a) (limit_of plan (Own who)))) whole tt own in
-    let two = part-theirs is_one (Network (network_of who)) who gs (λ a. not (is_amount_within (plus (of_one ask) a) (limit_of plan (Network (network_of who))))) whole tt own in
-    let three = part-theirs is_one Guests who gs (λ a. not (is_amount_within (plus (of_one ask) a) (limit_of plan Guests))) whole tt own in
-    λ i. first_refusal ((one i, OverBudget) ∷ (two i, OverNetwork) ∷ (three i, OverGuests) ∷ [])
+  taken-theirs : (book : BookOf) (event : BookEvent) → is_event_kept is_one event None ≡ true → taken (their_book is_one book) event ≡ their_book is_one (taken book event)
+  taken-theirs book event own = grind (arith, push-theirs, with_ask-theirs, without-theirs)
 
-part_over-theirs : (is_one : Who → Bool) (plan : PlanOf) (who : Who) (gs : List Held) → IsWhole is_one → is_one who ≡ true → part_over plan (grants_of is_one gs) who ≡ part_over plan gs who
-part_over-theirs is_one plan who gs whole own =
-    let one = part-theirs is_one (Own who) who gs (λ a. not (is_amount_within a (limit_of plan (Own who)))) whole tt own in
-    let two = part-theirs is_one (Network (network_of who)) who gs (λ a. not (is_amount_within a (limit_of plan (Network (network_of who))))) whole tt own in
-    let three = part-theirs is_one Guests who gs (λ a. not (is_amount_within a (limit_of plan Guests))) whole tt own in
-    λ i. cond (one i) (Some (Own who)) (cond (two i) (Some (Network (network_of who))) (cond (three i) (Some Guests) None))
+  kept-answer : (book : BookOf) (event : BookEvent) (answer : Option Refusal) → answer_of_book book event ≡ answer → is_event_kept is_one event answer ≡ true →
+      answer_of_book (their_book is_one book) event ≡ answer → book_after (their_book is_one book) event ≡ their_book is_one (book_after_answer book event answer)
+  kept-answer book event answer is kept same = grind (arith, taken-theirs)
 
-within-theirs : (is_one : Who → Bool) (plan : PlanOf) (all gs : List Held) → IsWhole is_one → are_within plan all gs ≡ true → are_within plan (grants_of is_one all) (grants_of is_one gs) ≡ true
-within-theirs is_one plan all [] whole within = refl
-within-theirs is_one plan all (g ∷ gs) whole within =
-    let both = and_parts (is_none (part_over plan all g.who)) (are_within plan all gs) within in
-    let rest = within-theirs is_one plan all gs whole both.1 in
-    elim (cases_Bool (is_one g.who)) [
-      | inl own ↦ rw own (and_from (is_none (part_over plan (grants_of is_one all) g.who)) (are_within plan (grants_of is_one all) (grants_of is_one gs)) (ap is_none (part_over-theirs is_one plan g.who all whole own) ∙ both.0) rest)
-      | inr other ↦ rw other rest
+  -- one that doesn't
+  other-answer : (book : BookOf) (event : BookEvent) (answer : Option Refusal) → is_event_kept is_one event answer ≡ false → their_book is_one (book_after_answer book event answer) ≡ their_book is_one book
+  other-answer book event answer other = grind (arith, push-others, with_ask-others, without-others)
+
+  module _ (whole : IsWhole is_one) where
+    part-theirs : (part : Part) (who : Who) (gs : List Held) (test : Amount → Bool) → IsPart part → is_one who ≡ true → (is_in part who && test (used part (grants_of is_one gs))) ≡ (is_in part who && test (used part gs))
+    part-theirs part who gs test is own = elim (cases_Bool (is_in part who)) [
+      | inl aye ↦ ap (λ (a : Amount). is_in part who && test a) (used-theirs is_one (is_in part) gs (λ w one. whole part is who w own aye one))
+      | inr nay ↦ rw nay refl
     ]
 
-raise-theirs : (is_one : Who → Bool) (plan : PlanOf) (who : Who) (session : ℕ) (ask : Quota) (gs : List Held) (found : Option Held) → IsWhole is_one → is_one who ≡ true → why_no_raise plan who session ask (grants_of is_one gs) found ≡ why_no_raise plan who session ask gs found
-raise-theirs is_one plan who session ask gs None whole own = refl
-raise-theirs is_one plan who session ask gs (Some held) whole own =
-    ap (λ (o : Option Refusal). cond (is_no_raise held.ask ask) (Some Lower) o) (ap (why_over plan who ask) (sym (without-theirs is_one who session gs own)) ∙ over-theirs is_one plan who ask (grants_without who session gs) whole own)
+    over-theirs : (plan : PlanOf) (who : Who) (ask : Quota) (gs : List Held) → is_one who ≡ true → why_over plan who ask (grants_of is_one gs) ≡ why_over plan who ask gs
+    over-theirs plan who ask gs own =
+        let same = λ (part : Part) (is : IsPart part). part-theirs part who gs (λ a. not (is_amount_within (plus (of_one ask) a) (limit_of plan part))) is own in
+        λ i. first_refusal ((same (Own who) tt i, OverBudget) ∷ (same (Network (network_of who)) tt i, OverNetwork) ∷ (same Guests tt i, OverGuests) ∷ [])
 
-pub answer-theirs : (is_one : Who → Bool) (book : BookOf) (event : BookEvent) → IsWhole is_one → is_of is_one event ≡ true → answer_of_book (their_book is_one book) event ≡ answer_of_book book event
-answer-theirs is_one book (Opens who session ask) whole own = over-theirs is_one book.plan who ask book.grants whole own
-answer-theirs is_one book (Raises who session ask) whole own = grind (arith, grant-theirs, raise-theirs)
-answer-theirs is_one book (Closes who session) whole own = refl
-answer-theirs is_one book (Replans plan) whole own = absurd cc
+    part_over-theirs : (plan : PlanOf) (who : Who) (gs : List Held) → is_one who ≡ true → part_over plan (grants_of is_one gs) who ≡ part_over plan gs who
+    part_over-theirs plan who gs own =
+        let same = λ (part : Part) (is : IsPart part). part-theirs part who gs (λ a. not (is_amount_within a (limit_of plan part))) is own in
+        let network = Network (network_of who) in
+        λ i. cond (same (Own who) tt i) (Some (Own who)) (cond (same network tt i) (Some network) (cond (same Guests tt i) (Some Guests) None))
 
-replan-theirs : (is_one : Who → Bool) (book : BookOf) (plan : PlanOf) → IsWhole is_one → why_not_replan book plan ≡ None → why_not_replan (their_book is_one book) plan ≡ None
-replan-theirs is_one book plan whole none = grind (arith, within-theirs, comes-in)
+    within-theirs : (plan : PlanOf) (all gs : List Held) → are_within plan all gs ≡ true → are_within plan (grants_of is_one all) (grants_of is_one gs) ≡ true
+    within-theirs plan all [] within = refl
+    within-theirs plan all (g ∷ gs) within =
+        let both = and_parts (is_none (part_over plan all g.who)) (are_within plan all gs) within in
+        let rest = within-theirs plan all gs both.1 in
+        elim (cases_Bool (is_one g.who)) [
+          | inl own ↦ rw own (and_from _ _ (ap is_none (part_over-theirs plan g.who all own) ∙ both.0) rest)
+          | inr other ↦ rw other rest
+        ]
 
--- an event that stays
+    raise-theirs : (plan : PlanOf) (who : Who) (session : ℕ) (ask : Quota) (gs : List Held) (found : Option Held) → is_one who ≡ true →
+        why_no_raise plan who session ask (grants_of is_one gs) found ≡ why_no_raise plan who session ask gs found
+    raise-theirs plan who session ask gs None own = refl
+    raise-theirs plan who session ask gs (Some held) own =
+        let same = ap (why_over plan who ask) (sym (without-theirs is_one who session own gs)) ∙ over-theirs plan who ask (grants_without who session gs) own in
+        ap (λ (o : Option Refusal). cond (is_no_raise held.ask ask) (Some Lower) o) same
 
-taken-theirs : (is_one : Who → Bool) (book : BookOf) (event : BookEvent) → is_event_kept is_one event None ≡ true → taken (their_book is_one book) event ≡ their_book is_one (taken book event)
-taken-theirs is_one book event own = grind (arith, push-theirs, with_ask-theirs, without-theirs)
+    module _ (book : BookOf) where
+      pub answer-theirs : (event : BookEvent) → is_of is_one event ≡ true → answer_of_book (their_book is_one book) event ≡ answer_of_book book event
+      answer-theirs (Opens who session ask) own = over-theirs book.plan who ask book.grants own
+      answer-theirs (Raises who session ask) own = grind (arith, grant-theirs, raise-theirs)
+      answer-theirs (Closes who session) own = refl
+      answer-theirs (Replans plan) own = absurd cc
 
-kept-answer : (is_one : Who → Bool) (book : BookOf) (event : BookEvent) (answer : Option Refusal) → answer_of_book book event ≡ answer → is_event_kept is_one event answer ≡ true → answer_of_book (their_book is_one book) event ≡ answer → book_after (their_book is_one book) event ≡ their_book is_one (book_after_answer book event answer)
-kept-answer is_one book event answer is kept same = grind (arith, taken-theirs)
+      replan-theirs : (plan : PlanOf) → why_not_replan book plan ≡ None → why_not_replan (their_book is_one book) plan ≡ None
+      replan-theirs plan none = grind (arith, within-theirs, comes-in)
 
-same-answer : (is_one : Who → Bool) (book : BookOf) (event : BookEvent) → IsWhole is_one → is_event_kept is_one event (answer_of_book book event) ≡ true → answer_of_book (their_book is_one book) event ≡ answer_of_book book event
-same-answer is_one book event whole kept = grind (arith, answer-theirs, replan-theirs)
+      same-answer : (event : BookEvent) → is_event_kept is_one event (answer_of_book book event) ≡ true → answer_of_book (their_book is_one book) event ≡ answer_of_book book event
+      same-answer event kept = grind (arith, answer-theirs, replan-theirs)
 
-after-kept : (is_one : Who → Bool) (book : BookOf) (event : BookEvent) → IsWhole is_one → is_event_kept is_one event (answer_of_book book event) ≡ true → book_after (their_book is_one book) event ≡ their_book is_one (book_after book event)
-after-kept is_one book event whole kept = kept-answer is_one book event (answer_of_book book event) refl kept (same-answer is_one book event whole kept)
+      after-kept : (event : BookEvent) → is_event_kept is_one event (answer_of_book book event) ≡ true → book_after (their_book is_one book) event ≡ their_book is_one (book_after book event)
+      after-kept event kept = kept-answer book event (answer_of_book book event) refl kept (same-answer event kept)
 
--- one that doesn't
+    -- lists of events
+    pub run-theirs : (book : BookOf) (events : List BookEvent) → book_after_events (their_book is_one book) (only_events is_one book events) ≡ their_book is_one (book_after_events book events)
+    run-theirs book [] = refl
+    run-theirs book (event ∷ events) = grind (arith, run-theirs (book_after book event) events, after-kept, other-answer)
 
-other-answer : (is_one : Who → Bool) (book : BookOf) (event : BookEvent) (answer : Option Refusal) → is_event_kept is_one event answer ≡ false → their_book is_one (book_after_answer book event answer) ≡ their_book is_one book
-other-answer is_one book event answer other = grind (arith, push-others, with_ask-others, without-others)
+module _ (few many : Who → Bool) (among : (w : Who) → few w ≡ true → many w ≡ true) where
+  of-many : (event : BookEvent) → is_of few event ≡ true → is_of many event ≡ true
+  of-many event own = grind arith
 
--- lists of events
+  of-kept : (event : BookEvent) (answer : Option Refusal) → is_event_kept many event answer ≡ false → is_of few event ≡ false
+  of-kept event answer other = grind arith
 
-pub run-theirs : (is_one : Who → Bool) (book : BookOf) (events : List BookEvent) → IsWhole is_one → book_after_events (their_book is_one book) (only_events is_one book events) ≡ their_book is_one (book_after_events book events)
-run-theirs is_one book [] whole = refl
-run-theirs is_one book (event ∷ events) whole = grind (arith, run-theirs is_one (book_after book event) events whole, after-kept, other-answer)
-
-of-many : (few many : Who → Bool) (event : BookEvent) → ((w : Who) → few w ≡ true → many w ≡ true) → is_of few event ≡ true → is_of many event ≡ true
-of-many few many event among own = grind arith
-
-of-kept : (few many : Who → Bool) (event : BookEvent) (answer : Option Refusal) → ((w : Who) → few w ≡ true → many w ≡ true) → is_event_kept many event answer ≡ false → is_of few event ≡ false
-of-kept few many event answer among other = grind arith
-
-pub told-theirs : (few many : Who → Bool) (book : BookOf) (events : List BookEvent) → ((w : Who) → few w ≡ true → many w ≡ true) → IsWhole many → answers_of few book events ≡ answers_of few (their_book many book) (only_events many book events)
-told-theirs few many book [] among whole = refl
-told-theirs few many book (event ∷ events) among whole = elim (cases_Bool (is_event_kept many event (answer_of_book book event))) [
-  | inl kept ↦ (let step = after-kept many book event whole kept in
-      let rest : answers_of few (book_after book event) events ≡ answers_of few (book_after (their_book many book) event) (only_events many (book_after book event) events) = told-theirs few many (book_after book event) events among whole ∙ ap (λ (b : BookOf). answers_of few b (only_events many (book_after book event) events)) (sym step) in
-      rw kept (elim (cases_Bool (is_of few event)) [
-        | inl own ↦ (let same = answer-theirs many book event whole (of-many few many event among own) in rw own (λ i. sym same i ∷ rest i))
-        | inr not_own ↦ rw not_own rest
-      ]))
-  | inr other ↦ (let step = other-answer many book event (answer_of_book book event) other in
-      let rest : answers_of few (book_after book event) events ≡ answers_of few (their_book many book) (only_events many (book_after book event) events) = told-theirs few many (book_after book event) events among whole ∙ ap (λ (b : BookOf). answers_of few b (only_events many (book_after book event) events)) step in
-      rw (other, of-kept few many event (answer_of_book book event) among other) rest)
-]
+  pub told-theirs : IsWhole many → (book : BookOf) (events : List BookEvent) → answers_of few book events ≡ answers_of few (their_book many book) (only_events many book events)
+  told-theirs whole book [] = refl
+  told-theirs whole book (event ∷ events) =
+      let later = told-theirs whole (book_after book event) events in
+      let alike = λ (b d : BookOf) (e : b ≡ d). ap (λ (x : BookOf). answers_of few x (only_events many (book_after book event) events)) (sym e) in
+      elim (cases_Bool (is_event_kept many event (answer_of_book book event))) [
+        | inl kept ↦ (let rest = later ∙ alike _ _ (after-kept many whole book event kept) in
+            rw kept (elim (cases_Bool (is_of few event)) [
+              | inl own ↦ (let same = answer-theirs many whole book event (of-many event own) in rw own (λ i. sym same i ∷ rest i))
+              | inr not_own ↦ rw not_own rest
+            ]))
+        | inr other ↦ rw (other, of-kept event (answer_of_book book event) other) (later ∙ alike _ _ (sym (other-answer many book event (answer_of_book book event) other)))
+      ]
 
 -- a named customer, and all guests
 
@@ -111,4 +113,4 @@ pub guests-whole : IsWhole is_guest
 guests-whole h0 is v w own one two = grind (arith, same-is, and_parts)
 
 pub guest-among : (guest : Who) → is_guest guest ≡ true → (w : Who) → same_who guest w ≡ true → is_guest w ≡ true
-guest-among guest is w same = ap is_guest (sym (same-is guest w same)) ∙ is
+guest-among guest is w same = grind (arith, same-is)

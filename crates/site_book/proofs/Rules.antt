@@ -1,6 +1,6 @@
 -- Lemmas that attributes name.
 use Rattle.site_book.proofs.GrantLemmas.{there-is}
-use Rattle.site_book.proofs.BookLemmas.{gone-why, found-held, raise-is, place-there, raised-list}
+use Rattle.site_book.proofs.BookLemmas.{gone-why, found-held, raise-is, place-there, raised-list, removed-list, kept-list}
 use Rattle.site_book.proofs.Keepings.{comes-in, kept-replan, let-in, kept-new}
 use Rattle.site_book.proofs.BudgetLemmas.{allowed, allowed-to, grow-from, grow-to}
 use Rattle.site_book.proofs.RunLemmas.{totals-run, room-open, kept-run, room-raise}
@@ -10,6 +10,8 @@ pub ruleset has_rules = (there-is)
 pub ruleset why_no_raise_rules = (gone-why, found-held, raise-is)
 
 pub ruleset set_ask_rules = (place-there, raised-list)
+
+pub ruleset take_out_rules = (removed-list, kept-list)
 
 pub ruleset a_plan_comes_in_rules = (comes-in, kept-replan, let-in)
 

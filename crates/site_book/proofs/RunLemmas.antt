@@ -18,15 +18,16 @@ totals-run book [] = refl
 totals-run book (event ∷ events) = totals-run (book_after book event) events ∙ totals-answer book event (answer_of_book book event) refl
 
 -- the hall has room for what the book grants
+module _ (plan : PlanOf) (gs : List Held) (who : Who) where
+  pub room-open : (ask : Quota) → IsKept plan gs → why_over plan who ask gs ≡ None → IsAmountWithin (plus (of_one ask) (used All gs)) plan.totals
+  room-open ask kept none = rw used-push at ((kept-open plan gs who 0 ask kept none).within All)
 
-pub room-open : (plan : PlanOf) (gs : List Held) (who : Who) (ask : Quota) → IsKept plan gs → why_over plan who ask gs ≡ None → IsAmountWithin (plus (of_one ask) (used All gs)) plan.totals
-room-open plan gs who ask kept none =
-    subst (λ (a : Amount). IsAmountWithin a plan.totals) (used-push (λ w. true) gs (record { who = who; session = 0; ask = ask })) ((kept-open plan gs who 0 ask kept none).within All)
-
-pub room-raise : (plan : PlanOf) (gs : List Held) (who : Who) (session : ℕ) (ask : Quota) (found : Option Held) → IsKept plan gs → grant_of who session gs ≡ found → why_no_raise plan who session ask gs found ≡ None → IsAmountWithin (plus (of_one ask) (used All (grants_without who session gs))) plan.totals
-room-raise plan gs who session ask None kept is none = absurd cc
-room-raise plan gs who session ask (Some held) kept is none =
-    subst (λ (a : Amount). IsAmountWithin a plan.totals) (used-with_ask (λ w. true) who session ask gs held is refl) ((kept-grow plan gs who session ask held kept is (grow-from plan who session ask gs held none).left).within All)
+  pub room-raise : (session : ℕ) (ask : Quota) (found : Option Held) → IsKept plan gs → grant_of who session gs ≡ found → why_no_raise plan who session ask gs found ≡ None →
+      IsAmountWithin (plus (of_one ask) (used All (grants_without who session gs))) plan.totals
+  room-raise session ask None kept is none = absurd cc
+  room-raise session ask (Some held) kept is none =
+      let grown = kept-grow plan gs who session ask held kept is (grow-from plan who session ask gs held none).left in
+      subst (λ (a : Amount). IsAmountWithin a plan.totals) (used-with_ask (λ w. true) who session ask gs held is refl) (grown.within All)
 
 -- sessions that are open
 
@@ -34,13 +35,14 @@ names-push : (g : Held) (gs : List Held) → names_granted (gs ++ g ∷ []) ≡ 
 names-push g [] = refl
 names-push g (h ∷ gs) = ap (λ (x : List Name). (h.who, h.session) ∷ x) (names-push g gs)
 
-names-without : (who : Who) (session : ℕ) (gs : List Held) → names_granted (grants_without who session gs) ≡ names_without who session (names_granted gs)
-names-without who session [] = refl
-names-without who session (g ∷ gs) = grind (arith, names-without who session gs)
+module _ (who : Who) (session : ℕ) where
+  names-without : (gs : List Held) → names_granted (grants_without who session gs) ≡ names_without who session (names_granted gs)
+  names-without [] = refl
+  names-without (g ∷ gs) = grind (arith, names-without gs)
 
-pub names-with_ask : (who : Who) (session : ℕ) (ask : Quota) (gs : List Held) → names_granted (grants_raised who session ask gs) ≡ names_granted gs
-names-with_ask who session ask [] = refl
-names-with_ask who session ask (g ∷ gs) = grind (arith, names-with_ask who session ask gs)
+  pub names-with_ask : (ask : Quota) (gs : List Held) → names_granted (grants_raised who session ask gs) ≡ names_granted gs
+  names-with_ask ask [] = refl
+  names-with_ask ask (g ∷ gs) = grind (arith, names-with_ask ask gs)
 
 names-answer : (book : BookOf) (event : BookEvent) (answer : Option Refusal) → answer_of_book book event ≡ answer → names_granted (book_after_answer book event answer).grants ≡ open_after (names_granted book.grants) event answer
 names-answer book event answer is = grind (arith, names-push, names-with_ask, names-without)

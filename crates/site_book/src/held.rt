@@ -145,6 +145,7 @@ pub(crate) fn place_of(grants: &[Held], who: Who, session: u64) -> usize
 }
 
 /// Takes the first grant of this session out, if there is one.
+#[tactic(auto, using(crate::proofs::Rules::take_out_rules))]
 pub(crate) fn take_out(grants: &mut Vec<Held>, who: Who, session: u64)
     ensures grants { grants.new.items ≡ grants_without who session grants.old.items }
     ensures capacity { vec_capacity grants.old ≤ vec_capacity grants.new }

@@ -11,27 +11,29 @@ changes : (port : ℕ) (v w : Tally) (before after : List Task) (views : List Ta
     IsEachOnce before views → get_elem? views port ≡ some v → IsEachOnce after (set views port w)
 changes port v w before after views some_part same by b at = grind (arith, total-set, idle_set)
 
-pub pushes : (port : ℕ) (v : Tally) (xs : List Task) → 0 < v.parts → Pushes IsEachOnce port v xs (λ w. w ≡ tally v.parts (v.pushed ++ xs) v.taken)
-pushes port v xs some_part items views b at =
-    let w = tally v.parts (v.pushed ++ xs) v.taken in
-    (w, changes port v w items (items ++ xs) views some_part refl (λ h. omega (arith, weigh-append h v.pushed xs, weigh-append h items xs)) b at, refl)
+module _ (port : ℕ) (v : Tally) (some_part : 0 < v.parts) where
+  pub pushes : (xs : List Task) → Pushes IsEachOnce port v xs (λ w. w ≡ tally v.parts (v.pushed ++ xs) v.taken)
+  pushes xs items views b at =
+      let w = tally v.parts (v.pushed ++ xs) v.taken in
+      (w, changes port v w items (items ++ xs) views some_part refl (λ h. omega (arith, weigh-append h v.pushed xs, weigh-append h items xs)) b at, refl)
 
-pub takes : (port : ℕ) (v : Tally) → 0 < v.parts → Takes IsEachOnce port v 1 (λ xs w. w ≡ tally v.parts v.pushed (v.taken ++ xs))
-takes port v some_part xs items views _ _ b at =
-    let w = tally v.parts v.pushed (v.taken ++ xs) in
-    (w, changes port v w (xs ++ items) items views some_part refl (λ h. omega (arith, weigh-append h v.taken xs, weigh-append h xs items)) b at, refl)
+  pub takes : Takes IsEachOnce port v 1 (λ xs w. w ≡ tally v.parts v.pushed (v.taken ++ xs))
+  takes xs items views _ _ b at =
+      let w = tally v.parts v.pushed (v.taken ++ xs) in
+      (w, changes port v w (xs ++ items) items views some_part refl (λ h. omega (arith, weigh-append h v.taken xs, weigh-append h xs items)) b at, refl)
 
-pub pops : (port : ℕ) (v : Tally) → 0 < v.parts → Pops IsEachOnce port v (λ xs w. w ≡ tally v.parts v.pushed (v.taken ++ xs))
-pops port v some_part x items views b at =
-    let w = tally v.parts v.pushed (v.taken ++ x ∷ []) in
-    (w, changes port v w (items ++ x ∷ []) items views some_part refl (λ h. omega (arith, weigh-append h v.taken (x ∷ []), weigh-append h items (x ∷ []))) b at, refl)
+  pub pops : Pops IsEachOnce port v (λ xs w. w ≡ tally v.parts v.pushed (v.taken ++ xs))
+  pops x items views b at =
+      let w = tally v.parts v.pushed (v.taken ++ x ∷ []) in
+      (w, changes port v w (items ++ x ∷ []) items views some_part refl (λ h. omega (arith, weigh-append h v.taken (x ∷ []), weigh-append h items (x ∷ []))) b at, refl)
 
 -- one part is cut off, with nothing pushed and nothing taken
 pub forks : (port : ℕ) (v : Tally) → 1 < v.parts → Forks IsEachOnce port v (tally (v.parts - 1) v.pushed v.taken) (tally 1 [] [])
 forks port v enough items views b at = grind (arith, total-set, total-snoc, idle_snoc, idle_set)
 
 -- two seats' parts and lists come together, and the other is spent
-pub merges : (port : ℕ) (v : Tally) (other : ℕ) (u : Tally) → 0 < v.parts → Merges IsEachOnce port v other u (tally (v.parts + u.parts) (v.pushed ++ u.pushed) (v.taken ++ u.taken)) (tally 0 [] [])
+pub merges : (port : ℕ) (v : Tally) (other : ℕ) (u : Tally) → 0 < v.parts →
+    Merges IsEachOnce port v other u (tally (v.parts + u.parts) (v.pushed ++ u.pushed) (v.taken ++ u.taken)) (tally 0 [] [])
 merges port v other u some_part items views b at two at' = grind (arith, total-set, weigh-append, idle_set)
 
 pub learns : (port : ℕ) (v : Tally) → Learns IsEachOnce port v (λ items. v.parts ≡ 64 → (h : Task → ℕ) → weigh h v.pushed ≡ weigh h v.taken + weigh h items)

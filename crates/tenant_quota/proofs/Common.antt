@@ -1,6 +1,6 @@
 -- The names that the proofs take of the library, of the crates below and of this crate's definitions, from one place.
-pub use Rattle.std.proofs.Common.{List, None, Option, Some, [], ap, arith, cond, eqb, false, inl, inr, refl, subst, sym, true, ℕ, ◌+◌, ◌-◌, ◌<◌, ◌∙◌, ◌∷◌, ◌≡◌}
-pub use Rattle.std.proofs.Common.{◌≢◌, ◌≤◌, ◌⊎◌}
+pub use Rattle.std.proofs.Common.{List, None, Option, Some, [], ap, arith, cond, eqb, false, inl, inr, refl, subst, sym, true, ℕ, ◌+◌, ◌-◌, ◌<◌, ◌∙◌, ◌∷◌}
+pub use Rattle.std.proofs.Common.{◌≡◌, ◌≢◌, ◌≤◌, ◌⊎◌}
 pub use Rattle.std.specs.Prelude.{option_copied, option_map, sum_by}
 pub use Rattle.number_index.proofs.Edits.{put-same, thing-own}
 pub use Rattle.number_index.specs.Places.{change_by_number, find_by_number, has_by_number}

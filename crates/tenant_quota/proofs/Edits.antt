@@ -6,12 +6,13 @@ use Rattle.tenant_quota.proofs.Places.{entry-of}
 abbrev Entries : Type 0
 Entries = List (ℕ × Account)
 
-pub AllEntries-map : (P Q : ℕ × Account → Type 0) → ((e : ℕ × Account) → P e → Q e) → (es : Entries) → AllEntries P es → AllEntries Q es
-AllEntries-map P Q more es all = edits.all-map P Q more es all
+module _ (P : ℕ × Account → Type 0) where
+  pub AllEntries-map : (Q : ℕ × Account → Type 0) → ((e : ℕ × Account) → P e → Q e) → (es : Entries) → AllEntries P es → AllEntries Q es
+  AllEntries-map Q more es all = edits.all-map P Q more es all
 
--- what all entries have, the tenant's has
-pub AllEntries-of : (P : ℕ × Account → Type 0) (t : ℕ) (a : Account) (es : Entries) → account_of t es ≡ Some a → AllEntries P es → P (t, a)
-AllEntries-of P t a es is all = edits.all-of P owner_of_account t (t, a) es (entry-of t a es is) all
+  -- what all entries have, the tenant's has
+  pub AllEntries-of : (t : ℕ) (a : Account) (es : Entries) → account_of t es ≡ Some a → AllEntries P es → P (t, a)
+  AllEntries-of t a es is all = edits.all-of P owner_of_account t (t, a) es (entry-of t a es is) all
 
 -- what one entry has of h beyond g lies within what all together have
 pub sum_by-le_with : (g h : ℕ × Account → ℕ) (t : ℕ) (a : Account) (es : Entries) → account_of t es ≡ Some a → AllEntries (λ e. g e ≤ h e) es → sum_by g es + (h (t, a) - g (t, a)) ≤ sum_by h es

@@ -3,13 +3,14 @@ use Rattle.tenant_quota.proofs.Common.{◌≡◌, ℕ, true, false, cond, eqb, L
 use Rattle.tenant_quota.proofs.Common.{thing-own, Account, owner_of_account, account_of}
 
 -- the account of the entry that the index finds
-account_of-entry : (t : ℕ) (es : List (ℕ × Account)) → account_of t es ≡ option_map (λ e. e.1) (find_by_number owner_of_account t es)
-account_of-entry t [] = refl
-account_of-entry t (e ∷ es) =
-    elim (eqb e.0 t) as (λ b. cond b (Some e.1) (account_of t es) ≡ option_map (λ e. e.1) (cond b (Some e) (find_by_number owner_of_account t es))) [ true ↦ refl | false ↦ account_of-entry t es ]
+module _ (t : ℕ) where
+  account_of-entry : (es : List (ℕ × Account)) → account_of t es ≡ option_map (λ e. e.1) (find_by_number owner_of_account t es)
+  account_of-entry [] = refl
+  account_of-entry (e ∷ es) =
+      elim (eqb e.0 t) as (λ b. cond b (Some e.1) (account_of t es) ≡ option_map (λ e. e.1) (cond b (Some e) (find_by_number owner_of_account t es))) [ true ↦ refl | false ↦ account_of-entry es ]
 
-pub entry-found : (t : ℕ) (es : List (ℕ × Account)) (found : Option (ℕ × Account)) → found ≡ find_by_number owner_of_account t es → option_map (λ e. e.1) found ≡ account_of t es
-entry-found t es found is = ap (option_map (λ e. e.1)) is ∙ sym (account_of-entry t es)
+  pub entry-found : (es : List (ℕ × Account)) (found : Option (ℕ × Account)) → found ≡ find_by_number owner_of_account t es → option_map (λ e. e.1) found ≡ account_of t es
+  entry-found es found is = ap (option_map (λ e. e.1)) is ∙ sym (account_of-entry es)
 
 -- an account's entry is its tenant with it
 pub entry-of : (t : ℕ) (a : Account) (es : List (ℕ × Account)) → account_of t es ≡ Some a → find_by_number owner_of_account t es ≡ Some (t, a)

@@ -1,9 +1,13 @@
 -- What entering, changing and releasing one tenant's account does to a sound book.
-use Rattle.std.proofs.Common.{◌≡◌, ℕ, ◌-◌, false, List, Some, None, refl, ap, sym, subst, arith, ◌+◌, ◌*◌, true, ◌<◌, ◌≤◌, ◌⊎◌, inl, inr, Option, IsSome, IsSomeAnd, IfSome}
+use Rattle.std.proofs.Common.{◌≡◌, ◌≢◌, ℕ, ◌-◌, false, List, Some, None, refl, ap, sym, subst, arith, ◌+◌, ◌*◌, true, ◌<◌, ◌≤◌, ◌⊎◌, inl, inr, Option, IsSome}
+use Rattle.std.proofs.Common.{IsSomeAnd, IfSome}
 use Rattle.tenant_quota.proofs.Common.{Account, option_map, sum_by, Quota, IsWithinLimits, IsAbove, has_by_number, find_by_number, change_by_number}
 use Rattle.tenant_quota.proofs.Common.{owner_of_account, fresh, raised_to, account_of, IsWithinReserve, reserved_segments, reserved_nodes, Reservations}
 use Rattle.tenant_quota.proofs.Common.{admitted, changed, released, HasRoom, HasRoomFor, KeepsOtherAccounts, Admits, Raises, ChangesOnly, Releases, IsSoundBook}
-use Rattle.number_index.proofs.Edits.{has-found, lacks-said, said-with_own, said-with_other, all-with, rising-with, length-with, sum_by-with, sum_by-with_same, said-without_own, said-without_other, all-without, rising-without, length-without, sum_by-without, said-inserted_own, said-inserted_other, all-inserted, rising-inserted, length-inserted, sum_by-inserted, said-found, put-changed, all-of}
+use Rattle.number_index.proofs.Edits.{has-found, lacks-said, said-with_own, said-with_other, all-with, rising-with, length-with, sum_by-with}
+use Rattle.number_index.proofs.Edits.{sum_by-with_same, said-without_own, said-without_other, all-without, rising-without, length-without, sum_by-without}
+use Rattle.number_index.proofs.Edits.{said-inserted_own, said-inserted_other, all-inserted, rising-inserted, length-inserted, sum_by-inserted, said-found}
+use Rattle.number_index.proofs.Edits.{put-changed, all-of}
 use Rattle.tenant_quota.proofs.Places.{entry-of}
 
 -- an entry with its account changed by f
@@ -18,81 +22,97 @@ lacks t es none = lacks-said owner_of_account (λ e. Some e.1) None t es (λ e i
 pub IsWithinReserve-fresh : (quota : Quota) → IsWithinLimits quota → IsWithinReserve (fresh quota)
 IsWithinReserve-fresh quota limits = grind arith
 
+-- other accounts, where no other tenant's has changed
+others_by : {b : Reservations} {accounts : List (ℕ × Account)} {t : ℕ} → ((q : ℕ) → q ≢ t → account_of q accounts ≡ account_of q b.accounts) →
+    KeepsOtherAccounts b (record b { accounts = accounts }) t
+others_by others = record { segments = refl; nodes = refl; others = others }
+
 module _ (b : Reservations) (t : ℕ) (quota : Quota) where
-  pub Admits-admitted : account_of t b.accounts ≡ None → Admits b (admitted b t quota) t quota
-  Admits-admitted none = record {
-    whole = refl;
-    account = said-inserted_own owner_of_account (λ e. Some e.1) None (t, fresh quota) b.accounts (lacks t b.accounts none);
-    tenants = length-inserted owner_of_account (t, fresh quota) b.accounts;
-    segments = sum_by-inserted (λ e. e.1.reserve.segments) owner_of_account (t, fresh quota) b.accounts;
-    nodes = sum_by-inserted (λ e. e.1.reserve.nodes) owner_of_account (t, fresh quota) b.accounts;
-    charged = omega (arith, sum_by-inserted (λ e. e.1.charged) owner_of_account (t, fresh quota) b.accounts);
-  }
-
   pub KeepsOtherAccounts-admitted : KeepsOtherAccounts b (admitted b t quota) t
-  KeepsOtherAccounts-admitted = record { segments = refl; nodes = refl; others = λ q other. said-inserted_other owner_of_account (λ e. Some e.1) None q (t, fresh quota) b.accounts (λ e. other (sym e)) }
+  KeepsOtherAccounts-admitted = others_by (λ q other. said-inserted_other owner_of_account (λ e. Some e.1) None q (t, fresh quota) b.accounts (λ e. other (sym e)))
 
-  pub IsSoundBook-admitted : account_of t b.accounts ≡ None → IsWithinLimits quota → HasRoom b quota → IsSoundBook b → IsSoundBook (admitted b t quota)
-  IsSoundBook-admitted none limits room sound = record {
-    some_segments = sound.some_segments;
-    segments_within = sound.segments_within;
-    some_nodes = sound.some_nodes;
-    nodes_within = sound.nodes_within;
-    rising = rising-inserted owner_of_account (t, fresh quota) b.accounts sound.rising (lacks t b.accounts none);
-    within = all-inserted (λ e. IsWithinReserve e.1) owner_of_account (t, fresh quota) b.accounts (IsWithinReserve-fresh quota limits) sound.within;
-    tenants = omega (arith, length-inserted owner_of_account (t, fresh quota) b.accounts, room.tenants);
-    segments_reserved = omega (arith, sum_by-inserted (λ e. e.1.reserve.segments) owner_of_account (t, fresh quota) b.accounts, room.segments);
-    nodes_reserved = omega (arith, sum_by-inserted (λ e. e.1.reserve.nodes) owner_of_account (t, fresh quota) b.accounts, room.nodes);
-  }
+  module _ (none : account_of t b.accounts ≡ None) where
+    pub Admits-admitted : Admits b (admitted b t quota) t quota
+    Admits-admitted = record {
+      whole = refl;
+      account = said-inserted_own owner_of_account (λ e. Some e.1) None (t, fresh quota) b.accounts (lacks t b.accounts none);
+      tenants = length-inserted owner_of_account (t, fresh quota) b.accounts;
+      segments = sum_by-inserted (λ e. e.1.reserve.segments) owner_of_account (t, fresh quota) b.accounts;
+      nodes = sum_by-inserted (λ e. e.1.reserve.nodes) owner_of_account (t, fresh quota) b.accounts;
+      charged = omega (arith, sum_by-inserted (λ e. e.1.charged) owner_of_account (t, fresh quota) b.accounts);
+    }
+
+    pub IsSoundBook-admitted : IsWithinLimits quota → HasRoom b quota → IsSoundBook b → IsSoundBook (admitted b t quota)
+    IsSoundBook-admitted limits room sound =
+        let is = Admits-admitted in
+        record {
+          some_segments = sound.some_segments;
+          segments_within = sound.segments_within;
+          some_nodes = sound.some_nodes;
+          nodes_within = sound.nodes_within;
+          rising = rising-inserted owner_of_account (t, fresh quota) b.accounts sound.rising (lacks t b.accounts none);
+          within = all-inserted (λ e. IsWithinReserve e.1) owner_of_account (t, fresh quota) b.accounts (IsWithinReserve-fresh quota limits) sound.within;
+          tenants = omega (arith, is.tenants, room.tenants);
+          segments_reserved = omega (arith, is.segments, room.segments);
+          nodes_reserved = omega (arith, is.nodes, room.nodes);
+        }
 
 -- a changed account, where what is reserved stays
 
 module _ (b : Reservations) (t : ℕ) (f : Account → Account) where
-  pub ChangesOnly-changed : ((a : Account) → (f a).reserve ≡ a.reserve) → ChangesOnly b (changed b t f) t f
-  ChangesOnly-changed keeps =
-      let segments = sum_by-with_same (λ e. e.1.reserve.segments) owner_of_account t (entry_by f) b.accounts (λ e. ap (λ (q : Quota). q.segments) (keeps e.1)) in
-      let nodes = sum_by-with_same (λ e. e.1.reserve.nodes) owner_of_account t (entry_by f) b.accounts (λ e. ap (λ (q : Quota). q.nodes) (keeps e.1)) in
-      record {
-        whole = refl;
-        account = said-with_own owner_of_account (λ e. Some e.1) None (option_map f) t (entry_by f) b.accounts (λ e is. is) (λ e. refl) (λ lacks. refl);
-        rest = λ i. record { tenants = 64 - length-with owner_of_account t (entry_by f) b.accounts i; segments = b.segments - segments i; nodes = b.nodes - nodes i };
-      }
-
   pub KeepsOtherAccounts-changed : KeepsOtherAccounts b (changed b t f) t
-  KeepsOtherAccounts-changed = record { segments = refl; nodes = refl; others = λ q other. said-with_other owner_of_account (λ e. Some e.1) None q t (entry_by f) b.accounts (λ e. other (sym e)) (λ e is. is) }
+  KeepsOtherAccounts-changed = others_by (λ q other. said-with_other owner_of_account (λ e. Some e.1) None q t (entry_by f) b.accounts (λ e. other (sym e)) (λ e is. is))
 
-  pub IsSoundBook-changed : (a : Account) → account_of t b.accounts ≡ Some a → ((x : Account) → (f x).reserve ≡ x.reserve) → IsWithinReserve (f a) → IsSoundBook b → IsSoundBook (changed b t f)
-  IsSoundBook-changed a is keeps within sound =
-      let segments = sum_by-with_same (λ e. e.1.reserve.segments) owner_of_account t (entry_by f) b.accounts (λ e. ap (λ (q : Quota). q.segments) (keeps e.1)) in
-      let nodes = sum_by-with_same (λ e. e.1.reserve.nodes) owner_of_account t (entry_by f) b.accounts (λ e. ap (λ (q : Quota). q.nodes) (keeps e.1)) in
-      record {
-        some_segments = sound.some_segments;
-        segments_within = sound.segments_within;
-        some_nodes = sound.some_nodes;
-        nodes_within = sound.nodes_within;
-        rising = rising-with owner_of_account t (entry_by f) b.accounts (λ e is. is) sound.rising;
-        within = all-with (λ e. IsWithinReserve e.1) owner_of_account t (entry_by f) b.accounts sound.within
-            (λ e had here. let same : e ≡ (t, a) = cc (here, entry-of t a b.accounts is) in subst (λ (x : ℕ × Account). IsWithinReserve (f x.1)) (sym same) within);
-        tenants = omega (arith, length-with owner_of_account t (entry_by f) b.accounts, sound.tenants);
-        segments_reserved = omega (arith, segments, sound.segments_reserved);
-        nodes_reserved = omega (arith, nodes, sound.nodes_reserved);
-      }
+  module _ (keeps : (a : Account) → (f a).reserve ≡ a.reserve) where
+    segments_kept : reserved_segments (changed b t f).accounts ≡ reserved_segments b.accounts
+    segments_kept = sum_by-with_same (λ e. e.1.reserve.segments) owner_of_account t (entry_by f) b.accounts (λ e. ap (λ (q : Quota). q.segments) (keeps e.1))
+
+    nodes_kept : reserved_nodes (changed b t f).accounts ≡ reserved_nodes b.accounts
+    nodes_kept = sum_by-with_same (λ e. e.1.reserve.nodes) owner_of_account t (entry_by f) b.accounts (λ e. ap (λ (q : Quota). q.nodes) (keeps e.1))
+
+    pub ChangesOnly-changed : ChangesOnly b (changed b t f) t f
+    ChangesOnly-changed = record {
+      whole = refl;
+      account = said-with_own owner_of_account (λ e. Some e.1) None (option_map f) t (entry_by f) b.accounts (λ e is. is) (λ e. refl) (λ lacks. refl);
+      rest = λ i. record {
+        tenants = 64 - length-with owner_of_account t (entry_by f) b.accounts i;
+        segments = b.segments - segments_kept i;
+        nodes = b.nodes - nodes_kept i;
+      };
+    }
+
+    pub IsSoundBook-changed : (a : Account) → account_of t b.accounts ≡ Some a → IsWithinReserve (f a) → IsSoundBook b → IsSoundBook (changed b t f)
+    IsSoundBook-changed a is within sound = record {
+      some_segments = sound.some_segments;
+      segments_within = sound.segments_within;
+      some_nodes = sound.some_nodes;
+      nodes_within = sound.nodes_within;
+      rising = rising-with owner_of_account t (entry_by f) b.accounts (λ e is. is) sound.rising;
+      within = all-with (λ e. IsWithinReserve e.1) owner_of_account t (entry_by f) b.accounts sound.within
+          (λ e had here. let same : e ≡ (t, a) = cc (here, entry-of t a b.accounts is) in subst (λ (x : ℕ × Account). IsWithinReserve (f x.1)) (sym same) within);
+      tenants = omega (arith, length-with owner_of_account t (entry_by f) b.accounts, sound.tenants);
+      segments_reserved = omega (arith, segments_kept, sound.segments_reserved);
+      nodes_reserved = omega (arith, nodes_kept, sound.nodes_reserved);
+    }
 
 -- an account whose reservation is raised
-module _ (b : Reservations) (t : ℕ) (quota : Quota) (a : Account) where
-  pub Raises-raised : account_of t b.accounts ≡ Some a → Raises b (changed b t (raised_to quota)) t quota a.reserve
-  Raises-raised is = record {
-    whole = refl;
-    account = said-with_own owner_of_account (λ e. Some e.1) None (option_map (raised_to quota)) t (entry_by (raised_to quota)) b.accounts (λ e is. is) (λ e. refl) (λ lacks. refl);
-    tenants = length-with owner_of_account t (entry_by (raised_to quota)) b.accounts;
-    segments = sum_by-with (λ e. e.1.reserve.segments) owner_of_account t (entry_by (raised_to quota)) (t, a) b.accounts (entry-of t a b.accounts is);
-    nodes = sum_by-with (λ e. e.1.reserve.nodes) owner_of_account t (entry_by (raised_to quota)) (t, a) b.accounts (entry-of t a b.accounts is);
-    charged = sum_by-with_same (λ e. e.1.charged) owner_of_account t (entry_by (raised_to quota)) b.accounts (λ e. refl);
-  }
+module _ (b : Reservations) (t : ℕ) (quota : Quota) (a : Account) (is : account_of t b.accounts ≡ Some a) where
+  pub Raises-raised : Raises b (changed b t (raised_to quota)) t quota a.reserve
+  Raises-raised =
+      let raise = entry_by (raised_to quota) in
+      let found = entry-of t a b.accounts is in
+      record {
+        whole = refl;
+        account = said-with_own owner_of_account (λ e. Some e.1) None (option_map (raised_to quota)) t raise b.accounts (λ e is. is) (λ e. refl) (λ lacks. refl);
+        tenants = length-with owner_of_account t raise b.accounts;
+        segments = sum_by-with (λ e. e.1.reserve.segments) owner_of_account t raise (t, a) b.accounts found;
+        nodes = sum_by-with (λ e. e.1.reserve.nodes) owner_of_account t raise (t, a) b.accounts found;
+        charged = sum_by-with_same (λ e. e.1.charged) owner_of_account t raise b.accounts (λ e. refl);
+      }
 
-  pub IsSoundBook-raised : account_of t b.accounts ≡ Some a → IsWithinLimits quota → IsAbove a.reserve quota → HasRoomFor b a.reserve quota → IsWithinReserve a → IsSoundBook b → IsSoundBook (changed b t (raised_to quota))
-  IsSoundBook-raised is limits above room within sound =
-      let raises = Raises-raised is in
+  pub IsSoundBook-raised : IsWithinLimits quota → IsAbove a.reserve quota → HasRoomFor b a.reserve quota → IsWithinReserve a → IsSoundBook b → IsSoundBook (changed b t (raised_to quota))
+  IsSoundBook-raised limits above room within sound =
+      let raises = Raises-raised in
       record {
         some_segments = sound.some_segments;
         segments_within = sound.segments_within;
@@ -107,31 +127,36 @@ module _ (b : Reservations) (t : ℕ) (quota : Quota) (a : Account) where
 
 -- a released tenant
 
-pub Releases-released : (b : Reservations) (t : ℕ) (a : Account) → account_of t b.accounts ≡ Some a → IsSoundBook b → Releases b (released b t) t a
-Releases-released b t a is sound = record {
-  whole = refl;
-  account = said-without_own owner_of_account (λ e. Some e.1) None t b.accounts sound.rising;
-  tenants = length-without owner_of_account t b.accounts (has-found owner_of_account t b.accounts (t, a) (entry-of t a b.accounts is));
-  segments = sum_by-without (λ e. e.1.reserve.segments) owner_of_account t (t, a) b.accounts (entry-of t a b.accounts is);
-  nodes = sum_by-without (λ e. e.1.reserve.nodes) owner_of_account t (t, a) b.accounts (entry-of t a b.accounts is);
-  charged = sum_by-without (λ e. e.1.charged) owner_of_account t (t, a) b.accounts (entry-of t a b.accounts is);
-}
-
 pub KeepsOtherAccounts-released : (b : Reservations) (t : ℕ) → KeepsOtherAccounts b (released b t) t
-KeepsOtherAccounts-released b t = record { segments = refl; nodes = refl; others = λ q other. said-without_other owner_of_account (λ e. Some e.1) None q t b.accounts (λ e. other (sym e)) }
+KeepsOtherAccounts-released b t = others_by (λ q other. said-without_other owner_of_account (λ e. Some e.1) None q t b.accounts (λ e. other (sym e)))
 
-pub IsSoundBook-released : (b : Reservations) (t : ℕ) (a : Account) → account_of t b.accounts ≡ Some a → IsSoundBook b → IsSoundBook (released b t)
-IsSoundBook-released b t a is sound = record {
-  some_segments = sound.some_segments;
-  segments_within = sound.segments_within;
-  some_nodes = sound.some_nodes;
-  nodes_within = sound.nodes_within;
-  rising = rising-without owner_of_account t b.accounts sound.rising;
-  within = all-without (λ e. IsWithinReserve e.1) owner_of_account t b.accounts sound.within;
-  tenants = omega (arith, length-without owner_of_account t b.accounts (has-found owner_of_account t b.accounts (t, a) (entry-of t a b.accounts is)), sound.tenants);
-  segments_reserved = omega (arith, sum_by-without (λ e. e.1.reserve.segments) owner_of_account t (t, a) b.accounts (entry-of t a b.accounts is), sound.segments_reserved);
-  nodes_reserved = omega (arith, sum_by-without (λ e. e.1.reserve.nodes) owner_of_account t (t, a) b.accounts (entry-of t a b.accounts is), sound.nodes_reserved);
-}
+module _ (b : Reservations) (t : ℕ) (a : Account) (is : account_of t b.accounts ≡ Some a) (sound : IsSoundBook b) where
+  pub Releases-released : Releases b (released b t) t a
+  Releases-released =
+      let found = entry-of t a b.accounts is in
+      record {
+        whole = refl;
+        account = said-without_own owner_of_account (λ e. Some e.1) None t b.accounts sound.rising;
+        tenants = length-without owner_of_account t b.accounts (has-found owner_of_account t b.accounts (t, a) found);
+        segments = sum_by-without (λ e. e.1.reserve.segments) owner_of_account t (t, a) b.accounts found;
+        nodes = sum_by-without (λ e. e.1.reserve.nodes) owner_of_account t (t, a) b.accounts found;
+        charged = sum_by-without (λ e. e.1.charged) owner_of_account t (t, a) b.accounts found;
+      }
+
+  pub IsSoundBook-released : IsSoundBook (released b t)
+  IsSoundBook-released =
+      let gone = Releases-released in
+      record {
+        some_segments = sound.some_segments;
+        segments_within = sound.segments_within;
+        some_nodes = sound.some_nodes;
+        nodes_within = sound.nodes_within;
+        rising = rising-without owner_of_account t b.accounts sound.rising;
+        within = all-without (λ e. IsWithinReserve e.1) owner_of_account t b.accounts sound.within;
+        tenants = omega (arith, gone.tenants, sound.tenants);
+        segments_reserved = omega (arith, gone.segments, sound.segments_reserved);
+        nodes_reserved = omega (arith, gone.nodes, sound.nodes_reserved);
+      }
 
 -- The account of a tenant in a sound book, and what a write of it does.
 
@@ -148,31 +173,21 @@ pub is_some_of : (o : Option Account) (P : Account → Type 0) → IsSomeAnd o P
 is_some_of None P is = absurd is
 is_some_of (Some a) P is = refl
 
-pub and_at : {X : Type 0} (o : Option X) (P : X → Type 0) (x : X) → o ≡ Some x → IsSomeAnd o P → P x
-and_at o P x at is = subst (λ y. IsSomeAnd y P) at is
+module _ {X : Type 0} (o : Option X) (P : X → Type 0) (x : X) (at : o ≡ Some x) where
+  pub and_at : IsSomeAnd o P → P x
+  and_at is = subst (λ y. IsSomeAnd y P) at is
 
-pub and_from : {X : Type 0} (o : Option X) (P : X → Type 0) (x : X) → o ≡ Some x → P x → IsSomeAnd o P
-and_from o P x at is = subst (λ y. IsSomeAnd y P) (sym at) is
+  pub and_from : P x → IsSomeAnd o P
+  and_from is = subst (λ y. IsSomeAnd y P) (sym at) is
 
 -- other counts, each within what is reserved
-pub within_with : (a : Account) (charged opened ticks : ℕ) → charged ≤ a.reserve.segments → opened ≤ a.reserve.nodes → ticks ≤ 16 * a.reserve.nodes → IsWithinReserve a → IsWithinReserve (record a { charged = charged; opened = opened; ticks = ticks })
+pub within_with : (a : Account) (charged opened ticks : ℕ) → charged ≤ a.reserve.segments → opened ≤ a.reserve.nodes → ticks ≤ 16 * a.reserve.nodes →
+    IsWithinReserve a → IsWithinReserve (record a { charged = charged; opened = opened; ticks = ticks })
 within_with a charged opened ticks few some many within = grind arith
 
 -- the tenant of an account has an entry
 pub is_there : (b : Reservations) (t : ℕ) → IsSome (account_of t b.accounts) → has_by_number owner_of_account t b.accounts ≡ true
 is_there b t there = let a = some_of (account_of t b.accounts) there in has-found owner_of_account t b.accounts (t, a.0) (entry-of t a.0 b.accounts a.1)
-
--- the entry that was found
-pub stands_for : (b : Reservations) (t : ℕ) (e : ℕ × Account) → IsSoundBook b → find_by_number owner_of_account t b.accounts ≡ Some e → StandsFor b t e
-stands_for b t e sound found = grind (arith, said-found, all-of)
-
--- the accounts with another in the entry that was found
-abbrev pub written : Reservations → ℕ → ℕ × Account → (Account → Account) → Reservations
-written b t e f = record b { accounts = change_by_number owner_of_account t (λ x. (e.0, f e.1)) b.accounts }
-
--- that changes the tenant's account
-written_is : (b : Reservations) (t : ℕ) (e : ℕ × Account) (f : Account → Account) → find_by_number owner_of_account t b.accounts ≡ Some e → changed b t f ≡ written b t e f
-written_is b t e f found = ap (λ (l : List (ℕ × Account)). record b { accounts = l }) (sym (put-changed owner_of_account t (λ x. (x.0, f x.1)) b.accounts e (e.0, f e.1) found refl))
 
 -- where nothing has changed
 pub others_same : (b : Reservations) (t : ℕ) → KeepsOtherAccounts b b t
@@ -186,20 +201,15 @@ pub record IsChange (old new : Reservations) (t : ℕ) (f : Account → Account)
   pub segments : reserved_segments new.accounts ≡ reserved_segments old.accounts
   pub nodes : reserved_nodes new.accounts ≡ reserved_nodes old.accounts
 
-change_facts : (b : Reservations) (t : ℕ) (f : Account → Account) (a : Account) → account_of t b.accounts ≡ Some a → ((x : Account) → (f x).reserve ≡ x.reserve) → IsWithinReserve (f a) → IsSoundBook b → IsChange b (changed b t f) t f
+change_facts : (b : Reservations) (t : ℕ) (f : Account → Account) (a : Account) → account_of t b.accounts ≡ Some a → ((x : Account) → (f x).reserve ≡ x.reserve) → IsWithinReserve (f a) → IsSoundBook b →
+    IsChange b (changed b t f) t f
 change_facts b t f a is keeps within sound = record {
   changes = ChangesOnly-changed b t f keeps;
   others = KeepsOtherAccounts-changed b t f;
-  sound = IsSoundBook-changed b t f a is keeps within sound;
-  segments = sum_by-with_same (λ e. e.1.reserve.segments) owner_of_account t (λ x. (x.0, f x.1)) b.accounts (λ e. ap (λ (q : Quota). q.segments) (keeps e.1));
-  nodes = sum_by-with_same (λ e. e.1.reserve.nodes) owner_of_account t (λ x. (x.0, f x.1)) b.accounts (λ e. ap (λ (q : Quota). q.nodes) (keeps e.1));
+  sound = IsSoundBook-changed b t f keeps a is within sound;
+  segments = segments_kept b t f keeps;
+  nodes = nodes_kept b t f keeps;
 }
-
-pub change_by_write : (b : Reservations) (t : ℕ) (e : ℕ × Account) (f : Account → Account) → IsSoundBook b → find_by_number owner_of_account t b.accounts ≡ Some e → ((x : Account) → (f x).reserve ≡ x.reserve) → IsWithinReserve (f e.1) → IsChange b (written b t e f) t f
-change_by_write b t e f sound found keeps within = grind (arith, written_is, change_facts, stands_for)
-
-pub sum_by_write : (g : ℕ × Account → ℕ) (b : Reservations) (t : ℕ) (e : ℕ × Account) (f : Account → Account) → find_by_number owner_of_account t b.accounts ≡ Some e → sum_by g (written b t e f).accounts + g e ≡ sum_by g b.accounts + g (e.0, f e.1)
-sum_by_write g b t e f found = sum_by-with g owner_of_account t (λ x. (e.0, f e.1)) e b.accounts found
 
 -- the raise of one reservation, seen in full
 pub record IsRaise (old new : Reservations) (t : ℕ) (quota now : Quota) : Type 0 where
@@ -207,14 +217,33 @@ pub record IsRaise (old new : Reservations) (t : ℕ) (quota now : Quota) : Type
   pub others : KeepsOtherAccounts old new t
   pub sound : IsSoundBook new
 
-pub raise_by_write : (b : Reservations) (t : ℕ) (e : ℕ × Account) (quota : Quota) → IsSoundBook b → find_by_number owner_of_account t b.accounts ≡ Some e → IsWithinLimits quota → IsAbove e.1.reserve quota → HasRoomFor b e.1.reserve quota → IsRaise b (written b t e (raised_to quota)) t quota e.1.reserve
-raise_by_write b t e quota sound found limits above room =
-    let stands = stands_for b t e sound found in
-    subst (λ new. IsRaise b new t quota e.1.reserve) (written_is b t e (raised_to quota) found) (record {
-      raises = Raises-raised b t quota e.1 stands.account;
-      others = KeepsOtherAccounts-changed b t (raised_to quota);
-      sound = IsSoundBook-raised b t quota e.1 stands.account limits above room stands.within sound;
-    })
+-- the accounts with another in the entry that was found
+abbrev pub written : Reservations → ℕ → ℕ × Account → (Account → Account) → Reservations
+written b t e f = record b { accounts = change_by_number owner_of_account t (λ x. (e.0, f e.1)) b.accounts }
+
+-- the entry that was found
+module _ (b : Reservations) (t : ℕ) (e : ℕ × Account) (found : find_by_number owner_of_account t b.accounts ≡ Some e) where
+  pub stands_for : IsSoundBook b → StandsFor b t e
+  stands_for sound = grind (arith, said-found, all-of)
+
+  -- that changes the tenant's account
+  written_is : (f : Account → Account) → changed b t f ≡ written b t e f
+  written_is f = ap (λ (l : List (ℕ × Account)). record b { accounts = l }) (sym (put-changed owner_of_account t (λ x. (x.0, f x.1)) b.accounts e (e.0, f e.1) found refl))
+
+  pub change_by_write : (f : Account → Account) → IsSoundBook b → ((x : Account) → (f x).reserve ≡ x.reserve) → IsWithinReserve (f e.1) → IsChange b (written b t e f) t f
+  change_by_write f sound keeps within = subst (λ new. IsChange b new t f) (written_is f) (change_facts b t f e.1 (stands_for sound).account keeps within sound)
+
+  pub sum_by_write : (g : ℕ × Account → ℕ) (f : Account → Account) → sum_by g (written b t e f).accounts + g e ≡ sum_by g b.accounts + g (e.0, f e.1)
+  sum_by_write g f = sum_by-with g owner_of_account t (λ x. (e.0, f e.1)) e b.accounts found
+
+  pub raise_by_write : (quota : Quota) → IsSoundBook b → IsWithinLimits quota → IsAbove e.1.reserve quota → HasRoomFor b e.1.reserve quota → IsRaise b (written b t e (raised_to quota)) t quota e.1.reserve
+  raise_by_write quota sound limits above room =
+      let stands = stands_for sound in
+      subst (λ new. IsRaise b new t quota e.1.reserve) (written_is (raised_to quota)) (record {
+        raises = Raises-raised b t quota e.1 stands.account;
+        others = KeepsOtherAccounts-changed b t (raised_to quota);
+        sound = IsSoundBook-raised b t quota e.1 stands.account limits above room stands.within sound;
+      })
 
 pub if_from : {X : Type 0} (o : Option X) (P : X → Type 0) (x : X) → o ≡ Some x → P x → IfSome o P
 if_from o P x at is = subst (λ y. IfSome y P) (sym at) is

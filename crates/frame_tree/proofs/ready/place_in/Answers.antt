@@ -37,8 +37,6 @@ returns-then-serial-frames-clause-place c =
 pub returns-clause-place : goal.returns-clause-place
 returns-clause-place c =
     let serial_of : ReadyFrame → _ = λ frame. frame.serial in
-    let rise = c.requires in
-    let within = c.partition_point.ensures.bound in
-    let parted = IsPartitionedBy-ltb serial_of c.args.frames.now c.args.serial (rises_by-not_falls serial_of c.args.frames.now rise) in
+    let parted = IsPartitionedBy-ltb serial_of c.args.frames.now c.args.serial (rises_by-not_falls serial_of c.args.frames.now c.requires) in
     let point = IsPartitionPoint-from_clause (λ frame. nat_lt frame.serial c.args.serial) _ _ c.partition_point.ensures.partitioned parted (λ a r f k. search rules) in
-    place_from_point serial_of c.args.frames.now c.args.serial c.partition_point.result within point
+    place_from_point serial_of c.args.frames.now c.args.serial c.partition_point.result c.partition_point.ensures.bound point

@@ -14,19 +14,20 @@ pub count_less-requires-clause-some : goal.count_less-requires-clause-some
 count_less-requires-clause-some g c kept found =
     let p = parent_key _ _ _ _ _ c.in-Some.is c.requires.keys c.requires.above in
     let seen = seen_at c.args.slab.now c.args.order.now.list p.name p.at c.in-Some.key kept c.requires.keys p.key_at found in
-    children_at-found _ c.args.parent p.name p.at kept.slot p.is c.requires.rise seen.within seen.named seen.read c.requires.counted
+    children_at-found p.is c.requires.rise seen c.requires.counted
 
 pub returns-in-Some-clause-keys : goal.returns-in-Some-clause-keys
 returns-in-Some-clause-keys g c =
     let p = parent_key _ _ _ _ _ c.in-Some.is c.requires.keys c.requires.above in
-    changed_keys c.args.slab.now c.count_less.new.slab c.args.order.now.list c.in-Some.key (λ slot. record slot { children = slot.children - 1 }) p.kept c.requires.keys p.found (record { serial = λ slot. refl; parent = λ slot. refl }) c.count_less.ensures.put c.count_less.ensures.len
+    changed_keys _ _ _ (λ slot. record slot { children = slot.children - 1 }) p.kept p.found c.count_less.ensures.put _ c.requires.keys
+    (record { serial = λ slot. refl; parent = λ slot. refl }) c.count_less.ensures.len
 
 pub returns-in-Some-clause-slots : goal.returns-in-Some-clause-slots
 returns-in-Some-clause-slots g c =
     let p = parent_key _ _ _ _ _ c.in-Some.is c.requires.keys c.requires.above in
     let seen = seen_at c.args.slab.now c.args.order.now.list p.name p.at c.in-Some.key p.kept c.requires.keys p.key_at p.found in
-    changed_slots c.args.slab.now c.count_less.new.slab c.args.order.now.list p.name p.at c.in-Some.key (λ slot. record slot { children = slot.children - 1 }) p.kept c.requires.keys p.key_at p.found c.count_less.ensures.put
-    ∙ without_child-set _ c.args.parent p.name p.at p.kept.slot p.is c.requires.rise seen.within seen.named seen.read
+    changed_slots _ _ _ (λ slot. record slot { children = slot.children - 1 }) p.kept p.found c.count_less.ensures.put _ p.name p.at c.requires.keys p.key_at
+    ∙ without_child-set p.is c.requires.rise seen
 
 pub returns-in-None-clause-slots : goal.returns-in-None-clause-slots
 returns-in-None-clause-slots g c = rw (no_parent_key c.args.slab.now c.args.order.now.list c.args.parent c.args.above c.in-None.is c.requires.above) refl

@@ -1,5 +1,5 @@
-use Rattle.frame_tree.proofs.Common.{◌<◌, length, get_or, refl, sym, ◌∙◌, arith, slots_in}
-use Rattle.frame_tree.proofs.SlotStores.{here_read, link_marked, read_key, read_any, marks_taken, marks_stays}
+use Rattle.frame_tree.proofs.Common.{◌<◌, length, get_or, get_or_default, refl, sym, ◌∙◌, arith, slots_in}
+use Rattle.frame_tree.proofs.SlotStores.{here_read, link_marked, read_key, marks_taken, marks_stays}
 use Rattle.frame_tree.proofs.slot_store.mark_under.Goals as goal
 use Rattle.frame_tree.proofs.slot_store.mark_under.Goals.{then-is_taken, else-is_taken}
 
@@ -8,7 +8,7 @@ is_taken-requires g c =
     let order = c.args.order.now in
     let here : c.loop-at.at < length order = omega (arith, c.loop-at-test.true) in
     link_marked c.args.under (slots_in c.args.slab.now order) _ _ c.args.slab.now c.loop-at.slab (get_or order c.loop-at.at 0) c.loop-at.invariant.0
-    (here_read c.args.slab.now order c.loop-at.at (get_or order c.loop-at.at 0) c.requires.here here (read_any order c.loop-at.at 0 here))
+    (here_read c.args.slab.now order c.loop-at.at (get_or order c.loop-at.at 0) c.requires.here here (get_or_default order c.loop-at.at 0 (get_or order c.loop-at.at 0) here))
 
 pub loop-at-preserved : goal.loop-at-preserved
 loop-at-preserved g c =
@@ -16,16 +16,16 @@ loop-at-preserved g c =
     let slots = slots_in c.args.slab.now order in
     let key = get_or order c.loop-at.at 0 in
     let here : c.loop-at.at < length order = omega (arith, c.loop-at-test.true) in
-    let is = read_any order c.loop-at.at 0 here in
-    let read = read_key c.args.under slots order c.loop-at.at key c.args.slab.now c.loop-at.slab refl c.requires.here c.requires.apart c.requires.linked c.loop-at.invariant.0 here is in
+    let is = get_or_default order c.loop-at.at 0 key here in
+    let read = read_key c.args.under slots order c.loop-at.at key c.args.slab.now c.loop-at.slab c.loop-at.invariant.0 here is refl c.requires.here c.requires.apart c.requires.linked in
     elim c.if-is_taken.branch [
       | then-is_taken w ↦ rw w.slab-is (
-        marks_taken c.args.under slots order c.loop-at.at key c.args.slab.now c.loop-at.slab w.mark.new.slab read.0 c.loop-at.invariant.0 here is read.1 (sym c.is_taken.ensures ∙ w.if-is_taken.true) w.mark.ensures.marked,
+        marks_taken c.args.under slots order c.loop-at.at key c.args.slab.now c.loop-at.slab c.loop-at.invariant.0 here is w.mark.new.slab read.0 read.1 (sym c.is_taken.ensures ∙ w.if-is_taken.true) w.mark.ensures.marked,
         w.mark.ensures.len ∙ c.loop-at.invariant.1,
         w.mark.ensures.capacity ∙ c.loop-at.invariant.2,
       )
       | else-is_taken w ↦ rw w.slab-is (
-        marks_stays c.args.under slots order c.loop-at.at key c.args.slab.now c.loop-at.slab read.0 c.loop-at.invariant.0 here is read.1 (sym c.is_taken.ensures ∙ w.if-is_taken.false),
+        marks_stays c.args.under slots order c.loop-at.at key c.args.slab.now c.loop-at.slab c.loop-at.invariant.0 here is read.0 read.1 (sym c.is_taken.ensures ∙ w.if-is_taken.false),
         c.loop-at.invariant.1,
         c.loop-at.invariant.2,
       )

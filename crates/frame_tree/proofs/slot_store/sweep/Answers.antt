@@ -9,21 +9,21 @@ loop-at-init g c = (swept_early c.args.slab.now c.args.order.now.list c.args.rem
 pub index-requires : goal.index-requires
 index-requires g c =
     let here : c.loop-at.at < length c.args.order.now.list = omega (arith, c.loop-at-test.true, c.len-at-end.ensures) in
-    slot_contains _ _ _ _ _ _ _ _ c.at-key.result c.loop-at.invariant.0 c.requires.apart c.requires.there here c.at-key.ensures
+    slot_contains c.loop-at.invariant.0 c.requires.apart here c.at-key.ensures c.requires.there
 
 pub loop-at-preserved : goal.loop-at-preserved
 loop-at-preserved g c =
     let here : c.loop-at.at < length c.args.order.now.list = omega (arith, c.loop-at-test.true, c.len-at-end.ensures) in
-    let same = slot_is _ _ _ _ _ _ _ _ c.at-key.result c.loop-at.invariant.0 c.requires.apart here c.at-key.ensures in
+    let same = slot_is c.loop-at.invariant.0 c.requires.apart here c.at-key.ensures in
     let marked : is_marked (get c.args.slab.now c.at-key.result) ≡ c.index.result.now.marked = ap is_marked (sym same ∙ c.index.ensures) in
     elim c.if-index.branch [
       | then-index w ↦ rw (w.slab-is, w.order-is, w.removed-is, w.kept-is, w.push_reserved.ensures.items) (
-        swept_goes _ _ w.remove-gone.new.self _ _ _ _ _ _ c.at-key.result w.remove-gone.result c.loop-at.invariant.0 c.requires.apart here c.at-key.ensures (marked ∙ w.if-index.true) w.remove-gone.ensures.value w.remove-gone.ensures.updates w.remove-gone.ensures.len w.remove-gone.ensures.capacity,
+        swept_goes c.loop-at.invariant.0 c.requires.apart here c.at-key.ensures w.remove-gone.new.self w.remove-gone.result (marked ∙ w.if-index.true) w.remove-gone.ensures.value w.remove-gone.ensures.updates w.remove-gone.ensures.len w.remove-gone.ensures.capacity,
         c.loop-at.invariant.1,
         w.push_reserved.ensures.capacity ∙ c.loop-at.invariant.2,
       )
       | else-index w ↦ rw (w.slab-is, w.order-is, w.removed-is, w.kept-is, w.put.ensures) (
-        swept_stays _ _ _ _ _ _ _ _ c.at-key.result c.loop-at.invariant.0 here c.at-key.ensures (marked ∙ w.if-index.false),
+        swept_stays c.loop-at.invariant.0 c.requires.apart here c.at-key.ensures (marked ∙ w.if-index.false),
         c.loop-at.invariant.1,
         c.loop-at.invariant.2,
       )

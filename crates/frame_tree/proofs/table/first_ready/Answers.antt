@@ -4,12 +4,12 @@ use Rattle.frame_tree.proofs.table.first_ready.Goals as goal
 
 pub returns-then-ready-gt0-clause-value : goal.returns-then-ready-gt0-clause-value
 returns-then-ready-gt0-clause-value g c =
-    first_found c.args.trees.now c.loop-tree.tree-index c.tree-item.result c.newest_ready.result c.loop-tree.invariant c.loop-tree-test.true c.tree-item.is (omega (arith, c.ready.ensures)) c.newest_ready.ensures.value
+    first_found _ _ c.tree-item.result c.loop-tree-test.true c.tree-item.is c.newest_ready.result c.loop-tree.invariant (omega (arith, c.ready.ensures)) c.newest_ready.ensures.value
 
 pub returns-then-ready-gt0-clause-found : goal.returns-then-ready-gt0-clause-found
 returns-then-ready-gt0-clause-found g c =
-    first_is_ready c.args.trees.now c.loop-tree.tree-index c.tree-item.result c.newest_ready.result c.requires c.loop-tree-test.true c.tree-item.is c.newest_ready.ensures.found
+    first_is_ready _ _ c.tree-item.result c.loop-tree-test.true c.tree-item.is c.newest_ready.result c.requires c.newest_ready.ensures.found
 
 pub loop-tree-preserved : goal.loop-tree-preserved
 loop-tree-preserved g c =
-    first_later c.args.trees.now c.loop-tree.tree-index c.tree-item.result c.loop-tree.invariant c.loop-tree-test.true c.tree-item.is (omega (arith, c.ready.ensures))
+    first_later _ _ c.tree-item.result c.loop-tree-test.true c.tree-item.is c.loop-tree.invariant (omega (arith, c.ready.ensures))

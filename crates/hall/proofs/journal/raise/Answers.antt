@@ -12,13 +12,13 @@ on-ok (Err error) to it = tt
 
 -- the journal that was read is the tenant's
 place : (g : Over) (c : After-index_mut-journal g) → IsAt owner_of_journal c.args.tenant c.args.journals.now.items c.place_of-at.result
-place g c = at-place c.args.tenant c.args.journals.now.items _ c.place_of-at.result c.requires.rising c.requires.there c.as_slice.ensures.value c.place_of-at.ensures
+place g c = at-place c.args.tenant _ _ _ c.requires.rising c.requires.there c.as_slice.ensures.value c.place_of-at.ensures
 
 own : (g : Over) (c : After-index_mut-journal g) → c.index_mut-journal.result.now.tenant ≡ c.args.tenant
-own g c = at-own owner_of_journal c.args.tenant c.args.journals.now.items c.place_of-at.result c.index_mut-journal.result.now (place g c) c.index_mut-journal.ensures.value
+own g c = at-own owner_of_journal _ _ _ _ (place g c) c.index_mut-journal.ensures.value
 
 steps : (g : Over) (c : After-index_mut-journal g) → journal_in c.args.journals.now.items c.args.tenant ≡ c.index_mut-journal.result.now.steps
-steps g c = at-said owner_of_journal steps_of [] c.args.tenant c.args.journals.now.items c.place_of-at.result c.index_mut-journal.result.now (place g c) c.index_mut-journal.ensures.value
+steps g c = at-said owner_of_journal steps_of [] _ _ _ _ (place g c) c.index_mut-journal.ensures.value
 
 pub raise-requires-clause-few : goal.raise-requires-clause-few
 raise-requires-clause-few g c =
@@ -46,11 +46,11 @@ pub returns-clause-written : goal.returns-clause-written
 returns-clause-written g c =
     let at = (goal.at.returns-clause-written g c).After-index_mut-journal in
     on-ok c.raise.result
-    (λ written. at-set owner_of_journal c.args.tenant (longer (AdmitMore c.args.tenant c.args.reserve)) c.args.journals.now.items c.place_of-at.result c.index_mut-journal.result.now c.raise.new.self (place g at) c.index_mut-journal.ensures.value
+    (λ written. at-set owner_of_journal _ (longer (AdmitMore c.args.tenant c.args.reserve)) _ _ _ _ (place g at) c.index_mut-journal.ensures.value
     (written ∙ ap (λ (n : ℕ). longer (AdmitMore n c.args.reserve) c.index_mut-journal.result.now) (own g at))) c.raise.ensures.written
 
 pub index_mut-journal-requires : goal.index_mut-journal-requires
 index_mut-journal-requires g c =
     let len = c.as_slice.ensures.len in let same = ap length c.as_slice.ensures.value in
-    let found = at-place c.args.tenant c.args.journals.now.items _ c.place_of-at.result c.requires.rising c.requires.there c.as_slice.ensures.value c.place_of-at.ensures in
-    omega (arith, len, same, at-within owner_of_journal c.args.tenant c.args.journals.now.items c.place_of-at.result found)
+    let found = at-place c.args.tenant _ _ _ c.requires.rising c.requires.there c.as_slice.ensures.value c.place_of-at.ensures in
+    omega (arith, len, same, at-within owner_of_journal _ _ _ found)

@@ -7,7 +7,7 @@ of-requires g c = served-job c.args.core.now.shared c.args.tenant c.args.job c.i
 
 pub returns-in-Some-clause-asked : goal.returns-in-Some-clause-asked
 returns-in-Some-clause-asked g c origins owner there searches =
-    answers-asked c.args.core.now.shared c.args.tenant c.args.job origins owner c.in-Some.job.now c.of.result there searches (sym c.in-Some.ensures) c.of.ensures
+    answers-asked c.args.core.now.shared c.args.tenant c.args.job searches c.in-Some.job.now c.of.result there (sym c.in-Some.ensures) c.of.ensures
 
 pub returns-in-None-clause-asked : goal.returns-in-None-clause-asked
-returns-in-None-clause-asked g c origins owner there searches = none-asked c.args.core.now.shared c.args.tenant c.args.job origins owner there searches (sym c.in-None.ensures)
+returns-in-None-clause-asked g c origins owner there searches = none-asked c.args.core.now.shared c.args.tenant c.args.job searches there (sym c.in-None.ensures)

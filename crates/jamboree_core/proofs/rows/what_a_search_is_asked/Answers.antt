@@ -11,10 +11,7 @@ returns-clause-opening c = record { own = 34628173824; opp = 68853694464; depth 
 
 pub returns-clause-shared : goal.returns-clause-shared
 returns-clause-shared c are =
-    let own : 3 ≡ are.own = at _ 0 are in
-    let opp : 2 ≡ are.opp = at _ 1 are in
-    let both : bit_and 3 2 ≡ 0 = ap (λ (n : ℕ). bit_and n 2) own ∙ ap (λ (n : ℕ). bit_and are.own n) opp ∙ are.apart in
-    let two : 2 ≡ 0 = both in omega (arith, two)
+    let two : 2 ≡ 0 = (ap (λ (n : ℕ). bit_and n 2) (at _ 0 are) ∙ ap (λ (n : ℕ). bit_and are.own n) (at _ 1 are) ∙ are.apart) in omega (arith, two)
 
 pub returns-clause-deeper : goal.returns-clause-deeper
 returns-clause-deeper c are = let depth : 13 ≡ are.depth = at _ 2 are in omega (arith, depth, are.shallow)

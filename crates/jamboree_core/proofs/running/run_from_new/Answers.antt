@@ -7,7 +7,7 @@ returns-clause-headline g c =
     let told = c.in_ok-run_searches.ensures.headline in
     let grain = ap (λ (p : Jamboree). p.grain) c.in_ok-core.ensures.procedure in
     let P : ℕ → Type 0 = λ n. IsHeadlineInFull n c.in_ok-core.core.shared c.args.steps.now told.0 c.run_searches.new.core.shared in
-    let both = headline-from-new c.args.procedure.grain c.args.config c.in_ok-core.core.shared c.args.steps.now told.0 c.run_searches.new.core.shared c.in_ok-core.ensures.empty c.requires (subst P grain told.2) in
+    let both = headline-from-new _ c.args.config _ c.args.steps.now told.0 _ c.in_ok-core.ensures.empty c.requires (subst P grain told.2) in
     (told.0, told.1, both.0, both.1)
 
 pub returns-clause-serves : goal.returns-clause-serves

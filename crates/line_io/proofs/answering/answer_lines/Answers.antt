@@ -9,26 +9,26 @@ loop-total-init g c =
 pub returns-in_err-count : goal.returns-in_err-count
 returns-in_err-count g c =
     let p = err_from_is_err_and c.from_residual.result c.from_residual.ensures.1 in
-    rw (p.1, p.2) (Run-read_failed g.S.Source.gives g.K.Sink.takes g.A.Answer.answers _ _ _ _ _ _ _ _ _ c.loop-total.invariant c.in_err-count.ensures.answer)
+    rw (p.1, p.2) (Run-read_failed c.loop-total.invariant c.in_err-count.ensures.answer)
 
 pub returns-in_err-answer_last : goal.returns-in_err-answer_last
 returns-in_err-answer_last g c =
     let p = err_from_is_err_and c.from_residual-in_err-answer_last.result c.from_residual-in_err-answer_last.ensures.1 in
-    rw (p.1, p.2) (Run-last_failed g.S.Source.gives g.K.Sink.takes g.A.Answer.answers _ _ _ _ _ _ _ _ _ _ _ _ c.loop-total.invariant (read-ended g.S.Source.gives _ _ _ _ c.if-count-eq0.true c.in_ok-count.ensures.answer) c.in_err-answer_last.ensures)
+    rw (p.1, p.2) (Run-last_failed c.loop-total.invariant (read-ended g.S.Source.gives _ _ _ _ c.if-count-eq0.true c.in_ok-count.ensures.answer) c.in_err-answer_last.ensures)
 
 pub returns-then-count-eq0 : goal.returns-then-count-eq0
 returns-then-count-eq0 g c =
-    Run-ended g.S.Source.gives g.K.Sink.takes g.A.Answer.answers _ _ _ _ _ _ _ _ _ _ _ _ _ c.loop-total.invariant (read-ended g.S.Source.gives _ _ _ _ c.if-count-eq0.true c.in_ok-count.ensures.answer) c.in_ok-answer_last.ensures
+    Run-ended c.loop-total.invariant (read-ended g.S.Source.gives _ _ _ _ c.if-count-eq0.true c.in_ok-count.ensures.answer) c.in_ok-answer_last.ensures
 
 pub returns-in_err-answer_block : goal.returns-in_err-answer_block
 returns-in_err-answer_block g c =
     let p = err_from_is_err_and c.from_residual-in_err-answer_block.result c.from_residual-in_err-answer_block.ensures.1 in
-    rw (p.1, p.2) (Run-write_failed g.S.Source.gives g.K.Sink.takes g.A.Answer.answers _ _ _ _ _ _ _ _ _ _ _ _ _ c.loop-total.invariant (read-gave g.S.Source.gives _ _ _ _ c.if-count-eq0.false c.in_ok-count.ensures.answer) c.in_err-answer_block.ensures.lines)
+    rw (p.1, p.2) (Run-write_failed c.loop-total.invariant (read-gave g.S.Source.gives _ _ _ _ c.if-count-eq0.false c.in_ok-count.ensures.answer) c.in_err-answer_block.ensures.lines)
 
 pub loop-total-preserved : goal.loop-total-preserved
 loop-total-preserved g c =
-    Run-more g.S.Source.gives g.K.Sink.takes g.A.Answer.answers _ _ _ _ _ _ _ _ _ _ _ _ _ _ _ c.loop-total.invariant (read-gave g.S.Source.gives _ _ _ _ c.if-count-eq0.false c.in_ok-count.ensures.answer) (length-front _ _ c.in_ok-count.ensures.bound) c.in_ok-answer_block.ensures.lines c.in_ok-answer_block.ensures.cutter
+    Run-more c.loop-total.invariant (read-gave g.S.Source.gives _ _ _ _ c.if-count-eq0.false c.in_ok-count.ensures.answer) (length-front _ _ c.in_ok-count.ensures.bound) c.in_ok-answer_block.ensures.lines c.in_ok-answer_block.ensures.cutter
 
 pub returns : goal.returns
 returns g c =
-    Run-too_much g.S.Source.gives g.K.Sink.takes g.A.Answer.answers _ _ _ _ _ _ _ _ c.loop-total.invariant c.loop-total-test.false
+    Run-too_much c.loop-total.invariant c.loop-total-test.false

@@ -14,28 +14,28 @@ loop-init g c =
 pub returns-in_err-count : goal.returns-in_err-count
 returns-in_err-count g c =
     let p = err_from_is_err_and c.from_residual.result c.from_residual.ensures.1 in
-    rw (p.1, p.2) (Talk-read_failed g.A.Ends.ends g.S.Source.gives g.K.Sink.takes g.A.Answer.answers _ _ _ _ _ _ _ _ c.loop.invariant c.in_err-count.ensures.answer)
+    rw (p.1, p.2) (Talk-read_failed c.loop.invariant c.in_err-count.ensures.answer)
 
 pub returns-in_err-talk_last : goal.returns-in_err-talk_last
 returns-in_err-talk_last g c =
     let p = err_from_is_err_and c.from_residual-in_err-talk_last.result c.from_residual-in_err-talk_last.ensures.1 in
-    rw (p.1, p.2) (Talk-last_failed g.A.Ends.ends g.S.Source.gives g.K.Sink.takes g.A.Answer.answers _ _ _ _ _ _ _ _ _ _ _ c.loop.invariant (read-ended g.S.Source.gives _ _ _ _ c.if-count-eq0.true c.in_ok-count.ensures.answer) c.in_err-talk_last.ensures.lines)
+    rw (p.1, p.2) (Talk-last_failed c.loop.invariant (read-ended g.S.Source.gives _ _ _ _ c.if-count-eq0.true c.in_ok-count.ensures.answer) c.in_err-talk_last.ensures.lines)
 
 pub returns-then-count-eq0 : goal.returns-then-count-eq0
 returns-then-count-eq0 g c =
-    Talk-ended g.A.Ends.ends g.S.Source.gives g.K.Sink.takes g.A.Answer.answers _ _ _ _ _ _ _ _ _ _ _ c.loop.invariant (read-ended g.S.Source.gives _ _ _ _ c.if-count-eq0.true c.in_ok-count.ensures.answer) c.in_ok-talk_last.ensures.lines c.in_ok-talk_last.ensures.end
+    Talk-ended c.loop.invariant (read-ended g.S.Source.gives _ _ _ _ c.if-count-eq0.true c.in_ok-count.ensures.answer) c.in_ok-talk_last.ensures.lines c.in_ok-talk_last.ensures.end
 
 pub returns-in_err-talk_block : goal.returns-in_err-talk_block
 returns-in_err-talk_block g c =
     let p = err_from_is_err_and c.from_residual-in_err-talk_block.result c.from_residual-in_err-talk_block.ensures.1 in
-    rw (p.1, p.2) (Talk-write_failed g.A.Ends.ends g.S.Source.gives g.K.Sink.takes g.A.Answer.answers _ _ _ _ _ _ _ _ _ _ _ _ c.loop.invariant (read-gave g.S.Source.gives _ _ _ _ c.if-count-eq0.false c.in_ok-count.ensures.answer) c.in_err-talk_block.ensures.lines)
+    rw (p.1, p.2) (Talk-write_failed c.loop.invariant (read-gave g.S.Source.gives _ _ _ _ c.if-count-eq0.false c.in_ok-count.ensures.answer) c.in_err-talk_block.ensures.lines)
 
 pub returns-then-branch : goal.returns-then-branch
 returns-then-branch g c =
     let stops = not-true _ (sym c.in_ok-talk_block.ensures.ended ∙ c.if-branch.true) in
-    Talk-stopped g.A.Ends.ends g.S.Source.gives g.K.Sink.takes g.A.Answer.answers _ _ _ _ _ _ _ _ _ _ _ c.loop.invariant (read-gave g.S.Source.gives _ _ _ _ c.if-count-eq0.false c.in_ok-count.ensures.answer) c.in_ok-talk_block.ensures.lines stops
+    Talk-stopped c.loop.invariant (read-gave g.S.Source.gives _ _ _ _ c.if-count-eq0.false c.in_ok-count.ensures.answer) c.in_ok-talk_block.ensures.lines stops
 
 pub loop-preserved : goal.loop-preserved
 loop-preserved g c =
     let goes_on = not_false _ (sym c.if-branch.false ∙ c.in_ok-talk_block.ensures.ended) in
-    Talking-more g.A.Ends.ends g.S.Source.gives g.K.Sink.takes g.A.Answer.answers _ _ _ _ _ _ _ _ _ _ _ _ c.loop.invariant (read-gave g.S.Source.gives _ _ _ _ c.if-count-eq0.false c.in_ok-count.ensures.answer) c.in_ok-talk_block.ensures.lines goes_on (c.in_ok-talk_block.ensures.cutter (ap Ok c.if-branch.false))
+    Talking-more c.loop.invariant (read-gave g.S.Source.gives _ _ _ _ c.if-count-eq0.false c.in_ok-count.ensures.answer) c.in_ok-talk_block.ensures.lines goes_on (c.in_ok-talk_block.ensures.cutter (ap Ok c.if-branch.false))

@@ -7,5 +7,6 @@ use Rattle.number_index.proofs.index.search.Goals as goal
 pub returns : goal.returns
 returns g c =
     let number_of = g.T.Numbered.number_of in
-    let point = IsPartitionPoint-from_clause (λ thing. ltb (number_of thing) c.args.number) c.args.things.now c.partition_point.result c.partition_point.ensures.partitioned (partitioned-rising number_of c.args.number c.args.things.now c.requires) (λ a r f called. search rules) in
+    let parted = partitioned-rising number_of c.args.number c.args.things.now c.requires in
+    let point = IsPartitionPoint-from_clause (λ thing. ltb (number_of thing) c.args.number) _ _ c.partition_point.ensures.partitioned parted (λ a r f called. search rules) in
     point-is_count_below number_of c.args.number c.args.things.now c.partition_point.result point c.partition_point.ensures.bound

@@ -4,5 +4,5 @@ use Rattle.sched_core.proofs.acts.may_do.Goals as goal
 
 pub returns : goal.returns
 returns g c tenant frame seen is left words =
-    c.may_act.ensures tenant frame (seen-words c.args.store.now c.args.name tenant frame seen is ∙ sym words)
-    (rw (seen-child c.args.store.now c.args.name tenant frame seen is) (c.has_child_for-has_child.ensures _)) (sym is.left ∙ left)
+    c.may_act.ensures tenant frame (seen-words is ∙ sym words)
+    (rw (seen-child is) (c.has_child_for-has_child.ensures _)) (sym is.left ∙ left)

@@ -9,25 +9,25 @@ use Rattle.sched_core.proofs.ends.end_at.Goals as goal
 aborts : (g : Over) (c : After-abort g) → (n : IsNamed c.args.store.now c.args.root) × IsWith c.args.store.now c.args.root.tenant (without_under c.args.root.serial n.tenant) c.abort.new.self
 aborts g c =
     let n = named-there c.args.store.now c.args.root c.requires.there in
-    (n, then-changed _ _ _ _ c.abort.new.self (without_under c.args.root.serial) (begins c.args.store.now c.args.root.tenant n.tenant n.owner) c.abort.ensures.aborted)
+    (n, then-changed _ _ _ _ c.abort.new.self _ (begins c.args.root.tenant n.tenant c.args.store.now n.owner) c.abort.ensures.aborted)
 
 pub remove-requires-clause-there : goal.remove-requires-clause-there
 remove-requires-clause-there g c =
     let a = aborts g (goal.at.remove-requires-clause-there g c).After-abort in
     let n = a.0 in
     let shape = shaped-in c.args.root.tenant c.args.store.now.tenants n.tenant c.requires.shaped n.owner in
-    with-named _ _ c.args.root _ n.frame a.1 (aborted-itself c.args.root.serial n.tenant.frames n.frame shape.tree n.found)
+    with-named c.args.root _ n.frame (aborted-itself c.args.root.serial n.tenant.frames n.frame shape.tree n.found) _ _ a.1
 
 pub remove-requires-clause-leaf : goal.remove-requires-clause-leaf
 remove-requires-clause-leaf g c =
     let a = aborts g (goal.at.remove-requires-clause-leaf g c).After-abort in
     let n = a.0 in
     let shape = shaped-in c.args.root.tenant c.args.store.now.tenants n.tenant c.requires.shaped n.owner in
-    aborted-childless c.args.store.now c.abort.new.self c.args.root.tenant c.args.root.serial n.tenant shape.tree a.1
+    aborted-childless c.args.store.now c.abort.new.self c.args.root.tenant n.tenant c.args.root.serial shape.tree a.1
 
 pub end_job-requires-clause-there : goal.end_job-requires-clause-there
 end_job-requires-clause-there g c =
-    let gone = then-changed _ _ _ _ c.remove.new.self (without_frame c.args.root.serial) (aborts g (goal.at.end_job-requires-clause-there g c).After-abort).1 c.remove.ensures in
+    let gone = then-changed _ _ _ _ c.remove.new.self _ (aborts g (goal.at.end_job-requires-clause-there g c).After-abort).1 c.remove.ensures in
     with-there _ _ _ _ gone
 
 pub returns : goal.returns

@@ -5,12 +5,12 @@ use Rattle.site_book.proofs.held.used_besides.Goals as goal
 
 pub less-requires : goal.less-requires
 less-requires c =
-    own-within c.args.part c.args.grants.now c.args.place c.index-grants-place.result c.with_one.result c.used_in-used.result c.requires.there c.index-grants-place.is (sym c.has.ensures ∙ c.if-has.true) c.used_in-used.ensures.value c.with_one.ensures.value
+    own-within c.args.part _ _ _ _ c.requires.there c.index-grants-place.is c.used_in-used.ensures.value _ (sym c.has.ensures ∙ c.if-has.true) c.with_one.ensures.value
 
 pub returns-then-has-clause-value : goal.returns-then-has-clause-value
 returns-then-has-clause-value c =
-    own-less c.args.part c.args.grants.now c.args.place c.index-grants-place.result c.with_one.result c.used_in-used.result c.less.result c.requires.there c.index-grants-place.is (sym c.has.ensures ∙ c.if-has.true) c.used_in-used.ensures.value c.with_one.ensures.value c.less.ensures
+    own-less c.args.part _ _ _ _ c.requires.there c.index-grants-place.is c.used_in-used.ensures.value _ _ (sym c.has.ensures ∙ c.if-has.true) c.with_one.ensures.value c.less.ensures
 
 pub returns-else-has-clause-value : goal.returns-else-has-clause-value
 returns-else-has-clause-value c =
-    other-same c.args.part c.args.grants.now c.args.place c.index-grants-place.result c.used_in-used.result c.requires.there c.index-grants-place.is (sym c.has.ensures ∙ c.if-has.false) c.used_in-used.ensures.value
+    other-same c.args.part _ _ _ _ c.requires.there c.index-grants-place.is c.used_in-used.ensures.value (sym c.has.ensures ∙ c.if-has.false)

@@ -4,8 +4,8 @@ use Rattle.site_book.proofs.laws.no_customer_is_disturbed.Goals as goal
 
 pub returns : goal.returns
 returns c = record {
-  told = λ plan events number. told-theirs (same_who (Named number)) (same_who (Named number)) (new_book plan) events (λ w own. own) (named-whole number);
-  grants = λ plan events number. ap (λ (b : BookOf). b.grants) (sym (run-theirs (same_who (Named number)) (new_book plan) events (named-whole number)));
-  guests_told = λ plan events guest is. told-theirs (same_who guest) is_guest (new_book plan) events (guest-among guest is) guests-whole;
-  guests_grants = λ plan events. ap (λ (b : BookOf). b.grants) (sym (run-theirs is_guest (new_book plan) events guests-whole));
+  told = λ plan events number. told-theirs (same_who (Named number)) (same_who (Named number)) (λ w own. own) (named-whole number) (new_book plan) events;
+  grants = λ plan events number. ap (λ (b : BookOf). b.grants) (sym (run-theirs (same_who (Named number)) (named-whole number) (new_book plan) events));
+  guests_told = λ plan events guest is. told-theirs (same_who guest) is_guest (guest-among guest is) guests-whole (new_book plan) events;
+  guests_grants = λ plan events. ap (λ (b : BookOf). b.grants) (sym (run-theirs is_guest guests-whole (new_book plan) events));
 }

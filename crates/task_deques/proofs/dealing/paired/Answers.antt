@@ -9,11 +9,11 @@ loop-own-preserved g c =
     let row = c.take_last-thieves.result in
     let owners : List (DequeSeatIn g.row.A.Denot) = owner_seats c.args.owners.items in
     let thieves : List (DequeSeatIn g.row.A.Denot) = map new_thief owners in
-    let popped = All-pop (λ r. thief_seats r.items ≡ thieves) at.rows.items c.take_last-thieves.new.self.items (Some row) c.take_last-thieves.ensures.items c.loop-own.invariant.1 in
+    let popped = All-pop (λ r. thief_seats r.items ≡ thieves) at.rows.items _ (Some row) c.take_last-thieves.ensures.items c.loop-own.invariant.1 in
     let its : worker_seats (record { own = own; thieves = row }) ≡ beside thieves (owner_seat own) = ap (λ (l : List (DequeSeatIn g.row.A.Denot)). beside l (owner_seat own)) popped.1 in (
-      rw c.push_reserved.ensures.items (gives at.all.items (record { own = own; thieves = row }) own (into_iter_items at.own-iterator) (into_iter_items c.next.new.self) thieves owners its c.in-Some.ensures.steps.0 c.loop-own.invariant.0),
+      rw c.push_reserved.ensures.items (gives at.all.items (record { own = own; thieves = row }) own _ _ thieves owners its c.in-Some.ensures.steps.0 c.loop-own.invariant.0),
       popped.0,
       omega (arith, c.in-Some.ensures.steps.1, c.take_last-thieves.ensures.len, c.loop-own.invariant.2),
       omega (arith, c.in-Some.ensures.steps.1, c.push_reserved.ensures.len, c.push_reserved.ensures.capacity, c.loop-own.invariant.3),
-      rw c.push_reserved.ensures.items (gives_room at.all.items (record { own = own; thieves = row }) (into_iter_items at.own-iterator) (into_iter_items c.next.new.self) _ c.in-Some.ensures.steps.0 c.loop-own.invariant.4),
+      rw c.push_reserved.ensures.items (gives_room at.all.items (record { own = own; thieves = row }) _ _ _ c.in-Some.ensures.steps.0 c.loop-own.invariant.4),
     )

@@ -11,11 +11,11 @@ loop-place-preserved g c =
     let inside : at.place < length at.owners.items = omega (arith, at.owners.ok.0, c.loop-place.invariant.4) in
     let within : at.place < length before = omega (arith, c.loop-place.invariant.5) in
     let here = owner_at with_part_cut at.owners.items before at.place x inside c.index_mut.ensures.value c.loop-place.invariant.0 in (
-      cut_at at.owners.items before at.place x c.thief.new.self inside within c.index_mut.ensures.value c.loop-place.invariant.0 c.thief.ensures.owner,
-      rw c.push_reserved.ensures.items (row_push at.row.items before at.place thief (owner_seat x) within c.loop-place.invariant.1 (c.in_ok-thief.ensures.thief ∙ ap new_thief here)),
+      cut_at at.owners.items before at.place x inside within c.index_mut.ensures.value c.loop-place.invariant.0 c.thief.new.self c.thief.ensures.owner,
+      rw c.push_reserved.ensures.items (row_push _ before _ _ (owner_seat x) within c.loop-place.invariant.1 (c.in_ok-thief.ensures.thief ∙ ap new_thief here)),
       omega (arith, c.push_reserved.ensures.len),
       omega (arith, c.push_reserved.ensures.capacity),
       search rules,
       search rules,
-      map-set_same owner_room at.owners.items at.place c.thief.new.self x (c.thief.ensures.room ∙ ap owner_room c.index_mut.ensures.value) ∙ c.loop-place.invariant.6,
+      map-set_same owner_room at.owners.items at.place _ x (c.thief.ensures.room ∙ ap owner_room c.index_mut.ensures.value) ∙ c.loop-place.invariant.6,
     )

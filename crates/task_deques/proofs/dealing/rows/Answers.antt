@@ -4,7 +4,7 @@ use Rattle.task_deques.proofs.dealing.rows.Goals as goal
 
 pub loop-made-init : goal.loop-made-init
 loop-made-init g c = (
-  sym (fresh_same (owner_seats c.args.owners.now.items) (All-map (λ (seat : DequeSeatIn g.row.A.Denot). seat.tally ≡ tally 64 [] []) owner_seat c.args.owners.now.items c.requires.fresh)),
+  sym (fresh_same _ (All-map (λ (seat : DequeSeatIn g.row.A.Denot). seat.tally ≡ tally 64 [] []) owner_seat c.args.owners.now.items c.requires.fresh)),
   λ k d inside. absurd (omega (arith, ap length c.in_ok-rows.ensures.items)),
   search rules,
   search rules,

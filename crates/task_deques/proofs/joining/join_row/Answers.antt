@@ -9,15 +9,15 @@ index_mut-requires g c =
 
 pub join-requires-clause-deque : goal.join-requires-clause-deque
 join-requires-clause-deque g c =
-    (joins_here c.loop-thief.owners.items c.loop-thief.place c.index_mut.result.now c.in-Some.thief _ _ _ c.index_mut.ensures.value c.in-Some.ensures.steps.0 c.loop-thief.invariant).1
+    (joins_here _ _ c.in-Some.thief _ _ _ c.in-Some.ensures.steps.0 c.loop-thief.invariant _ c.index_mut.ensures.value).1
 
 pub join-requires-clause-parts : goal.join-requires-clause-parts
 join-requires-clause-parts g c =
-    (joins_here c.loop-thief.owners.items c.loop-thief.place c.index_mut.result.now c.in-Some.thief _ _ _ c.index_mut.ensures.value c.in-Some.ensures.steps.0 c.loop-thief.invariant).2
+    (joins_here _ _ c.in-Some.thief _ _ _ c.in-Some.ensures.steps.0 c.loop-thief.invariant _ c.index_mut.ensures.value).2
 
 pub loop-thief-preserved : goal.loop-thief-preserved
 loop-thief-preserved g c =
-    joined_here c.loop-thief.owners.items c.loop-thief.place c.index_mut.result.now c.join.new.self c.in-Some.thief _ _ _ c.index_mut.ensures.value c.in-Some.ensures.steps.0 c.join.ensures.seat c.loop-thief.invariant
+    joined_here _ _ c.in-Some.thief _ _ _ c.in-Some.ensures.steps.0 c.loop-thief.invariant _ c.index_mut.ensures.value _ c.join.ensures.seat
 
 pub returns : goal.returns
 returns g c =

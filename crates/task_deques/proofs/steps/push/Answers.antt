@@ -2,4 +2,4 @@ use Rattle.task_deques.proofs.RuleLemmas.{pushes}
 use Rattle.task_deques.proofs.steps.push.Goals as goal
 
 pub push_as-requires-clause-pushes : goal.push_as-requires-clause-pushes
-push_as-requires-clause-pushes g c = pushes _ _ _ c.requires
+push_as-requires-clause-pushes g c = pushes _ _ c.requires _

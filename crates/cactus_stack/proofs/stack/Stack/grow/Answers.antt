@@ -1,17 +1,16 @@
-use Rattle.cactus_stack.proofs.Common.{◌≡◌, ◌+◌, ◌++◌, replicate, refl, arith, node_words, with_node_words, with_len, nodes_from, IsStack}
+use Rattle.cactus_stack.proofs.Common.{◌+◌, ◌++◌, replicate, refl, arith, node_words, with_node_words, with_len}
 use Rattle.cactus_stack.proofs.Content.{charge-some}
-use Rattle.cactus_stack.proofs.Steps.{IsRead, is_read, free-is, grown}
-use Rattle.cactus_stack.proofs.stack.Stack.grow.Given.{Over}
-use Rattle.cactus_stack.proofs.stack.Stack.grow.Goals.{After-index, After-grow_chain}
+use Rattle.cactus_stack.proofs.Steps.{IsRead, Shows, is_read, free-is, grown}
+use Rattle.cactus_stack.proofs.stack.Stack.grow.Goals.{After-grow_chain, After-index}
 use Rattle.cactus_stack.proofs.stack.Stack.grow.Goals as goal
 
 -- the node's place, as it was read
-read : (g : Over) (c : After-index g) → IsRead c.self.inside.region c.self.inside.places.items c.args.self.now c.args.node c.index-at.result c.index.result.now
+read : (g : _) (c : After-index g) → IsRead c.self.inside.region c.self.inside.places.items c.args.self.now c.args.node c.index-at.result c.index.result.now
 read g c = is_read c.self.invariant.stored c.self.view_is c.requires.is_open c.index-at.ensures c.first.ensures c.index.ensures
 
 -- the step that the region made
-step : (g : Over) (c : After-grow_chain g) → (nodes_from c.grow_chain.new.region 0 (with_len c.self.inside.places.items c.args.node (c.index.result.now.len + c.args.more)) ≡ with_node_words c.args.self.now c.args.node (node_words c.args.self.now c.args.node ++ replicate c.args.more 0))
-    × IsStack c.grow_chain.new.region (with_len c.self.inside.places.items c.args.node (c.index.result.now.len + c.args.more))
+step : (g : _) (c : After-grow_chain g) → Shows c.grow_chain.new.region (with_len c.self.inside.places.items c.args.node (c.index.result.now.len + c.args.more))
+    (with_node_words c.args.self.now c.args.node (node_words c.args.self.now c.args.node ++ replicate c.args.more 0))
 step g c =
     let of = is_read c.self.invariant.stored c.self.view_is c.requires.is_open c.index-at.ensures c.first.ensures c.index.ensures in
     grown c.self.invariant c.self.view_is c.args.more c.requires.is_open of c.first-2.ensures c.charge-count.ensures c.charge.ensures (omega (arith, of.len, c.requires.in_limits)) c.grow_chain.ensures

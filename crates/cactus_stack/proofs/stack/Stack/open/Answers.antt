@@ -1,14 +1,12 @@
-use Rattle.cactus_stack.proofs.Common.{◌≡◌, ◌+◌, Some, refl, sym, ap, ◌∙◌, arith, set, padded, IsUnused, with_node, nodes_from, IsUnder, IsStack, Place}
-use Rattle.cactus_stack.proofs.Steps.{is_read, depth_in_limits, free-is, opened}
-use Rattle.cactus_stack.proofs.stack.Stack.open.Given.{Over}
+use Rattle.cactus_stack.proofs.Common.{◌≡◌, ◌+◌, Some, refl, sym, ap, ◌∙◌, arith, set, padded, IsUnused, with_node, IsUnder, Place}
+use Rattle.cactus_stack.proofs.Steps.{Shows, is_read, depth_in_limits, free-is, opened}
 use Rattle.cactus_stack.proofs.stack.Stack.open.Goals.{in-Some, in-None, After-index_mut}
 use Rattle.cactus_stack.proofs.stack.Stack.open.Goals as goal
 
 -- the step that the region made
-step : (g : Over) (c : After-index_mut g) → IsUnused c.args.self.now c.in-Some-fresh_chain.first
-    × (nodes_from c.fresh_chain.new.region 0 (set c.self.inside.places.items c.in-Some-fresh_chain.first (record { len = c.args.size; parent = c.match-parent.parent; depth = c.match-parent.depth }))
-    ≡ with_node c.args.self.now c.in-Some-fresh_chain.first (Some (record { parent = c.match-parent.parent; words = padded c.args.words.now c.args.size })))
-    × IsStack c.fresh_chain.new.region (set c.self.inside.places.items c.in-Some-fresh_chain.first (record { len = c.args.size; parent = c.match-parent.parent; depth = c.match-parent.depth }))
+step : (g : _) (c : After-index_mut g) → IsUnused c.args.self.now c.in-Some-fresh_chain.first
+    × Shows c.fresh_chain.new.region (set c.self.inside.places.items c.in-Some-fresh_chain.first (record { len = c.args.size; parent = c.match-parent.parent; depth = c.match-parent.depth }))
+    (with_node c.args.self.now c.in-Some-fresh_chain.first (Some (record { parent = c.match-parent.parent; words = padded c.args.words.now c.args.size })))
 step g c =
     let under : IsUnder c.args.self.now c.self.inside.places.items c.match-parent.parent c.match-parent.depth = elim c.match-parent.branch [
       | in-Some w ↦
@@ -31,7 +29,7 @@ returns-then-free_count-count-clause-refused g c =
     ((λ _. omega (arith, free, c.charge-count.ensures, c.if-free_count-count.true)), (λ _. refl))
 
 pub invariant_of-self : goal.invariant_of-self
-invariant_of-self g c = rw c.index-in-Some-fresh_chain.ensures (step g (goal.at.invariant_of-self g c).After-index_mut).2
+invariant_of-self g c = rw c.index-in-Some-fresh_chain.ensures (step g (goal.at.invariant_of-self g c).After-index_mut).1.1
 
 pub returns-clause-was_unused : goal.returns-clause-was_unused
 returns-clause-was_unused g c = rw c.of_segment.ensures (step g (goal.at.returns-clause-was_unused g c).After-index_mut).0
@@ -39,7 +37,7 @@ returns-clause-was_unused g c = rw c.of_segment.ensures (step g (goal.at.returns
 pub returns-clause-opened : goal.returns-clause-opened
 returns-clause-opened g c =
     let parent : c.match-parent.parent ≡ c.args.parent = elim c.match-parent.branch [ in-Some w ↦ w.parent-is ∙ sym w.in-Some.is | in-None w ↦ w.parent-is ] in
-    rw (c.index-in-Some-fresh_chain.ensures, c.of_segment.ensures, ← parent) (step g (goal.at.returns-clause-opened g c).After-index_mut).1
+    rw (c.index-in-Some-fresh_chain.ensures, c.of_segment.ensures, ← parent) (step g (goal.at.returns-clause-opened g c).After-index_mut).1.0
 
 pub returns-clause-refused : goal.returns-clause-refused
 returns-clause-refused g c =

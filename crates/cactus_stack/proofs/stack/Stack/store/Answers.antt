@@ -1,25 +1,24 @@
 use Rattle.cactus_stack.proofs.Common.{◌≡◌, suc, ◌<◌, ◌∙◌, ◌/◌, Some, get_or, arith, chain, len_at}
 use Rattle.cactus_stack.proofs.Content.{front_of_sound, place_of_sound, place_is_taken}
 use Rattle.cactus_stack.proofs.Steps.{kept_node, stored_word}
-use Rattle.cactus_stack.proofs.stack.Stack.store.Given.{Over}
 use Rattle.cactus_stack.proofs.stack.Stack.store.Goals.{After-segment_after-segment}
 use Rattle.cactus_stack.proofs.stack.Stack.store.Goals as goal
 
 -- the segment that holds the word
-place : (g : Over) (c : After-segment_after-segment g) → c.segment_after-segment.result ≡ get_or (chain (suc (c.args.at / 16)) c.self.inside.region (Some c.args.node)) (c.args.at / 16) 0
+place : (g : _) (c : After-segment_after-segment g) → c.segment_after-segment.result ≡ get_or (chain (suc (c.args.at / 16)) c.self.inside.region (Some c.args.node)) (c.args.at / 16) 0
 place g c = rw (c.view.ensures, c.first.ensures) at c.segment_after-segment.ensures
 
 pub segment_after-segment-requires : goal.segment_after-segment-requires
 segment_after-segment-requires g c =
-    let it = kept_node c.args.node c.self.invariant.stored c.self.view_is c.requires.is_open in
-    rw (c.view.ensures, c.first.ensures) (front_of_sound c.self.inside.region c.args.node (len_at c.self.inside.places.items c.args.node) c.args.at it.sound (omega (arith, c.requires.in_bounds, it.len)))
+    let it = kept_node c.self.invariant.stored c.self.view_is c.args.node c.requires.is_open in
+    rw (c.view.ensures, c.first.ensures) (front_of_sound it.sound c.args.at (omega (arith, c.requires.in_bounds, it.len)))
 
 pub words_mut-requires : goal.words_mut-requires
 words_mut-requires g c =
-    let it = kept_node c.args.node c.self.invariant.stored c.self.view_is c.requires.is_open in
+    let it = kept_node c.self.invariant.stored c.self.view_is c.args.node c.requires.is_open in
     let below : c.args.at < len_at c.self.inside.places.items c.args.node = omega (arith, c.requires.in_bounds, it.len) in
-    rw (place g (goal.at.words_mut-requires g c).After-segment_after-segment ∙ place_of_sound c.self.inside.region c.args.node (len_at c.self.inside.places.items c.args.node) c.args.at below)
-    (place_is_taken c.self.inside.region c.args.node (len_at c.self.inside.places.items c.args.node) c.args.at it.sound below).0
+    rw (place g (goal.at.words_mut-requires g c).After-segment_after-segment ∙ place_of_sound it.sound c.args.at below)
+    (place_is_taken it.sound c.args.at below).0
 
 pub invariant_of-self : goal.invariant_of-self
 invariant_of-self g c =

@@ -4,17 +4,17 @@ use Rattle.cactus_stack.proofs.words.Words.get.Goals as goal
 
 pub segment_after-segment-requires : goal.segment_after-segment-requires
 segment_after-segment-requires c =
-    front_of_sound c.self.inside.region c.self.inside.first c.self.inside.len c.args.at c.self.invariant (omega (arith, c.if-at-self.false))
+    front_of_sound c.self.invariant c.args.at (omega (arith, c.if-at-self.false))
 
 pub words-requires : goal.words-requires
 words-requires c =
     let below : c.args.at < c.self.inside.len = omega (arith, c.if-at-self.false) in
-    rw (c.segment_after-segment.ensures ∙ place_of_sound c.self.inside.region c.self.inside.first c.self.inside.len c.args.at below)
-    (place_is_taken c.self.inside.region c.self.inside.first c.self.inside.len c.args.at c.self.invariant below).0
+    rw (c.segment_after-segment.ensures ∙ place_of_sound c.self.invariant c.args.at below)
+    (place_is_taken c.self.invariant c.args.at below).0
 
 pub returns : goal.returns
 returns c =
     let below : c.args.at < c.self.inside.len = omega (arith, c.if-at-self.false) in
-    let place = c.segment_after-segment.ensures ∙ place_of_sound c.self.inside.region c.self.inside.first c.self.inside.len c.args.at below in
+    let place = c.segment_after-segment.ensures ∙ place_of_sound c.self.invariant c.args.at below in
     rw (c.words.ensures.value, place, ← c.self.view_is)
-    (sym (word_of_sound c.self.inside.region c.self.inside.first c.self.inside.len c.args.at c.self.invariant below))
+    (sym (word_of_sound c.self.invariant c.args.at below))

@@ -4,4 +4,4 @@ use Rattle.cactus_stack.proofs.words.Words.len.Goals as goal
 
 pub returns-clause-value : goal.returns-clause-value
 returns-clause-value c =
-    rw (← c.self.view_is) (sym (length-words_in c.self.inside.region c.self.inside.first c.self.inside.len c.self.invariant))
+    rw (← c.self.view_is) (sym (length-words_in c.self.invariant))

@@ -1,5 +1,4 @@
 use Rattle.frame_tree.proofs.Common.{[], refl, ◌∙◌, arith, slots_in}
-use Rattle.frame_tree.proofs.SlotStores.{slots_in-length}
 use Rattle.frame_tree.proofs.Cutting.{HasCut, all_there, marked_there, cut_store, cut_slots, cut_values}
 use Rattle.frame_tree.proofs.Aborts.{marks_early, none_marked_early}
 use Rattle.frame_tree.proofs.slot_store.SlotStore.cut.Given.{Over}
@@ -7,15 +6,11 @@ use Rattle.frame_tree.proofs.slot_store.SlotStore.cut.Goals.{After-sweep}
 use Rattle.frame_tree.proofs.slot_store.SlotStore.cut.Goals as goal
 
 -- what the marks and the sweep left
-was_cut : (g : Over) (c : After-sweep g) → HasCut c.args.under c.self.inside.slab c.mark_under.new.slab c.sweep.new.slab c.self.inside.order.list c.sweep.new.order.list
-was_cut g c =
-    let marks = rw c.as_slice.ensures.value at c.mark_under.ensures.marked in
-    record { marks = marks; kept = c.sweep.ensures.kept; swept = c.sweep.ensures.slots }
-
-pub mark_under-requires-clause-within : goal.mark_under-requires-clause-within
-mark_under-requires-clause-within g c =
-    let within = rw (← c.self.view_is) at c.requires.within in
-    rw c.as_slice.ensures.value (omega (arith, within, slots_in-length c.self.inside.slab [] c.self.inside.order.list c.self.invariant.here))
+module _ (g : Over) (c : After-sweep g) where
+  was_cut : HasCut c.args.under c.self.inside.slab c.mark_under.new.slab c.sweep.new.slab c.self.inside.order.list c.sweep.new.order.list
+  was_cut =
+      let marks = rw c.as_slice.ensures.value at c.mark_under.ensures.marked in
+      record { marks = marks; kept = c.sweep.ensures.kept; swept = c.sweep.ensures.slots }
 
 pub mark_under-requires-clause-early : goal.mark_under-requires-clause-early
 mark_under-requires-clause-early g c =
@@ -24,17 +19,13 @@ mark_under-requires-clause-early g c =
     let linked = rw (← c.self.view_is) at c.requires.linked in
     rw c.as_slice.ensures.value (marks_early c.args.under c.self.inside.slab c.self.inside.order.list c.args.at c.self.invariant.here linked within named)
 
-pub sweep-requires-clause-within : goal.sweep-requires-clause-within
-sweep-requires-clause-within g c =
-    omega (arith, (rw (← c.self.view_is) at c.requires.within), slots_in-length c.self.inside.slab [] c.self.inside.order.list c.self.invariant.here)
-
 pub sweep-requires-clause-early : goal.sweep-requires-clause-early
 sweep-requires-clause-early g c =
     let marks = rw c.as_slice.ensures.value at c.mark_under.ensures.marked in
     let within = rw (← c.self.view_is) at c.requires.within in
     let named = rw (← c.self.view_is) at c.requires.named in
     let linked = rw (← c.self.view_is) at c.requires.linked in
-    none_marked_early c.args.under c.self.inside.slab c.mark_under.new.slab c.self.inside.order.list c.args.at c.self.invariant.here linked within named marks
+    none_marked_early c.args.under c.self.inside.slab c.self.inside.order.list c.args.at c.self.invariant.here linked within named c.mark_under.new.slab marks
 
 pub sweep-requires-clause-there : goal.sweep-requires-clause-there
 sweep-requires-clause-there g c =
@@ -43,21 +34,16 @@ sweep-requires-clause-there g c =
     let marks = rw c.as_slice.ensures.value at c.mark_under.ensures.marked in
     marked_there c.args.under (slots_in slab order) order slab c.mark_under.new.slab order marks (all_there slab [] order c.self.invariant.here)
 
-pub sweep-requires-clause-room : goal.sweep-requires-clause-room
-sweep-requires-clause-room g c =
-    omega (arith, (rw (← c.self.view_is) at c.requires.room), slots_in-length c.self.inside.slab [] c.self.inside.order.list c.self.invariant.here)
-
 pub invariant_of-self : goal.invariant_of-self
 invariant_of-self g c =
     let cut = was_cut g (goal.at.invariant_of-self g c).After-sweep in
     let linked = rw (← c.self.view_is) at c.requires.linked in
-    rw c.sweep.ensures.order_places (cut_store _ _ _ _ _ _ _ _ cut c.self.invariant linked (omega (arith, c.sweep.ensures.len, c.mark_under.ensures.len)) (c.sweep.ensures.capacity ∙ c.mark_under.ensures.capacity))
+    rw c.sweep.ensures.order_places (cut_store cut c.self.invariant linked (omega (arith, c.sweep.ensures.len, c.mark_under.ensures.len)) (c.sweep.ensures.capacity ∙ c.mark_under.ensures.capacity))
 
 pub returns-clause-kept : goal.returns-clause-kept
 returns-clause-kept g c =
-    rw (← c.self.view_is, cut_slots _ _ _ _ _ _ (was_cut g (goal.at.returns-clause-kept g c).After-sweep) c.self.invariant.here) refl
+    rw (← c.self.view_is, cut_slots (was_cut g (goal.at.returns-clause-kept g c).After-sweep) c.self.invariant.here) refl
 
 pub returns-clause-values : goal.returns-clause-values
 returns-clause-values g c =
-    let cut = was_cut g (goal.at.returns-clause-values g c).After-sweep in
-    rw (← c.self.view_is, ← cut_values _ _ _ _ _ _ cut c.self.invariant.here) c.sweep.ensures.values
+    rw (← c.self.view_is, ← cut_values (was_cut g (goal.at.returns-clause-values g c).After-sweep) c.self.invariant.here) c.sweep.ensures.values

@@ -1,5 +1,5 @@
 use Rattle.std.proofs.Common.{sym}
-use Rattle.frame_tree.proofs.Keys.{serials_of-rises, none_at, are_keys, key_found, seen_at}
+use Rattle.frame_tree.proofs.Keys.{are_keys, key_found, seen_at}
 use Rattle.frame_tree.proofs.slot_store.SlotStore.find.Goals as goal
 
 pub returns-then-kept-serial-clause-found : goal.returns-then-kept-serial-clause-found
@@ -10,9 +10,3 @@ returns-then-kept-serial-clause-found g c =
     let found = sym c.in-Some.ensures in
     let key = key_found slab order c.args.serial c.guess-key.result c.in-Some.kept.now are found c.if-kept-serial.true in
     rw (← c.self.view_is) (key.0, seen_at slab order c.args.serial key.0 c.guess-key.result c.in-Some.kept.now are key.1 found)
-
-pub search-requires : goal.search-requires
-search-requires g c = rw c.requires.index (serials_of-rises _ c.requires.rise)
-
-pub returns-in-None-clause-none : goal.returns-in-None-clause-none
-returns-in-None-clause-none g c = none_at _ _ _ c.requires.index c.in-None.ensures.none

@@ -1,4 +1,4 @@
-use Rattle.frame_tree.proofs.Common.{[], refl, arith, Ready, IsSlotStore}
+use Rattle.frame_tree.proofs.Common.{[], refl, arith, IsSlotStore}
 use Rattle.frame_tree.proofs.SlotStores.{slots_in-length, push_store, push_slots}
 use Rattle.frame_tree.proofs.slot_store.SlotStore.push.Goals as goal
 
@@ -7,11 +7,6 @@ insert_reserved-key-requires g c =
     let less = rw (← c.self.view_is) at c.requires.room in
     let long = slots_in-length c.self.inside.slab [] c.self.inside.order.list c.self.invariant.here in
     omega (arith, less, long, c.adopt-root.ensures.keys.counted, c.self.invariant.slab_room, c.adopt-root.ensures.capacity)
-
-pub push-requires : goal.push-requires
-push-requires g c =
-    let less = rw (← c.self.view_is) at c.requires.room in
-    omega (arith, less, slots_in-length c.self.inside.slab [] c.self.inside.order.list c.self.invariant.here, c.self.invariant.order_room)
 
 pub invariant_of-self : goal.invariant_of-self
 invariant_of-self g c =
@@ -27,11 +22,12 @@ invariant_of-self g c =
       slab_room = omega (arith, c.self.invariant.slab_room, c.adopt-root.ensures.capacity);
       order_room = c.self.invariant.order_room;
     } in
-    rw c.push.ensures (push_store slab c.insert_reserved-key.new.self order _ _ c.insert_reserved-key.result (record { serial = c.args.serial; parent = c.args.parent; root = c.adopt-root.result.0; state = Ready c.args.home; children = 0; value = c.args.value }) c.adopt-root.result.1 store less c.adopt-root.ensures.above c.insert_reserved-key.ensures.was_vacant c.insert_reserved-key.ensures.updates c.insert_reserved-key.ensures.len c.insert_reserved-key.ensures.capacity)
+    rw c.push.ensures (push_store slab c.insert_reserved-key.new.self order c.insert_reserved-key.result _ _ c.insert_reserved-key.ensures.was_vacant c.insert_reserved-key.ensures.updates
+    _ _ store less c.adopt-root.ensures.above c.insert_reserved-key.ensures.len c.insert_reserved-key.ensures.capacity)
 
 pub returns : goal.returns
 returns g c =
     let slab = c.adopt-root.new.slab in
     let order = c.self.inside.order.list in
-    let slots = push_slots slab c.insert_reserved-key.new.self order c.insert_reserved-key.result _ c.adopt-root.ensures.keys.here c.insert_reserved-key.ensures.was_vacant c.insert_reserved-key.ensures.updates in
+    let slots = push_slots slab c.insert_reserved-key.new.self order c.insert_reserved-key.result _ _ c.insert_reserved-key.ensures.was_vacant c.insert_reserved-key.ensures.updates c.adopt-root.ensures.keys.here in
     rw (← c.self.view_is, c.push.ensures, slots, c.adopt-root.ensures.slots, c.adopt-root.ensures.root) refl

@@ -1,22 +1,13 @@
-use Rattle.std.proofs.Common.{[], refl, arith}
-use Rattle.frame_tree.proofs.SlotStores.{slots_in-length, contains_read, put_store, put_slots}
+use Rattle.std.proofs.Common.{[], refl}
+use Rattle.frame_tree.proofs.SlotStores.{slots_in-length, put_store, put_slots}
 use Rattle.frame_tree.proofs.slot_store.SlotStore.put.Goals as goal
-
-pub at-key-requires : goal.at-key-requires
-at-key-requires g c =
-    omega (arith, (rw (← c.self.view_is) at c.requires.within), slots_in-length c.self.inside.slab [] c.self.inside.order.list c.self.invariant.here)
-
-pub put_kept-requires : goal.put_kept-requires
-put_kept-requires g c =
-    let within = rw (← c.self.view_is, slots_in-length c.self.inside.slab [] c.self.inside.order.list c.self.invariant.here) at c.requires.within in
-    contains_read c.self.inside.slab c.self.inside.order.list c.args.at c.at-key.result c.self.invariant.here within c.at-key.ensures
 
 pub invariant_of-self : goal.invariant_of-self
 invariant_of-self g c =
     let within = rw (← c.self.view_is, slots_in-length c.self.inside.slab [] c.self.inside.order.list c.self.invariant.here) at c.requires.within in
     let serial = rw (← c.self.view_is) at c.requires.serial in
     let parent = rw (← c.self.view_is) at c.requires.parent in
-    put_store c.self.inside.slab c.put_kept.new.slab c.self.inside.order.list _ _ c.args.at c.at-key.result c.args.slot c.self.invariant within c.at-key.ensures serial parent c.put_kept.ensures.put c.put_kept.ensures.len c.put_kept.ensures.capacity
+    put_store c.self.inside.slab c.put_kept.new.slab c.self.inside.order.list _ _ c.args.at c.at-key.result c.args.slot c.self.invariant within c.at-key.ensures c.put_kept.ensures.put serial parent c.put_kept.ensures.len c.put_kept.ensures.capacity
 
 pub returns : goal.returns
 returns g c =

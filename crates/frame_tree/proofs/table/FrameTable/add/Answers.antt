@@ -1,16 +1,13 @@
 use Rattle.frame_tree.proofs.Common.{vec_capacity, refl, sym, arith, length-append, new_frame}
-use Rattle.frame_tree.proofs.Tenants.{tree_by_places, named_parent, more_ready, others_there, HasTree, has_tree, new_sound, new_frames, new_keeps}
+use Rattle.frame_tree.proofs.Tenants.{named_parent, more_ready, others_there, HasTree, has_tree, new_sound, new_frames, new_keeps}
 use Rattle.frame_tree.proofs.table.FrameTable.add.Given.{Over}
 use Rattle.frame_tree.proofs.table.FrameTable.add.Goals.{After-get_mut-tree}
 use Rattle.frame_tree.proofs.table.FrameTable.add.Goals as goal
 
 -- the tree of the frame's tenant, before it
-was : (g : Over) (c : After-get_mut-tree g) → HasTree c.self.inside.trees (vec_capacity c.self.inside.removed) c.self.inside.ready c.args.f.tenant c.get_mut-tree.result.now
-was g c = has_tree c.self.invariant c.get_mut-tree.ensures.value
-
-pub get_mut-tree-requires-clause-there : goal.get_mut-tree-requires-clause-there
-get_mut-tree-requires-clause-there g c =
-    (tree_by_places _ c.args.f.tenant (omega (arith, (rw (← c.self.view_is) at c.requires.room))))
+module _ (g : Over) (c : After-get_mut-tree g) where
+  was : HasTree c.self.inside.trees (vec_capacity c.self.inside.removed) c.self.inside.ready c.args.f.tenant c.get_mut-tree.result.now
+  was = has_tree c.self.invariant c.get_mut-tree.ensures.value
 
 pub add-requires-clause-above : goal.add-requires-clause-above
 add-requires-clause-above g c = rw (← c.self.view_is, (was g c).own.frames) at c.requires.above

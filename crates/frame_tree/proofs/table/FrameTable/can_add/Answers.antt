@@ -8,8 +8,7 @@ below-as frames asked serial below same = subst (λ (k : ℕ). AllBelow k frames
 
 pub returns-then-len-places-clause-above : goal.returns-then-len-places-clause-above
 returns-then-len-places-clause-above g c =
-    let tree = c.in-Some.ensures.found in
-    rw (tree.frames) (λ yes. below-as _ _ c.args.f.serial (c.exceeds_all.ensures.above yes) (omega arith))
+    rw (c.in-Some.ensures.found.frames) (λ yes. below-as _ _ c.args.f.serial (c.exceeds_all.ensures.above yes) (omega arith))
 
 pub returns-then-len-places-clause-parent : goal.returns-then-len-places-clause-parent
 returns-then-len-places-clause-parent g c =
@@ -42,5 +41,4 @@ returns-else-len-places-clause-otherwise g c =
 
 pub returns-in-None-clause-otherwise : goal.returns-in-None-clause-otherwise
 returns-in-None-clause-otherwise g c =
-    let none = c.in-None.ensures.none in
-    rw (none.places) (λ above parent room. absurd (omega (arith, room)))
+    rw (c.in-None.ensures.none.places) (λ above parent room. absurd (omega (arith, room)))

@@ -1,16 +1,14 @@
 use Rattle.frame_tree.proofs.Common.{vec_capacity, arith, eqb, not, Frame}
-use Rattle.frame_tree.proofs.Tenants.{tree_by_frame, HasTree, has_tree, new_sound, new_frames, new_keeps}
+use Rattle.frame_tree.proofs.Tenants.{HasTree, has_tree, new_sound, new_frames, new_keeps}
 use Rattle.frame_tree.proofs.table.FrameTable.remove.Given.{Over}
 use Rattle.frame_tree.proofs.Places.{length-filter-le}
 use Rattle.frame_tree.proofs.table.FrameTable.remove.Goals.{After-get_mut-tree}
 use Rattle.frame_tree.proofs.table.FrameTable.remove.Goals as goal
 
 -- the tree of the frame's tenant, before it
-was : (g : Over) (c : After-get_mut-tree g) → HasTree c.self.inside.trees (vec_capacity c.self.inside.removed) c.self.inside.ready c.args.f.tenant c.get_mut-tree.result.now
-was g c = has_tree c.self.invariant c.get_mut-tree.ensures.value
-
-pub get_mut-tree-requires-clause-there : goal.get_mut-tree-requires-clause-there
-get_mut-tree-requires-clause-there g c = (tree_by_frame _ c.args.f.tenant c.args.f.serial (rw (← c.self.view_is) at c.requires.there))
+module _ (g : Over) (c : After-get_mut-tree g) where
+  was : HasTree c.self.inside.trees (vec_capacity c.self.inside.removed) c.self.inside.ready c.args.f.tenant c.get_mut-tree.result.now
+  was = has_tree c.self.invariant c.get_mut-tree.ensures.value
 
 pub remove-was-requires-clause-there : goal.remove-was-requires-clause-there
 remove-was-requires-clause-there g c = rw (← c.self.view_is, (was g c).own.frames) at c.requires.there
@@ -23,8 +21,7 @@ recount-self-inside-requires-clause-few g c = (was g (goal.at.recount-self-insid
 
 pub recount-self-inside-requires-clause-counted : goal.recount-self-inside-requires-clause-counted
 recount-self-inside-requires-clause-counted g c =
-    let part = (was g (goal.at.recount-self-inside-requires-clause-counted g c).After-get_mut-tree).within.part in
-    omega (arith, part, c.remove-was.ensures.count)
+    omega (arith, ((was g (goal.at.recount-self-inside-requires-clause-counted g c).After-get_mut-tree).within.part), c.remove-was.ensures.count)
 
 pub invariant_of-self : goal.invariant_of-self
 invariant_of-self g c =

@@ -1,15 +1,13 @@
 use Rattle.std.proofs.Common.{vec_capacity, refl, ◌∙◌, arith}
-use Rattle.frame_tree.proofs.Tenants.{tree_by_places, HasTree, has_tree, new_sound, new_frames, new_keeps}
+use Rattle.frame_tree.proofs.Tenants.{HasTree, has_tree, new_sound, new_frames, new_keeps}
 use Rattle.frame_tree.proofs.table.FrameTable.remove_all.Given.{Over}
 use Rattle.frame_tree.proofs.table.FrameTable.remove_all.Goals.{After-get_mut-tree}
 use Rattle.frame_tree.proofs.table.FrameTable.remove_all.Goals as goal
 
 -- the tenant's tree, before it
-was : (g : Over) (c : After-get_mut-tree g) → HasTree c.self.inside.trees (vec_capacity c.self.inside.removed) c.self.inside.ready c.args.tenant c.get_mut-tree.result.now
-was g c = has_tree c.self.invariant c.get_mut-tree.ensures.value
-
-pub get_mut-tree-requires-clause-there : goal.get_mut-tree-requires-clause-there
-get_mut-tree-requires-clause-there g c = (tree_by_places _ c.args.tenant (rw (← c.self.view_is) at c.requires))
+module _ (g : Over) (c : After-get_mut-tree g) where
+  was : HasTree c.self.inside.trees (vec_capacity c.self.inside.removed) c.self.inside.ready c.args.tenant c.get_mut-tree.result.now
+  was = has_tree c.self.invariant c.get_mut-tree.ensures.value
 
 pub remove_all-requires : goal.remove_all-requires
 remove_all-requires g c =

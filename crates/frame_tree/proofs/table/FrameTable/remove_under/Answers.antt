@@ -1,15 +1,13 @@
 use Rattle.frame_tree.proofs.Common.{vec_capacity, refl, ◌∙◌, arith, aborted}
-use Rattle.frame_tree.proofs.Tenants.{tree_by_frame, few_ready_frames, aborted_length, HasTree, has_tree, new_sound, new_frames, new_keeps}
+use Rattle.frame_tree.proofs.Tenants.{few_ready_frames, aborted_length, HasTree, has_tree, new_sound, new_frames, new_keeps}
 use Rattle.frame_tree.proofs.table.FrameTable.remove_under.Given.{Over}
 use Rattle.frame_tree.proofs.table.FrameTable.remove_under.Goals.{After-get_mut-tree}
 use Rattle.frame_tree.proofs.table.FrameTable.remove_under.Goals as goal
 
 -- the tree of the frame's tenant, before it
-was : (g : Over) (c : After-get_mut-tree g) → HasTree c.self.inside.trees (vec_capacity c.self.inside.removed) c.self.inside.ready c.args.f.tenant c.get_mut-tree.result.now
-was g c = has_tree c.self.invariant c.get_mut-tree.ensures.value
-
-pub get_mut-tree-requires-clause-there : goal.get_mut-tree-requires-clause-there
-get_mut-tree-requires-clause-there g c = (tree_by_frame _ c.args.f.tenant c.args.f.serial (rw (← c.self.view_is) at c.requires))
+module _ (g : Over) (c : After-get_mut-tree g) where
+  was : HasTree c.self.inside.trees (vec_capacity c.self.inside.removed) c.self.inside.ready c.args.f.tenant c.get_mut-tree.result.now
+  was = has_tree c.self.invariant c.get_mut-tree.ensures.value
 
 pub remove_under-requires-clause-there : goal.remove_under-requires-clause-there
 remove_under-requires-clause-there g c = rw (← c.self.view_is, (was g (goal.at.remove_under-requires-clause-there g c).After-get_mut-tree).own.frames) at c.requires

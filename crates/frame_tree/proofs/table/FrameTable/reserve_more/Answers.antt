@@ -1,5 +1,5 @@
 use Rattle.frame_tree.proofs.Common.{Result, Ok, Err, OnErr, vec_capacity, arith, length-with, owner_of_tree}
-use Rattle.frame_tree.proofs.Tenants.{tree_by_places, HasTree, has_tree, raised_places, raised_frames, raised_keeps, raised_sound, unraised, unraised_sound}
+use Rattle.frame_tree.proofs.Tenants.{HasTree, has_tree, raised_places, raised_frames, raised_keeps, raised_sound, unraised, unraised_sound}
 use Rattle.frame_tree.proofs.table.FrameTable.reserve_more.Given.{Over}
 use Rattle.frame_tree.proofs.table.FrameTable.reserve_more.Goals.{After-get_mut-tree}
 use Rattle.frame_tree.proofs.table.FrameTable.reserve_more.Goals as goal
@@ -9,12 +9,9 @@ on_err (Ok x) P p = tt
 on_err (Err e) P p = p
 
 -- the tenant's tree, before it
-was : (g : Over) (c : After-get_mut-tree g) → HasTree c.self.inside.trees (vec_capacity c.self.inside.removed) c.self.inside.ready c.args.tenant c.get_mut-tree.result.now
-was g c = has_tree c.self.invariant c.get_mut-tree.ensures.value
-
-pub get_mut-tree-requires-clause-there : goal.get_mut-tree-requires-clause-there
-get_mut-tree-requires-clause-there g c =
-    (tree_by_places c.self.inside.trees c.args.tenant (rw (← c.self.view_is) at c.requires.there))
+module _ (g : Over) (c : After-get_mut-tree g) where
+  was : HasTree c.self.inside.trees (vec_capacity c.self.inside.removed) c.self.inside.ready c.args.tenant c.get_mut-tree.result.now
+  was = has_tree c.self.invariant c.get_mut-tree.ensures.value
 
 pub raise-requires-clause-more : goal.raise-requires-clause-more
 raise-requires-clause-more g c = rw (← c.self.view_is, (was g c).own.places) at c.requires.more
@@ -41,9 +38,6 @@ returns-clause-frames g c = rw (← c.self.view_is) (raised_frames (was g (goal.
 
 pub returns-clause-kept : goal.returns-clause-kept
 returns-clause-kept g c = rw (← c.self.view_is) (raised_keeps (was g (goal.at.returns-clause-kept g c).After-get_mut-tree) c.in_ok-raise.ensures.ok)
-
-pub raise-requires-clause-few : goal.raise-requires-clause-few
-raise-requires-clause-few g c = c.requires.few
 
 pub returns-clause-count : goal.returns-clause-count
 returns-clause-count g c = rw (← c.self.view_is) (length-with owner_of_tree c.args.tenant (λ was. c.raise.new.self) c.self.inside.trees)

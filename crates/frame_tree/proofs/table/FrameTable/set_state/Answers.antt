@@ -1,15 +1,13 @@
 use Rattle.std.proofs.Common.{vec_capacity, arith}
-use Rattle.frame_tree.proofs.Tenants.{tree_by_frame, state_length, HasTree, has_tree, new_sound, new_frames, new_keeps}
+use Rattle.frame_tree.proofs.Tenants.{state_length, HasTree, has_tree, new_sound, new_frames, new_keeps}
 use Rattle.frame_tree.proofs.table.FrameTable.set_state.Given.{Over}
 use Rattle.frame_tree.proofs.table.FrameTable.set_state.Goals.{After-get_mut-tree}
 use Rattle.frame_tree.proofs.table.FrameTable.set_state.Goals as goal
 
 -- the tree of the frame's tenant, before it
-was : (g : Over) (c : After-get_mut-tree g) → HasTree c.self.inside.trees (vec_capacity c.self.inside.removed) c.self.inside.ready c.args.f.tenant c.get_mut-tree.result.now
-was g c = has_tree c.self.invariant c.get_mut-tree.ensures.value
-
-pub get_mut-tree-requires-clause-there : goal.get_mut-tree-requires-clause-there
-get_mut-tree-requires-clause-there g c = (tree_by_frame _ c.args.f.tenant c.args.f.serial (rw (← c.self.view_is) at c.requires))
+module _ (g : Over) (c : After-get_mut-tree g) where
+  was : HasTree c.self.inside.trees (vec_capacity c.self.inside.removed) c.self.inside.ready c.args.f.tenant c.get_mut-tree.result.now
+  was = has_tree c.self.invariant c.get_mut-tree.ensures.value
 
 pub set_state-was-requires : goal.set_state-was-requires
 set_state-was-requires g c = rw (← c.self.view_is, (was g c).own.frames) at c.requires
@@ -19,8 +17,7 @@ recount-self-inside-requires-clause-few g c = (was g (goal.at.recount-self-insid
 
 pub recount-self-inside-requires-clause-counted : goal.recount-self-inside-requires-clause-counted
 recount-self-inside-requires-clause-counted g c =
-    let part = (was g (goal.at.recount-self-inside-requires-clause-counted g c).After-get_mut-tree).within.part in
-    omega (arith, part, c.set_state-was.ensures.count)
+    omega (arith, ((was g (goal.at.recount-self-inside-requires-clause-counted g c).After-get_mut-tree).within.part), c.set_state-was.ensures.count)
 
 pub invariant_of-self : goal.invariant_of-self
 invariant_of-self g c =

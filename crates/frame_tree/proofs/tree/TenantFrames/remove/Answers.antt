@@ -1,74 +1,58 @@
 use Rattle.frame_tree.proofs.Common.{[], refl, sym, ◌∙◌, arith, remove, length-remove, without_child, is_ready}
 use Rattle.frame_tree.proofs.SlotStores.{length-without_child}
-use Rattle.frame_tree.proofs.Forest.{linked_rises, has_frame-frames_from}
-use Rattle.frame_tree.proofs.Finds.{found, ready_frames-length, length-filter_remove}
+use Rattle.frame_tree.proofs.Forest.{linked_rises}
+use Rattle.frame_tree.proofs.Finds.{seen_frame, ready_frames-length, length-filter_remove}
 use Rattle.frame_tree.proofs.Changes.{lost_counted, ready-without_child, leaf_slots, lost, lost_sound, lost_frames}
 use Rattle.frame_tree.proofs.Readies.{is_tenant, tenant_rises, ready_in-remove, ready_in-without_child}
-use Rattle.frame_tree.proofs.Keys.{found_at, index_rises, there_at, removed_index, serials_of-without_child}
+use Rattle.frame_tree.proofs.Keys.{found_at, seen_by, removed_index, serials_of-without_child}
 use Rattle.frame_tree.proofs.tree.TenantFrames.remove.Goals as goal
-
-pub known_place-at-requires-clause-rise : goal.known_place-at-requires-clause-rise
-known_place-at-requires-clause-rise g c = index_rises _ _ c.self.invariant.index c.self.invariant.sound.linked
-
-pub known_place-at-requires-clause-there : goal.known_place-at-requires-clause-there
-known_place-at-requires-clause-there g c =
-    let there = rw (← c.self.view_is) at c.requires.there in
-    there_at _ _ _ c.self.invariant.index (sym (has_frame-frames_from [] c.self.inside.store.slots c.args.serial) ∙ there)
-
-pub take-slot-requires-clause-linked : goal.take-slot-requires-clause-linked
-take-slot-requires-clause-linked g c = c.self.invariant.sound.linked
 
 pub take-slot-requires-clause-leaf : goal.take-slot-requires-clause-leaf
 take-slot-requires-clause-leaf g c =
-    let place = found_at _ _ _ _ c.self.invariant.index c.known_place-at.ensures.within c.known_place-at.ensures.found in
+    let place = found_at _ _ c.self.invariant.index _ _ c.known_place-at.ensures.within c.known_place-at.ensures.found in
     rw place.found (leaf_slots c.self.inside.store.slots c.args.serial c.self.invariant.sound.linked (rw (← c.self.view_is) at c.requires.leaf))
 
 pub take-slot-requires-clause-counted : goal.take-slot-requires-clause-counted
 take-slot-requires-clause-counted g c slot is =
-    let place = found_at _ _ _ _ c.self.invariant.index c.known_place-at.ensures.within c.known_place-at.ensures.found in
+    let seen = seen_by _ _ c.self.invariant.index c.known_place-at.ensures.within c.known_place-at.ensures.found is in
     let leaf = rw (← c.self.view_is) at c.requires.leaf in
-    lost_counted _ _ slot (lost c.self.inside.store.slots _ c.known_place-at.result c.args.serial slot c.self.invariant.sound place.within place.found is leaf)
-
-pub remove-requires : goal.remove-requires
-remove-requires g c = c.known_place-at.ensures.within
+    lost_counted _ _ slot (lost c.self.invariant.sound seen leaf)
 
 pub leave-requires : goal.leave-requires
 leave-requires g c = tenant_rises _ _ _ _ c.self.invariant
 
 pub invariant_of-self : goal.invariant_of-self
 invariant_of-self g c =
-    let place = found_at _ _ _ _ c.self.invariant.index c.known_place-at.ensures.within c.known_place-at.ensures.found in
+    let seen = seen_by _ _ c.self.invariant.index c.known_place-at.ensures.within c.known_place-at.ensures.found c.take-slot.ensures.value in
     let slots = c.self.inside.store.slots in
     let leaf = rw (← c.self.view_is) at c.requires.leaf in
-    let gone = ready_in-remove slots c.known_place-at.result c.args.serial c.take-slot.result (linked_rises [] slots c.self.invariant.sound.linked) place.within place.found c.take-slot.ensures.value in
+    let gone = ready_in-remove slots c.known_place-at.result c.args.serial c.take-slot.result (linked_rises [] slots c.self.invariant.sound.linked) seen.within seen.named seen.read in
     rw (c.take-slot.ensures.left, c.leave.ensures, c.remove.ensures.left) (is_tenant _ _ _ _ _
-    (lost_sound slots _ c.known_place-at.result c.args.serial c.take-slot.result c.self.invariant.sound place.within place.found c.take-slot.ensures.value leaf)
-    (removed_index slots c.self.inside.serials.list c.known_place-at.result c.self.invariant.index ∙ sym (serials_of-without_child c.take-slot.result.parent (remove slots c.known_place-at.result)))
+    (lost_sound c.self.invariant.sound seen leaf)
+    (removed_index slots _ c.self.invariant.index c.known_place-at.result ∙ sym (serials_of-without_child c.take-slot.result.parent (remove slots c.known_place-at.result)))
     (rw (ready_in-without_child c.take-slot.result.parent (remove slots c.known_place-at.result), c.self.invariant.ready_frames) gone)
-    (omega (arith, c.self.invariant.within, length-remove slots c.known_place-at.result place.within, length-without_child c.take-slot.result.parent (remove slots c.known_place-at.result)))
+    (omega (arith, c.self.invariant.within, length-remove slots c.known_place-at.result seen.within, length-without_child c.take-slot.result.parent (remove slots c.known_place-at.result)))
     c.self.invariant.few
     c.self.invariant.serial_places
     c.self.invariant.ready_places)
 
 pub returns-clause-left : goal.returns-clause-left
 returns-clause-left g c =
-    let place = found_at _ _ _ _ c.self.invariant.index c.known_place-at.ensures.within c.known_place-at.ensures.found in
+    let seen = seen_by _ _ c.self.invariant.index c.known_place-at.ensures.within c.known_place-at.ensures.found c.take-slot.ensures.value in
     let leaf = rw (← c.self.view_is) at c.requires.leaf in
-    let frames = lost_frames c.self.inside.store.slots _ c.known_place-at.result c.args.serial c.take-slot.result c.self.invariant.sound place.within place.found c.take-slot.ensures.value leaf in
-    rw (← c.self.view_is, c.take-slot.ensures.left, frames) refl
+    rw (← c.self.view_is, c.take-slot.ensures.left, (lost_frames c.self.invariant.sound seen leaf)) refl
 
 pub returns-clause-value : goal.returns-clause-value
 returns-clause-value g c =
-    let place = found_at _ _ _ _ c.self.invariant.index c.known_place-at.ensures.within c.known_place-at.ensures.found in
-    let f = found [] c.self.inside.store.slots c.known_place-at.result c.args.serial c.take-slot.result c.self.invariant.sound.linked tt place.within place.found c.take-slot.ensures.value in
-    rw (← c.self.view_is, f.1.at) refl
+    let seen = seen_by _ _ c.self.invariant.index c.known_place-at.ensures.within c.known_place-at.ensures.found c.take-slot.ensures.value in
+    rw (← c.self.view_is, (seen_frame c.self.invariant.sound.linked seen).1.at) refl
 
 pub returns-clause-count : goal.returns-clause-count
 returns-clause-count g c =
-    let place = found_at _ _ _ _ c.self.invariant.index c.known_place-at.ensures.within c.known_place-at.ensures.found in
+    let seen = seen_by _ _ c.self.invariant.index c.known_place-at.ensures.within c.known_place-at.ensures.found c.take-slot.ensures.value in
     let slots = c.self.inside.store.slots in
     let slot = c.take-slot.result in
     let left = remove slots c.known_place-at.result in
     let old = ready_frames-length {T = g.row.T.Denot} [] slots in
     let new = ready_frames-length {T = g.row.T.Denot} [] (without_child slot.parent left) in
-    rw (← c.self.view_is, c.take-slot.ensures.left, old, new, ready-without_child slot.parent left) (length-filter_remove (λ x. is_ready x.state) slots c.known_place-at.result slot place.within c.take-slot.ensures.value)
+    rw (← c.self.view_is, c.take-slot.ensures.left, old, new, ready-without_child slot.parent left) (length-filter_remove (λ x. is_ready x.state) slots c.known_place-at.result slot seen.within seen.read)

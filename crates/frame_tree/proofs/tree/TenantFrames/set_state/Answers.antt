@@ -1,17 +1,10 @@
-use Rattle.frame_tree.proofs.Common.{length, set, length-set, [], refl, sym, ◌∙◌, arith, ready_slots}
+use Rattle.frame_tree.proofs.Common.{length, set, length-set, [], refl, arith, ready_slots}
 use Rattle.frame_tree.proofs.Finds.{ready_frames-length}
-use Rattle.frame_tree.proofs.Forest.{linked_rises, has_frame-frames_from}
+use Rattle.frame_tree.proofs.Forest.{linked_rises}
 use Rattle.frame_tree.proofs.Changes.{in_state, ready_state, sound_state, frames_state}
 use Rattle.frame_tree.proofs.Readies.{is_tenant, tenant_rises, few_ready_in, ready_in-state}
 use Rattle.frame_tree.proofs.Keys.{index_set}
 use Rattle.frame_tree.proofs.tree.TenantFrames.set_state.Goals as goal
-
-pub set_state-was-requires-clause-rise : goal.set_state-was-requires-clause-rise
-set_state-was-requires-clause-rise g c = linked_rises [] _ c.self.invariant.sound.linked
-
-pub set_state-was-requires-clause-there : goal.set_state-was-requires-clause-there
-set_state-was-requires-clause-there g c =
-    sym (has_frame-frames_from [] c.self.inside.store.slots c.args.serial) ∙ (rw (← c.self.view_is) at c.requires)
 
 pub follow-requires-clause-rise : goal.follow-requires-clause-rise
 follow-requires-clause-rise g c = tenant_rises _ _ _ _ c.self.invariant
@@ -31,8 +24,8 @@ invariant_of-self g c =
     let slot = was.slot in
     let changed = ready_in-state slots was.at c.args.serial slot c.args.state (linked_rises [] slots c.self.invariant.sound.linked) was.seen.within was.seen.named was.seen.read in
     rw (was.changed, c.follow.ensures, was.told) (is_tenant _ _ _ _ _
-    (sound_state slots (length c.self.inside.ready.list) (length (ready_slots (set slots was.at (in_state c.args.state slot)))) was.at c.args.serial slot c.args.state c.self.invariant.sound was.seen.within was.seen.named was.seen.read (omega (arith, c.self.invariant.sound.ready_count, ready_state slots was.at slot c.args.state was.seen.within was.seen.read)))
-    (index_set slots c.self.inside.serials.list was.at c.args.serial slot (in_state c.args.state slot) c.self.invariant.index (record { within = was.seen.within; found = was.seen.named }) was.seen.read refl)
+    (sound_state c.self.invariant.sound was.seen c.args.state (length (ready_slots (set slots was.at (in_state c.args.state slot)))) (omega (arith, c.self.invariant.sound.ready_count, ready_state c.self.invariant.sound was.seen c.args.state)))
+    (index_set slots _ c.self.invariant.index was.at slot (in_state c.args.state slot) was.seen.read refl)
     (rw c.self.invariant.ready_frames changed)
     (omega (arith, c.self.invariant.within, length-set slots was.at (in_state c.args.state slot)))
     c.self.invariant.few
@@ -45,11 +38,9 @@ returns-clause-count g c =
     let slots = c.self.inside.store.slots in
     let old = ready_frames-length {T = g.row.T.Denot} [] slots in
     let new = ready_frames-length {T = g.row.T.Denot} [] (set slots was.at (in_state c.args.state was.slot)) in
-    rw (← c.self.view_is, was.changed, was.told, old, new) (ready_state slots was.at was.slot c.args.state was.seen.within was.seen.read)
+    rw (← c.self.view_is, was.changed, was.told, old, new) (ready_state c.self.invariant.sound was.seen c.args.state)
 
 pub returns-clause-frames : goal.returns-clause-frames
 returns-clause-frames g c =
     let was = c.set_state-was.ensures in
-    let slots = c.self.inside.store.slots in
-    let slot = was.slot in
-    rw (← c.self.view_is, was.changed, frames_state slots was.at c.args.serial slot c.args.state c.self.invariant.sound.linked was.seen.within was.seen.named was.seen.read) refl
+    rw (← c.self.view_is, was.changed, frames_state c.self.invariant.sound was.seen c.args.state) refl

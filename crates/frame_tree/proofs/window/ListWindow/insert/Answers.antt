@@ -9,14 +9,12 @@ unreachable-requires g c =
 
 pub invariant_of-self : goal.invariant_of-self
 invariant_of-self g c =
-    let items = c.self.inside.items.items in
-    let room = rw (← c.self.view_is) at c.requires.room in
     let done : IsOk c.insert.result = c.insert.ensures.succeeds (omega (arith, c.if-len-self.false, c.len.ensures, c.self.invariant.room_left)) in
     let longer = rw done at c.insert.ensures.len in
-    let rest = length-drop c.self.inside.start items in
+    let rest = length-drop c.self.inside.start c.self.inside.items.items in
     record {
       within = omega (arith, c.self.invariant.within, longer, c.self.inside.items.ok.0, c.insert.new.self.ok.0);
-      held = omega (arith, c.self.invariant.within, longer, rest, room, c.self.inside.items.ok.0, c.insert.new.self.ok.0);
+      held = omega (arith, c.self.invariant.within, longer, rest, (rw (← c.self.view_is) at c.requires.room), c.self.inside.items.ok.0, c.insert.new.self.ok.0);
       few = c.self.invariant.few;
       filled = omega (arith, c.if-len-self.false, c.len.ensures, longer, c.self.inside.items.ok.0, c.insert.new.self.ok.0);
       room_left = omega (arith, c.insert.ensures.capacity, c.self.invariant.room_left);

@@ -5,23 +5,23 @@ use Rattle.hall.proofs.hall.Hall.leave.Goals as goal
 
 pub remove-journal-requires : goal.remove-journal-requires
 remove-journal-requires g c =
-    let off = leaves-off _ _ _ c.args.number c.in-Ok.did c.step.new.self.shared c.self.invariant (rw c.in-Ok.is at c.step.ensures.one) c.step.ensures.known in
-    let place = at-place c.args.number c.self.inside.journals.items _ c.place_of-at.result c.self.invariant.rising off.has c.as_slice.ensures.value c.place_of-at.ensures in
+    let off = leaves-off _ _ _ c.self.invariant c.args.number c.in-Ok.did _ (rw c.in-Ok.is at c.step.ensures.one) c.step.ensures.known in
+    let place = at-place c.args.number _ _ _ c.self.invariant.rising off.has c.as_slice.ensures.value c.place_of-at.ensures in
     let len = c.as_slice.ensures.len in let same = ap length c.as_slice.ensures.value in
-    omega (arith, len, same, at-within owner_of_journal c.args.number c.self.inside.journals.items c.place_of-at.result place)
+    omega (arith, len, same, at-within owner_of_journal _ _ _ place)
 
 pub invariant_of-self : goal.invariant_of-self
 invariant_of-self g c =
-    let off = leaves-off _ _ _ c.args.number c.in-Ok.did c.step.new.self.shared c.self.invariant (rw c.in-Ok.is at c.step.ensures.one) c.step.ensures.known in
-    let place = at-place c.args.number c.self.inside.journals.items _ c.place_of-at.result c.self.invariant.rising off.has c.as_slice.ensures.value c.place_of-at.ensures in
-    let by = at-left c.args.number c.self.inside.journals.items _ c.place_of-at.result c.remove-journal.result c.len.result place c.remove-journal.ensures.items c.remove-journal.ensures.value c.len.ensures in
+    let off = leaves-off _ _ _ c.self.invariant c.args.number c.in-Ok.did _ (rw c.in-Ok.is at c.step.ensures.one) c.step.ensures.known in
+    let place = at-place c.args.number _ _ _ c.self.invariant.rising off.has c.as_slice.ensures.value c.place_of-at.ensures in
+    let by = at-left c.args.number _ _ _ _ _ place c.remove-journal.ensures.items c.remove-journal.ensures.value c.len.ensures in
     rw (c.step.ensures.procedure, by.0, by.1) off.keeps
 
 pub returns-in-Ok-clause-decided : goal.returns-in-Ok-clause-decided
 returns-in-Ok-clause-decided g c =
-    let off = leaves-off _ _ _ c.args.number c.in-Ok.did c.step.new.self.shared c.self.invariant (rw c.in-Ok.is at c.step.ensures.one) c.step.ensures.known in
-    let place = at-place c.args.number c.self.inside.journals.items _ c.place_of-at.result c.self.invariant.rising off.has c.as_slice.ensures.value c.place_of-at.ensures in
-    let by = at-left c.args.number c.self.inside.journals.items _ c.place_of-at.result c.remove-journal.result c.len.result place c.remove-journal.ensures.items c.remove-journal.ensures.value c.len.ensures in
+    let off = leaves-off _ _ _ c.self.invariant c.args.number c.in-Ok.did _ (rw c.in-Ok.is at c.step.ensures.one) c.step.ensures.known in
+    let place = at-place c.args.number _ _ _ c.self.invariant.rising off.has c.as_slice.ensures.value c.place_of-at.ensures in
+    let by = at-left c.args.number _ _ _ _ _ place c.remove-journal.ensures.items c.remove-journal.ensures.value c.len.ensures in
     record {
       one = rw (← c.self.view_is) (rw c.in-Ok.is at c.step.ensures.one);
       taken = rw (← c.self.view_is, c.step.ensures.procedure, by.0, by.1) refl;

@@ -6,7 +6,7 @@ pub invariant_of-self : goal.invariant_of-self
 invariant_of-self g c =
     let none = rw (← c.self.view_is) at c.requires in
     rw (c.step.ensures.procedure, c.push_reserved.ensures.items, c.room_for.ensures.same, c.in-Ok.ensures.journal)
-    (admitted _ _ _ c.args.number c.args.reserve c.in-Ok-step.did c.step.new.self.shared c.self.invariant (rw c.in-Ok-step.is at c.step.ensures.one) none c.in-Ok.ensures.limits c.step.ensures.known)
+    (admitted _ _ _ c.self.invariant c.args.number c.args.reserve c.in-Ok-step.did _ (rw c.in-Ok-step.is at c.step.ensures.one) none c.in-Ok.ensures.limits c.step.ensures.known)
 
 pub returns-in-Ok-step : goal.returns-in-Ok-step
 returns-in-Ok-step g c = record {

@@ -8,4 +8,5 @@ outcome_of-requires g c =
 pub returns-clause-asked : goal.returns-clause-asked
 returns-clause-asked g c =
     let explained = c.self.invariant.explained in
-    rw (← c.self.view_is) (answered c.self.inside.core.procedure.grain c.self.inside.core.shared c.args.tenant c.args.job _ c.outcome_of.result (explained.tenants c.args.tenant) (explained.searches c.args.tenant) c.outcome_of.ensures.is c.outcome_of.ensures.asked)
+    rw (← c.self.view_is)
+    (answered _ c.self.inside.core.shared _ c.args.job _ _ (explained.tenants c.args.tenant) (explained.searches c.args.tenant) c.outcome_of.ensures.is c.outcome_of.ensures.asked)

@@ -20,35 +20,40 @@ added : (g : Over) (c : After-push_reserved-2 g) → c.push_reserved-2.new.self.
 added g c = c.push_reserved-2.ensures.items ∙ ap (λ (ls : List LongEntry). ls ++ Raised c.args.reserve ∷ []) c.reserve_exact-2.ensures.items
 
 -- they are those of the journal with the step
-written : (g : Over) (c : After-push_reserved-2 g) → seen c.self.inside.tenant (16 * c.nodes.result + 770 + (c.self.inside.raises + 1)) (c.nodes-2.result + 513 + (c.self.inside.raises + 1)) c.push_reserved.new.self.items c.push_reserved-2.new.self.items ≡ longer (AdmitMore c.args.self.now.tenant c.args.reserve) c.args.self.now
+written : (g : Over) (c : After-push_reserved-2 g) →
+    seen c.self.inside.tenant (16 * c.nodes.result + 770 + (c.self.inside.raises + 1)) (c.nodes-2.result + 513 + (c.self.inside.raises + 1)) c.push_reserved.new.self.items c.push_reserved-2.new.self.items
+    ≡ longer (AdmitMore c.args.self.now.tenant c.args.reserve) c.args.self.now
 written g c =
     let before = ap (λ (j : JournalOf). raise_count j.steps) c.self.view_is in
-    written-raise c.self.inside.tenant c.self.inside.places c.self.inside.long_places (16 * c.nodes.result + 770 + (c.self.inside.raises + 1)) (c.nodes-2.result + 513 + (c.self.inside.raises + 1)) c.self.inside.entries.items c.push_reserved.new.self.items (Raised c.args.reserve) c.self.inside.longs.items c.push_reserved-2.new.self.items c.args.self.now (AdmitMore c.args.self.now.tenant c.args.reserve) c.self.view_is c.self.invariant.2
-    (c.push_reserved.ensures.items ∙ ap (λ (es : List JournalEntry). es ++ Long ∷ []) c.reserve_exact.ensures.items) (added g c) refl (omega (arith, c.nodes.ensures.value, c.self.invariant.3, before)) (omega (arith, c.nodes-2.ensures.value, c.self.invariant.3, before))
+    let entries = c.push_reserved.ensures.items ∙ ap (λ (es : List JournalEntry). es ++ Long ∷ []) c.reserve_exact.ensures.items in
+    written-raise _ _ _ c.self.inside.entries.items c.self.inside.longs.items c.args.self.now c.self.view_is c.self.invariant.2 _ (Raised c.args.reserve) _ _ entries (added g c) refl _ _
+    (omega (arith, c.nodes.ensures.value, c.self.invariant.3, before)) (omega (arith, c.nodes-2.ensures.value, c.self.invariant.3, before))
 
 pub overflow_sub-places : goal.overflow_sub-places
 overflow_sub-places g c =
-    let are = counts c.self.inside.tenant c.self.inside.places c.self.inside.long_places c.self.inside.raises c.self.inside.entries.items c.self.inside.longs.items c.args.self.now c.self.view_is c.self.invariant.2 c.self.invariant.3 in omega (arith, are.steps, are.raises, c.len-entries.ensures, c.self.inside.entries.ok.0, c.nodes.ensures.value, c.requires.place)
+    let are = counts _ _ _ _ _ _ c.self.view_is c.self.invariant.2 _ c.self.invariant.3 in
+    omega (arith, are.steps, are.raises, c.len-entries.ensures, c.self.inside.entries.ok.0, c.nodes.ensures.value, c.requires.place)
 
 pub overflow_sub-long_places : goal.overflow_sub-long_places
 overflow_sub-long_places g c =
-    let are = counts c.self.inside.tenant c.self.inside.places c.self.inside.long_places c.self.inside.raises c.self.inside.entries.items c.self.inside.longs.items c.args.self.now c.self.view_is c.self.invariant.2 c.self.invariant.3 in omega (arith, are.longs, are.raises, c.len-longs.ensures, c.self.inside.longs.ok.0, c.nodes-2.ensures.value, c.requires.long)
+    let are = counts _ _ _ _ _ _ c.self.view_is c.self.invariant.2 _ c.self.invariant.3 in
+    omega (arith, are.longs, are.raises, c.len-longs.ensures, c.self.inside.longs.ok.0, c.nodes-2.ensures.value, c.requires.long)
 
 pub push_reserved-requires : goal.push_reserved-requires
 push_reserved-requires g c =
-    let are = counts c.self.inside.tenant c.self.inside.places c.self.inside.long_places c.self.inside.raises c.self.inside.entries.items c.self.inside.longs.items c.args.self.now c.self.view_is c.self.invariant.2 c.self.invariant.3 in
+    let are = counts _ _ _ _ _ _ c.self.view_is c.self.invariant.2 _ c.self.invariant.3 in
     let made = got c.reserve_exact.result (sym c.is_err.ensures.value ∙ c.if-is_err.false) c.reserve_exact.ensures.ok in
     omega (arith, are.steps, are.raises, made, c.reserve_exact.ensures.len, c.len-entries.ensures, c.self.inside.entries.ok.0, c.nodes.ensures.value, c.requires.place)
 
 pub push_reserved-requires-2 : goal.push_reserved-requires-2
 push_reserved-requires-2 g c =
-    let are = counts c.self.inside.tenant c.self.inside.places c.self.inside.long_places c.self.inside.raises c.self.inside.entries.items c.self.inside.longs.items c.args.self.now c.self.view_is c.self.invariant.2 c.self.invariant.3 in
+    let are = counts _ _ _ _ _ _ c.self.view_is c.self.invariant.2 _ c.self.invariant.3 in
     let more = got c.reserve_exact-2.result (sym c.is_err-2.ensures.value ∙ c.if-is_err-2.false) c.reserve_exact-2.ensures.ok in
     omega (arith, are.longs, are.raises, more, c.reserve_exact-2.ensures.len, c.len-longs.ensures, c.self.inside.longs.ok.0, c.nodes-2.ensures.value, c.requires.long)
 
 pub invariant_of-self-2 : goal.invariant_of-self-2
 invariant_of-self-2 g c =
-    let are = counts c.self.inside.tenant c.self.inside.places c.self.inside.long_places c.self.inside.raises c.self.inside.entries.items c.self.inside.longs.items c.args.self.now c.self.view_is c.self.invariant.2 c.self.invariant.3 in
+    let are = counts _ _ _ _ _ _ c.self.view_is c.self.invariant.2 _ c.self.invariant.3 in
     let made = got c.reserve_exact.result (sym c.is_err.ensures.value ∙ c.if-is_err.false) c.reserve_exact.ensures.ok in
     let more = got c.reserve_exact-2.result (sym c.is_err-2.ensures.value ∙ c.if-is_err-2.false) c.reserve_exact-2.ensures.ok in
     let raises = ap (λ (j : JournalOf). raise_count j.steps) (written g (goal.at.invariant_of-self-2 g c).After-push_reserved-2) ∙ raise-more c.args.self.now.steps (AdmitMore c.args.self.now.tenant c.args.reserve) in

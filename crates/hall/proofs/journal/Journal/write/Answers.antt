@@ -6,7 +6,7 @@ use Rattle.hall.proofs.journal.Journal.write.Goals as goal
 
 pub push_reserved-requires : goal.push_reserved-requires
 push_reserved-requires g c =
-    let room = has-room c.self.inside.tenant c.self.inside.places c.self.inside.long_places c.self.inside.entries.items c.self.inside.longs.items c.args.self.now c.self.view_is c.self.invariant.2 c.requires.place in
+    let room = has-room _ _ _ _ _ _ c.self.view_is c.self.invariant.2 c.requires.place in
     omega (arith, room, c.self.invariant.0, c.self.inside.entries.ok.0)
 
 pub invariant_of-self : goal.invariant_of-self
@@ -14,9 +14,7 @@ invariant_of-self g c =
     let short = sym c.is_long.ensures ∙ c.if-is_long.false in
     let more = rw short at (long_count-more c.of-entry.result c.self.inside.entries.items) in
     let same = ap long_count c.push_reserved.ensures.items in
-    let done =
-    written-short c.self.inside.tenant c.self.inside.places c.self.inside.long_places c.of-entry.result c.self.inside.entries.items c.push_reserved.new.self.items c.self.inside.longs.items c.args.self.now c.args.step.now c.self.view_is c.push_reserved.ensures.items short
-    (rw c.requires.own at (c.of-entry.ensures.short short)) in
+    let done = written-short _ _ _ _ _ _ c.self.view_is _ _ c.args.step.now c.push_reserved.ensures.items short (rw c.requires.own at (c.of-entry.ensures.short short)) in
     let raises = ap (λ (j : JournalOf). raise_count j.steps) done ∙ counted-after c.args.step.now c.args.self.now.steps None c.requires.raises_not in
     let before = ap (λ (j : JournalOf). raise_count j.steps) c.self.view_is in
     (omega (arith, c.self.invariant.0, c.push_reserved.ensures.capacity), c.self.invariant.1, omega (arith, same, more, c.self.invariant.2), omega (arith, c.self.invariant.3, before, raises))
@@ -24,5 +22,4 @@ invariant_of-self g c =
 pub returns : goal.returns
 returns g c =
     let short = sym c.is_long.ensures ∙ c.if-is_long.false in
-    written-short c.self.inside.tenant c.self.inside.places c.self.inside.long_places c.of-entry.result c.self.inside.entries.items c.push_reserved.new.self.items c.self.inside.longs.items c.args.self.now c.args.step.now c.self.view_is c.push_reserved.ensures.items short
-    (rw c.requires.own at (c.of-entry.ensures.short short))
+    written-short _ _ _ _ _ _ c.self.view_is _ _ c.args.step.now c.push_reserved.ensures.items short (rw c.requires.own at (c.of-entry.ensures.short short))

@@ -6,21 +6,19 @@ use Rattle.hall.proofs.journal.Journal.write_long.Goals as goal
 
 pub push_reserved-requires : goal.push_reserved-requires
 push_reserved-requires g c =
-    let room = has-room c.self.inside.tenant c.self.inside.places c.self.inside.long_places c.self.inside.entries.items c.self.inside.longs.items c.args.self.now c.self.view_is c.self.invariant.2 c.requires.writable.place in
+    let room = has-room _ _ _ _ _ _ c.self.view_is c.self.invariant.2 c.requires.writable.place in
     omega (arith, room, c.self.invariant.0, c.self.inside.entries.ok.0)
 
 pub push_reserved-requires-2 : goal.push_reserved-requires-2
 push_reserved-requires-2 g c =
-    let room = has-long-room c.self.inside.tenant c.self.inside.places c.self.inside.long_places c.self.inside.entries.items c.self.inside.longs.items c.args.self.now c.self.view_is c.self.invariant.2 (c.requires.writable.long c.requires.long) in
+    let room = has-long-room _ _ _ _ _ _ c.self.view_is c.self.invariant.2 (c.requires.writable.long c.requires.long) in
     omega (arith, room, c.self.invariant.1, c.self.inside.longs.ok.0)
 
 pub invariant_of-self : goal.invariant_of-self
 invariant_of-self g c =
     let more = long_count-more Long c.self.inside.entries.items in
     let same = ap long_count c.push_reserved.ensures.items in
-    let done =
-    written-long c.self.inside.tenant c.self.inside.places c.self.inside.long_places c.self.inside.entries.items c.push_reserved.new.self.items c.of.result c.self.inside.longs.items c.push_reserved-2.new.self.items c.args.self.now c.args.step.now c.self.view_is c.self.invariant.2 c.push_reserved.ensures.items c.push_reserved-2.ensures.items
-    (rw c.requires.writable.own at c.of.ensures) in
+    let done = written-long _ _ _ _ _ _ c.self.view_is c.self.invariant.2 _ _ _ c.args.step.now c.push_reserved.ensures.items c.push_reserved-2.ensures.items (rw c.requires.writable.own at c.of.ensures) in
     let raises = ap (λ (j : JournalOf). raise_count j.steps) done ∙ counted-after c.args.step.now c.args.self.now.steps None c.requires.writable.raises_not in
     let before = ap (λ (j : JournalOf). raise_count j.steps) c.self.view_is in (
       omega (arith, c.self.invariant.0, c.push_reserved.ensures.capacity),
@@ -30,6 +28,4 @@ invariant_of-self g c =
     )
 
 pub returns : goal.returns
-returns g c =
-    written-long c.self.inside.tenant c.self.inside.places c.self.inside.long_places c.self.inside.entries.items c.push_reserved.new.self.items c.of.result c.self.inside.longs.items c.push_reserved-2.new.self.items c.args.self.now c.args.step.now c.self.view_is c.self.invariant.2 c.push_reserved.ensures.items c.push_reserved-2.ensures.items
-    (rw c.requires.writable.own at c.of.ensures)
+returns g c = written-long _ _ _ _ _ _ c.self.view_is c.self.invariant.2 _ _ _ c.args.step.now c.push_reserved.ensures.items c.push_reserved-2.ensures.items (rw c.requires.writable.own at c.of.ensures)

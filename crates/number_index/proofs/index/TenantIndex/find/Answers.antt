@@ -7,4 +7,4 @@ pub returns-in-Some : goal.returns-in-Some
 returns-in-Some g c =
     let number_of = g.T.Numbered.number_of in
     let own = ap number_of c.index-things-at.is ∙ c.in-Some.ensures.thing c.index-things-at.result in
-    sym (find_by_number-found number_of c.args.number c.args.things.now c.in-Some.at c.index-things-at.result c.requires c.in-Some.ensures.within c.index-things-at.is own)
+    sym (find_by_number-found number_of _ _ c.in-Some.at c.index-things-at.result c.requires c.in-Some.ensures.within c.index-things-at.is own)

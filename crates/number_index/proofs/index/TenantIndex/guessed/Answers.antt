@@ -6,4 +6,4 @@ use Rattle.number_index.proofs.index.TenantIndex.guessed.Goals as goal
 pub returns-then-number-clause-place : goal.returns-then-number-clause-place
 returns-then-number-clause-place g c =
     let number_of = g.T.Numbered.number_of in
-    count_below-found number_of c.args.number c.args.things.now _ c.index-things-guess.result c.requires c.if-guess-things.true (ap number_of (sym c.index-things-guess.is) ∙ sym c.number.ensures ∙ c.if-number.true)
+    count_below-found number_of _ _ _ c.index-things-guess.result c.requires c.if-guess-things.true (ap number_of (sym c.index-things-guess.is) ∙ sym c.number.ensures ∙ c.if-number.true)

@@ -6,8 +6,11 @@ use Rattle.number_index.proofs.list.NumberedList.remove.Given.{Over}
 use Rattle.number_index.proofs.list.NumberedList.remove.Goals.{After-place_of-at}
 use Rattle.number_index.proofs.list.NumberedList.remove.Goals as goal
 
-here : (g : Over) (c : After-place_of-at g) → IsAt g.T.Numbered.number_of c.args.number c.self.inside.things.items c.place_of-at.result
-here g c = place-read g.T.Numbered.number_of c.args.number c.self.inside.things.items _ c.place_of-at.result (rw (← c.self.view_is) at c.requires.rising) (rw (← c.self.view_is) at c.requires.there) c.as_slice.ensures.value c.place_of-at.ensures
+module _ (g : Over) (c : After-place_of-at g) where
+  here : IsAt g.T.Numbered.number_of c.args.number c.self.inside.things.items c.place_of-at.result
+  here =
+      let rising = rw (← c.self.view_is) at c.requires.rising in
+      place-read _ _ _ _ _ rising (rw (← c.self.view_is) at c.requires.there) c.as_slice.ensures.value c.place_of-at.ensures
 
 pub remove-thing-requires : goal.remove-thing-requires
 remove-thing-requires g c = omega (arith, at-within _ _ _ _ (here g (goal.at.remove-thing-requires g c).After-place_of-at), c.self.inside.things.ok.0)
@@ -20,4 +23,4 @@ returns-clause-list g c =
 pub returns-clause-value : goal.returns-clause-value
 returns-clause-value g c =
     let at = here g (goal.at.returns-clause-value g c).After-place_of-at in
-    rw (← c.self.view_is) (at-thing g.T.Numbered.number_of c.args.number c.self.inside.things.items c.place_of-at.result c.remove-thing.result at c.remove-thing.ensures.value)
+    rw (← c.self.view_is) (at-thing _ _ _ _ c.remove-thing.result at c.remove-thing.ensures.value)

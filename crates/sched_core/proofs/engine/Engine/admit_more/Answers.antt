@@ -12,5 +12,5 @@ raise-requires-clause-room g c =
 
 pub returns-clause-admitted : goal.returns-clause-admitted
 returns-clause-admitted g c =
-    step_result-admission (g.P.Procedure.functions c.args.self.now.procedure) c.args.self.now.store _ _ _ _ _ c.in_ok-may_admit_more.ensures.refusal c.as_memory_allows.ensures c.raise.ensures.ok c.raise.ensures.err
-    (raise-taken (g.P.Procedure.functions c.args.self.now.procedure) c.args.self.now.store c.raise.new.self c.args.number c.args.reserve c.in_ok-may_admit_more.ensures.refusal)
+    step_result-admission _ _ _ _ _ _ _ c.in_ok-may_admit_more.ensures.refusal c.as_memory_allows.ensures c.raise.ensures.ok c.raise.ensures.err
+    (raise-taken _ c.args.self.now.store c.args.number c.args.reserve c.raise.new.self c.in_ok-may_admit_more.ensures.refusal)

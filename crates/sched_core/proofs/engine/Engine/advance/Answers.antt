@@ -12,7 +12,7 @@ pub next_of-act-requires : goal.next_of-act-requires
 next_of-act-requires g c so =
     let s = c.in_ok-seen.ensures.frame in
     let procedure = c.args.self.now.procedure in
-    rw c.in_ok-seen.ensures.sight (seen-fits (g.P.Procedure.fits procedure) (g.P.Procedure.rooted procedure) c.args.self.now.store c.args.name s.0 s.1 c.in_ok-seen.field-0.seen (c.requires.fit so) s.2.seen_so)
+    rw c.in_ok-seen.ensures.sight (seen-fits (g.P.Procedure.fits procedure) (g.P.Procedure.rooted procedure) (c.requires.fit so) s.2.seen_so)
 
 -- the act may be done
 set : (g : Over) (c : In_ok-may_do g) →
@@ -26,7 +26,7 @@ returns-in_err-may_do-clause-step_result g c =
     let s = c.in_ok-seen.ensures.frame in
     let p = err_from_is_err_and c.from_residual-in_err-may_do.result c.from_residual-in_err-may_do.ensures.1 in
     step_result-refused _ _ _ _ _ _ _ p.1 p.2
-    (advance-told (g.P.Procedure.functions c.args.self.now.procedure) _ _ _ s.0 s.1 _ _ _ s.2 (rw c.in_ok-seen.ensures.sight at c.next_of-act.ensures) (c.in_err-may_do.ensures s.0 s.1 _ s.2.seen_so refl c.in_ok-seen.ensures.words)) refl
+    (advance-told (g.P.Procedure.functions c.args.self.now.procedure) _ _ _ s.0 s.1 _ _ _ (rw c.in_ok-seen.ensures.sight at c.next_of-act.ensures) (c.in_err-may_do.ensures s.0 s.1 _ s.2.seen_so refl c.in_ok-seen.ensures.words) s.2) refl
 
 pub count_step-requires : goal.count_step-requires
 count_step-requires g c = set-left (set g (goal.at.count_step-requires g c).In_ok-may_do)

@@ -5,12 +5,12 @@ use Rattle.sched_core.proofs.engine.Engine.cancel.Goals as goal
 
 pub end_at-requires-clause-there : goal.end_at-requires-clause-there
 end_at-requires-clause-there g c =
-    let l = cancel-going (g.P.Procedure.functions c.args.self.now.procedure) c.args.self.now.store c.args.number c.args.job c.in_ok-serial.serial c.in_ok-serial.ensures.root in
+    let l = cancel-going c.args.self.now.store c.args.number c.args.job _ (g.P.Procedure.functions c.args.self.now.procedure) c.in_ok-serial.ensures.root in
     cancel-root c.args.self.now.store c.args.number c.args.job c.in_ok-serial.serial l.tenant c.requires l.owner l.job_is
 
 pub returns-clause-step_result : goal.returns-clause-step_result
 returns-clause-step_result g c =
-    let l = cancel-going (g.P.Procedure.functions c.args.self.now.procedure) c.args.self.now.store c.args.number c.args.job c.in_ok-serial.serial c.in_ok-serial.ensures.root in
-    let w = begins c.args.self.now.store c.args.number l.tenant l.owner in
+    let l = cancel-going c.args.self.now.store c.args.number c.args.job _ (g.P.Procedure.functions c.args.self.now.procedure) c.in_ok-serial.ensures.root in
+    let w = begins c.args.number l.tenant c.args.self.now.store l.owner in
     let w1 = then-changed _ _ _ _ c.end_at.new.store (ended c.in_ok-serial.serial CancelledJob) w c.end_at.ensures in
     step_result-taken (g.P.Procedure.functions c.args.self.now.procedure) c.args.self.now.store (Cancel c.args.number c.args.job) _ _ _ l.among refl w1.is

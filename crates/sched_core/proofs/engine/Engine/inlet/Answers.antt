@@ -35,13 +35,13 @@ returns-in_err-may_take_in-clause-step_result g c =
     let s = c.in_ok-own.ensures.frame in
     let p = err_from_is_err_and c.from_residual-in_err-may_take_in.result c.from_residual-in_err-may_take_in.ensures.1 in
     step_result-refused _ _ _ _ _ _ _ p.1 p.2
-    (inlet-told (g.P.Procedure.functions c.args.self.now.procedure) _ _ _ s.0 s.1 _ _ _ _ s.3 c.known-state.ensures.rising (acts g (goal.at.returns-in_err-may_take_in-clause-step_result g c).After-may_take_in) (rw c.known-state.ensures.words at c.in_err-may_take_in.ensures)) refl
+    (inlet-told (g.P.Procedure.functions c.args.self.now.procedure) _ _ _ s.0 s.1 _ _ _ _ c.known-state.ensures.rising s.3 (acts g (goal.at.returns-in_err-may_take_in-clause-step_result g c).After-may_take_in) (rw c.known-state.ensures.words at c.in_err-may_take_in.ensures)) refl
 
 pub take_out-aborted-requires : goal.take_out-aborted-requires
 take_out-aborted-requires g c =
     let told = rw c.known-state.ensures.words at c.in_ok-may_take_in.ensures in
     let s = c.in_ok-own.ensures.frame in
-    (_, _, may-be-taken-in (takes-in (g.P.Procedure.functions c.args.self.now.procedure) _ _ _ _ s.0 s.1 _ _ s.3 c.known-state.ensures.rising (acts g (goal.at.take_out-aborted-requires g c).After-may_take_in) told) c.requires.kept.shaped)
+    (_, _, may-be-taken-in (takes-in (g.P.Procedure.functions c.args.self.now.procedure) _ _ _ _ s.0 s.1 _ (acts g (goal.at.take_out-aborted-requires g c).After-may_take_in) _ s.3 c.known-state.ensures.rising told) c.requires.kept.shaped)
 
 pub store_all-requires-clause-there : goal.store_all-requires-clause-there
 store_all-requires-clause-there g c = still-there (out g (goal.at.store_all-requires-clause-there g c).After-as_slice)

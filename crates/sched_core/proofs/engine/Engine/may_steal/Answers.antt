@@ -5,10 +5,9 @@ use Rattle.sched_core.proofs.engine.Engine.may_steal.Goals as goal
 pub returns-in_err-seen-clause-refusal : goal.returns-in_err-seen-clause-refusal
 returns-in_err-seen-clause-refusal g c =
     let p = err_from_is_err_and c.from_residual.result c.from_residual.ensures.1 in
-    passed-on _ _ _ _ p.1 p.2 (lost (g.P.Procedure.functions c.args.self.now.procedure) c.args.self.now.store (Steal c.args.worker c.args.from c.args.name) c.args.name _ refl refl (λ tenant none. rw none refl) c.in_err-seen.ensures)
+    passed-on _ _ _ p.1 p.2 _ (lost _ (g.P.Procedure.functions c.args.self.now.procedure) c.args.self.now.store (Steal c.args.worker c.args.from c.args.name) c.args.name refl refl (λ tenant none. rw none refl) c.in_err-seen.ensures)
 
 pub returns-clause-refusal : goal.returns-clause-refusal
 returns-clause-refusal g c =
-    let s = c.in_ok-seen.ensures in
     rw (c.first_of_four.ensures, c.is_ready.ensures, c.is_out_of_reach.ensures, c.number.ensures.value, c.is_busy.ensures.busy)
-    (steal-decided (g.P.Procedure.functions c.args.self.now.procedure) c.args.self.now.store c.args.worker c.args.from c.args.name s.0 s.1 c.in_ok-seen.seen s.2 c.is_busy.ensures.rising)
+    (steal-decided (g.P.Procedure.functions c.args.self.now.procedure) c.args.worker c.in_ok-seen.ensures.2 c.is_busy.ensures.rising c.args.from)

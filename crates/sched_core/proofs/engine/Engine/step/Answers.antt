@@ -3,7 +3,7 @@ use Rattle.sched_core.proofs.Stepping.{one-step, one-admission}
 use Rattle.sched_core.proofs.engine.Engine.step.Goals as goal
 
 pub returns-in-Admit : goal.returns-in-Admit
-returns-in-Admit g c = record { one = rw c.in-Admit.is (one-admission (g.P.Procedure.functions c.args.self.now.procedure) c.args.self.now.store _ _ _ refl c.admit.ensures.admitted); procedure = c.admit.ensures.procedure }
+returns-in-Admit g c = record { one = rw c.in-Admit.is (one-admission _ _ _ _ _ refl c.admit.ensures.admitted); procedure = c.admit.ensures.procedure }
 
 pub returns-in-AdmitMore : goal.returns-in-AdmitMore
 returns-in-AdmitMore g c = record { one = rw c.in-AdmitMore.is (one-admission (g.P.Procedure.functions c.args.self.now.procedure) c.args.self.now.store _ _ _ refl c.admit_more.ensures.admitted); procedure = c.admit_more.ensures.procedure }

@@ -1,4 +1,4 @@
-use Rattle.std.proofs.Common.{arith}
+use Rattle.sched_store.proofs.Common.{arith}
 use Rattle.sched_store.proofs.Jobs.{once-begun}
 use Rattle.sched_store.proofs.ledger.Ledger.begin.Goals as goal
 

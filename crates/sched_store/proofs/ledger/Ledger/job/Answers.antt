@@ -1,4 +1,4 @@
-use Rattle.std.proofs.Common.{sym, arith}
+use Rattle.sched_store.proofs.Common.{sym, arith}
 use Rattle.sched_store.proofs.Jobs.{job_at-zero, job-read, job-past}
 use Rattle.sched_store.proofs.ledger.Ledger.job.Goals as goal
 

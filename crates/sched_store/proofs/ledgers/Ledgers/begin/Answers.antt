@@ -2,11 +2,10 @@ use Rattle.sched_store.proofs.Common.{◌++◌, ◌∷◌, [], Live}
 use Rattle.sched_store.proofs.Jobs.{jobs-found, found-changed, rising-with_jobs}
 use Rattle.sched_store.proofs.ledgers.Ledgers.begin.Goals as goal
 
-pub begin-requires-clause-room : goal.begin-requires-clause-room
-begin-requires-clause-room g c = rw (← c.self.view_is, jobs-found c.args.number c.self.inside.all c.get_mut-ledger.result.now c.get_mut-ledger.ensures.value) at c.requires.room
-
-pub begin-requires-clause-fresh : goal.begin-requires-clause-fresh
-begin-requires-clause-fresh g c = rw (← c.self.view_is, jobs-found c.args.number c.self.inside.all c.get_mut-ledger.result.now c.get_mut-ledger.ensures.value) at c.requires.fresh
+pub begin-requires : goal.begin-requires
+begin-requires g c =
+    let found = jobs-found c.args.number c.self.inside.all c.get_mut-ledger.result.now c.get_mut-ledger.ensures.value in
+    record { room = rw (← c.self.view_is, found) at c.requires.room; fresh = rw (← c.self.view_is, found) at c.requires.fresh }
 
 pub invariant_of-self : goal.invariant_of-self
 invariant_of-self g c =

@@ -1,4 +1,4 @@
-use Rattle.sched_rules.specs.Trees.{with_ended}
+use Rattle.sched_store.proofs.Common.{with_ended}
 use Rattle.sched_store.proofs.Jobs.{found-changed, rising-with_jobs}
 use Rattle.sched_store.proofs.ledgers.Ledgers.end.Goals as goal
 

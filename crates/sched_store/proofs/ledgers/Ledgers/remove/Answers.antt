@@ -1,5 +1,5 @@
 use Rattle.number_index.proofs.Edits.{rising-without}
-use Rattle.sched_store.specs.Ledgers.{owner_of_ledger}
+use Rattle.sched_store.proofs.Common.{owner_of_ledger}
 use Rattle.sched_store.proofs.ledgers.Ledgers.remove.Goals as goal
 
 pub invariant_of-self : goal.invariant_of-self

@@ -1,46 +1,41 @@
-use Rattle.sched_store.proofs.Common.{length, IsSome, sym, subst, arith, ap, ◌∙◌, on_tenant, without_under, CoreState, parts_of, frames_in_core, aborted}
-use Rattle.sched_store.proofs.Common.{frames_under}
-use Rattle.sched_rules.specs.Views.{named}
-use Rattle.sched_store.proofs.Removing.{has-frame, stays, abort-cut, abort-closes, abort-gone, abort-words, AreFreed, nodes-free, AreGone, gone-stored, gone-shared, abort-count}
-use Rattle.sched_store.proofs.store.Store.abort.Given.{Over}
+use Rattle.sched_store.proofs.Common.{length, arith, ap, ◌∙◌, on_tenant, without_under, CoreState, parts_of, frames_in_core, aborted, frames_under}
+use Rattle.sched_store.proofs.Removing.{stays, with_parts, abort-cut, abort-closes, abort-gone, abort-words, AreFreed, nodes-free, gone-step, abort-count}
+use Rattle.sched_store.proofs.Lookups.{there-has}
+use Rattle.sched_store.proofs.Steps.{Stepped}
 use Rattle.sched_store.proofs.store.Store.abort.Goals.{After-free_count, After-give_back}
 use Rattle.sched_store.proofs.store.Store.abort.Goals as goal
 
 -- what the nodes gave back
-freed : (g : Over) (c : After-free_count g) → AreFreed (parts_of c.self.inside) c.args.name (stays c.args.name.serial) c.free_count-before.result c.free_count.result
+freed : (g : _) (c : After-free_count g) → AreFreed (parts_of c.self.inside) c.args.name (stays c.args.name.serial) c.free_count-before.result c.free_count.result
 freed g c =
-    nodes-free _ c.close_all.new.self _ _ _ _ c.self.invariant (subst (λ (s : CoreState). IsSome (named s c.args.name)) (sym c.self.view_is) c.requires)
+    nodes-free _ c.close_all.new.self _ _ _ _ c.self.invariant (rw (← c.self.view_is) at c.requires)
     (abort-gone (parts_of c.self.inside) _ c.args.name c.remove_under-nodes.result.now c.remove_under-nodes.ensures.values c.close_all.ensures) c.free_count-before.ensures c.free_count.ensures
 
 -- what the table, the stack and the book told
-told : (g : Over) (c : After-give_back g) → AreGone (parts_of c.self.inside) c.close_all.new.self c.remove_under-nodes.follows.lender-at-none c.give_back.new.self c.args.name (stays c.args.name.serial) c.free_count-before.result c.free_count.result
+told : (g : _) (c : After-give_back g) → Stepped (parts_of c.self.inside) (with_parts (parts_of c.self.inside) c.close_all.new.self c.remove_under-nodes.follows.lender-at-none c.give_back.new.self) c.args.name.tenant (without_under c.args.name.serial)
 told g c =
     let under = c.remove_under-nodes.follows.holds-at-none in
-    record {
-      some = subst (λ (s : CoreState). IsSome (named s c.args.name)) (sym c.self.view_is) c.requires;
+    gone-step _ _ _ _ c.args.name (stays c.args.name.serial) c.free_count-before.result c.free_count.result (aborted c.args.name.serial) c.self.invariant (record {
+      some = rw (← c.self.view_is) at c.requires;
       gone = abort-gone (parts_of c.self.inside) _ c.args.name c.remove_under-nodes.result.now c.remove_under-nodes.ensures.values c.close_all.ensures;
       was_free = c.free_count-before.ensures;
       is_free = c.free_count.ensures;
-      cut = abort-cut (parts_of c.self.inside) c.remove_under-nodes.follows.lender-at-none c.args.name c.self.invariant under.0 under.1;
+      cut = abort-cut (parts_of c.self.inside) c.self.invariant c.args.name c.remove_under-nodes.follows.lender-at-none under.0 under.1;
       keeps = under.1;
       credited = c.give_back.ensures.credits;
       sum = c.give_back.ensures.sum;
       others = c.give_back.ensures.others;
       sound = c.give_back.ensures.sound;
-    }
+    }) (abort-words (parts_of c.self.inside) c.args.name)
 
 pub remove_under-nodes-requires : goal.remove_under-nodes-requires
 remove_under-nodes-requires g c =
-    has-frame (parts_of c.self.inside) c.self.invariant c.args.name (subst (λ (s : CoreState). IsSome (named s c.args.name)) (sym c.self.view_is) c.requires)
+    there-has (parts_of c.self.inside) c.self.invariant c.args.name (rw (← c.self.view_is) at c.requires)
 
-pub close_all-requires-clause-are_open : goal.close_all-requires-clause-are_open
-close_all-requires-clause-are_open g c = (abort-closes (parts_of c.self.inside) c.args.name c.remove_under-nodes.result.now c.self.invariant c.remove_under-nodes.ensures.values).are_open
-
-pub close_all-requires-clause-once : goal.close_all-requires-clause-once
-close_all-requires-clause-once g c = (abort-closes (parts_of c.self.inside) c.args.name c.remove_under-nodes.result.now c.self.invariant c.remove_under-nodes.ensures.values).once
-
-pub close_all-requires-clause-with_children : goal.close_all-requires-clause-with_children
-close_all-requires-clause-with_children g c = (abort-closes (parts_of c.self.inside) c.args.name c.remove_under-nodes.result.now c.self.invariant c.remove_under-nodes.ensures.values).with_children
+pub close_all-requires : goal.close_all-requires
+close_all-requires g c =
+    let closes = abort-closes (parts_of c.self.inside) c.self.invariant c.args.name c.remove_under-nodes.result.now c.remove_under-nodes.ensures.values in
+    record { are_open = closes.are_open; once = closes.once; with_children = closes.with_children }
 
 pub overflow_sub-freed : goal.overflow_sub-freed
 overflow_sub-freed g c = (freed g (goal.at.overflow_sub-freed g c).After-free_count).more
@@ -52,12 +47,11 @@ pub give_back-requires : goal.give_back-requires
 give_back-requires g c = (freed g (goal.at.give_back-requires g c).After-free_count).charged
 
 pub invariant_of-self : goal.invariant_of-self
-invariant_of-self g c = gone-stored _ _ _ _ _ _ _ _ c.self.invariant (told g (goal.at.invariant_of-self g c).After-give_back)
+invariant_of-self g c = (told g (goal.at.invariant_of-self g c).After-give_back).stored
 
 pub returns-clause-aborted : goal.returns-clause-aborted
 returns-clause-aborted g c =
-    gone-shared _ _ _ _ _ _ _ _ (aborted c.args.name.serial) c.self.invariant (told g (goal.at.returns-clause-aborted g c).After-give_back) (abort-words (parts_of c.self.inside) c.args.name)
-    ∙ ap (on_tenant c.args.name.tenant (without_under c.args.name.serial)) c.self.view_is
+    (told g (goal.at.returns-clause-aborted g c).After-give_back).shared ∙ ap (on_tenant c.args.name.tenant (without_under c.args.name.serial)) c.self.view_is
 
 pub returns-clause-count : goal.returns-clause-count
 returns-clause-count g c =

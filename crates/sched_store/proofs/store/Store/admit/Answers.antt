@@ -1,15 +1,14 @@
 use Rattle.sched_store.proofs.Common.{List, ap, ◌∙◌, arith, with_admitted, parts_of, JobLedger, shared_of}
 use Rattle.sched_store.proofs.Admitting.{CanBeAdmitted, can-be-admitted, IsAdmitted, admit-stored, admit-shared}
-use Rattle.sched_store.proofs.store.Store.admit.Given.{Over}
 use Rattle.sched_store.proofs.store.Store.admit.Goals.{After-segments, After-unwrap}
 use Rattle.sched_store.proofs.store.Store.admit.Goals as goal
 
 -- the number can be admitted
-can : (g : Over) (c : After-segments g) → CanBeAdmitted (parts_of c.self.inside) c.args.number c.args.reserve
+can : (g : _) (c : After-segments g) → CanBeAdmitted (parts_of c.self.inside) c.args.number c.args.reserve
 can g c = can-be-admitted _ _ _ c.self.invariant c.self.view_is c.requires.above c.requires.room
 
 -- what the table and the book told
-told : (g : Over) (c : After-unwrap g) → IsAdmitted (parts_of c.self.inside) c.reserve.new.self c.in_ok-ledger.ledger c.reserve-2.new.self c.args.number c.args.reserve
+told : (g : _) (c : After-unwrap g) → IsAdmitted (parts_of c.self.inside) c.reserve.new.self c.in_ok-ledger.ledger c.reserve-2.new.self c.args.number c.args.reserve
 told g c =
     let able = can-be-admitted (parts_of c.self.inside) c.args.number c.args.reserve c.self.invariant c.self.view_is c.requires.above c.requires.room in
     let table = c.in_ok-reserve.ensures in
@@ -32,11 +31,10 @@ reserve-requires-clause-more g c = let none = (can g (goal.at.reserve-requires-c
 pub reserve-requires-clause-free : goal.reserve-requires-clause-free
 reserve-requires-clause-free g c = λ none. (can g (goal.at.reserve-requires-clause-free g c).After-segments).few_trees
 
-pub add-requires-clause-room : goal.add-requires-clause-room
-add-requires-clause-room g c = (can g (goal.at.add-requires-clause-room g c).After-segments).few_ledgers
-
-pub add-requires-clause-fresh : goal.add-requires-clause-fresh
-add-requires-clause-fresh g c = rw c.in_ok-ledger.ensures (can g (goal.at.add-requires-clause-fresh g c).After-segments).no_ledger
+pub add-requires : goal.add-requires
+add-requires g c =
+    let able = can g (goal.at.add-requires g c).After-segments in
+    record { room = able.few_ledgers; fresh = rw c.in_ok-ledger.ensures able.no_ledger }
 
 pub reserve-requires-2 : goal.reserve-requires-2
 reserve-requires-2 g c = (can g (goal.at.reserve-requires-2 g c).After-segments).nobody

@@ -11,9 +11,9 @@ end-requires-clause-there g c =
 pub invariant_of-self : goal.invariant_of-self
 invariant_of-self g c =
     let own = there-account-in (parts_of c.self.inside) c.args.tenant c.self.view_is c.requires.there in
-    (jobs-change (parts_of c.self.inside) c.args.tenant own.0 (with_ended c.args.root c.args.ended) c.end.new.self c.self.invariant own.1 c.end.ensures).stored
+    (jobs-change (parts_of c.self.inside) c.args.tenant own.0 (with_ended c.args.root c.args.ended) c.self.invariant own.1 _ c.end.ensures).stored
 
 pub returns : goal.returns
 returns g c =
     let own = there-account-in (parts_of c.self.inside) c.args.tenant c.self.view_is c.requires.there in
-    rw (← c.self.view_is) (jobs-change (parts_of c.self.inside) c.args.tenant own.0 (with_ended c.args.root c.args.ended) c.end.new.self c.self.invariant own.1 c.end.ensures).shared
+    rw (← c.self.view_is) (jobs-change (parts_of c.self.inside) c.args.tenant own.0 (with_ended c.args.root c.args.ended) c.self.invariant own.1 _ c.end.ensures).shared

@@ -2,22 +2,21 @@ use Rattle.sched_store.proofs.Common.{◌≤◌, ◌++◌, length, replicate, ar
 use Rattle.sched_store.proofs.Lookups.{there-has}
 use Rattle.sched_store.proofs.Steps.{book-left}
 use Rattle.sched_store.proofs.Words.{WordsSet, HasNode, has-node, has-free, not-refused, growth-added, growth-within, growth-set}
-use Rattle.sched_store.proofs.store.Store.grow.Given.{Over}
 use Rattle.sched_store.proofs.store.Store.grow.Goals.{After-node_of-node, After-unwrap-2}
 use Rattle.sched_store.proofs.store.Store.grow.Goals as goal
 
 -- the node of the frame
-has : (g : Over) (c : After-node_of-node g) → HasNode (parts_of c.self.inside) c.args.name c.node_of-node.result
+has : (g : _) (c : After-node_of-node g) → HasNode (parts_of c.self.inside) c.args.name c.node_of-node.result
 has g c = has-node _ c.self.invariant _ _ (rw (← c.self.view_is) at c.requires.there) c.node_of-node.ensures
 
 -- what the stack and the book made of it
-grown : (g : Over) (c : After-unwrap-2 g) → WordsSet (parts_of c.self.inside) c.grow.new.self c.charge.new.self c.args.name (words_under (shared_of (parts_of c.self.inside)) c.args.name ++ replicate c.args.more 0)
+grown : (g : _) (c : After-unwrap-2 g) → WordsSet (parts_of c.self.inside) c.grow.new.self c.charge.new.self c.args.name (words_under (shared_of (parts_of c.self.inside)) c.args.name ++ replicate c.args.more 0)
 grown g c =
     let size = rw (← c.self.view_is) at c.requires.size in
     let node = has-node (parts_of c.self.inside) c.self.invariant c.args.name c.node_of-node.result (rw (← c.self.view_is) at c.requires.there) c.node_of-node.ensures in
     let changes = rw c.unwrap-2.ensures at c.charge.ensures.charges in
     let sum = rw c.unwrap-2.ensures at c.charge.ensures.sum in
-    growth-set _ _ _ _ c.node_of-node.result c.args.more c.growth_charge-added.result c.self.invariant node (rw c.unwrap.ensures at c.grow.ensures.grown) (growth-within (parts_of c.self.inside) c.args.name c.node_of-node.result c.args.more node size)
+    growth-set c.self.invariant node _ _ c.args.more c.growth_charge-added.result (rw c.unwrap.ensures at c.grow.ensures.grown) (growth-within c.self.invariant node c.args.more size)
     (c.growth_charge-added.ensures ∙ ap (λ n. growth_charge n c.args.more) (c.len.ensures.value ∙ ap length c.own.ensures)) c.charge.ensures.sound changes sum
 
 pub node_of-node-requires : goal.node_of-node-requires
@@ -26,13 +25,11 @@ node_of-node-requires g c = there-has (parts_of c.self.inside) c.self.invariant 
 pub own-requires : goal.own-requires
 own-requires g c = (has g (goal.at.own-requires g c).After-node_of-node).is_open
 
-pub grow-requires-clause-is_open : goal.grow-requires-clause-is_open
-grow-requires-clause-is_open g c = (has g (goal.at.grow-requires-clause-is_open g c).After-node_of-node).is_open
-
-pub grow-requires-clause-in_limits : goal.grow-requires-clause-in_limits
-grow-requires-clause-in_limits g c =
+pub grow-requires : goal.grow-requires
+grow-requires g c =
+    let node = has g (goal.at.grow-requires g c).After-node_of-node in
     let size = rw (← c.self.view_is) at c.requires.size in
-    growth-within (parts_of c.self.inside) c.args.name c.node_of-node.result c.args.more (has g (goal.at.grow-requires-clause-in_limits g c).After-node_of-node) size
+    record { is_open = node.is_open; in_limits = growth-within c.self.invariant node c.args.more size }
 
 pub unwrap-requires : goal.unwrap-requires
 unwrap-requires g c =
@@ -44,7 +41,7 @@ unwrap-requires g c =
 pub unwrap-requires-2 : goal.unwrap-requires-2
 unwrap-requires-2 g c =
     let left = rw (← c.self.view_is) at c.requires.left in
-    let added = growth-added (parts_of c.self.inside) c.args.name c.node_of-node.result c.args.more c.len.result c.growth_charge-added.result (has g (goal.at.unwrap-requires-2 g c).After-node_of-node) (c.len.ensures.value ∙ ap length c.own.ensures) c.growth_charge-added.ensures in
+    let added = growth-added c.self.invariant (has g (goal.at.unwrap-requires-2 g c).After-node_of-node) c.args.more _ _ (c.len.ensures.value ∙ ap length c.own.ensures) c.growth_charge-added.ensures in
     c.charge.ensures.ok.1 (rw added (book-left (parts_of c.self.inside) c.self.invariant c.args.name.tenant (λ l. (growth_charge (length (words_under (shared_of (parts_of c.self.inside)) c.args.name)) c.args.more ≤ l.segments) × (0 ≤ l.nodes)) left))
 
 pub invariant_of-self : goal.invariant_of-self

@@ -6,13 +6,10 @@ some-left : (account : Option Account) → is_some (option_map left_in account) 
 some-left None = refl
 some-left (Some account) = refl
 
-pub returns-clause-there : goal.returns-clause-there
-returns-clause-there g c =
-    rw (← c.self.view_is, c.is_some.ensures, c.left.ensures.left)
-    (some-left (account_of c.args.number c.self.inside.book.accounts) ∙ sym (tenant-there (parts_of c.self.inside) c.args.number))
-
-pub returns-clause-known : goal.returns-clause-known
-returns-clause-known g c = rw (← c.self.view_is) (known-found (parts_of c.self.inside) c.self.invariant)
-
-pub returns-clause-rising : goal.returns-clause-rising
-returns-clause-rising g c = rw (← c.self.view_is) (rising-found (parts_of c.self.inside) c.self.invariant)
+pub returns : goal.returns
+returns g c = record {
+  there = rw (← c.self.view_is, c.is_some.ensures, c.left.ensures.left)
+      (some-left (account_of c.args.number c.self.inside.book.accounts) ∙ sym (tenant-there (parts_of c.self.inside) c.args.number));
+  known = rw (← c.self.view_is) (known-found (parts_of c.self.inside) c.self.invariant);
+  rising = rw (← c.self.view_is) (rising-found (parts_of c.self.inside) c.self.invariant);
+}

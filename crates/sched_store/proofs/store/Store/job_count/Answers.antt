@@ -1,4 +1,4 @@
-use Rattle.sched_store.specs.Inside.{parts_of}
+use Rattle.sched_store.proofs.Common.{parts_of}
 use Rattle.sched_store.proofs.Lookups.{jobs-found}
 use Rattle.sched_store.proofs.store.Store.job_count.Goals as goal
 

@@ -2,12 +2,11 @@ use Rattle.sched_store.proofs.Common.{IfSome, Option, refl, ap, ◌∙◌, subst
 use Rattle.sched_store.proofs.Steps.{there-account-in}
 use Rattle.sched_store.proofs.Lookups.{ledger-there}
 use Rattle.sched_store.proofs.LeaveTenant.{has-places, leave-closes, IsDeparture, leave-stored, leave-shared}
-use Rattle.sched_store.proofs.store.Store.leave.Given.{Over}
 use Rattle.sched_store.proofs.store.Store.leave.Goals.{After-release-2}
 use Rattle.sched_store.proofs.store.Store.leave.Goals as goal
 
 -- what the table, the stack, the ledgers and the book told
-told : (g : Over) (c : After-release-2 g) → (a : Account) × IsDeparture (parts_of c.self.inside) c.close_all.new.self c.release.new.self c.remove.new.self c.release-2.new.self c.args.tenant c.remove_all-nodes.result.now a
+told : (g : _) (c : After-release-2 g) → (a : Account) × IsDeparture (parts_of c.self.inside) c.close_all.new.self c.release.new.self c.remove.new.self c.release-2.new.self c.args.tenant c.remove_all-nodes.result.now a
 told g c =
     let a = there-account-in (parts_of c.self.inside) c.args.tenant c.self.view_is c.requires in
     let emptied = c.remove_all-nodes.follows.holds-at-none in (
@@ -33,14 +32,10 @@ remove_all-nodes-requires g c =
     let a = there-account-in (parts_of c.self.inside) c.args.tenant c.self.view_is c.requires in
     has-places (parts_of c.self.inside) c.self.invariant c.args.tenant a.0 a.1
 
-pub close_all-requires-clause-are_open : goal.close_all-requires-clause-are_open
-close_all-requires-clause-are_open g c = (leave-closes (parts_of c.self.inside) c.args.tenant c.remove_all-nodes.result.now c.self.invariant c.remove_all-nodes.ensures.values).are_open
-
-pub close_all-requires-clause-once : goal.close_all-requires-clause-once
-close_all-requires-clause-once g c = (leave-closes (parts_of c.self.inside) c.args.tenant c.remove_all-nodes.result.now c.self.invariant c.remove_all-nodes.ensures.values).once
-
-pub close_all-requires-clause-with_children : goal.close_all-requires-clause-with_children
-close_all-requires-clause-with_children g c = (leave-closes (parts_of c.self.inside) c.args.tenant c.remove_all-nodes.result.now c.self.invariant c.remove_all-nodes.ensures.values).with_children
+pub close_all-requires : goal.close_all-requires
+close_all-requires g c =
+    let closes = leave-closes (parts_of c.self.inside) c.args.tenant c.remove_all-nodes.result.now c.self.invariant c.remove_all-nodes.ensures.values in
+    record { are_open = closes.are_open; once = closes.once; with_children = closes.with_children }
 
 pub release-requires-clause-there : goal.release-requires-clause-there
 release-requires-clause-there g c =

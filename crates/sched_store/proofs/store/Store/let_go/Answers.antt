@@ -1,17 +1,15 @@
-use Rattle.std.proofs.Common.{None, set}
-use Rattle.sched_store.specs.Inside.{parts_of}
+use Rattle.sched_store.proofs.Common.{None, set, parts_of}
 use Rattle.sched_store.proofs.Lookups.{named-found, there-frame, there-has}
 use Rattle.sched_store.proofs.States.{StateSet, let-go-set}
-use Rattle.sched_store.proofs.store.Store.let_go.Given.{Over}
 use Rattle.sched_store.proofs.store.Store.let_go.Goals.{After-set_state}
 use Rattle.sched_store.proofs.store.Store.let_go.Goals as goal
 
 -- the worker has let the frame go
-gone : (g : Over) (c : After-set_state g) → StateSet (parts_of c.self.inside) c.set_state.new.self (set (parts_of c.self.inside).places c.number-number.result None) c.args.name c.args.state
+gone : (g : _) (c : After-set_state g) → StateSet (parts_of c.self.inside) c.set_state.new.self (set (parts_of c.self.inside).places c.number-number.result None) c.args.name c.args.state
 gone g c =
     let own = there-frame (parts_of c.self.inside) c.self.invariant c.args.name (rw (← c.self.view_is) at c.requires.there) in
     let holds = rw (← c.self.view_is, ← c.number-number.ensures.value, named-found (parts_of c.self.inside) c.self.invariant c.args.name, own.1) at c.requires.held in
-    let-go-set _ _ _ _ _ own.0 c.self.invariant (record { frames = c.set_state.ensures.frames; kept = c.set_state.ensures.kept }) own.1 holds c.requires.nobody
+    let-go-set _ _ c.args.name c.args.state own.0 c.self.invariant (record { frames = c.set_state.ensures.frames; kept = c.set_state.ensures.kept }) own.1 _ holds c.requires.nobody
 
 pub set_state-requires : goal.set_state-requires
 set_state-requires g c = there-has (parts_of c.self.inside) c.self.invariant c.args.name (rw (← c.self.view_is) at c.requires.there)

@@ -1,4 +1,4 @@
-use Rattle.std.proofs.Common.{refl}
+use Rattle.sched_store.proofs.Common.{refl}
 use Rattle.sched_store.proofs.Admitting.{new-stored}
 use Rattle.sched_store.proofs.store.Store.new.Goals as goal
 

@@ -1,4 +1,4 @@
-use Rattle.sched_store.specs.Inside.{parts_of}
+use Rattle.sched_store.proofs.Common.{parts_of}
 use Rattle.sched_store.proofs.Lookups.{known-found, rising-found}
 use Rattle.sched_store.proofs.store.Store.newest.Goals as goal
 

@@ -2,44 +2,38 @@ use Rattle.sched_store.proofs.Common.{◌≤◌, ◌+◌, ap, ◌∙◌, refl, s
 use Rattle.sched_store.proofs.Steps.{book-left}
 use Rattle.sched_store.proofs.Words.{has-free, not-refused}
 use Rattle.sched_store.proofs.OpenFrame.{serials-found, opened-next, left-for, parent-for, parent-open, parent-in, serial-of-name, place-left, size-some, Opened, open-step}
-use Rattle.sched_store.proofs.store.Store.open.Given.{Over}
 use Rattle.sched_store.proofs.store.Store.open.Goals.{After-add}
 use Rattle.sched_store.proofs.store.Store.open.Goals as goal
 
 -- the step that the stack, the table and the book made
-step : (g : Over) (c : After-add g) → Opened (parts_of c.self.inside) c.open-2.new.self c.add.new.self c.open.new.self c.args.tenant c.args.parent c.args.words.now c.args.size c.args.home
+step : (g : _) (c : After-add g) → Opened (parts_of c.self.inside) c.open-2.new.self c.add.new.self c.open.new.self c.args.tenant c.args.parent c.args.words.now c.args.size c.args.home
 step g c =
-    let own = left-for (parts_of c.self.inside) c.args.tenant c.args.size c.self.invariant c.self.view_is c.requires.left in
-    let parent = parent-for (parts_of c.self.inside) c.args.tenant c.args.parent c.self.invariant c.self.view_is c.requires.parent in
+    let own = left-for (parts_of c.self.inside) c.self.invariant c.args.tenant c.args.size c.self.view_is c.requires.left in
     let serial = opened-next (parts_of c.self.inside) c.args.tenant c.unwrap-before.result own.0 own.1.0 (rw c.unwrap-before.ensures at c.open.ensures.opened) in
     let size = size-some c.args.words.now c.args.size c.requires.size in
-    let frames = rw (serial, serial-of-name c.args.tenant c.args.parent c.parent_name.result c.parent_name.ensures) at c.add.ensures.frames in
-    let unused = rw c.unwrap-node.ensures at c.open-2.ensures.was_unused in
-    let changes = rw (c.unwrap-before.ensures, c.charge.ensures) at c.open.ensures.charges in
-    let sum = rw (c.unwrap-before.ensures, c.charge.ensures) at c.open.ensures.sum in
     open-step (parts_of c.self.inside) c.open-2.new.self c.add.new.self c.open.new.self c.args.tenant c.args.parent c.parent_node-above.result c.args.words.now c.args.size c.args.home c.unwrap-node.result own.0 c.self.invariant (record {
       there = own.1.0;
-      parent_there = parent;
+      parent_there = parent-for (parts_of c.self.inside) c.self.invariant c.args.tenant c.args.parent c.self.view_is c.requires.parent;
       above_is = c.parent_node-above.ensures;
       some = size.0;
       most = size.1.0;
       room = size.1.1;
-      unused = unused;
+      unused = (rw c.unwrap-node.ensures at c.open-2.ensures.was_unused);
       nodes_is = (rw c.unwrap-node.ensures at c.open-2.ensures.opened);
-      frames = frames;
+      frames = (rw (serial, serial-of-name c.args.tenant c.args.parent c.parent_name.result c.parent_name.ensures) at c.add.ensures.frames);
       kept = c.add.ensures.kept;
       sound = c.open.ensures.sound;
-      changes = changes;
-      sum = sum;
+      changes = (rw (c.unwrap-before.ensures, c.charge.ensures) at c.open.ensures.charges);
+      sum = (rw (c.unwrap-before.ensures, c.charge.ensures) at c.open.ensures.sum);
     })
 
 pub parent_node-above-requires : goal.parent_node-above-requires
 parent_node-above-requires g c =
-    parent-for (parts_of c.self.inside) c.args.tenant c.args.parent c.self.invariant c.self.view_is c.requires.parent
+    parent-for (parts_of c.self.inside) c.self.invariant c.args.tenant c.args.parent c.self.view_is c.requires.parent
 
 pub open-requires-2-clause-parent_is_open : goal.open-requires-2-clause-parent_is_open
 open-requires-2-clause-parent_is_open g c =
-    let parent = parent-for (parts_of c.self.inside) c.args.tenant c.args.parent c.self.invariant c.self.view_is c.requires.parent in
+    let parent = parent-for (parts_of c.self.inside) c.self.invariant c.args.tenant c.args.parent c.self.view_is c.requires.parent in
     parent-open (parts_of c.self.inside) c.self.invariant c.args.tenant c.args.parent c.parent_node-above.result parent c.parent_node-above.ensures
 
 pub unwrap-node-requires : goal.unwrap-node-requires
@@ -48,26 +42,21 @@ unwrap-node-requires g c =
     let free = has-free (parts_of c.self.inside) c.self.invariant c.args.tenant (charge c.args.size) 1 left in
     not-refused c.open-2.result (λ refused. let short = c.open-2.ensures.refused.0 refused in omega (arith, short, free))
 
-pub add-requires-clause-above : goal.add-requires-clause-above
-add-requires-clause-above g c =
-    let own = left-for (parts_of c.self.inside) c.args.tenant c.args.size c.self.invariant c.self.view_is c.requires.left in
+pub add-requires : goal.add-requires
+add-requires g c =
+    let own = left-for (parts_of c.self.inside) c.self.invariant c.args.tenant c.args.size c.self.view_is c.requires.left in
     let serial = opened-next (parts_of c.self.inside) c.args.tenant c.unwrap-before.result own.0 own.1.0 (rw c.unwrap-before.ensures at c.open.ensures.opened) in
-    rw serial (c.self.invariant.accounts c.args.tenant own.0 own.1.0).serials
-
-pub add-requires-clause-parent : goal.add-requires-clause-parent
-add-requires-clause-parent g c =
-    let parent = parent-for (parts_of c.self.inside) c.args.tenant c.args.parent c.self.invariant c.self.view_is c.requires.parent in
-    parent-in (frames_of c.self.inside.table c.args.tenant) c.args.tenant c.args.parent c.parent_name.result parent c.parent_name.ensures
-
-pub add-requires-clause-room : goal.add-requires-clause-room
-add-requires-clause-room g c =
-    let own = left-for (parts_of c.self.inside) c.args.tenant c.args.size c.self.invariant c.self.view_is c.requires.left in
+    let parent = parent-for (parts_of c.self.inside) c.self.invariant c.args.tenant c.args.parent c.self.view_is c.requires.parent in
     let size = size-some c.args.words.now c.args.size c.requires.size in
-    place-left (parts_of c.self.inside) c.self.invariant c.args.tenant c.args.size own.0 own.1.0 size.0 own.1.1.0
+    record {
+      above = rw serial (c.self.invariant.accounts c.args.tenant own.0 own.1.0).serials;
+      parent = parent-in (frames_of c.self.inside.table c.args.tenant) c.args.tenant c.args.parent c.parent_name.result parent c.parent_name.ensures;
+      room = place-left (parts_of c.self.inside) c.self.invariant c.args.tenant c.args.size own.0 own.1.0 size.0 own.1.1.0;
+    }
 
 pub open-requires : goal.open-requires
 open-requires g c =
-    rw (left-for (parts_of c.self.inside) c.args.tenant c.args.size c.self.invariant c.self.view_is c.requires.left).1.0 refl
+    rw (left-for (parts_of c.self.inside) c.self.invariant c.args.tenant c.args.size c.self.view_is c.requires.left).1.0 refl
 
 pub unwrap-before-requires : goal.unwrap-before-requires
 unwrap-before-requires g c =
@@ -79,7 +68,7 @@ invariant_of-self g c = (step g (goal.at.invariant_of-self g c).After-add).store
 
 pub returns-clause-name : goal.returns-clause-name
 returns-clause-name g c =
-    let own = left-for (parts_of c.self.inside) c.args.tenant c.args.size c.self.invariant c.self.view_is c.requires.left in
+    let own = left-for (parts_of c.self.inside) c.self.invariant c.args.tenant c.args.size c.self.view_is c.requires.left in
     let serial = opened-next (parts_of c.self.inside) c.args.tenant c.unwrap-before.result own.0 own.1.0 (rw c.unwrap-before.ensures at c.open.ensures.opened) in
     let given = serials-found (parts_of c.self.inside) c.args.tenant own.0 own.1.0 in
     rw (← c.self.view_is) (ap (λ n. record { tenant = c.args.tenant; serial = n }) (serial ∙ ap (λ n. n + 1) (sym given)))

@@ -1,19 +1,19 @@
 use Rattle.sched_store.proofs.Common.{refl, ap, ◌∙◌, arith, on_tenant, with_reserve, parts_of}
-use Rattle.sched_store.proofs.Admitting.{CanBeRaised, can-be-raised, book-raises, IsRaised, raise-stored, raise-shared}
-use Rattle.sched_store.proofs.store.Store.raise.Given.{Over}
+use Rattle.sched_store.proofs.Admitting.{CanBeRaised, can-be-raised, book-raises, with_more, raised}
+use Rattle.sched_store.proofs.Steps.{Stepped}
 use Rattle.sched_store.proofs.store.Store.raise.Goals.{After-segments, After-unwrap}
 use Rattle.sched_store.proofs.store.Store.raise.Goals as goal
 
 -- so much can be reserved
-can : (g : Over) (c : After-segments g) → CanBeRaised (parts_of c.self.inside) c.args.tenant c.args.reserve
+can : (g : _) (c : After-segments g) → CanBeRaised (parts_of c.self.inside) c.args.tenant c.args.reserve
 can g c = can-be-raised _ _ _ c.self.invariant c.self.view_is c.requires.above c.requires.room
 
 -- what the table and the book told
-told : (g : Over) (c : After-unwrap g) → IsRaised (parts_of c.self.inside) c.reserve.new.self c.raise.new.self c.args.tenant c.args.reserve
+told : (g : _) (c : After-unwrap g) → Stepped (parts_of c.self.inside) (with_more (parts_of c.self.inside) c.reserve.new.self c.raise.new.self) c.args.tenant (with_reserve c.args.reserve)
 told g c =
     let able = can-be-raised (parts_of c.self.inside) c.args.tenant c.args.reserve c.self.invariant c.self.view_is c.requires.above c.requires.room in
     let table = c.in_ok-reserve.ensures in
-    record {
+    raised _ _ _ _ c.args.reserve c.self.invariant (record {
       can = able;
       places = table.places ∙ c.segments.ensures.value;
       frames = table.frames;
@@ -21,7 +21,7 @@ told g c =
       count = table.as_many (omega (arith, able.places, able.some));
       raises = rw (c.unwrap.ensures, able.there) at c.raise.ensures.raises;
       sound = c.raise.ensures.sound;
-    }
+    })
 
 pub reserve-requires-clause-more : goal.reserve-requires-clause-more
 reserve-requires-clause-more g c =
@@ -40,7 +40,7 @@ pub unwrap-requires : goal.unwrap-requires
 unwrap-requires g c = c.raise.ensures.ok.1 (book-raises _ _ _ (can g (goal.at.unwrap-requires g c).After-segments))
 
 pub invariant_of-self-2 : goal.invariant_of-self-2
-invariant_of-self-2 g c = raise-stored _ _ _ _ _ c.self.invariant (told g (goal.at.invariant_of-self-2 g c).After-unwrap)
+invariant_of-self-2 g c = (told g (goal.at.invariant_of-self-2 g c).After-unwrap).stored
 
 pub returns-clause-ok : goal.returns-clause-ok
-returns-clause-ok g c = raise-shared _ _ _ _ _ c.self.invariant (told g (goal.at.returns-clause-ok g c).After-unwrap) ∙ ap (on_tenant c.args.tenant (with_reserve c.args.reserve)) c.self.view_is
+returns-clause-ok g c = (told g (goal.at.returns-clause-ok g c).After-unwrap).shared ∙ ap (on_tenant c.args.tenant (with_reserve c.args.reserve)) c.self.view_is

@@ -1,16 +1,17 @@
-use Rattle.sched_store.proofs.Common.{ℕ, List, IsSome, ap, sym, ◌∙◌, subst, FrameId, root_of, CoreState, parts_of, path_of}
+use Rattle.sched_store.proofs.Common.{ℕ, List, ap, sym, ◌∙◌, FrameId, root_of, CoreState, parts_of, path_of}
 use Rattle.sched_rules.specs.Views.{named}
-use Rattle.sched_store.proofs.Removing.{has-frame, path-shown}
+use Rattle.sched_store.proofs.Lookups.{there-has}
+use Rattle.sched_store.proofs.Removing.{path-shown}
 use Rattle.sched_store.proofs.store.Store.root.Goals as goal
 
 pub root-requires : goal.root-requires
 root-requires g c =
-    let some = subst (λ (s : CoreState). IsSome (named s c.args.name)) (sym c.self.view_is) c.requires in
-    has-frame (parts_of c.self.inside) c.self.invariant c.args.name some
+    let some = rw (← c.self.view_is) at c.requires in
+    there-has (parts_of c.self.inside) c.self.invariant c.args.name some
 
 pub returns : goal.returns
 returns g c =
-    let some = subst (λ (s : CoreState). IsSome (named s c.args.name)) (sym c.self.view_is) c.requires in
+    let some = rw (← c.self.view_is) at c.requires in
     let path = sym (path-shown (parts_of c.self.inside) c.self.invariant c.args.name some) ∙ ap (λ (s : CoreState). path_of (named s c.args.name)) c.self.view_is in
     c.root.ensures ∙ ap (λ (p : List ℕ). made p) path
   where

@@ -1,5 +1,4 @@
-use Rattle.sched_store.proofs.Common.{IsSome, ap, sym, ◌∙◌, subst, CoreState, parts_of, sight_of}
-use Rattle.sched_rules.specs.Views.{named}
+use Rattle.sched_store.proofs.Common.{ap, ◌∙◌, CoreState, parts_of, sight_of}
 use Rattle.sched_store.proofs.Lookups.{sight-found, entry-open, there-not-missing}
 use Rattle.sched_store.proofs.store.Store.sight.Goals as goal
 
@@ -8,7 +7,7 @@ sight-requires g c = entry-open (parts_of c.self.inside) c.self.invariant c.args
 
 pub unreachable-requires : goal.unreachable-requires
 unreachable-requires g c =
-    let some = subst (λ (s : CoreState). IsSome (named s c.args.name)) (sym c.self.view_is) c.requires in
+    let some = rw (← c.self.view_is) at c.requires in
     there-not-missing (parts_of c.self.inside) c.self.invariant c.args.name some c.in-None.ensures.entry
 
 pub returns : goal.returns

@@ -1,5 +1,4 @@
-use Rattle.segment_region.proofs.Common.{sym, arith}
-use Rattle.std.proofs.Common.{refl}
+use Rattle.segment_region.proofs.Common.{sym, arith, refl}
 use Rattle.segment_region.proofs.Entries.{filled_at}
 use Rattle.segment_region.proofs.Whole.{whole-give, whole-less, entries-free, entries-less}
 use Rattle.segment_region.proofs.region.Region.give.Goals as goal
@@ -10,12 +9,12 @@ get_mut-requires g c = (sym c.self.invariant.0.0, rw c.index-at.ensures (filled_
 pub invariant_of-self : goal.invariant_of-self
 invariant_of-self g c =
     let r = c.self.inside in
-    (c.self.invariant.0, rw c.index-at.ensures (whole-less r.cells.slots r.count r.mark c.args.segment r.free r.listed c.self.invariant.1 (rw (← c.self.view_is) at c.requires) (omega (arith, c.if-at-self.true, c.index-at.ensures))))
+    (c.self.invariant.0, rw c.index-at.ensures (whole-less c.self.invariant.1 c.args.segment (rw (← c.self.view_is) at c.requires) (omega (arith, c.if-at-self.true, c.index-at.ensures))))
 
 pub invariant_of-self-else-at-self : goal.invariant_of-self-else-at-self
 invariant_of-self-else-at-self g c =
     let r = c.self.inside in
-    (c.self.invariant.0, rw c.index-at.ensures (whole-give r.cells.slots r.count r.mark c.args.segment r.free _ r.listed _ c.self.invariant.1 (rw (← c.self.view_is) at c.requires) refl c.before-self-inside.ensures))
+    (c.self.invariant.0, rw c.index-at.ensures (whole-give c.self.invariant.1 c.args.segment _ _ (rw (← c.self.view_is) at c.requires) refl c.before-self-inside.ensures))
 
 pub returns-then-at-self : goal.returns-then-at-self
 returns-then-at-self g c =

@@ -9,7 +9,7 @@ get_mut-requires g c = (sym c.self.invariant.0.0, rw c.index-at.ensures (filled_
 pub invariant_of-self : goal.invariant_of-self
 invariant_of-self g c =
     let r = c.self.inside in
-    (c.self.invariant.0, rw c.index-at.ensures (whole-write r.cells.slots r.count r.mark c.args.segment r.free r.listed _ c.args.link c.self.invariant.1 (rw (← c.self.view_is) at c.requires) c.taken.ensures))
+    (c.self.invariant.0, rw c.index-at.ensures (whole-write c.self.invariant.1 c.args.segment _ c.args.link (rw (← c.self.view_is) at c.requires) c.taken.ensures))
 
 pub returns : goal.returns
 returns g c =

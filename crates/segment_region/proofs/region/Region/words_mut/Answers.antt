@@ -1,5 +1,4 @@
-use Rattle.segment_region.proofs.Common.{sym, ◌∙◌, arith}
-use Rattle.std.proofs.Common.{refl}
+use Rattle.segment_region.proofs.Common.{sym, ◌∙◌, arith, refl}
 use Rattle.segment_region.proofs.Entries.{taken_block, words_at_place}
 use Rattle.segment_region.proofs.Whole.{whole-words, entries-words}
 use Rattle.segment_region.proofs.region.Region.words_mut.Goals as goal
@@ -16,7 +15,7 @@ pub invariant_of-self-lent : goal.invariant_of-self-lent
 invariant_of-self-lent g c = λ w.
     let r = c.self.inside in
     let t = taken_block r.mark r.cells.slots c.args.segment (rw (← c.self.view_is) at c.requires) in
-    (c.self.invariant.0, whole-words r.cells.slots r.count r.mark _ r.free r.listed c.get_mut.result.now w c.self.invariant.1 (omega arith) c.get_mut.ensures.value)
+    (c.self.invariant.0, whole-words c.self.invariant.1 _ c.get_mut.result.now w (omega arith) c.get_mut.ensures.value)
 
 pub returns : goal.returns
 returns g c =

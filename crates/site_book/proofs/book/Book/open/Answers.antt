@@ -6,14 +6,14 @@ use Rattle.site_book.proofs.book.Book.open.Goals as goal
 pub unwrap-requires : goal.unwrap-requires
 unwrap-requires c =
     let gs = c.self.inside.grants.items in
-    let kept = opened c.self.inside.plan gs c.args.self.now c.args.who c.args.session c.args.ask c.self.view_is c.self.invariant.0 c.requires in
+    let kept = opened _ gs c.args.self.now c.self.view_is c.self.invariant.0 c.args.who c.args.session c.args.ask c.requires in
     let one = length_push gs (record { who = c.args.who; session = c.args.session; ask = c.args.ask }) in
     c.push.ensures.succeeds (omega (arith, kept-few c.self.inside.plan _ kept, one, c.self.invariant.2, c.self.inside.grants.ok))
 
 pub invariant_of-self : goal.invariant_of-self
 invariant_of-self c =
     let gs = c.self.inside.grants.items in
-    let kept = opened c.self.inside.plan gs c.args.self.now c.args.who c.args.session c.args.ask c.self.view_is c.self.invariant.0 c.requires in
+    let kept = opened _ gs c.args.self.now c.self.view_is c.self.invariant.0 c.args.who c.args.session c.args.ask c.requires in
     let list = pushed_is _ _ _ _ _ c.unwrap.ensures c.push.ensures.items in
     let long = ap length list in (
       subst (IsKept c.self.inside.plan) (sym list) kept,

@@ -6,7 +6,7 @@ pub invariant_of-self : goal.invariant_of-self
 invariant_of-self c =
     let gs = c.self.inside.grants.items in
     let same = length-with_ask c.args.who c.args.session c.args.ask gs in (
-      subst (IsKept c.self.inside.plan) (sym c.set_ask.ensures.grants) (raised c.self.inside.plan gs c.args.self.now c.args.who c.args.session c.args.ask c.self.view_is c.self.invariant.0 c.requires),
+      subst (IsKept c.self.inside.plan) (sym c.set_ask.ensures.grants) (raised _ gs c.args.self.now c.self.view_is c.self.invariant.0 c.args.who c.args.session c.args.ask c.requires),
       omega (arith, ap length c.set_ask.ensures.grants, same, c.self.invariant.1),
       omega (arith, c.set_ask.ensures.capacity, c.self.invariant.2),
     )

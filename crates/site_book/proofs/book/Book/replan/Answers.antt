@@ -5,7 +5,7 @@ use Rattle.site_book.proofs.book.Book.replan.Goals as goal
 pub invariant_of-self : goal.invariant_of-self
 invariant_of-self c =
     let gs = c.self.inside.grants.items in (
-      subst (λ p. IsKept p gs) (sym c.replace.ensures.after) (replanned c.self.inside.plan gs c.args.self.now c.args.plan c.self.view_is c.requires),
+      subst (λ p. IsKept p gs) (sym c.replace.ensures.after) (replanned _ gs c.args.self.now c.self.view_is c.args.plan c.requires),
       c.self.invariant.1,
       c.self.invariant.2,
     )

@@ -3,7 +3,7 @@ use Rattle.site_book.proofs.BookLemmas.{opens-room, few-seats}
 use Rattle.site_book.proofs.book.Book.why_not_open.Goals as goal
 
 pub returns-clause-room : goal.returns-clause-room
-returns-clause-room c = opens-room c.self.inside.plan c.self.inside.grants.items c.args.self.now c.args.who c.args.ask c.why_beyond.result c.self.view_is c.self.invariant.0 (search rules)
+returns-clause-room c = opens-room _ _ c.args.self.now c.self.view_is c.self.invariant.0 c.args.who c.args.ask c.why_beyond.result (search rules)
 
 pub returns-clause-few : goal.returns-clause-few
-returns-clause-few c = few-seats c.self.inside.plan c.self.inside.grants.items c.args.self.now c.self.view_is c.self.invariant.0
+returns-clause-few c = few-seats _ _ c.args.self.now c.self.view_is c.self.invariant.0

@@ -3,7 +3,8 @@ use Rattle.tenant_quota.proofs.Common.{◌≡◌, ℕ, ◌+◌, ◌<◌, ◌≤�
 use Rattle.tenant_quota.proofs.Common.{charged_by, left_in, IsWithinReserve, held_by}
 use Rattle.tenant_quota.proofs.Standing.{StandsFor, is_there, stands_for, others_same, within_with, IsChange, written, change_by_write, sum_by_write, one_less}
 use Rattle.tenant_quota.proofs.book.Book.charge_nodes.Given.{Over}
-use Rattle.tenant_quota.proofs.book.Book.charge_nodes.Goals.{After-left-left, Joined-then-left-segments, then-left-segments-via-then-left-segments, then-left-segments-via-else-left-segments+then-left-nodes}
+use Rattle.tenant_quota.proofs.book.Book.charge_nodes.Goals.{After-left-left, Joined-then-left-segments, then-left-segments-via-then-left-segments}
+use Rattle.tenant_quota.proofs.book.Book.charge_nodes.Goals.{then-left-segments-via-else-left-segments+then-left-nodes}
 use Rattle.tenant_quota.proofs.book.Book.charge_nodes.Goals as goal
 
 charged_within : (a : Account) (l : Left) (segments nodes : ℕ) → l ≡ left_in a → segments ≤ l.segments → nodes ≤ l.nodes → IsWithinReserve a → IsWithinReserve (charged_by segments nodes a)
@@ -13,26 +14,27 @@ charged_within a l segments nodes is some_left more_left within =
     within_with a (a.charged + segments) (a.opened + nodes) a.ticks (omega (arith, within.charged_within)) (omega (arith, within.opened_within)) within.ticks_within within
 
 -- the entry that was found, and the write of a greater charge into it
-here : (g : Over) (c : After-left-left g) → StandsFor (held_by c.self.inside) c.args.tenant c.get_mut.result.now
-here g c = stands_for (held_by c.self.inside) c.args.tenant c.get_mut.result.now c.self.invariant.sound c.get_mut.ensures.value
+module _ (g : Over) (c : After-left-left g) where
+  here : StandsFor (held_by c.self.inside) c.args.tenant c.get_mut.result.now
+  here = stands_for (held_by c.self.inside) _ _ c.get_mut.ensures.value c.self.invariant.sound
 
-fits : (g : Over) (c : After-left-left g) → c.args.segments ≤ c.left-left.result.segments → c.args.nodes ≤ c.left-left.result.nodes → IsWithinReserve (charged_by c.args.segments c.args.nodes c.get_mut.result.now.1)
-fits g c some more = charged_within c.get_mut.result.now.1 c.left-left.result c.args.segments c.args.nodes c.left-left.ensures some more (here g c).within
+  fits : c.args.segments ≤ c.left-left.result.segments → c.args.nodes ≤ c.left-left.result.nodes → IsWithinReserve (charged_by c.args.segments c.args.nodes c.get_mut.result.now.1)
+  fits some more = charged_within c.get_mut.result.now.1 c.left-left.result c.args.segments c.args.nodes c.left-left.ensures some more (here).within
 
-change : (g : Over) (c : After-left-left g) → c.args.segments ≤ c.left-left.result.segments → c.args.nodes ≤ c.left-left.result.nodes → IsChange (held_by c.self.inside) (written (held_by c.self.inside) c.args.tenant c.get_mut.result.now (charged_by c.args.segments c.args.nodes)) c.args.tenant (charged_by c.args.segments c.args.nodes)
-change g c some more = change_by_write (held_by c.self.inside) c.args.tenant c.get_mut.result.now (charged_by c.args.segments c.args.nodes) c.self.invariant.sound c.get_mut.ensures.value (λ x. refl) (fits g c some more)
+  change : c.args.segments ≤ c.left-left.result.segments → c.args.nodes ≤ c.left-left.result.nodes → IsChange (held_by c.self.inside) (written (held_by c.self.inside) c.args.tenant c.get_mut.result.now (charged_by c.args.segments c.args.nodes)) c.args.tenant (charged_by c.args.segments c.args.nodes)
+  change some more = change_by_write (held_by c.self.inside) _ _ c.get_mut.ensures.value (charged_by c.args.segments c.args.nodes) c.self.invariant.sound (λ x. refl) (fits some more)
 
 -- nothing is written where it is refused
 same : (g : Over) (c : Joined-then-left-segments g) → c.then-left-segments.self-inside ≡ c.self.inside
 same g c =
-    let back = ap (λ l. record c.self.inside { accounts = l }) (put-same owner_of_account c.args.tenant c.self.inside.accounts c.get_mut.result.now c.get_mut.ensures.value) in
+    let back = ap (λ l. record c.self.inside { accounts = l }) (put-same owner_of_account _ _ _ c.get_mut.ensures.value) in
     elim c.then-left-segments.branch [ then-left-segments-via-then-left-segments w ↦ w.self-inside-is ∙ back | then-left-segments-via-else-left-segments+then-left-nodes w ↦ w.self-inside-is ∙ back ]
 
 pub get_mut-requires-clause-there : goal.get_mut-requires-clause-there
 get_mut-requires-clause-there g c = is_there (held_by c.self.inside) c.args.tenant (rw (← c.self.view_is) at c.requires)
 
 pub left-left-requires : goal.left-left-requires
-left-left-requires g c = (stands_for (held_by c.self.inside) c.args.tenant c.get_mut.result.now c.self.invariant.sound c.get_mut.ensures.value).within
+left-left-requires g c = (stands_for (held_by c.self.inside) _ _ c.get_mut.ensures.value c.self.invariant.sound).within
 
 pub invariant_of-self : goal.invariant_of-self
 invariant_of-self g c = rw (same g c) c.self.invariant
@@ -79,7 +81,7 @@ returns g c =
       short = rw (← c.self.view_is, account) (λ never. absurd cc, λ short. absurd (elim short [ inl less ↦ omega (arith, less, some) | inr less ↦ omega (arith, less, more) ]));
       charges = rw (← c.self.view_is) is.changes;
       opened = rw (← c.self.view_is, account) refl;
-      sum = rw (← c.self.view_is) (omega (arith, sum_by_write (λ x. x.1.charged) (held_by c.self.inside) c.args.tenant c.get_mut.result.now (charged_by c.args.segments c.args.nodes) c.get_mut.ensures.value));
+      sum = rw (← c.self.view_is) (omega (arith, sum_by_write (held_by c.self.inside) _ _ c.get_mut.ensures.value (λ x. x.1.charged) (charged_by c.args.segments c.args.nodes)));
       others = rw (← c.self.view_is) is.others;
       err = tt;
       sound = is.sound;

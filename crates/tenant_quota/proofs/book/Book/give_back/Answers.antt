@@ -10,12 +10,13 @@ credited_within a n within =
     within_with a (a.charged - n) a.opened a.ticks (omega (arith, within.charged_within)) within.opened_within within.ticks_within within
 
 -- the write of a smaller charge
-change : (g : Over) (c : After-get_mut g) → IsChange (held_by c.self.inside) (written (held_by c.self.inside) c.args.tenant c.get_mut.result.now (credited_by c.args.segments)) c.args.tenant (credited_by c.args.segments)
-change g c =
-    change_by_write (held_by c.self.inside) c.args.tenant c.get_mut.result.now (credited_by c.args.segments) c.self.invariant.sound c.get_mut.ensures.value (λ x. refl) (credited_within c.get_mut.result.now.1 c.args.segments (stands_for (held_by c.self.inside) c.args.tenant c.get_mut.result.now c.self.invariant.sound c.get_mut.ensures.value).within)
+module _ (g : Over) (c : After-get_mut g) where
+  change : IsChange (held_by c.self.inside) (written (held_by c.self.inside) c.args.tenant c.get_mut.result.now (credited_by c.args.segments)) c.args.tenant (credited_by c.args.segments)
+  change =
+      change_by_write (held_by c.self.inside) _ _ c.get_mut.ensures.value (credited_by c.args.segments) c.self.invariant.sound (λ x. refl) (credited_within c.get_mut.result.now.1 c.args.segments (stands_for (held_by c.self.inside) _ _ c.get_mut.ensures.value c.self.invariant.sound).within)
 
-less : (g : Over) (c : After-get_mut g) → c.args.segments ≤ c.get_mut.result.now.1.charged
-less g c = and_at (account_of c.args.tenant c.self.inside.accounts) (λ a. c.args.segments ≤ a.charged) _ (stands_for (held_by c.self.inside) c.args.tenant c.get_mut.result.now c.self.invariant.sound c.get_mut.ensures.value).account (rw (← c.self.view_is) at c.requires)
+  less : c.args.segments ≤ c.get_mut.result.now.1.charged
+  less = and_at (account_of c.args.tenant c.self.inside.accounts) (λ a. c.args.segments ≤ a.charged) _ (stands_for (held_by c.self.inside) _ _ c.get_mut.ensures.value c.self.invariant.sound).account (rw (← c.self.view_is) at c.requires)
 
 pub get_mut-requires-clause-there : goal.get_mut-requires-clause-there
 get_mut-requires-clause-there g c =
@@ -33,5 +34,5 @@ pub returns : goal.returns
 returns g c =
     let at = (goal.at.returns g c).After-get_mut in
     let is = change g at in
-    let sum = sum_by_write (λ x. x.1.charged) (held_by c.self.inside) c.args.tenant c.get_mut.result.now (credited_by c.args.segments) c.get_mut.ensures.value in
+    let sum = sum_by_write (held_by c.self.inside) _ _ c.get_mut.ensures.value (λ x. x.1.charged) (credited_by c.args.segments) in
     record { credits = rw (← c.self.view_is) is.changes; sum = rw (← c.self.view_is) (omega (arith, sum, less g at)); others = rw (← c.self.view_is) is.others; sound = is.sound }

@@ -5,24 +5,23 @@ use Rattle.tenant_quota.proofs.book.Book.release.Given.{Over}
 use Rattle.tenant_quota.proofs.book.Book.release.Goals.{After-remove-account}
 use Rattle.tenant_quota.proofs.book.Book.release.Goals as goal
 
-account : (g : Over) (c : After-remove-account g) → account_of c.args.tenant c.self.inside.accounts ≡ Some c.remove-account.result.1
-account g c = (stands_for (held_by c.self.inside) c.args.tenant c.remove-account.result c.self.invariant.sound c.remove-account.ensures.value).account
+module _ (g : Over) (c : After-remove-account g) where
+  account : account_of c.args.tenant c.self.inside.accounts ≡ Some c.remove-account.result.1
+  account = (stands_for (held_by c.self.inside) _ _ c.remove-account.ensures.value c.self.invariant.sound).account
 
-releases : (g : Over) (c : After-remove-account g) → Releases (held_by c.self.inside) (released (held_by c.self.inside) c.args.tenant) c.args.tenant c.remove-account.result.1
-releases g c = Releases-released (held_by c.self.inside) c.args.tenant c.remove-account.result.1 (account g c) c.self.invariant.sound
+  releases : Releases (held_by c.self.inside) (released (held_by c.self.inside) c.args.tenant) c.args.tenant c.remove-account.result.1
+  releases = Releases-released (held_by c.self.inside) c.args.tenant c.remove-account.result.1 account c.self.invariant.sound
 
 pub remove-account-requires-clause-there : goal.remove-account-requires-clause-there
 remove-account-requires-clause-there g c = is_there (held_by c.self.inside) c.args.tenant (rw (← c.self.view_is) at c.requires)
 
 pub overflow_sub-self : goal.overflow_sub-self
 overflow_sub-self g c =
-    let is = releases g (goal.at.overflow_sub-self g c).After-remove-account in
-    omega (arith, is.segments, c.self.invariant.segments, c.segments.ensures.value)
+    omega (arith, (releases g (goal.at.overflow_sub-self g c).After-remove-account).segments, c.self.invariant.segments, c.segments.ensures.value)
 
 pub overflow_sub-self-2 : goal.overflow_sub-self-2
 overflow_sub-self-2 g c =
-    let is = releases g (goal.at.overflow_sub-self-2 g c).After-remove-account in
-    omega (arith, is.nodes, c.self.invariant.nodes, c.nodes.ensures.value)
+    omega (arith, (releases g (goal.at.overflow_sub-self-2 g c).After-remove-account).nodes, c.self.invariant.nodes, c.nodes.ensures.value)
 
 pub invariant_of-self : goal.invariant_of-self
 invariant_of-self g c =

@@ -12,30 +12,31 @@ ticked_within a l is some_left within =
     within_with a a.charged a.opened (a.ticks + 1) within.charged_within within.opened_within (omega (arith, within.ticks_within)) within
 
 -- the entry that was found, and the write of one more step into it
-here : (g : Over) (c : After-left g) → StandsFor (held_by c.self.inside) c.args.tenant c.get_mut.result.now
-here g c = stands_for (held_by c.self.inside) c.args.tenant c.get_mut.result.now c.self.invariant.sound c.get_mut.ensures.value
+module _ (g : Over) (c : After-left g) where
+  here : StandsFor (held_by c.self.inside) c.args.tenant c.get_mut.result.now
+  here = stands_for (held_by c.self.inside) _ _ c.get_mut.ensures.value c.self.invariant.sound
 
-fits : (g : Over) (c : After-left g) → c.left.result.steps ≢ 0 → IsWithinReserve (ticked c.get_mut.result.now.1)
-fits g c some = ticked_within c.get_mut.result.now.1 c.left.result c.left.ensures some (here g c).within
+  fits : c.left.result.steps ≢ 0 → IsWithinReserve (ticked c.get_mut.result.now.1)
+  fits some = ticked_within c.get_mut.result.now.1 c.left.result c.left.ensures some (here).within
 
-change : (g : Over) (c : After-left g) → c.left.result.steps ≢ 0 → IsChange (held_by c.self.inside) (written (held_by c.self.inside) c.args.tenant c.get_mut.result.now ticked) c.args.tenant ticked
-change g c some = change_by_write (held_by c.self.inside) c.args.tenant c.get_mut.result.now ticked c.self.invariant.sound c.get_mut.ensures.value (λ x. refl) (fits g c some)
+  change : c.left.result.steps ≢ 0 → IsChange (held_by c.self.inside) (written (held_by c.self.inside) c.args.tenant c.get_mut.result.now ticked) c.args.tenant ticked
+  change some = change_by_write (held_by c.self.inside) _ _ c.get_mut.ensures.value ticked c.self.invariant.sound (λ x. refl) (fits some)
 
 pub get_mut-requires-clause-there : goal.get_mut-requires-clause-there
 get_mut-requires-clause-there g c = is_there (held_by c.self.inside) c.args.tenant (rw (← c.self.view_is) at c.requires)
 
 pub left-requires : goal.left-requires
-left-requires g c = (stands_for (held_by c.self.inside) c.args.tenant c.get_mut.result.now c.self.invariant.sound c.get_mut.ensures.value).within
+left-requires g c = (stands_for (held_by c.self.inside) _ _ c.get_mut.ensures.value c.self.invariant.sound).within
 
 pub invariant_of-self : goal.invariant_of-self
-invariant_of-self g c = rw (put-same owner_of_account c.args.tenant c.self.inside.accounts c.get_mut.result.now c.get_mut.ensures.value) c.self.invariant
+invariant_of-self g c = rw (put-same owner_of_account _ _ _ c.get_mut.ensures.value) c.self.invariant
 
 pub returns-then-left-eq0 : goal.returns-then-left-eq0
 returns-then-left-eq0 g c =
     let steps = ap (λ (x : Left). x.steps) c.left.ensures in
     let at = (goal.at.returns-then-left-eq0 g c).After-left in
     let account = (here g at).account in
-    rw (put-same owner_of_account c.args.tenant c.self.inside.accounts c.get_mut.result.now c.get_mut.ensures.value) (record {
+    rw (put-same owner_of_account _ _ _ c.get_mut.ensures.value) (record {
       ok = rw (← c.self.view_is, account) (λ never. absurd cc, λ has. absurd (omega (arith, has, steps, c.if-left-eq0.true)));
       short = rw (← c.self.view_is, account) (λ _. sym steps ∙ c.if-left-eq0.true, λ _. refl);
       ticks = tt;
@@ -64,7 +65,7 @@ returns g c =
       ok = rw (← c.self.view_is, (here g at).account) (λ _. omega (arith, steps, c.if-left-eq0.false), λ _. refl);
       short = rw (← c.self.view_is, (here g at).account) (λ never. absurd cc, λ out. absurd (c.if-left-eq0.false (steps ∙ out)));
       ticks = rw (← c.self.view_is) is.changes;
-      sum = rw (← c.self.view_is) (omega (arith, sum_by_write (λ x. x.1.charged) (held_by c.self.inside) c.args.tenant c.get_mut.result.now ticked c.get_mut.ensures.value));
+      sum = rw (← c.self.view_is) (omega (arith, sum_by_write (held_by c.self.inside) _ _ c.get_mut.ensures.value (λ x. x.1.charged) ticked));
       others = rw (← c.self.view_is) is.others;
       err = tt;
       sound = is.sound;
