@@ -104,8 +104,7 @@ def test_wthor() -> None:
     data = wthor.write(games, 2020, (2021, 3, 4), 22, players, tournaments)
     assert len(data) == 16 + 5 * 68 and data[4:8] == b"\5\0\0\0" and data[16 + 8] in (65, 56, 34, 43)  # d... a first move: ten times the row and the column
     read = list(strictly(wthor.read(data, "a.wtb", players, tournaments)))
-    head = wthor.head_of(data)
-    assert (head.made, head.year, head.depth, head.games) == ((2021, 3, 4), 2020, 22, 5)
+    assert wthor.HEAD.unpack_from(data) == (20, 21, 3, 4, 5, 0, 2020, 8, 0, 22, 0)  # when it was made, games, names, their year, the board's size, a depth
     assert [(game.moves, game.black, game.white, game.event) for game in read] == [(game.moves, "one", "other", "a place") for game in games]
     assert all(game.result == sign(game) for game in read)
     other = data[: 16 + 6] + bytes([data[16 + 6] ^ 1]) + data[16 + 7 :]
@@ -220,7 +219,7 @@ def test_wthor_of_many_files(tmp_path: pathlib.Path) -> None:
 
 def test_wthor_is_replayed_as_the_rules_say() -> None:
     """Its own replay and `Board` agree on games with passes, and on each code that isn't a move."""
-    head = wthor.Head((2020, 1, 1), 1, size=8).written()
+    head = wthor.head_for((2020, 1, 1), 1, size=8)
 
     def replayed(codes: bytes) -> formats.Game:
         found = next(wthor.read(head + bytes([0, 0, 0, 0, 0, 0, 32, 32]) + codes.ljust(60, b"\0")))

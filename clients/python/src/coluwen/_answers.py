@@ -1,46 +1,31 @@
 """The one grammar of a server's answers. clients/conformance.txt has rows of it that the clients of all languages are tried by.
 
-A line ends with its LF, and what has none is no line. Words are parted by one space. A number has 1 to 8 digits, and no 0 before others.
-
-    HELLO s n    WELCOME s n                                   the same s and n
-    RESERVE s n  RESERVED s n                                  the same s and n
-    ASK ..       JOB k                                         k: one more than the jobs that were asked
-    GET k        PENDING k | DONE k value move | SPENT k | CANCELLED k
-    WAIT k       as GET k, but not PENDING
-    TABLE k      TABLE k move(=|<|>)value .. | as GET k, but not DONE
-    CANCEL k     CANCELLED k
-    QUOTA        QUOTA s n t
-    LIVE         LIVE f w
-    INFO         INFO g ..                                     g: the grain; what stands behind it is any words
-    BYE          BYE
-    each         ERR n                                         n: 10 to 99
-
-A value is a number of up to 6 digits, with - before it if it is less than 0, from -128000 to 128000. A move is a1 to h8, `pass`, or, of
-DONE alone, `-`. No move stands twice in a table.
+A line ends with its LF, and what has none is no line. Words are parted by one space. FORMS has for each line what may answer it, beside `ERR n`, n from 10
+to 99. There N is a number: it has 1 to 8 digits, and no 0 before others; V a value: a number of up to 6 digits, with - before it if it is less than 0, from
+-128000 to 128000; P a move: a1 to h8, `pass`, or, of DONE alone, `-`. No move stands twice in a table.
 """
 
 import dataclasses
 import re
-from typing import Any
 
 from .errors import Broken, Refused
 
 LONGEST = 1115  # bytes of an answer, with its LF
-SIGNS = {"N": "(?:0|[1-9][0-9]{0,7})", "P": "(?:[a-h][1-8]|pass)",  # a number, a square or a pass, a value
+SIGNS = {"N": "(?:0|[1-9][0-9]{0,7})", "P": "(?:[a-h][1-8]|pass)",
          "V": "(?:0|-?(?:[1-9][0-9]{0,4}|1[01][0-9]{4}|12[0-7][0-9]{3}|128000))"}  # fmt: skip
 FORMS = {
     word: re.compile(re.sub(r"\b[NVP]\b", lambda sign: SIGNS[str(sign[0])], form))
     for word, form in {
-        "HELLO": "WELCOME N N",
-        "RESERVE": "RESERVED N N",
-        "ASK": "JOB N",
+        "HELLO": "WELCOME N N",  # the same segments and nodes
+        "RESERVE": "RESERVED N N",  # the same
+        "ASK": "JOB N",  # one more than the jobs that were asked
         "GET": "DONE N V (?:P|-)|(?:PENDING|SPENT|CANCELLED) N",
         "WAIT": "DONE N V (?:P|-)|(?:SPENT|CANCELLED) N",
         "TABLE": "TABLE N(?: P[=<>]V)*|(?:PENDING|SPENT|CANCELLED) N",
         "CANCEL": "CANCELLED N",
         "QUOTA": "QUOTA N N N",
         "LIVE": "LIVE N N",
-        "INFO": "INFO N(?: [!-~]+)*",
+        "INFO": "INFO N(?: [!-~]+)*",  # the grain; what stands behind it is any words
         "BYE": "BYE",
     }.items()
 }
@@ -78,7 +63,7 @@ def parse(line: str, answer: bytes, jobs: int = 0) -> Answer:
                      else f"an answer to {line!r} has more than {LONGEST} bytes" if len(answer) >= LONGEST
                      else "the server ended the session")  # fmt: skip
     if word in OF_JOBS:
-        done: dict[str, Any] = {"value": int(told[1]), "move": told[2]} if state == "DONE" else {}
-        return Answer(state, int(told[0]), entries=tuple((move, sign, int(value)) for move, sign, value in entries), **done)
+        value, move = (int(told[1]), told[2]) if state == "DONE" else (0, "")
+        return Answer(state, int(told[0]), value, move, tuple((move, sign, int(value)) for move, sign, value in entries))
     numbers, more = (told[:1], told[1:]) if word == "INFO" else (told, [])
     return Answer(state, numbers=tuple(map(int, numbers)), more=tuple(more))

@@ -123,7 +123,7 @@ class Question(Work):
 
     def __init__(self, depth: int, position: str, timeout: float | None = None):
         self.depth, self.position, self.timeout = depth, position, timeout
-        self.limited: float | None = None  # since when the server says that it is asked too fast
+        self.limited = math.inf  # since when the server says that it is asked too fast
 
 
 class Errand(Work):
@@ -207,13 +207,12 @@ class _Session:
     asking: Work = dataclasses.field(init=False)  # whose line was sent last
     is_ready = False  # it was welcomed
     takes_no_more = False
-    is_ending = False  # BYE was said
     not_before = 0.0  # nothing is sent before
     used = 0  # nodes, where they are counted
 
     @property
     def is_idle(self) -> bool:
-        return self.is_ready and not self.is_ending and not self.works
+        return self.is_ready and not self.works and self.wire.line is None
 
 
 class Core:
@@ -230,8 +229,7 @@ class Core:
         self._learning: Errand | None = None  # what finds that out
         self._needs: dict[int, int] = {}  # of a depth the level that its last job needed
         self._keys, self._sequence = itertools.count(1), itertools.count(1)
-        self._trouble: float | None = None  # since when it is tried to reach the server
-        self._full: float | None = None  # since when it says that it is full
+        self._trouble = self._full = math.inf  # since when it is tried to reach the server, and since when it says that it is full
         self._endures = False  # a server that can't be reached any more is tried for longer than a moment
         self._pause = 0.0  # no connection is begun before
         self._granted = options.sessions  # how many sessions there were when no more were granted
@@ -263,8 +261,8 @@ class Core:
             self._end(work, fault=Closed("the client was closed"))
         for session in sessions:
             if session.is_idle:
-                self._bye(session)
-            elif not session.is_ending:
+                self._send(session, "BYE")
+            elif session.wire.line != "BYE":
                 self._shut(session)
         self._advance()
 
@@ -291,19 +289,18 @@ class Core:
 
     def received(self, key: int, data: bytes) -> None:
         """Bytes came; none are the connection's end."""
-        if not (session := self._sessions.get(key)):
-            return
-        found: Answer | Refused | None = None
-        try:
-            found = session.wire.receive(data)
-        except Refused as refusal:
-            found = refusal
-        except Broken as fault:
-            self._lose(session, fault)
-        if found:
-            self._trouble, self._endures, session.deadline = None, self.options.outage > 0, math.inf
-            self._take(session, found)
-        self._advance()
+        if session := self._sessions.get(key):
+            found: Answer | Refused | None = None
+            try:
+                found = session.wire.receive(data)
+            except Refused as refusal:
+                found = refusal
+            except Broken as fault:
+                self._lose(session, fault)
+            if found:
+                self._trouble, self._endures, session.deadline = math.inf, self.options.outage > 0, math.inf
+                self._take(session, found)
+            self._advance()
 
     def tick(self) -> None:
         """What is due by time: silence, late jobs, looks and tries."""
@@ -326,10 +323,8 @@ class Core:
         for session in self._sessions.values():
             times += [session.deadline, *(work.until for work in session.works)]
             if session.is_ready and session.wire.line is None:
-                if session.not_before and (session.works or self._waiting):
-                    times.append(session.not_before)
-                if session.works:
-                    times.append(max(session.works[0].due, session.not_before))
+                if session.works or session.not_before and self._waiting:
+                    times.append(session.not_before or session.works[0].due)
         return min(times, default=math.inf)
 
     # Questions that wait.
@@ -350,7 +345,7 @@ class Core:
     def _suits(self, session: _Session, work: Work) -> bool:
         """Whether a session could take this, once it has nothing else to do."""
         has_enough = session.reserved.nodes >= self.levels[self._level_of(work)].nodes
-        return has_enough and not session.takes_no_more and not session.is_ending and not (work.alone and session.wire.jobs)
+        return has_enough and not session.takes_no_more and not (work.alone and session.wire.jobs)
 
     def _end(self, work: Work, found: Any = None, fault: ColuwenError | None = None) -> None:
         if work.ended:
@@ -369,7 +364,7 @@ class Core:
     def _fail_waiting(self, fault: Callable[[], ColuwenError]) -> None:
         for work in list(self._waiting.values()):
             self._end(work, fault=fault())
-        self._trouble = self._full = None
+        self._trouble = self._full = math.inf
         self._pause = 0.0
         self._noted.clear()
 
@@ -385,7 +380,7 @@ class Core:
         now = self.hands.now
         self._pause = self._pause if now < self._pause else 0.0
         for session in list(self._sessions.values()):
-            if session.is_ready and not session.is_ending and session.wire.line is None and now >= session.not_before:
+            if session.is_ready and session.wire.line is None and now >= session.not_before:
                 self._turn(session)
         self._open()
         self.hands.wake(self._due())
@@ -401,7 +396,7 @@ class Core:
                 coming.remove(one)
                 continue
             silence = min(self.options.silence * 2**work.silences, max(LONGEST_SILENCE, self.options.silence))
-            self._trouble = now if self._trouble is None else self._trouble
+            self._trouble = min(self._trouble, now)
             left = silence if self._endures else max(silence - (now - self._trouble), 0.05)
             session = _Session(next(self._keys), self.levels[self._level_of(work)], silence, now + left)
             self._sessions[session.key] = session
@@ -422,19 +417,15 @@ class Core:
         if self._sessions.pop(session.key, None):
             self.hands.hang_up(session.key)
 
-    def _bye(self, session: _Session) -> None:
-        session.is_ending = True
-        self._send(session, "BYE")
-
     def _greeted(self, session: _Session, found: Answer | Refused) -> None:
         if not isinstance(found, Refused):
             session.is_ready = True
-            self._full, self._pause = None, 0.0
+            self._full, self._pause = math.inf, 0.0
             self._granted = max(self._granted, self._there)
             self._noted -= {"full", "outage"}
             return
         self._shut(session)
-        number, self._full = found.number, self.hands.now if self._full is None else self._full
+        number, self._full = found.number, min(self._full, self.hands.now)
         if number not in LATER or not self._try_later(self._full, self.options.patience):
             self._fail_waiting(lambda: Refused(number))
         elif self._there:
@@ -445,8 +436,7 @@ class Core:
 
     def _unreached(self, fault: ColuwenError) -> None:
         """A session couldn't be had."""
-        begun = self.hands.now if self._trouble is None else self._trouble
-        if not self._try_later(begun, self.options.outage if self._endures else 0.8 * self.options.silence):
+        if not self._try_later(min(self._trouble, self.hands.now), self.options.outage if self._endures else 0.8 * self.options.silence):
             self._fail_waiting(lambda: Unreachable(f"{self.options.address}: {fault}"))
         elif self._endures and not self._there:
             self._tell(f"{self.options.address}: {fault}; it is tried again for {self.options.outage:g} s", "outage")
@@ -513,7 +503,7 @@ class Core:
             session.asking = next_one
             self._send(session, next_one.line)
         elif session.takes_no_more and not session.works:
-            self._bye(session)
+            self._send(session, "BYE")
 
     def _next_for(self, session: _Session) -> Work | None:
         """What a session takes next: the oldest that waits, if it suits. It makes place for an older one that no session is for."""
@@ -581,10 +571,9 @@ class Core:
     def _has_room(self, session: _Session, question: Question, refusal: Refused) -> Script:
         """Whether a session that has refused a question is to be asked again, as more is reserved now."""
         if refusal.number == TOO_FAST:
-            now = self.hands.now
-            session.not_before = now + AGAIN
-            question.limited = now if question.limited is None else question.limited
-            if now - question.limited < self.options.patience:
+            session.not_before = self.hands.now + AGAIN
+            question.limited = min(question.limited, self.hands.now)
+            if self.hands.now - question.limited < self.options.patience:
                 return False
         if refusal.number not in USED_UP or not session.wire.jobs:
             raise refusal

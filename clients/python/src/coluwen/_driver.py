@@ -66,13 +66,11 @@ class Driver:
                 transport.abort()
 
     def send(self, key: int, data: bytes) -> None:
-        link = self.links.get(key)
-        if isinstance(link, asyncio.Transport):
+        if isinstance(link := self.links.get(key), asyncio.Transport):
             link.write(data)
 
     def hang_up(self, key: int) -> None:
-        link = self.links.pop(key, None)
-        if isinstance(link, asyncio.Transport):
+        if isinstance(link := self.links.pop(key, None), asyncio.Transport):
             link.abort()
         elif link and link is not asyncio.current_task(self.loop):
             link.cancel()

@@ -36,7 +36,7 @@ class AsyncClient(Served):
     async def analyse_all(self, position: str | Position, depth: int, *, timeout: float | None = None) -> list[Entry]:
         """As `Client.analyse_all`."""
         place = checked(position, depth, 1)
-        tasks = [asyncio.ensure_future(self.analyse(after, left, timeout=timeout)) for _, after, left in parts_of(place, depth)]
+        tasks = [asyncio.ensure_future(self.analyse(after, left, timeout=timeout)) for after, left in parts_of(place, depth)]
         with all_of(depth, tasks):
             return moves_of(place, depth, await asyncio.gather(*tasks))
 

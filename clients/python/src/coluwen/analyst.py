@@ -13,7 +13,7 @@ from typing import Any, Literal, Self
 from ._core import DEEPEST, Found, Info
 from .board import PASS, Position
 from .errors import ColuwenError, FormatError, TooDeep
-from .score import EXACT, Entry, Score
+from .score import Entry, Score
 
 Order = Literal["asked", "known"]
 Asked = str | Position | tuple[str | Position, int]
@@ -64,12 +64,10 @@ def checked(position: str | Position, depth: int, least: int = 0) -> Position:
     """The position of a question. `Unfit`, a ValueError and TypeError, where it is none, or the depth isn't a whole number of plies."""
     if isinstance(depth, bool) or not isinstance(depth, int) or not least <= depth <= DEEPEST:
         raise Unfit(f"a depth is a whole number from {least} to {DEEPEST}, and not {depth!r}")
-    if isinstance(position, Position):
-        return position
-    if not isinstance(position, str):
+    if not isinstance(position, (str, Position)):
         raise Unfit(f"a position is a Position or a text of 66 letters, and not {position!r}")
     try:
-        return Position.parse(position)
+        return position if isinstance(position, Position) else Position.parse(position)
     except FormatError as fault:
         raise Unfit(*fault.args) from None
 
@@ -85,19 +83,18 @@ def settle(future: concurrent.futures.Future[Result], outcome: Result | BaseExce
 
 def result_of(position: Position, depth: int, found: Found) -> Result:
     """What the core found, as a result."""
-    entries = tuple(Entry(move, Score(value, sign, depth >= position.empties, position.side)) for move, sign, value in found.entries)
+    entries = tuple(Entry(move, Score.of(value, position, depth, sign)) for move, sign, value in found.entries)
     return Result(position, depth, Score.of(found.value, position, depth), None if found.move == "-" else found.move, entries, found.seconds, found.nodes)
 
 
-def parts_of(position: Position, depth: int) -> list[tuple[str, Position, int]]:
-    """Each legal move with the position that it leads to, and how deep that one is to be searched: a pass uses no ply."""
-    return [(move, position.play(move), depth if move == PASS else depth - 1) for move in position.legal_moves()]
+def parts_of(position: Position, depth: int) -> list[tuple[Position, int]]:
+    """The position that each legal move leads to, and how deep it is to be searched: a pass uses no ply."""
+    return [(position.play(move), depth if move == PASS else depth - 1) for move in position.legal_moves()]
 
 
 def moves_of(position: Position, depth: int, results: Iterable[Result]) -> list[Entry]:
     """Each move's value from the results of what they lead to: the best first, of equals the one from a1 on."""
-    ends = depth >= position.empties
-    entries = [Entry(move, Score(-result.score.value, EXACT, ends, position.side)) for (move, *_), result in zip(parts_of(position, depth), results)]
+    entries = [Entry(move, Score.of(-result.score.value, position, depth)) for move, result in zip(position.legal_moves(), results)]
     return sorted(entries, key=lambda entry: -entry.score.value)
 
 
@@ -215,7 +212,7 @@ class Analyst(abc.ABC):
         """Each move's value, exactly: one question for each of the positions that they lead to, a ply less deep. The best come first, of
         equals the one from a1 on; `pass` alone where the player must pass, and none where the game is over."""
         place = checked(position, depth, 1)
-        futures = [self.submit(after, left, timeout=timeout) for _, after, left in parts_of(place, depth)]
+        futures = [self.submit(after, left, timeout=timeout) for after, left in parts_of(place, depth)]
         with all_of(depth, futures):
             return moves_of(place, depth, [future.result() for future in futures])
 

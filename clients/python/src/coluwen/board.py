@@ -28,10 +28,12 @@ LENGTH = 66  # letters of a position's text
 
 # The discs of a board as one number: bit n for a black disc on square n (0 to 63), bit 64 + n for a white one.
 BIT = {BLACK: [1 << at for at in range(64)], WHITE: [1 << at + 64 for at in range(64)]}
-EITHER = BIT[BLACK][0] | BIT[WHITE][0]
+EITHER = BIT[BLACK][0] | BIT[WHITE][0]  # both bits of square 0
+_BLACKS, _WHITES = str.maketrans("XO-", "100"), str.maketrans("XO-", "010")
 
 
-def _rays(square: int) -> list[list[int]]:
+@functools.cache
+def rays_of(square: int) -> list[list[int]]:
     """The squares in each direction in which anything could be flipped, the nearest first."""
     row, column = divmod(square, 8)
     ways = [(down, right) for down in (-1, 0, 1) for right in (-1, 0, 1) if down or right]
@@ -40,15 +42,12 @@ def _rays(square: int) -> list[list[int]]:
     return [ray for ray in rays if len(ray) > 1]
 
 
-RAYS = [_rays(square) for square in range(64)]
-
-
 def changes(discs: int, side: str, square: int | None) -> int:
     """What a move of the side on a square flips, in the bits of both colours: nothing where it isn't legal."""
     found, own, other = 0, BIT[side], BIT[OTHER[side]]
     if square is None or discs >> square & EITHER:
         return 0
-    for ray in RAYS[square]:
+    for ray in rays_of(square):
         run = 0
         for at in ray:
             if not discs & other[at]:
@@ -71,9 +70,6 @@ def discs_of(cells: str) -> int:
 def cells_of(discs: int) -> str:
     """The number as 64 cells."""
     return "".join(BLACK if discs & BIT[BLACK][at] else WHITE if discs & BIT[WHITE][at] else EMPTY for at in range(64))
-
-
-_BLACKS, _WHITES = str.maketrans("XO-", "100"), str.maketrans("XO-", "010")
 
 
 @dataclasses.dataclass(frozen=True)

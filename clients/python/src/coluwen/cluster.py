@@ -44,12 +44,11 @@ class Task:
     """Questions that are sent together."""
 
     def __init__(self) -> None:
-        self.asked: list[Asked] = []
-        self.futures: list[concurrent.futures.Future[Result]] = []
+        self.asked: dict[concurrent.futures.Future[Result], Asked] = {}
         self.sent: Any = None  # the cluster's future
 
     def fail(self, fault: ColuwenError) -> None:
-        for future in self.futures:
+        for future in self.asked:
             settle(future, fault)
 
 
@@ -88,11 +87,9 @@ class Cluster(Analyst):
             task = self._gathered.setdefault(most, Task())
             if not task.asked and most > 1:
                 threading.Timer(MOMENT, self._send, (most, task)).start()
-            task.asked.append((place.text, depth, self._timeout if timeout is None else timeout))
-            task.futures.append(future)
-            is_full = len(task.asked) == most
+            task.asked[future] = (place.text, depth, self._timeout if timeout is None else timeout)
         future.add_done_callback(lambda one: self._give_up(task) if one.cancelled() else None)
-        if is_full:
+        if len(task.asked) >= most:
             self._send(most, task)
         return future
 
@@ -103,25 +100,27 @@ class Cluster(Analyst):
                 return
             del self._gathered[most]
             self._sent.add(task)
-        task.sent = self._client.submit(answer_here, task.asked, pure=False)
+        task.sent = self._client.submit(answer_here, list(task.asked.values()), pure=False)
         task.sent.add_done_callback(lambda sent: self._take(task, sent))
         self._give_up(task)
 
     def _take(self, task: Task, sent: Any) -> None:
-        """Takes what the cluster says."""
+        """Takes what the cluster says, unless the cluster was closed before."""
+        with self._lock:
+            if task not in self._sent:
+                return
+            self._sent.remove(task)
         try:
-            for future, answer in zip(task.futures, sent.result(), strict=True):
+            for future, answer in zip(task.asked, sent.result(), strict=True):
                 settle(future, answer)
         except concurrent.futures.CancelledError:
             task.fail(Broken("the cluster's scheduler was lost"))
         except Exception as fault:
             task.fail(Broken(f"the cluster failed: {fault}"))
-        with self._lock:
-            self._sent.discard(task)
 
     def _give_up(self, task: Task) -> None:
         """Takes a task back of which nothing is wanted any more."""
-        if task.sent and all(future.cancelled() for future in task.futures):
+        if task.sent and all(future.cancelled() for future in task.asked):
             task.sent.cancel()
 
     def info(self) -> Info:
@@ -135,6 +134,7 @@ class Cluster(Analyst):
                 return
             self._closed = True
             left = [*self._gathered.values(), *self._sent]
+            self._sent.clear()
         for task in left:
             task.fail(Closed("the cluster is closed"))
             if task.sent:

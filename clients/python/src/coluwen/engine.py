@@ -60,8 +60,7 @@ def programs_here() -> list[str]:
 def runs_v3(about: str = "/proc/cpuinfo") -> bool:
     """Whether this computer's processor is an x86-64-v3."""
     with contextlib.suppress(OSError):
-        flags = re.search("^flags.*", pathlib.Path(about).read_text(), re.MULTILINE)
-        return flags is not None and {"avx2", "bmi1", "bmi2", "f16c", "fma", "abm", "movbe"} <= set(flags[0].split())
+        return {"avx2", "bmi1", "bmi2", "f16c", "fma", "abm", "movbe"} <= set(pathlib.Path(about).read_text().split())
     return False
 
 
@@ -88,8 +87,7 @@ class Question:
 def known_of(question: Question, value: int, move: str, entered: int) -> Result:
     """A value and a best move as a result. What is known of the other moves is that none is worth more."""
     moves = [] if move == "-" else question.position.legal_moves()
-    ordered = sorted(moves, key=lambda one: CORNERS.index(one) if one in CORNERS else len(CORNERS))
-    entries = tuple((one, EXACT if one == move else AT_MOST, value) for one in ordered)
+    entries = tuple((one, EXACT if one == move else AT_MOST, value) for one in sorted(moves, key=lambda one: one not in CORNERS))
     return result_of(question.position, question.depth, Found(value, move, entries, time.monotonic() - question.asked, entered))
 
 
@@ -265,10 +263,8 @@ class Fallback(Analyst):
         return self.first.ping()
 
     def close(self) -> None:
-        try:
+        with self.second:
             self.first.close()
-        finally:
-            self.second.close()
 
 
 class AsyncEngine(AsyncClient):

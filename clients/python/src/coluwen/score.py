@@ -7,6 +7,7 @@ game, as one is whose search reached the end in every line, where 0 is a draw.
 from __future__ import annotations
 
 import dataclasses
+import re
 
 from .board import BLACK, OTHER, Position
 
@@ -84,12 +85,8 @@ class Score:
 
     def words(self) -> str:
         """The same as a sentence's end: `wins by 12 discs`, `a draw`, `-3`, `at most a draw`."""
-        if not self.ends:
-            return str(self)
-        if not self.value:
-            return f"{SIGNS[self.sign]}a draw"
-        count = abs(self.mover)
-        return f"{SIGNS[self.sign]}{'wins' if self.value > 0 else 'loses'} by {count} disc{'s' * (count != 1)}"
+        said = {"+": "wins by ", "-": "loses by ", "draw": "a draw"}
+        return re.sub(r"[+-]|draw", lambda found: said[found[0]], str(self)) if self.ends else str(self)
 
 
 @dataclasses.dataclass(frozen=True)

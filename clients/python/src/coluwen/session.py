@@ -104,16 +104,14 @@ class Session:
 
     def _call(self, line: str, token: str | None = None) -> Answer:
         """Sends one line and gives its answer. Where it is interrupted the session can't be used any more, as the answer still comes."""
-        limit = None if line.startswith("WAIT") else self._silence
-        end = None if limit is None else time.monotonic() + limit
+        limit, begun = None if line.startswith("WAIT") else self._silence, time.monotonic()
         with self._lock:
             data = self._wire.send(line, token)
             try:
                 self._socket.settimeout(limit)
                 self._socket.sendall(data)
                 while not (found := self._wire.receive(self._socket.recv(LONGEST + 1))):
-                    if end is not None:
-                        self._socket.settimeout(max(end - time.monotonic(), 0.001))
+                    self._socket.settimeout(limit and max(begun + limit - time.monotonic(), 0.001))
             except TimeoutError:
                 self._wire.broken = f"{line.partition(' ')[0]} was interrupted"
                 raise Silent(f"no answer to {line.partition(' ')[0]} in {limit or 0:.2g} s") from None

@@ -20,8 +20,7 @@
 | WTHOR's .wtb, with names from .jou and .trn | `wthor` | `read`, `read_names` | `write`, `write_names` |
 
 Readers of games and problems give what they can read and what they can't: a `Game` or `Problem`, or a `FormatError` with file, line and column. A game with a
-fault is there with the moves before it (`is_whole` is false), and the fault behind it; nothing is cut silently. Each module says by which description it was
-made.
+fault is there with the moves before it (`is_whole` is false), and the fault behind it; nothing is cut silently. Each module says how its format is described.
 """
 
 import contextlib
@@ -37,14 +36,13 @@ from .records import Expected, Game, Place, Played, Problem, strictly
 __all__ = ["KINDS", "Expected", "Game", "Place", "Played", "Problem", "games", "games_of", "ggf", "kind_of", "lines_of", "obf", "pgn", "position", "problems", "problems_of",
            "read_line", "sgf", "strictly", "text_of", "transcript", "wthor"]  # fmt: skip
 KINDS = ("lines", "obf", "ggf", "sgf", "pgn", "wtb")
-SUFFIXES = {f".{kind}": kind for kind in KINDS[1:]}
 BEGINNINGS = {"sgf": rb"\(\s*;[^)]*?GM\s*\[\s*\d", "ggf": rb"(\d+\s+)?\(;", "pgn": rb"\[\s*\w+\s*\""}
 READERS = {"ggf": ggf.read, "sgf": sgf.read, "pgn": pgn.read}
 
 
 def kind_of(name: str, data: bytes) -> str:
     """The format of a file: by the end of its name, else by its beginning."""
-    if kind := SUFFIXES.get(pathlib.PurePath(name).suffix.lower()):
+    if (kind := pathlib.PurePath(name).suffix.lower()[1:]) in KINDS[1:]:
         return kind
     text = data[:4096].removeprefix(b"\xef\xbb\xbf").lstrip()
     return next((kind for kind, begin in BEGINNINGS.items() if re.match(begin, text)), "lines")

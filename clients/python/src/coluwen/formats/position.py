@@ -9,8 +9,7 @@ black, O, o, W and w white, and so the side.
 A board of 8 lines of 8 cells, with or without numbers, letters and spaces as boards are printed; who is to move stands behind it (`X`, `white`, `black to
 move`), and where it doesn't, it is who has the move after so many discs without passes.
 
- No description of the FEN-like form is at hand; chess's was taken over, with the rows from the
-top as Othello names them.
+No description of the FEN-like form is at hand; chess's was taken over, with the rows from the top as Othello names them.
 """
 
 import itertools

@@ -16,7 +16,6 @@ at hand. The header's counts are compared with the file's length, and each move 
 import pathlib
 import struct
 from collections.abc import Iterable, Iterator
-from typing import NamedTuple
 
 from ..board import BLACK, SQUARES, Position
 from ..errors import FormatError
@@ -29,45 +28,34 @@ OPENING = Position.opening()
 CODES = {10 * int(square[1]) + "abcdefgh".index(square[0]) + 1: PLAYED[square] for square in SQUARES}
 
 
-class Head(NamedTuple):
-    """What stands before the games: when the file was made (year, month, day), how many games and names it has, of which year the games are, the
-    board's size, and to which depth the theoretical scores are."""
-
-    made: tuple[int, int, int]
-    games: int = 0
-    names: int = 0
-    year: int = 0
-    size: int = 0
-    depth: int = 0
-
-    def written(self) -> bytes:
-        return HEAD.pack(*divmod(self.made[0], 100), *self.made[1:], self.games, self.names, self.year, self.size, 0, self.depth, 0)
-
-
-def head_of(data: bytes, file: str = "") -> Head:
+def head_of(data: bytes, file: str = "") -> tuple[int, ...]:
+    """How many games and names a file has, of which year the games are, and the board's size."""
     if len(data) < HEAD.size:
         raise FormatError(f"a head has {HEAD.size} bytes, and here are {len(data)}", file, column=len(data) + 1)
-    century, year, month, day, games, names, played, size, _, depth, _ = HEAD.unpack_from(data)
-    return Head((100 * century + year, month, day), games, names, played, size, depth)
+    return HEAD.unpack_from(data)[4:8]
+
+
+def head_for(made: tuple[int, int, int], games: int = 0, names: int = 0, year: int = 0, size: int = 0, depth: int = 0) -> bytes:
+    return HEAD.pack(*divmod(made[0], 100), *made[1:], games, names, year, size, 0, depth, 0)
 
 
 def read(data: bytes, file: str = "", players: list[str] | None = None, tournaments: list[str] | None = None) -> Iterator[Game | FormatError]:
     """The games of a .wtb, one after another, and its faults. Where names aren't given they stand as `player 12`. A game with a fault is there with
     the moves before that, and the fault behind it; what a cut file has of its games is there, and a fault of the file comes first."""
     try:
-        head = head_of(data, file)
-        if head.size not in (0, 8):
-            raise FormatError(f"its boards have {head.size} lines", file, column=13)
+        games, names, year, size = head_of(data, file)
+        if size not in (0, 8):
+            raise FormatError(f"its boards have {size} lines", file, column=13)
     except FormatError as fault:
         yield fault
         return
-    if head.names:
-        yield FormatError(f"its head counts {head.names} names, as no .wtb has", file, column=9)
-    wanted = HEAD.size + head.games * RECORD.size
+    if names:
+        yield FormatError(f"its head counts {names} names, as no .wtb has", file, column=9)
+    wanted = HEAD.size + games * RECORD.size
     if len(data) != wanted:
-        yield FormatError(f"its head counts {head.games} games, which take {wanted} bytes, and the file has {len(data)}", file, column=5)
-    for number in range(min(head.games, (len(data) - HEAD.size) // RECORD.size)):
-        yield from game_of(data, HEAD.size + number * RECORD.size, file, number + 1, str(head.year), players, tournaments)
+        yield FormatError(f"its head counts {games} games, which take {wanted} bytes, and the file has {len(data)}", file, column=5)
+    for number in range(min(games, (len(data) - HEAD.size) // RECORD.size)):
+        yield from game_of(data, HEAD.size + number * RECORD.size, file, number + 1, str(year), players, tournaments)
 
 
 def game_of(data: bytes, at: int, file: str, number: int, year: str, players: list[str] | None, tournaments: list[str] | None) -> Iterator[Game | FormatError]:
@@ -103,7 +91,7 @@ def read_names(path: str) -> list[str]:
     if suffix not in NAME_BYTES:
         raise FormatError("names are in .jou and .trn files", path)
     data, size = pathlib.Path(path).read_bytes(), NAME_BYTES[suffix]
-    count = head_of(data, path).names
+    count = head_of(data, path)[1]
     if len(data) != HEAD.size + count * size:
         raise FormatError(f"its head counts {count} names of {size} bytes, and the file has {len(data)} bytes", path, column=9)
     return [data[at : at + size].split(b"\0")[0].decode("latin-1") for at in range(HEAD.size, len(data), size)]
@@ -131,11 +119,11 @@ def write(games: Iterable[Game], year: int, made: tuple[int, int, int] = (2000, 
         discs = black_discs(final) if final.is_over else (64 + int(game.result or 0)) // 2
         theoretical = discs if game.theoretical is None else game.theoretical
         records.append(RECORD.pack(*numbers, discs, theoretical, bytes(codes[word] for word in words)))
-    return Head(made, len(records), 0, year, 8, depth).written() + b"".join(records)
+    return head_for(made, len(records), 0, year, 8, depth) + b"".join(records)
 
 
 def write_names(names: list[str], suffix: str, made: tuple[int, int, int] = (2000, 1, 1)) -> bytes:
     """A .jou or .trn."""
     size = NAME_BYTES[suffix]
     written = (name.encode("latin-1", "replace")[: size - 1].ljust(size, b"\0") for name in names)
-    return Head(made, names=len(names)).written() + b"".join(written)
+    return head_for(made, names=len(names)) + b"".join(written)
