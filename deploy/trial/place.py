@@ -112,10 +112,12 @@ class From(stage.From):  # type: ignore[misc]
 
 class Site:
     """`othello_site` with deploy/site.toml at free ports. Sessions come to `port`: by HAProxy with TLS where `made` has its certificates, else as they are;
-    `inner` is where a proxy hands connections on, and `clear` HAProxy's entrance without TLS. `terms` are changes of the file, `more` stands behind it. The variable `name` names the program."""
+    `inner` is where a proxy hands connections on, and `clear` HAProxy's entrance without TLS. `terms` are changes of the file, `more` stands behind it. The variable `name` names the program.
+    With `apart` site and HAProxy have all of this host's processors but the last, where others can be as if at a host of their own."""
 
-    def __init__(self, made: dict[str, str] | None = None, terms: list[tuple[str, str]] | None = None, more: str = "", bare: bool = False, name: str = "SITE"):
+    def __init__(self, made: dict[str, str] | None = None, terms: list[tuple[str, str]] | None = None, more: str = "", bare: bool = False, name: str = "SITE", apart: bool = False):
         self.made, self.bare, self.name = made, bare, name
+        self.on = ["taskset", "--cpu-list", ",".join(map(str, sorted(os.sched_getaffinity(0))[:-1]))] if apart and len(os.sched_getaffinity(0)) > 1 else []
         self.folder = tempfile.TemporaryDirectory()
         root = pathlib.Path(self.folder.name)
         self.file, self.log, self.control = root / "site.toml", root / "log", f"{root}/control"
@@ -151,7 +153,7 @@ class Site:
                 moved += [(f"  {line}\n", "") for line in ("user haproxy", "group haproxy", "chroot /var/lib/haproxy")]
             path.write_text(replaced((TOP / "deploy/haproxy.cfg").read_text(), moved))
             with self.log.open("a") as log:
-                self.proxy = subprocess.Popen(["haproxy", "-db", "-f", str(path)], stdout=log, stderr=log)
+                self.proxy = subprocess.Popen([*self.on, "haproxy", "-db", "-f", str(path)], stdout=log, stderr=log)
                 self.groups["proxy"].add(self.proxy.pid)
             until(lambda: is_there(self.outer), 10, "HAProxy listens")
             time.sleep(1)  # until it has looked whether the site serves
@@ -160,7 +162,7 @@ class Site:
     def start(self) -> None:
         """Starts the program, at first or after its end."""
         with self.log.open("a") as log:
-            self.process = subprocess.Popen([program(self.name, "--ready-site"), *([] if self.bare else [self.file])], stdout=log, stderr=log)
+            self.process = subprocess.Popen([*self.on, program(self.name, "--ready-site"), *([] if self.bare else [self.file])], stdout=log, stderr=log)
             if self.groups:
                 self.groups["site"].add(self.process.pid)
         until(lambda: self.process and self.process.poll() is not None or is_there(4711 if self.bare else self.plain) and os.path.exists(self.control), 60, "the site listens")
