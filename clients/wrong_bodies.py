@@ -72,9 +72,9 @@ BODIES = (
     ("nobody passes", ("board", "squares : [PASS];", "squares : [];"), ("Position", "? found : List.of(PASS);", "? found : List.of();")),
     ("black's number is the mover's", ("score", 'this.side === "X" ? this.mover : 0 - this.mover', "this.mover"), ("Score", "return side == 'X' ? mover() : -mover();", "return mover();")),
     ("a wrong depth is sent", ("analyst", "if (!Number.isInteger(depth) || depth < 0 || depth > DEEPEST) throw", "if (false) throw"), ("Calls", 'within("a depth", 0, depth, Core.DEEPEST)', 'within("a depth", -99, depth, 99)')),
-    ("an endless source is taken without end", ("analyst", "&& taken.size < window) take()", ") take()"), ("Many", "new Semaphore(how.window() - 1)", "new Semaphore(1 << 30)")),
-    ("many answers come in any order", ("analyst", 'const [next] = order === "asked" ? taken.keys() : known;', "const [next] = known;"), ("Many", "(!how.isOrdered() || known.firstKey() == given)", "taken >= 0")),
-    ("what the caller leaves isn't cancelled", ("analyst", 'for (const stop of taken.values()) stop.abort(new ColuwenError("the answers aren\'t wanted any more"));', ""), ("Many", "left.forEach(future -> future.cancel(true));", "")),
+    ("an endless source is taken without end", ("analyst", "&& taken.size < window) take()", ") take()"), ("Analyst", "new Semaphore(how.window() - 1)", "new Semaphore(1 << 30)")),
+    ("many answers come in any order", ("analyst", 'const [next] = order === "asked" ? taken.keys() : known;', "const [next] = known;"), ("Analyst", "(!how.isOrdered() || known.firstKey() == given)", "taken >= 0")),
+    ("what the caller leaves isn't cancelled", ("analyst", 'for (const stop of taken.values()) stop.abort(new ColuwenError("the answers aren\'t wanted any more"));', ""), ("Analyst", "left.forEach(future -> future.cancel(true));", "")),
     ("an aborted question stays", ("client", 'signal?.addEventListener("abort", leave);', ""), ("Client", "if (future.isCancelled()) act(", "if (false) act(")),
     ("a full server isn't told", ("core", '[this.#wasTold] = [true, this.#tell("full", refusal)]', "this.#wasTold = true"), ("Core", 'hands.tell().accept("full", answer.refusal());', "")),
 )  # fmt: skip

@@ -188,6 +188,33 @@ def test_info_is_found_out_once() -> None:
         assert (info.grain, info.sure, info.mostly, info.version) == (6, 10, 11, "1.2.3") and client.info() is info and server.heard.count("INFO") == 1
 
 
+@pytest.mark.parametrize("again", [False, True])
+def test_a_depth_that_is_too_great_where_it_can_t_be_found_out_what_can(again: bool) -> None:
+    """Who asked hears why; who asks later has it found out again; where a client is closed meanwhile both who wait hear that."""
+    right, is_there, goes_on = sound(state=lambda depth, nodes: "SPENT" if depth == 9 else "DONE"), [again], threading.Event()
+
+    def answers():  # type: ignore[no-untyped-def]
+        answer_of = right()
+        return lambda line: answer_of(line) if line != "INFO" or is_there[0] and goes_on.wait(20) else None
+
+    with told(answers) as server, Client("127.0.0.1", server.port, outage=0) as client:
+        questions = [client.submit(OPENING, 9), client.submit(LINE[0], 9)]
+        if again:
+            while "INFO" not in server.heard:
+                time.sleep(0.01)
+            client.close()
+            goes_on.set()
+        for question in questions:
+            with pytest.raises(Closed if again else Unreachable):
+                question.result(20)
+        if not again:
+            is_there[0] = True
+            goes_on.set()
+            with pytest.raises(TooDeep) as fault:
+                client.analyse(OPENING, 9)
+            assert (fault.value.depth, fault.value.greatest) == (9, 4)
+
+
 def test_threads_share_a_client() -> None:
     with told(sound()) as server, Client("127.0.0.1", server.port, sessions=3) as client:
         with concurrent.futures.ThreadPoolExecutor(16) as pool:

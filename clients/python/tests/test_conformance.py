@@ -21,7 +21,7 @@ def rows(kind: str) -> list[list[str]]:
 def words_of(answer: Answer) -> str:
     done = [str(answer.value), answer.move] if answer.state == "DONE" else []
     entries = [f"{move}{sign}{value}" for move, sign, value in answer.entries]
-    return " ".join([answer.state, *([str(answer.job)] if answer.job else []), *map(str, answer.numbers), *done, *entries, *answer.more])
+    return " ".join([answer.state, *map(str, answer.numbers), *done, *entries, *answer.more])
 
 
 @pytest.mark.parametrize("jobs, line, answer, result", rows("answer"))

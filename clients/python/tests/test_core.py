@@ -12,7 +12,7 @@ import hypothesis.strategies as st
 import pytest
 from coluwen import Broken, Closed, Late, Refused, TooDeep, Unreachable
 from coluwen._answers import parse
-from coluwen._core import PROBES, Core, Errand, Found, Info, Inquiry, Options, Question, Reservation, Wire, Work, pause_after, ping
+from coluwen._core import PROBES, Core, Errand, Found, Info, Options, Question, Reservation, Wire, Work, pause_after, ping
 from told import value_of
 
 OPENING = "---------------------------OX------XO--------------------------- X"
@@ -269,9 +269,9 @@ def test_patience() -> None:
 @pytest.mark.parametrize("grain, found", [(0, 0), (3, 3), (5, 5), (6, 6), (9, 6)])
 def test_the_grain_by_probes(grain: int, found: int) -> None:
     stage = Stage(Model(grain=grain, job=0.01), sessions=1)
-    stage.ask(errand := Inquiry())
+    stage.ask(errand := Errand(stage.core.learns, alone=True))
     stage.run(30)
-    assert errand.found.grain == found and stage.core.info == errand.found and stage.lines("BYE") == ["BYE"]
+    assert errand.found.grain == found and stage.lines("BYE") == ["BYE"]
     asked = [int(line.split()[1]) for line in stage.lines("ASK")]
     assert asked == [*range(2, min(grain + 2, 8) + 1)] * 2 and len(stage.lines("QUOTA")) == len(asked) + 1
 
@@ -550,7 +550,6 @@ def test_what_a_look_is_refused_for() -> None:
 
 def test_what_is_reserved_by_hand_knows_no_depth() -> None:
     hand = Hand(sessions=1, levels=(Reservation(64, 100),))
-    hand.core.info = Info(4)
     hand.ask(question := Question(9, OPENING))
     hand.opens(1)
     hand.hear(1, "JOB 1", "SPENT 1")
@@ -642,16 +641,12 @@ def test_a_server_that_is_away_for_a_moment_is_no_loss(outage: int, told: int) -
 
 def test_who_waits_for_what_the_server_is_is_told_that_it_can_t_be_found_out() -> None:
     hand = Hand(sessions=1)
-    hand.core._needs[9] = 1
-    hand.ask(question := Question(9, OPENING))
-    hand.opens(1)
-    hand.hear(1, "JOB 1", "SPENT 1")
-    hand.hear(1, "BYE")
-    for key in range(2, 6):
-        assert not question.ended and hand.opens(key) == [f"{key} INFO"]
+    hand.ask(errand := Errand(hand.core.learns, alone=True))
+    for key in range(1, 5):
+        assert not errand.ended and hand.opens(key) == [f"{key} INFO"]
         hand.core.failed(key, "reset")
         hand.does()
-    assert isinstance(question.fault, Unreachable) and "reset" in str(question.fault) and not hand.core.closed
+    assert isinstance(errand.fault, Unreachable) and "reset" in str(errand.fault) and not hand.core.closed
 
 
 def test_who_answers_hello_by_something_else_is_tried_again_after_a_pause() -> None:
@@ -682,7 +677,7 @@ def test_for_what_is_given_up_nothing_is_found_out() -> None:
 def test_how_a_server_is_found_out() -> None:
     """Line by line; a probe that takes 50 nodes is within a ply of the grain, and one of 51 is not."""
     hand = Hand(sessions=1)
-    hand.ask(errand := Inquiry())
+    hand.ask(errand := Errand(hand.core.learns, alone=True))
     assert hand.opens(1) == ["1 INFO"] and hand.hear(1, "ERR 21") == ["1 QUOTA"] and hand.hear(1, "QUOTA 1 8000 1") == [f"1 ASK 2 {PROBES[0]}"]
     assert hand.hear(1, "JOB 1") == ["1 GET 1"] and hand.hear(1, "PENDING 1") == [] and hand.waits(0.0003) == ["1 GET 1"]
     assert hand.hear(1, "DONE 1 0 d3") == ["1 QUOTA"] and hand.hear(1, "QUOTA 1 7950 1") == [f"1 ASK 3 {PROBES[0]}"]
@@ -690,7 +685,7 @@ def test_how_a_server_is_found_out() -> None:
     assert hand.hear(1, "QUOTA 1 7899 1") == [f"1 ASK 2 {PROBES[1]}"]
     hand.hear(1, "JOB 3")
     assert hand.hear(1, "SPENT 3") == ["1 QUOTA"] and hand.hear(1, "QUOTA 1 7899 1") == ["1 BYE"]
-    assert errand.found == Info(0) == hand.core.info and [(info.sure, info.mostly) for info in (Info(0), Info(7), Info(9))] == [(4, 5), (11, 12), (12, 12)]
+    assert errand.found == Info(0) and [(info.sure, info.mostly) for info in (Info(0), Info(7), Info(9))] == [(4, 5), (11, 12), (12, 12)]
 
 
 def test_how_long_a_server_is_tried_that_was_never_there() -> None:

@@ -5,8 +5,8 @@ to 99. There N is a number: it has 1 to 8 digits, and no 0 before others; V a va
 -128000 to 128000; P a move: a1 to h8, `pass`, or, of DONE alone, `-`. No move stands twice in a table.
 """
 
-import dataclasses
 import re
+from typing import NamedTuple
 
 from .errors import Broken, Refused
 
@@ -29,21 +29,17 @@ FORMS = {
         "BYE": "BYE",
     }.items()
 }
-OF_JOBS = ("ASK", "GET", "WAIT", "TABLE", "CANCEL")
 
 
-@dataclasses.dataclass(frozen=True)
-class Answer:
-    """An answer that fits its line. `state`: its first word; `job`: the job's number; `numbers`: of WELCOME, RESERVED, QUOTA, LIVE and INFO;
-    `more`: the words behind the grain of INFO."""
+class Answer(NamedTuple):
+    """An answer that fits its line. `state`: its first word; `numbers`: first a job's; `more`: the words behind the grain of INFO."""
 
     state: str
-    job: int = 0
-    value: int = 0
-    move: str = ""
-    entries: tuple[tuple[str, str, int], ...] = ()
-    numbers: tuple[int, ...] = ()
-    more: tuple[str, ...] = ()
+    numbers: tuple[int, ...]
+    value: int
+    move: str
+    entries: tuple[tuple[str, str, int], ...]
+    more: tuple[str, ...]
 
 
 def parse(line: str, answer: bytes, jobs: int = 0) -> Answer:
@@ -62,8 +58,7 @@ def parse(line: str, answer: bytes, jobs: int = 0) -> Answer:
         raise Broken(f"{line!r} was answered by {shown!r}{'..' if len(answer) > 120 else ''}" if answer.endswith(b"\n")
                      else f"an answer to {line!r} has more than {LONGEST} bytes" if len(answer) >= LONGEST
                      else "the server ended the session")  # fmt: skip
-    if word in OF_JOBS:
-        value, move = (int(told[1]), told[2]) if state == "DONE" else (0, "")
-        return Answer(state, int(told[0]), value, move, tuple((move, sign, int(value)) for move, sign, value in entries))
-    numbers, more = (told[:1], told[1:]) if word == "INFO" else (told, [])
-    return Answer(state, numbers=tuple(map(int, numbers)), more=tuple(more))
+    numbers = tuple(map(int, told[: 1 if state in ("DONE", "TABLE", "INFO") else 3]))
+    value, best = (int(told[1]), told[2]) if state == "DONE" else (0, "")
+    table = tuple((move, sign, int(worth)) for move, sign, worth in entries)
+    return Answer(state, numbers, value, best, table, tuple(told[1:]) if state == "INFO" else ())

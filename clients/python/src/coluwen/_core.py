@@ -1,6 +1,6 @@
 """What a client does, without input and output: bytes and questions come in, and `Hands` do what is to be done, and have the clock.
 
-`Core` decides for all sessions of a client what is sent, when one is opened or ended, and how each question ends; a driver (`_driver.py`)
+`Core` decides for all sessions of a client what is sent, when one is opened or ended, and how each question ends; a driver (`client.py`)
 has the connections and the clock. So it is the same algorithm for `Client`, `AsyncClient`, the commands and the page, and it is tried without any
 socket. clients/behaviour/README.md says the rules.
 
@@ -133,10 +133,6 @@ class Errand(Work):
         self.begin, self.alone = begin, alone
 
 
-class Inquiry(Work):
-    """What the server is."""
-
-
 class Hands(Protocol):
     """What does what the core decides, and has the clock; it calls the core later, and not from here."""
 
@@ -153,11 +149,10 @@ class Hands(Protocol):
 class Wire:
     """The lines of one session and their answers: one is under way at a time."""
 
-    def __init__(self) -> None:
-        self.line: str | None = None  # what isn't answered yet
-        self.broken: str | None = None
-        self.jobs = 0
-        self.rest = b""
+    line: str | None = None  # what isn't answered yet
+    broken: str | None = None
+    jobs = 0
+    rest = b""
 
     def send(self, line: str, token: str | None = None) -> bytes:
         """The bytes of a line. A token is its last word, and stands in no fault."""
@@ -222,11 +217,8 @@ class Core:
         self.options, self.hands = options, hands
         self.levels, self.is_free = options.levels, options.levels is LEVELS
         self.closed = False
-        self.info: Info | None = None
         self._sessions: dict[int, _Session] = {}
         self._waiting: dict[int, Work] = {}  # for whom there is no session yet, in the order in which they were asked
-        self._wondering: list[Work] = []  # who waits for what the server is
-        self._learning: Errand | None = None  # what finds that out
         self._needs: dict[int, int] = {}  # of a depth the level that its last job needed
         self._keys, self._sequence = itertools.count(1), itertools.count(1)
         self._trouble = self._full = math.inf  # since when it is tried to reach the server, and since when it says that it is full
@@ -238,13 +230,10 @@ class Core:
     # What callers do.
 
     def ask(self, work: Work) -> None:
-        """Begins a question, an errand or an inquiry. `Closed` where the client is closed."""
+        """Begins a question or an errand. `Closed` where the client is closed."""
         if self.closed:
             raise Closed("the client is closed")
-        if isinstance(work, Inquiry):
-            self._wonder(work)
-        else:
-            self._wait(work)
+        self._wait(work)
         self._advance()
 
     def give_up(self, work: Work, fault: ColuwenError) -> None:
@@ -257,7 +246,7 @@ class Core:
         """Ends all: who waits gets `Closed`; sessions that have nothing to do say BYE, others are dropped."""
         self.closed = True
         sessions = list(self._sessions.values())
-        for work in [*self._waiting.values(), *self._wondering, *(work for session in sessions for work in session.works)]:
+        for work in [*self._waiting.values(), *(work for session in sessions for work in session.works)]:
             self._end(work, fault=Closed("the client was closed"))
         for session in sessions:
             if session.is_idle:
@@ -353,13 +342,6 @@ class Core:
         work.ended, work.found, work.fault = True, found, fault
         self.hands.settle(work)
         self._waiting.pop(work.sequence, None)
-        if work is self._learning:
-            self.info, self._learning, wondering, self._wondering = found, None, self._wondering, []
-            for one in wondering:
-                if fault:
-                    self._end(one, fault=fault)
-                else:
-                    self._wonder(one)
 
     def _fail_waiting(self, fault: Callable[[], ColuwenError]) -> None:
         for work in list(self._waiting.values()):
@@ -434,13 +416,6 @@ class Core:
         elif self.hands.now - self._full > 1:
             self._tell(f"{found}; it is asked again for {self.options.patience:g} s", "full")
 
-    def _unreached(self, fault: ColuwenError) -> None:
-        """A session couldn't be had."""
-        if not self._try_later(min(self._trouble, self.hands.now), self.options.outage if self._endures else 0.8 * self.options.silence):
-            self._fail_waiting(lambda: Unreachable(f"{self.options.address}: {fault}"))
-        elif self._endures and not self._there:
-            self._tell(f"{self.options.address}: {fault}; it is tried again for {self.options.outage:g} s", "outage")
-
     def _try_later(self, begun: float, most: float) -> bool:
         """Whether it makes sense to try a session again: rarely where others are there; else for so many seconds from when that began."""
         self._pause = self.hands.now + (RARELY if self._there else AGAIN)
@@ -450,7 +425,11 @@ class Core:
         """Drops a session; what it had to do is asked again in another one, or can't be had."""
         self._shut(session)
         if not session.is_ready:
-            return self._unreached(fault)
+            if not self._try_later(min(self._trouble, self.hands.now), self.options.outage if self._endures else 0.8 * self.options.silence):
+                self._fail_waiting(lambda: Unreachable(f"{self.options.address}: {fault}"))
+            elif self._endures and not self._there:
+                self._tell(f"{self.options.address}: {fault}; it is tried again for {self.options.outage:g} s", "outage")
+            return
         works, now = [work for work in session.works if not work.ended], self.hands.now
         for work in works:
             if isinstance(fault, Silent):
@@ -543,7 +522,7 @@ class Core:
         question.until = math.inf if question.timeout is None else begun + question.timeout
         while not question.job:
             try:
-                question.job = (yield f"ASK {question.depth} {question.position}").job
+                question.job = (yield f"ASK {question.depth} {question.position}").numbers[0]
             except Refused as refusal:
                 if not (yield from self._has_room(session, question, refusal)):
                     self._wait(question)
@@ -614,27 +593,10 @@ class Core:
             question.level, question.alone = min(max(level, question.level) + 1, len(self.levels) - 1), True
             return self._wait(question)
         self._needs[question.depth] = level
-        if self.is_free:
-            self._wonder(question)
-        else:
-            self._end(question, fault=TooDeep(question.depth))
+        self._end(question, fault=TooDeep(question.depth))
 
-    # What a server is.
-
-    def _wonder(self, work: Work) -> None:
-        """Ends an inquiry, or a question that is too deep, once it is known what the server is."""
-        if not self.info:
-            self._wondering.append(work)
-            if not self._learning:
-                self._learning = Errand(self._grain, alone=True)
-                self._wait(self._learning)
-        elif isinstance(work, Question):
-            self._end(work, fault=TooDeep(work.depth, min(work.depth - 1, self.info.sure)))
-        else:
-            self._end(work, self.info)
-
-    def _grain(self) -> Script:
-        """Finds it out: a site says it, and of any other it is found by how many nodes two positions take, from depth to depth."""
+    def learns(self) -> Script:
+        """Finds out what the server is: a site says it, and of any other it is found by how many nodes two positions take, from depth to depth."""
         try:
             answer = yield "INFO"
             return Info(answer.numbers[0], answer.more[-1] if answer.more else "", answer.more)
@@ -644,7 +606,7 @@ class Core:
         left, grain = (yield "QUOTA").numbers[1], 6
         for probe in PROBES:
             for depth in range(2, 9):
-                job = (yield f"ASK {depth} {probe}").job
+                job = (yield f"ASK {depth} {probe}").numbers[0]
                 ended = yield from self._looks(job, self.hands.now)
                 before, left = left, (yield "QUOTA").numbers[1]
                 if ended.state != "DONE" or before - left > FEW_NODES:

@@ -11,7 +11,7 @@ A task that is cancelled, as by `asyncio.timeout`, cancels its job at the server
 import asyncio
 import contextlib
 from collections.abc import AsyncIterable, AsyncIterator, Callable, Iterable
-from typing import Any, Self
+from typing import Self
 
 from ._core import Info
 from .analyst import END, Asked, Many, Order, Outcome, Progress, Result, all_of, checked, moves_of, parts_of
@@ -43,7 +43,7 @@ class AsyncClient(Served):
     async def analyse_many(self, positions: Iterable[Asked] | AsyncIterable[Asked], depth: int | None = None, *, order: Order = "asked", timeout: float | None = None,
                            window: int | None = None, on_progress: Callable[[Progress], object] | None = None) -> AsyncIterator[Outcome]:  # fmt: skip
         """As `Client.analyse_many`; the positions may come from an asynchronous source."""
-        ended: asyncio.Queue[tuple[int, Any, Any]] = asyncio.Queue()
+        ended: asyncio.Queue[Callable[[], None]] = asyncio.Queue()
         many = Many(positions, depth, order, 64 * self.parallel if window is None else window, on_progress,
                     lambda position, wanted: asyncio.ensure_future(self.analyse(position, wanted, timeout=timeout)), ended.put_nowait)  # fmt: skip
         source = aiter(positions) if isinstance(positions, AsyncIterable) else _slowly(positions)
@@ -53,14 +53,10 @@ class AsyncClient(Served):
                     yield outcome
                 if many.has_room and -1 not in many.begun:  # the next of the source
                     many.begun[-1] = coming = asyncio.ensure_future(anext(source, END))
-                    coming.add_done_callback(lambda one: ended.put_nowait((-1, None, one)))
+                    coming.add_done_callback(lambda _: ended.put_nowait(lambda: many.take(many.begun.pop(-1).result())))
                 if not many.begun:
                     return
-                number, asked, future = await ended.get()
-                if number >= 0:
-                    many.ended(number, asked, future)
-                else:
-                    many.take(many.begun.pop(number).result())
+                (await ended.get())()
 
     async def info(self) -> Info:
         """As `Client.info`."""

@@ -112,10 +112,10 @@ def all_of(depth: int, futures: Sequence[Any]) -> Iterator[None]:
 
 class Many:
     """The bookkeeping of `analyse_many`: what was taken from the source and isn't given on yet, in order or as it is known. `begin` gives a question's
-    future, and `tell` is called with its number, itself and that once it has ended."""
+    future, and `tell` is called once that has ended, with what takes it in."""
 
     def __init__(self, source: Any, depth: int | None, order: Order, window: int, on_progress: Callable[[Progress], object] | None, begin: Callable[[Position, int], Any],
-                 tell: Callable[[tuple[int, Any, Any]], object]):  # fmt: skip
+                 tell: Callable[[Callable[[], None]], object]):  # fmt: skip
         if order not in ("asked", "known"):
             raise ValueError(f"results come in the order 'asked' or 'known', and not {order!r}")
         if window < 1:
@@ -144,7 +144,7 @@ class Many:
         except Unfit as fault:
             self.known[number] = Outcome(asked, fault, number)
         else:
-            future.add_done_callback(lambda one: self.tell((number, asked, one)))
+            future.add_done_callback(lambda one: self.tell(lambda: self.ended(number, asked, one)))
 
     def ended(self, number: int, asked: Any, future: Any) -> None:
         """A question's future has ended. A fault that isn't of this package is raised."""
@@ -204,9 +204,8 @@ class Analyst(abc.ABC):
         future = self.submit(position, depth, timeout=timeout)
         try:
             return future.result()
-        except BaseException:  # Ctrl-C: nobody waits for it any more
+        finally:  # after Ctrl-C nobody waits for it any more
             future.cancel()
-            raise
 
     def analyse_all(self, position: str | Position, depth: int, *, timeout: float | None = None) -> list[Entry]:
         """Each move's value, exactly: one question for each of the positions that they lead to, a ply less deep. The best come first, of
@@ -223,17 +222,17 @@ class Analyst(abc.ABC):
 
         Positions are taken as they are wanted: no more than `window` (64 for each that is worked on at once) are taken and not given on.
         `on_progress` is called with a `Progress` for each that is given on. What isn't wanted any more, as the loop was left, is cancelled."""
-        ended: queue.SimpleQueue[tuple[int, Any, Any]] = queue.SimpleQueue()
+        ended: queue.SimpleQueue[Callable[[], None]] = queue.SimpleQueue()
         begin = functools.partial(self.submit, timeout=timeout)
         return self._many(Many(positions, depth, order, 64 * self.parallel if window is None else window, on_progress, begin, ended.put), ended, iter(positions))
 
     @staticmethod
-    def _many(many: Many, ended: queue.SimpleQueue[tuple[int, Any, Any]], source: Iterator[Asked]) -> Iterator[Outcome]:
+    def _many(many: Many, ended: queue.SimpleQueue[Callable[[], None]], source: Iterator[Asked]) -> Iterator[Outcome]:
         with contextlib.closing(many):
             while True:
                 yield from many.ready()
                 if many.begun and not (many.has_room and ended.empty()):
-                    many.ended(*ended.get())
+                    ended.get()()
                 elif many.has_room:
                     many.take(next(source, END))
                 elif not many.known:

@@ -2,23 +2,26 @@
 
 import asyncio
 import concurrent.futures
+import logging
+import math
 import os
 import re
+import socket
 import ssl
 import threading
 import urllib.parse
 from collections.abc import Callable
 from typing import Any
 
-from ._core import LEVELS, Info, Options, Question, Reservation
-from ._driver import Driver
+from ._core import LEVELS, Core, Errand, Info, Options, Question, Reservation, Work, ping
 from .analyst import Analyst, Result, checked, result_of
 from .board import Position
-from .errors import Closed
+from .errors import Closed, ColuwenError, TooDeep
 
 HOST, PORT = "127.0.0.1", 4711
 URL = "COLUWEN_URL"  # the variable that names a server where the caller doesn't
 SILENCE, PATIENCE, OUTAGE, SESSIONS = 1.5, 30.0, 120.0, 4
+LOG = logging.getLogger("coluwen")
 
 
 def tls_context(authority: str | None = None) -> ssl.SSLContext:
@@ -33,6 +36,99 @@ def token_in(path: str) -> str:
     if not re.fullmatch("[!-~]{1,64}", token):
         raise OSError(f"{path} has no token: 1 to 64 letters, digits and signs")
     return token
+
+
+class _Link(asyncio.Protocol):
+    """The connection of a session."""
+
+    def __init__(self, core: Core, key: int):
+        self.core, self.key = core, key
+
+    def data_received(self, data: bytes) -> None:
+        self.core.received(self.key, data)
+
+    def connection_lost(self, fault: Exception | None) -> None:
+        self.core.failed(self.key, str(fault or "the server ended the session"))
+
+
+class Driver:
+    """A core, its connections, and the tasks that wait for what it ends. It belongs to one loop."""
+
+    def __init__(self, loop: asyncio.AbstractEventLoop, host: str, port: int, tls: ssl.SSLContext | None, options: Options):
+        self.loop, self.host, self.port, self.tls = loop, host, port, tls
+        self.core, self.tell = Core(options, self), LOG.warning
+        self.links: dict[int, asyncio.Transport | asyncio.Task[None]] = {}
+        self.clock: asyncio.TimerHandle | None = None
+        self.learning: asyncio.Future[Info] | None = None  # finds out what the server is
+        self.ended = asyncio.Event()
+
+    @property
+    def now(self) -> float:
+        return self.loop.time()
+
+    def wake(self, due: float) -> None:
+        if self.clock:
+            self.clock.cancel()
+        self.clock = self.loop.call_at(due, self.core.tick) if due < math.inf else None
+        if self.core.has_ended:
+            self.ended.set()
+
+    def dial(self, key: int) -> None:
+        self.links[key] = self.loop.create_task(self.connect(key))
+
+    async def connect(self, key: int) -> None:
+        """Makes the connection of a session."""
+        name = self.host if self.tls else None
+        try:
+            transport, _ = await self.loop.create_connection(lambda: _Link(self.core, key), self.host, self.port, ssl=self.tls, server_hostname=name)
+        except OSError as fault:
+            self.core.failed(key, str(fault.strerror or fault), isinstance(fault, (ssl.SSLCertVerificationError, socket.gaierror)))
+        else:
+            self.links[key] = transport
+            self.core.opened(key)
+
+    def send(self, key: int, data: bytes) -> None:
+        if isinstance(link := self.links.get(key), asyncio.Transport):
+            link.write(data)
+
+    def hang_up(self, key: int) -> None:
+        if isinstance(link := self.links.pop(key, None), asyncio.Transport):
+            link.abort()
+        elif link and link is not asyncio.current_task(self.loop):
+            link.cancel()
+
+    def settle(self, work: Work) -> None:
+        future: asyncio.Future[Any] | None = work.owner
+        if future and not future.done():
+            if work.fault:
+                future.set_exception(work.fault)
+            else:
+                future.set_result(work.found)
+
+    def begin(self, work: Work) -> asyncio.Future[Any]:
+        """Begins a question or an errand; what it ends with is the future's. Where that is cancelled it is given up."""
+        work.owner = future = self.loop.create_future()
+        self.core.ask(work)
+        future.add_done_callback(lambda one: self.core.give_up(work, ColuwenError("it was given up")) if one.cancelled() else one.exception())
+        return future
+
+    async def info(self) -> Info:
+        """What the server is, found out once."""
+        if not self.learning or self.learning.done() and self.learning.exception():
+            self.learning = self.begin(Errand(self.core.learns, alone=True))
+        return await asyncio.shield(self.learning)
+
+    async def ping(self) -> float:
+        """Seconds that the server takes to a line that it answers at once."""
+        begun = self.now
+        await self.begin(Errand(ping))
+        return self.now - begun
+
+    async def close(self) -> None:
+        """Ends all, and returns when the last connection has."""
+        self.core.close()
+        await self.ended.wait()
+        await asyncio.sleep(0)  # who waits for what was learned hears it before the loop stops
 
 
 class Served:
@@ -80,7 +176,12 @@ class Served:
 
     async def _answer(self, driver: Driver, position: Position, depth: int, timeout: float | None) -> Result:
         """What is found of a question; a task that is cancelled gives it up."""
-        return result_of(position, depth, await driver.begin(Question(depth, position.text, self._timeout if timeout is None else timeout)))
+        try:
+            return result_of(position, depth, await driver.begin(Question(depth, position.text, self._timeout if timeout is None else timeout)))
+        except TooDeep:
+            if not driver.core.is_free:
+                raise
+        raise TooDeep(depth, min(depth - 1, (await driver.info()).sure))
 
 
 class Client(Served, Analyst):

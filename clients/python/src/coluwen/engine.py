@@ -84,13 +84,6 @@ class Question:
         self.asked = 0.0  # when its search began
 
 
-def known_of(question: Question, value: int, move: str, entered: int) -> Result:
-    """A value and a best move as a result. What is known of the other moves is that none is worth more."""
-    moves = [] if move == "-" else question.position.legal_moves()
-    entries = tuple((one, EXACT if one == move else AT_MOST, value) for one in sorted(moves, key=lambda one: one not in CORNERS))
-    return result_of(question.position, question.depth, Found(value, move, entries, time.monotonic() - question.asked, entered))
-
-
 class Pool:
     """The threads and processes of an engine: a process is begun when there is something to ask and none is spare."""
 
@@ -128,13 +121,17 @@ class Pool:
             settle(question.future, outcome)
 
     def answer(self, question: Question) -> Result:
-        """What a process finds; one that ends without an answer is replaced, and one that was asked for too long or in vain is ended."""
+        """What a process finds, where of the other moves is known that none is worth more; one that ends without an answer is replaced, and one that was
+        asked for too long or in vain is ended."""
         question.asked = time.monotonic()
         until = None if question.timeout is None else question.asked + question.timeout
         for _ in range(TRIES):
             answer = self.ask_process(question, until)
             if found := ANSWER.fullmatch(answer):
-                return known_of(question, int(found[1]), found[2].decode(), int(found[3]))
+                value, move = int(found[1]), found[2].decode()
+                moves = [] if move == "-" else sorted(question.position.legal_moves(), key=lambda one: one not in CORNERS)
+                entries = tuple((one, EXACT if one == move else AT_MOST, value) for one in moves)
+                return result_of(question.position, question.depth, Found(value, move, entries, time.monotonic() - question.asked, int(found[3])))
             if refused := REFUSAL.fullmatch(answer):
                 raise Refused(int(refused[1]))
             self.end(question)
@@ -235,24 +232,22 @@ class Fallback(Analyst):
         self.parallel = first.parallel
 
     def submit(self, position: str | Position, depth: int, *, timeout: float | None = None) -> concurrent.futures.Future[Result]:
-        future, begun = concurrent.futures.Future[Result](), list[concurrent.futures.Future[Result]]()
+        future = concurrent.futures.Future[Result]()
 
         def begin(analyst: Analyst) -> None:
-            begun.append(analyst.submit(position, depth, timeout=timeout))
-            if future.cancelled():
-                begun[-1].cancel()
-            begun[-1].add_done_callback(ended)
+            asked = analyst.submit(position, depth, timeout=timeout)
+            future.add_done_callback(lambda _: asked.cancel())
+            asked.add_done_callback(lambda one: ended(one, analyst))
 
-        def ended(one: concurrent.futures.Future[Result]) -> None:
+        def ended(one: concurrent.futures.Future[Result], analyst: Analyst) -> None:
             fault = Closed("it was given up") if one.cancelled() else one.exception()
-            if isinstance(fault, TooDeep) and len(begun) == 1:
+            if isinstance(fault, TooDeep) and analyst is self.first:
                 try:
                     return begin(self.second)
                 except ColuwenError as other:
                     fault = other
             return settle(future, fault or one.result())
 
-        future.add_done_callback(lambda one: [each.cancel() for each in begun] if one.cancelled() else None)
         begin(self.first)
         return future
 

@@ -131,7 +131,7 @@ class Session:
 
     def ask_line(self, line: str) -> int:
         """The same of a line `depth position`, as it stands."""
-        return self._call(f"ASK {line}").job
+        return self._call(f"ASK {line}").numbers[0]
 
     def get(self, job: int) -> State:
         """How a job stands."""

@@ -26,7 +26,7 @@ fault is there with the moves before it (`is_whole` is false), and the fault beh
 import contextlib
 import pathlib
 import re
-from collections.abc import Iterator
+from collections.abc import Iterable, Iterator
 
 from ..board import Position
 from ..errors import FormatError
@@ -88,10 +88,8 @@ def problems_of(data: bytes, name: str = "", kind: str | None = None) -> Iterato
 
 def _positions_of(games: Iterator[Game | FormatError]) -> Iterator[Problem | FormatError]:
     for one in games:
-        if isinstance(one, FormatError):
-            yield one
-        else:
-            yield from one.problems()
+        found: Iterable[Problem | FormatError] = [one] if isinstance(one, FormatError) else one.problems()
+        yield from found
 
 
 def read_line(line: str, place: Place = Place()) -> Iterator[Problem | FormatError]:

@@ -2,7 +2,7 @@ package coluwen;
 
 import java.time.Duration;
 import java.util.*;
-import java.util.concurrent.CompletableFuture;
+import java.util.concurrent.*;
 import java.util.function.*;
 import java.util.stream.*;
 
@@ -89,5 +89,98 @@ public interface Analyst extends AutoCloseable {
   default <T> Stream<Outcome<T>> analyseMany(Iterable<T> questions, Function<? super T, Position> positionOf, int depth, Bulk how) {
     Calls.checked(depth);
     return Many.of(this, questions, positionOf, depth, how);
+  }
+}
+
+/** Many questions and their outcomes. */
+final class Many {
+  static <T> Stream<Outcome<T>> of(Analyst analyst, Iterable<T> questions, Function<? super T, Position> positionOf, int depth, Analyst.Bulk how) {
+    class Outcomes implements Iterator<Outcome<T>> {
+      private final Map<Integer, CompletableFuture<Result>> asked = new ConcurrentHashMap<>(); // what isn't known yet
+      private final TreeMap<Integer, Outcome<T>> known = new TreeMap<>(); // and isn't given
+      private final Semaphore places = new Semaphore(how.window() - 1); // for what is taken beside the next
+      private final Thread feeder = Calls.daemon(this::feed, "coluwen-source");
+      private volatile boolean isOver; // the source has no more, or nobody wants it
+      private RuntimeException broken; // a fault of the source
+      private int taken, given, faults; // (the feeder alone takes)
+
+      /** Takes the source, no further ahead than the window. */
+      private void feed() {
+        try {
+          for (var source = questions.iterator(); !isOver && source.hasNext(); places.acquire()) begin(source.next());
+        } catch (InterruptedException stopped) {
+          Thread.currentThread().interrupt();
+        } catch (RuntimeException fault) {
+          broken = fault;
+        } finally {
+          over();
+        }
+      }
+
+      private synchronized void over() {
+        isOver = true;
+        notifyAll();
+      }
+
+      private void begin(T question) {
+        if (isOver) return;
+        var index = taken++;
+        CompletableFuture<Result> future;
+        try {
+          future = analyst.analyseAsync(positionOf.apply(question), depth, how.timeout());
+        } catch (RuntimeException fault) {
+          future = CompletableFuture.failedFuture(fault);
+        }
+        asked.put(index, future);
+        future.whenComplete((result, fault) -> settled(new Outcome<>(index, question, result, fault)));
+      }
+
+      private void settled(Outcome<T> outcome) {
+        Analyst.Progress progress;
+        synchronized (this) {
+          if (asked.remove(outcome.index()) == null) return; // nobody wants it any more
+          known.put(outcome.index(), outcome);
+          if (outcome.fault() != null) faults++;
+          progress = new Analyst.Progress(given + known.size(), faults, questions instanceof Collection<?> all ? all.size() : -1);
+          notifyAll();
+        }
+        how.onProgress().accept(progress);
+      }
+
+      private boolean isThere() { return !known.isEmpty() && (!how.isOrdered() || known.firstKey() == given); }
+
+      /** Whether there is one more, once that is known. */
+      @Override
+      public synchronized boolean hasNext() {
+        if (feeder.getState() == Thread.State.NEW && !isOver) feeder.start();
+        try {
+          while (!isThere() && broken == null && !(isOver && given == taken)) wait();
+        } catch (InterruptedException fault) {
+          close();
+          Thread.currentThread().interrupt();
+          throw new ColuwenException.Stopped();
+        }
+        if (!isThere() && broken != null) throw broken;
+        return isThere();
+      }
+
+      @Override
+      public synchronized Outcome<T> next() {
+        given++;
+        places.release();
+        return known.pollFirstEntry().getValue();
+      }
+
+      private void close() {
+        over();
+        feeder.interrupt();
+        var left = List.copyOf(asked.values());
+        asked.clear();
+        left.forEach(future -> future.cancel(true));
+      }
+    }
+
+    var outcomes = new Outcomes();
+    return StreamSupport.stream(Spliterators.spliteratorUnknownSize(outcomes, Spliterator.ORDERED | Spliterator.NONNULL), false).onClose(outcomes::close);
   }
 }

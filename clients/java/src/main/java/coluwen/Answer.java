@@ -14,10 +14,7 @@ record Answer(String state, List<Integer> numbers, int value, String move, List<
   static final int LONGEST = 1115; // bytes of an answer, with its LF
 
   /** An entry of a table. */
-  record Entry(String move, char sign, int value) {
-    @Override
-    public String toString() { return move + sign + value; }
-  }
+  record Entry(String move, char sign, int value) {}
 
   /** What answers a line, by its first word: N is a number, V a value, P a square or pass; A, B the line's next words, J the next job. */
   private static final Map<String, String> FORMS = """

@@ -5,8 +5,6 @@ import java.util.concurrent.*;
 
 /** What clients and engines do alike with arguments, futures and threads. */
 final class Calls {
-  private Calls() {}
-
   static int within(String name, int least, int value, int most) {
     if (value < least || value > most) throw new IllegalArgumentException(name + " is a number from " + least + " to " + most + ", and not " + value);
     return value;

@@ -71,13 +71,12 @@ final class Core {
     private String line, rest = ""; // that isn't answered, and what came of its answer
     private Question asked; // what the line is for
     private int jobs; // that were asked
-    private double deadline, freeAt; // until then it is to be answered; before it asks nothing
+    private double deadline = now + silence, freeAt; // until then it is to be answered; before it asks nothing
 
     private Seat(int level, Probe probe) {
       this.level = level;
       this.probe = probe;
       reserved = probe == null ? limits.levels().get(level) : LEVELS.get(0);
-      deadline = now + silence;
     }
 
     /** When it is to be looked at. */

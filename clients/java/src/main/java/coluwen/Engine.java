@@ -33,8 +33,8 @@ public final class Engine implements Analyst {
   private final Duration timeout;
   private final ExecutorService threads;
   private final ScheduledThreadPoolExecutor clock = Calls.clock();
-  private final Map<Future<Result>, Running> searching = new HashMap<>(); // this and what follows is used under its lock alone
-  private final Deque<Running> spare = new ArrayDeque<>(); // those that search nothing
+  private final Map<Future<Result>, Process> searching = new HashMap<>(); // this and what follows is used under its lock alone
+  private final Deque<Process> spare = new ArrayDeque<>(); // those that search nothing
   private boolean isClosed;
 
   private Engine(String program, int workers, Duration timeout) {
@@ -105,26 +105,17 @@ public final class Engine implements Analyst {
     }
   }
 
-  /** A process that searches once for each line, and what it says. */
-  private record Running(Process process, BufferedReader answers) {
-    static Running begun(String program) throws IOException {
-      var process = new ProcessBuilder(program, "solve", "--visited").redirectError(ProcessBuilder.Redirect.DISCARD).start();
-      return new Running(process, new BufferedReader(new InputStreamReader(process.getInputStream(), StandardCharsets.ISO_8859_1), 64));
+  /** What a process, which searches once for each line, says to one; nothing where it has ended. */
+  private static String said(Process process, String line) {
+    try {
+      process.outputWriter(StandardCharsets.ISO_8859_1).append(line).flush();
+      return Objects.requireNonNullElse(process.inputReader(StandardCharsets.ISO_8859_1).readLine(), "");
+    } catch (IOException fault) {
+      return "";
     }
-
-    /** What it says to a line; nothing where it has ended. */
-    String asked(String line) {
-      try {
-        process.getOutputStream().write(line.getBytes(StandardCharsets.ISO_8859_1));
-        process.getOutputStream().flush();
-        return Objects.requireNonNullElse(answers.readLine(), "");
-      } catch (IOException fault) {
-        return "";
-      }
-    }
-
-    void end() { process.destroyForcibly().onExit().join(); }
   }
+
+  private static void end(Process process) { process.destroyForcibly().onExit().join(); }
 
   /** Answers a question, by the thread that calls; others hear it. */
   private void answer(CompletableFuture<Result> future, Position position, int depth, Duration timeout) {
@@ -136,11 +127,9 @@ public final class Engine implements Analyst {
       }
       var result = searched(future, position, depth);
       future.completeAsync(() -> result);
-    } catch (IOException fault) {
-      CompletableFuture.runAsync(() -> future.completeExceptionally(new Unreachable(program + ": " + fault.getMessage(), fault)));
-    } catch (RuntimeException fault) {
-      var told = fault instanceof ColuwenException ? fault : new Broken("the engine failed: " + fault);
-      CompletableFuture.runAsync(() -> future.completeExceptionally(told));
+    } catch (IOException | RuntimeException fault) {
+      var broken = fault instanceof IOException ? new Unreachable(program + ": " + fault.getMessage(), fault) : new Broken("the engine failed: " + fault);
+      CompletableFuture.runAsync(() -> future.completeExceptionally(fault instanceof ColuwenException ? fault : broken));
     }
   }
 
@@ -148,24 +137,24 @@ public final class Engine implements Analyst {
   private Result searched(CompletableFuture<Result> future, Position position, int depth) throws IOException {
     var begun = System.nanoTime();
     for (int tries = 0;; tries++) {
-      Running running;
+      Process process;
       synchronized (searching) {
         if (isClosed) throw new Closed("engine");
         if (future.isDone()) throw new ColuwenException.Stopped();
         if (tries == TRIES) throw new Broken(program + " ended without an answer " + TRIES + " times");
-        running = spare.isEmpty() ? Running.begun(program) : spare.pop();
-        searching.put(future, running);
+        process = spare.isEmpty() ? new ProcessBuilder(program, "solve", "--visited").redirectError(ProcessBuilder.Redirect.DISCARD).start() : spare.pop();
+        searching.put(future, process);
       }
-      var answer = running.asked(depth + " " + position.text() + "\n");
+      var answer = said(process, depth + " " + position.text() + "\n");
       var found = ANSWER.matcher(answer);
       var refused = REFUSAL.matcher(answer);
       synchronized (searching) {
         searching.remove(future);
-        if (found.matches() || refused.matches()) spare.push(running);
+        if (found.matches() || refused.matches()) spare.push(process);
       }
       if (found.matches()) return result(position, depth, Integer.parseInt(found.group(1)), found.group(2), begun);
       if (refused.matches()) throw new Refused(Integer.parseInt(refused.group(1)));
-      running.end();
+      end(process);
     }
   }
 
@@ -192,7 +181,7 @@ public final class Engine implements Analyst {
     }
     future.whenComplete((result, fault) -> { // the process of one that is given up ends; its thread notices
       synchronized (searching) {
-        Optional.ofNullable(searching.get(future)).ifPresent(running -> running.process().destroyForcibly());
+        Optional.ofNullable(searching.get(future)).ifPresent(Process::destroyForcibly);
       }
     });
     return future;
@@ -207,7 +196,7 @@ public final class Engine implements Analyst {
   public void close() {
     synchronized (searching) {
       isClosed = true;
-      searching.values().forEach(running -> running.process().destroyForcibly());
+      searching.values().forEach(Process::destroyForcibly);
     }
     threads.shutdown();
     try {
@@ -215,7 +204,7 @@ public final class Engine implements Analyst {
     } catch (InterruptedException fault) {
       Thread.currentThread().interrupt();
     }
-    spare.forEach(Running::end);
+    spare.forEach(Engine::end);
     clock.shutdownNow();
   }
 }

@@ -33,7 +33,7 @@ class ConformanceTest {
     var found = new ArrayList<Object>(List.of(answer.refusal() == null ? answer.state() : "REFUSED"));
     found.addAll(answer.numbers());
     if (answer.state().equals("DONE")) found.addAll(List.of(answer.value(), answer.move()));
-    found.addAll(answer.entries());
+    answer.entries().forEach(entry -> found.add(entry.move() + entry.sign() + entry.value()));
     return String.join(" ", found.stream().map(String::valueOf).toList()) + answer.more();
   }
 
