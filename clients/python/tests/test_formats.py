@@ -34,6 +34,12 @@ def test_transcripts_of_each_form() -> None:
     assert passes > 5
 
 
+def test_how_each_form_is_written() -> None:
+    game = transcript.read("f5d6c3")
+    written = [transcript.write(game, form) for form in ("plain", "spaced", "hyphens", "numbered", "capitals")]
+    assert written == ["f5d6c3", "f5 d6 c3", "f5-d6-c3", "1. f5 2. d6 3. c3", "F5d6C3"]
+
+
 @pytest.mark.parametrize("text", ["F5d6C3", "f5 d6 c3", "1. f5 2. d6 3. c3", "1. f5 d6 2. c3", "f5-d6-c3", "1) F5, 2) D6; 3) C3", "f5d6\nc3", "f5\r\nd6\tc3"])
 def test_transcript_spellings(text: str) -> None:
     assert transcript.read(text).words() == ["f5", "d6", "c3"]

@@ -114,7 +114,8 @@ async def test_a_lost_server_is_asked_again(monkeypatch):
 
 async def test_too_deep_is_said_and_not_asked_again():
     engine = Engine()
-    service = Service(Library(engine, 1), [4, 6, 8], True)
+    library = Library(engine, 1)
+    service = Service(library, [4, 6, 8], True)
     engine.faults = []
     await lines_of(service, OPENING, 6)
     engine.faults = [TooDeep(8, 7)]
@@ -122,6 +123,9 @@ async def test_too_deep_is_said_and_not_asked_again():
     assert [line["kind"] for line in told] == ["step", "searching", "deepest", "done"] and told[2]["depth"] == 6
     count = len(engine.asked)
     assert [line["kind"] for line in await lines_of(service, OPENING, 8)] == ["step", "deepest", "done"] and len(engine.asked) == count
+    with pytest.raises(TooDeep) as fault:
+        await library.find(OPENING, 8, told.append)
+    assert (fault.value.depth, fault.value.greatest, len(engine.asked)) == (8, 7, count)
 
 
 async def test_without_steps_the_greatest_depth_alone_is_asked():

@@ -155,7 +155,7 @@ async def test_who_is_slow_is_left(limits: dict[str, float], sent: bytes, answer
 async def test_a_browser_that_takes_nothing_is_left() -> None:
     async def great(request: Request) -> Answer:
         return Answer(body=bytes(1 << 25))
-    async with served(great, write_seconds=0.2) as (web, dial):
+    async with served(great, write_seconds=0.2, idle_seconds=1000) as (web, dial):
         _, writer = await dial()
         writer.write(question())
         for _ in range(1500):
